@@ -1,0 +1,14 @@
+-- One ceiling more.
+use Rattle.std.proofs.Common.{None, ◌∙◌, ap, arith, length-set}
+use Rattle.osek_base.specs.Ceiling.{internal_ceiling}
+use Rattle.osek_base.proofs.TableLemmas.{one_more}
+use Rattle.osek_base.proofs.ceilings.internal_ceilings.Goals as goal
+
+pub loop-number-preserved : goal.loop-number-preserved
+loop-number-preserved c =
+    record {
+      long = length-set c.loop-number.ceilings c.loop-number.number c.internal_ceiling.result ∙ c.loop-number.invariant.long;
+      so_far = one_more (internal_ceiling c.args.parts.now) c.loop-number.ceilings c.loop-number.number c.internal_ceiling.result None
+          (omega (arith, c.loop-number-test.true, c.loop-number.invariant.long))
+          (c.internal_ceiling.ensures ∙ ap (internal_ceiling c.args.parts.now) c.new.ensures) c.loop-number.invariant.so_far;
+    }

@@ -1,0 +1,53 @@
+-- The theorems over whole runs, as public contracts cite them.
+use Rattle.std.specs.Prelude.{ℕ, ◌≡◌, ◌<◌, ◌≤◌, not, List, drop, Some, IsTrue, length}
+use Rattle.std.specs.List.{list_all, Contains}
+use Rattle.osek_base.specs.Types.{ResId, Owner, Service, Instr, Status, Results, Outcome, TraceEvent}
+use Rattle.osek_base.specs.System.{System, mode_count}
+use Rattle.osek_base.specs.State.{Job, JobId, jobs_of}
+use Rattle.osek_base.specs.Service.{may_take}
+use Rattle.osek_base.specs.Tick.{Step}
+use Rattle.osek_base.specs.Trace.{Arrival, boot, run}
+use Rattle.osek_base.specs.Separable.{Separable}
+use Rattle.osek_base.specs.Agree.{Agree, upper_core}
+use Rattle.osek_base.specs.View.{view}
+use Rattle.osek_base.specs.Blocker.{executing_job, is_ready_from, blockers}
+use Rattle.osek_base.specs.GoodState.{IsGood, IsShaped}
+use Rattle.osek_base.specs.Proper.{IsProper}
+
+-- isolation: whatever proper and separable system agrees with S from p upward has the same view, under the same arrivals
+abbrev pub IsIsolated : System → ℕ → Type 0
+IsIsolated S p =
+    (B : System) → IsProper B → Separable B p → Agree S B p
+    → (mode : ℕ) (arrivals : List Arrival) (n : ℕ) → mode < mode_count S
+    → view S p (run S mode arrivals n) ≡ view B p (run B mode arrivals n)
+
+-- the view of a separable system is that of its upper part by itself, which says isolation of one system alone
+abbrev pub IsItsUpperPart : System → ℕ → Type 0
+IsItsUpperPart S p =
+    (mode : ℕ) (arrivals : List Arrival) (n : ℕ) → mode < mode_count S
+    → view S p (run S mode arrivals n) ≡ view (upper_core S p) p (run (upper_core S p) mode arrivals n)
+
+-- exclusion: a GetResource by a job that may take the resource is answered E_OS_ACCESS only where that job itself holds it
+abbrev pub Excludes : System → ℕ → List Arrival → ℕ → Type 0
+Excludes S mode arrivals n =
+    (step : Step) (j : Job) (r : ResId) → Contains (run S mode arrivals n).steps step
+    → executing_job step ≡ Some j → IsTrue (may_take S j.id.task r)
+    → Contains step.events (TraceEvent.Executed (Owner.Task j.id.task) j.context.place (Instr.Service (Service.GetResource (Some r))) (Outcome.Answer Status.Access Results.Nothing))
+    → Contains j.held r
+
+-- single start: of one task no job but the oldest is begun
+abbrev pub StartsSingly : System → ℕ → List Arrival → ℕ → Type 0
+StartsSingly S mode arrivals n =
+    (t : ℕ) → IsTrue (list_all (λ j. not j.begun) (drop 1 (jobs_of t (run S mode arrivals n).state.jobs)))
+
+-- single blocking: each time that a job becomes ready, it has at most one blocker
+abbrev pub BlocksOnce : System → ℕ → List Arrival → ℕ → Type 0
+BlocksOnce S mode arrivals n =
+    (u : ℕ) (job : JobId) → IsTrue (is_ready_from S (boot S mode).state (run S mode arrivals n).steps u job)
+    → length (blockers S (run S mode arrivals n).steps u job) ≤ 1
+
+-- every state of a run of a proper system is good, and has its shape
+abbrev pub StaysGood : Type 0
+StaysGood =
+    (S : System) (mode : ℕ) (arrivals : List Arrival) (n : ℕ) → IsProper S → mode < mode_count S
+    → IsGood S (run S mode arrivals n).state × IsShaped S (run S mode arrivals n).state

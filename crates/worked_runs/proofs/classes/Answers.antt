@@ -1,0 +1,18 @@
+-- Each clause, by computation.
+use Rattle.std.proofs.Common.{refl}
+use Rattle.std.specs.Fmt.{digits}
+use Rattle.osek_base.specs.Reschedule.{reschedule}
+use Rattle.osek_base.specs.Activation.{activated, released}
+use Rattle.osek_base.specs.Service.{service, unmasked_service}
+use Rattle.osek_base.specs.Tick.{alarm_phase, start_phase, execute_phase, tick}
+use Rattle.osek_base.specs.Trace.{boot, run}
+use Rattle.osek_base.specs.Separable.{first_denial}
+use Rattle.worked_runs.proofs.classes.Goals as goal
+
+pub returns-clause-proper_extended_single : goal.returns-clause-proper_extended_single
+unfolding digits reschedule activated released service unmasked_service alarm_phase start_phase execute_phase tick boot run first_denial
+returns-clause-proper_extended_single c = record { limits = refl; named = refl; names = refl; objects = refl }
+
+pub returns-clause-class_extended_single : goal.returns-clause-class_extended_single
+unfolding digits reschedule activated released service unmasked_service alarm_phase start_phase execute_phase tick boot run first_denial
+returns-clause-class_extended_single c = refl

@@ -1,0 +1,8 @@
+pub mod Worked
+pub mod TaskRuns
+pub mod ResourceRuns
+pub mod EventRuns
+pub mod AlarmRuns
+pub mod InterruptRuns
+pub mod PartitionRuns
+pub mod ClassRuns

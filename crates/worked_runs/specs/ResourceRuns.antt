@@ -1,0 +1,128 @@
+-- OSEK/VDX OS: resource management. Worked runs with resources, RES_SCHEDULER and internal resources.
+use Rattle.std.specs.Prelude.{[], ◌∷◌, Some, codes}
+use Rattle.osek_base.specs.declared.task.Property.{Property}
+use Rattle.osek_base.specs.declared.ids.ResId.TheVariants.{Declared, Scheduler}
+use Rattle.osek_base.specs.System.{System}
+use Rattle.worked_runs.specs.Worked.{quiet, one_mode, task, autostarted, listing_resources, IsWorkedRun, HasBlockers, nop, act, term, sched, getr, relr}
+
+-- nested resources
+abbrev pub nested_resources : System
+nested_resources =
+    record quiet {
+      names = record one_mode { tasks = codes "C" ∷ codes "B" ∷ codes "A" ∷ []; resources = codes "R" ∷ codes "S" ∷ [] };
+      tasks =
+          listing_resources (1 ∷ []) (task 3 (term ∷ []))
+          ∷ listing_resources (0 ∷ []) (task 2 (term ∷ []))
+          ∷ listing_resources (0 ∷ 1 ∷ []) (autostarted (task 1 (getr (Some (Declared 0))
+          ∷ getr (Some (Declared 1)) ∷ relr (Some (Declared 0)) ∷ act (Some 1) ∷ act (Some 0)
+          ∷ relr (Some (Declared 1)) ∷ relr (Some (Declared 0)) ∷ term ∷ [])))
+          ∷ [];
+      resources = Property.Standard ∷ Property.Standard ∷ [];
+    }
+
+abbrev pub RunNestedResources : Type 0
+RunNestedResources =
+    IsWorkedRun nested_resources [] 10
+    (codes "0 A 0 GETR R = 0"
+    ∷ codes "1 A 1 GETR S = 0"
+    ∷ codes "2 A 2 RELR R = 5"
+    ∷ codes "3 A 3 ACT B = 0"
+    ∷ codes "4 A 4 ACT C = 0"
+    ∷ codes "5 A 5 RELR S = 0"
+    ∷ codes "6 C 0 TERM = 0"
+    ∷ codes "7 A 6 RELR R = 0"
+    ∷ codes "8 B 0 TERM = 0"
+    ∷ codes "9 A 7 TERM = 0"
+    ∷ [])
+
+abbrev pub BlockersNestedResourcesAt0 : Type 0
+BlockersNestedResourcesAt0 =
+    HasBlockers nested_resources [] 10 0 (record { task = 2; serial = 0 }) 0
+
+abbrev pub BlockersNestedResourcesAt5 : Type 0
+BlockersNestedResourcesAt5 =
+    HasBlockers nested_resources [] 10 5 (record { task = 0; serial = 0 }) 1
+
+abbrev pub BlockersNestedResourcesAt4 : Type 0
+BlockersNestedResourcesAt4 =
+    HasBlockers nested_resources [] 10 4 (record { task = 1; serial = 0 }) 1
+
+abbrev pub BlockersNestedResourcesAt6 : Type 0
+BlockersNestedResourcesAt6 =
+    HasBlockers nested_resources [] 10 6 (record { task = 2; serial = 0 }) 0
+
+abbrev pub BlockersNestedResourcesAt8 : Type 0
+BlockersNestedResourcesAt8 =
+    HasBlockers nested_resources [] 10 8 (record { task = 2; serial = 0 }) 0
+
+-- a task that holds a resource may not end
+abbrev pub no_end_while_holding : System
+no_end_while_holding =
+    record quiet {
+      names = record one_mode { tasks = codes "A" ∷ []; resources = codes "R" ∷ [] };
+      tasks =
+          listing_resources (0 ∷ []) (autostarted (task 1 (getr (Some (Declared 0)) ∷ term
+          ∷ relr (Some (Declared 0)) ∷ term ∷ [])))
+          ∷ [];
+      resources = Property.Standard ∷ [];
+    }
+
+abbrev pub RunNoEndWhileHolding : Type 0
+RunNoEndWhileHolding =
+    IsWorkedRun no_end_while_holding [] 4
+    (codes "0 A 0 GETR R = 0"
+    ∷ codes "1 A 1 TERM = 6"
+    ∷ codes "2 A 2 RELR R = 0"
+    ∷ codes "3 A 3 TERM = 0"
+    ∷ [])
+
+-- Schedule
+abbrev pub schedule : System
+schedule =
+    record quiet {
+      names = record one_mode { tasks = codes "C" ∷ codes "D" ∷ codes "A" ∷ codes "B" ∷ []; resources = codes "I" ∷ [] };
+      tasks =
+          listing_resources (0 ∷ []) (task 3 (term ∷ []))
+          ∷ task 2 (term ∷ [])
+          ∷ listing_resources (0 ∷ []) (autostarted (task 1 (act (Some 3) ∷ sched ∷ act (Some 1) ∷ nop ∷ sched
+          ∷ term ∷ [])))
+          ∷ task 1 (term ∷ [])
+          ∷ [];
+      resources = Property.Internal ∷ [];
+    }
+
+abbrev pub RunSchedule : Type 0
+RunSchedule =
+    IsWorkedRun schedule [] 8
+    (codes "0 A 0 ACT B = 0"
+    ∷ codes "1 A 1 SCHED = 0"
+    ∷ codes "2 A 2 ACT D = 0"
+    ∷ codes "3 A 3 NOP"
+    ∷ codes "4 A 4 SCHED = 0"
+    ∷ codes "5 D 0 TERM = 0"
+    ∷ codes "6 A 5 TERM = 0"
+    ∷ codes "7 B 0 TERM = 0"
+    ∷ [])
+
+-- RES_SCHEDULER
+abbrev pub res_scheduler : System
+res_scheduler =
+    record quiet {
+      names = record one_mode { tasks = codes "B" ∷ codes "A" ∷ [] };
+      tasks =
+          task 2 (term ∷ [])
+          ∷ autostarted (task 1 (getr (Some Scheduler) ∷ act (Some 0) ∷ getr (Some Scheduler)
+          ∷ relr (Some Scheduler) ∷ term ∷ []))
+          ∷ [];
+    }
+
+abbrev pub RunResScheduler : Type 0
+RunResScheduler =
+    IsWorkedRun res_scheduler [] 6
+    (codes "0 A 0 GETR RES_SCHEDULER = 0"
+    ∷ codes "1 A 1 ACT B = 0"
+    ∷ codes "2 A 2 GETR RES_SCHEDULER = 1"
+    ∷ codes "3 A 3 RELR RES_SCHEDULER = 0"
+    ∷ codes "4 B 0 TERM = 0"
+    ∷ codes "5 A 4 TERM = 0"
+    ∷ [])
