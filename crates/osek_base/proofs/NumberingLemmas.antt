@@ -1,5 +1,5 @@
 -- The order of tasks, one priority at a time; and the places below a number.
-use Rattle.std.proofs.Common.{◌≡◌, ℕ, suc, List, [], ◌++◌, get_or, refl, ap, ◌∙◌, eqb, append_assoc}
+use Rattle.std.proofs.Common.{◌≡◌, ℕ, suc, List, [], ◌++◌, get_or, ap, ◌∙◌, eqb, append_assoc}
 use Rattle.std.specs.List.{filter}
 use Rattle.osek_base.specs.Lists.{below}
 use Rattle.osek_base.specs.Numbering.{order_below, places_of, task_order}

@@ -51,6 +51,7 @@ impl Name {
         }
     }
 
+    /// The text of the name.
     pub fn as_str(&self) -> &str
         ensures value { result.now ≡ self.now }
         ensures proper { IsTrue (is_proper_name self.now) }

@@ -59,6 +59,7 @@ impl System {
         Some(System { parts, ceilings })
     }
 
+    /// The names of the system's objects.
     pub fn names(&self) -> &Names
         ensures value { result.now ≡ self.now.names }
         ensures proper { IsProper self.now }
@@ -66,6 +67,7 @@ impl System {
         &self.parts.names
     }
 
+    /// How many tasks there are.
     pub fn task_count(&self) -> usize
         ensures value { result ≡ length self.now.tasks }
         ensures proper { IsProper self.now }
@@ -73,6 +75,7 @@ impl System {
         self.parts.tasks.len()
     }
 
+    /// How many routines there are.
     pub fn routine_count(&self) -> usize
         ensures value { result ≡ length self.now.routines }
         ensures proper { IsProper self.now }
@@ -80,6 +83,7 @@ impl System {
         self.parts.routines.len()
     }
 
+    /// How many declared resources there are.
     pub fn resource_count(&self) -> usize
         ensures value { result ≡ length self.now.resources }
         ensures proper { IsProper self.now }
@@ -87,6 +91,7 @@ impl System {
         self.parts.resources.len()
     }
 
+    /// How many alarms there are.
     pub fn alarm_count(&self) -> usize
         ensures value { result ≡ length self.now.alarms }
         ensures proper { IsProper self.now }
@@ -102,19 +107,21 @@ impl System {
         self.parts.names.modes.len()
     }
 
+    /// Which hooks are recorded.
     pub fn hooks(&self) -> Hooks
         ensures { result ≡ self.now.hooks }
     {
         self.parts.hooks
     }
 
+    /// Whether RES_SCHEDULER exists.
     pub fn has_res_scheduler(&self) -> bool
         ensures { result ≡ self.now.use_res_scheduler }
     {
         self.parts.use_res_scheduler
     }
 
-    /// The static priority of a task.
+    /// The static priority of a task, 0 to 31.
     pub fn priority_of(&self, task: TaskId) -> u8
         requires { task < length self.now.tasks }
         ensures { result ≡ priority_of self.now task }
@@ -132,6 +139,7 @@ impl System {
         task.activation
     }
 
+    /// Whether a task is extended: it lists an event.
     pub fn is_extended(&self, task: TaskId) -> bool
         ensures { result ≡ is_extended self.now task }
     {
@@ -156,6 +164,7 @@ impl System {
         task.lists(resource)
     }
 
+    /// Whether a declared resource is internal.
     pub fn is_internal(&self, resource: ResourceNumber) -> bool
         ensures { result ≡ is_internal self.now resource }
     {
@@ -169,7 +178,8 @@ impl System {
         self.ceilings.top
     }
 
-    /// The ceiling of a resource.
+    /// The ceiling of a resource: the greatest priority of the tasks that list it, 0 where none does; of RES_SCHEDULER the
+    /// greatest task priority.
     pub fn ceiling(&self, resource: ResId) -> u8
         ensures { result ≡ ceiling self.now resource }
     {
@@ -179,14 +189,15 @@ impl System {
         }
     }
 
-    /// The internal ceiling of a task, if it has one.
+    /// The internal ceiling of a task, if it has one: of a NON task the greatest task priority, else that of the internal
+    /// resource that it lists.
     pub fn internal_ceiling(&self, task: TaskId) -> Option<u8>
         ensures { result ≡ internal_ceiling self.now task }
     {
         self.ceilings.internal[task.number() as usize]
     }
 
-    /// The PRIORITY of a routine.
+    /// The PRIORITY of a routine, 0 to 31.
     pub fn routine_priority(&self, id: IsrId) -> u8
         requires { id < length self.now.routines }
         ensures { result ≡ (routine self.now id).priority }
@@ -195,7 +206,7 @@ impl System {
         routine.priority
     }
 
-    /// The length of a program.
+    /// How many instructions a task's or routine's program has, 1 to 1,024.
     pub fn program_len(&self, owner: Owner) -> usize
         requires { IsOwner self.now owner }
         ensures { result ≡ length (program self.now owner) }
@@ -248,7 +259,7 @@ impl System {
         self.parts.counter(alarm.counter)
     }
 
-    /// The ALARMTIME and CYCLETIME of an alarm that starts by itself in a mode.
+    /// The ALARMTIME and CYCLETIME, in counts, of an alarm that starts by itself in a mode.
     pub fn alarm_start(&self, mode: ModeId, id: AlarmId) -> Option<(u32, u32)>
         requires { id < length self.now.alarms }
         ensures { result ≡ alarm_start_in self.now mode id }

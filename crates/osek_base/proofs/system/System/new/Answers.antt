@@ -1,5 +1,5 @@
 -- The test is what proper means.
-use Rattle.osek_base.proofs.ProperLemmas.{is_proper-IsProper, IsProper-is_proper}
+use Rattle.osek_base.proofs.ProperLemmas.{is_proper-IsProper}
 use Rattle.std.proofs.Common.{refl, sym, ◌∙◌}
 use Rattle.osek_base.proofs.system.System.new.Goals as goal
 

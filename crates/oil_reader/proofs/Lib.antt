@@ -1,0 +1,15 @@
+pub mod Pieces
+pub mod OneMeaning
+pub mod Passes
+pub mod Lists
+pub mod Language
+pub mod Firsts
+pub mod Listed
+pub mod Scopes
+pub mod ObjectsListed
+pub mod Sound
+pub mod ObjectLists
+pub mod CheckedLemmas
+pub mod OneTree
+pub mod TextMeaning
+pub mod ProperNames

@@ -1,0 +1,13 @@
+pub mod Configuration
+pub mod Checked
+pub mod Tokens
+pub mod Grammar
+pub mod Table
+pub mod Attributes
+pub mod Order
+pub mod Meaning
+pub mod Faults
+pub mod Machine
+pub mod Checks
+pub mod Trees
+pub mod Rest

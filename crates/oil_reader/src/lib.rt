@@ -1,0 +1,24 @@
+//! Reads OIL, the configuration language of OSEK/VDX: a subset of OIL 2.5, and a PRIORITY for interrupt routines.
+//!
+//! Bytes become tokens (`tokens`), these a tree (`syntax`), whose faults are sought (`checks`, by the attributes of
+//! `table`), and a tree without a fault becomes the file that it means (`objects`).
+#![tactic(auto)]
+
+mod checks;
+mod fault;
+mod file;
+mod ident;
+mod objects;
+mod reading;
+mod syntax;
+mod table;
+#[cfg(test)]
+mod tests;
+mod tokens;
+
+pub use fault::OilFault;
+pub use file::{
+    ActionObject, AlarmObject, AlarmStartObject, CounterObject, EventObject, IsrObject, Mask,
+    OilFile, OilParts, Os, ResourceObject, TaskObject,
+};
+pub use reading::{one_meaning, read_oil};
