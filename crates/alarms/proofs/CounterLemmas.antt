@@ -1,0 +1,76 @@
+-- The counters and the starts of a proper system's alarms.
+use Rattle.std.proofs.Common.{ℕ, ◌≡◌, ◌<◌, ◌≤◌, inl, inr, Bool, true, ◌&&◌, ◌||◌, eqb, leb, List, length, Option, Some, None, sym, ◌∙◌, subst, arith}
+use Rattle.std.specs.List.{list_all}
+use Rattle.std.proofs.lemmas.Grind.{common_steps}
+use Rattle.std.proofs.lemmas.Bool.{cases_Bool, false≢true, and_parts, leb-true, ltb-true}
+use Rattle.std.proofs.lemmas.List.Folds.{list_all_at}
+use Rattle.std.specs.Prelude.{slice_index_or}
+use Rattle.osek_base.specs.declared.task.Counter.{Counter}
+use Rattle.osek_base.specs.Lists.{is_in}
+use Rattle.osek_base.specs.System.{System, AlarmStart, alarm, counter_of, no_alarm, no_counter, alarm_start_in, start_in}
+use Rattle.osek_base.specs.Proper.{IsProper, is_proper_alarm, is_proper_counter, is_proper_start}
+
+all_at : {X : Type 0} (test : X → Bool) (xs : List X) (i : ℕ) (d : X) → i < length xs → list_all test xs ≡ true → test (slice_index_or xs i d) ≡ true
+all_at test xs i d low all = elim (cases_Bool (test (slice_index_or xs i d))) [
+  | inl holds ↦ holds
+  | inr fails ↦ absurd (false≢true (sym (list_all_at test xs i d low fails) ∙ all))
+]
+
+alarm_proper : (S : System) (a : ℕ) → IsProper S → a < length S.alarms → is_proper_alarm S (alarm S a) ≡ true
+alarm_proper S a proper low = all_at (is_proper_alarm S) S.alarms a no_alarm low (and_parts _ _ proper.objects).1
+
+counter_proper : (S : System) (a : ℕ) → IsProper S → a < length S.alarms → is_proper_counter (counter_of S a) ≡ true
+counter_proper S a proper low =
+    let here = and_parts _ _ (and_parts _ _ (alarm_proper S a proper low)).0 in
+    let exists : (alarm S a).counter < length S.counters = ltb-true _ _ here.0 in
+    all_at is_proper_counter S.counters (alarm S a).counter no_counter exists (and_parts _ _ (and_parts _ _ proper.objects).0).1
+
+-- a counter has a base of a tick at least, and a round of at most 2 ^ 31 counts
+pub record IsSound (c : Counter) : Type 0 where
+  pub base : 1 ≤ c.ticks_per_base
+  pub round : c.max_allowed_value ≤ 2147483647
+
+pub sound : (S : System) (a : ℕ) → IsProper S → a < length S.alarms → IsSound (counter_of S a)
+sound S a proper low =
+    let all = counter_proper S a proper low in
+    let base = and_parts _ _ (and_parts _ _ all).0 in
+    let cycle = and_parts _ _ base.0 in
+    let least = and_parts _ _ cycle.0 in
+    let round = and_parts _ _ least.0 in
+    record { base = leb-true _ _ base.1; round = leb-true _ _ round.1 }
+
+-- there are at most 64 alarms
+pub few : (S : System) → IsProper S → length S.alarms ≤ 64
+few S proper = leb-true _ _ (and_parts _ _ (and_parts _ _ (and_parts _ _ proper.limits).0).0).1
+
+-- whether an alarm starts with a time and cycle that its counter allows
+start_proper : (S : System) (a : ℕ) → IsProper S → a < length S.alarms → is_proper_start S (counter_of S a) (alarm S a).autostart ≡ true
+start_proper S a proper low = (and_parts _ _ (alarm_proper S a proper low)).1
+
+cycle_low : (n least most : ℕ) → (eqb n 0 || (leb least n && leb n most)) ≡ true → n ≤ most
+cycle_low n least most h = grind (arith, common_steps)
+
+pub record IsLowStart (start : ℕ × ℕ) : Type 0 where
+  pub time : start.0 < 2147483648
+  pub cycle : start.1 < 2147483648
+
+low_start : (S : System) (mode : ℕ) (c : Counter) (s : Option AlarmStart) (found : ℕ × ℕ) → c.max_allowed_value ≤ 2147483647
+    → is_proper_start S c s ≡ true → start_in mode s ≡ Some found → IsLowStart found
+low_start S mode c None found round proper is = absurd (cc)
+low_start S mode c (Some s) found round proper is = elim (cases_Bool (is_in mode s.modes)) [
+  | inl here ↦
+      let both = and_parts (leb 1 s.time && leb s.time c.max_allowed_value) (eqb s.cycle 0 || (leb c.min_cycle s.cycle && leb s.cycle c.max_allowed_value)) (and_parts _ _ proper).0 in
+      let time : s.time ≤ c.max_allowed_value = leb-true s.time c.max_allowed_value (and_parts (leb 1 s.time) (leb s.time c.max_allowed_value) both.0).1 in
+      let cycle : s.cycle ≤ c.max_allowed_value = cycle_low s.cycle c.min_cycle c.max_allowed_value both.1 in
+      let found_is : Some (s.time, s.cycle) ≡ Some found = rw here at is in
+      let same : (s.time, s.cycle) ≡ found = cc in
+      subst IsLowStart same (record { time = omega arith; cycle = omega arith })
+  | inr away ↦
+      let found_is : None ≡ Some found = rw away at is in
+      absurd (cc)
+]
+
+pub start_low : (S : System) (mode a : ℕ) (found : ℕ × ℕ) → IsProper S → a < length S.alarms
+    → alarm_start_in S mode a ≡ Some found → IsLowStart found
+start_low S mode a found proper low is =
+    low_start S mode (counter_of S a) (alarm S a).autostart found (sound S a proper low).round (start_proper S a proper low) is

@@ -1,0 +1,2 @@
+mod CounterLemmas
+mod TableLemmas

@@ -1,0 +1,55 @@
+-- OSEK/VDX OS: alarms, counters and alarm management. The alarms of a system with their expiries, by counts that never wrap.
+use Rattle.std.specs.Prelude.{ℕ, ◌+◌, ◌-◌, ◌≡◌, if◌then◌else◌, List, Option, None, Some, length}
+use Rattle.osek_base.specs.declared.status.Status.{Status}
+use Rattle.osek_base.specs.declared.instr.Service.{Service}
+use Rattle.osek_base.specs.System.{System}
+use Rattle.osek_base.specs.State.{Expiry, State, still}
+use Rattle.osek_base.specs.Alarm.{count, expiry, is_due_at, renewed, due_alarms, alarms_advanced}
+use Rattle.osek_base.specs.Service.{NobodyCalls, refusals, first_refusal, answer, changed}
+
+-- an expiry for each alarm that is on, and the tick
+pub record AlarmTable : Type 0 where
+  pub expiries : List (Option Expiry)
+  pub tick : ℕ
+
+-- there are as many alarms as the system has
+abbrev pub IsTableOf : System → AlarmTable → Type 0
+IsTableOf S a = length a.expiries ≡ length S.alarms
+
+-- a state with these alarms at this tick, still in all else
+abbrev pub state_of : System → AlarmTable → State
+state_of S a = record (still S) { alarms = a.expiries; tick = a.tick }
+
+-- the refusal of a call, its status, and the expiries after it, by the service table
+abbrev pub refusal : System → AlarmTable → Service ℕ → Option Status
+refusal S a call = first_refusal (refusals S NobodyCalls (state_of S a) call)
+
+abbrev pub status_of : System → AlarmTable → Service ℕ → Status
+status_of S a call = answer (refusal S a call)
+
+abbrev pub after_call : System → AlarmTable → Service ℕ → AlarmTable
+after_call S a call = record a { expiries = (changed S NobodyCalls (state_of S a) call (refusal S a call)).alarms }
+
+-- how many counts an expiry is ahead of a count
+abbrev pub remaining_at : ℕ → Option Expiry → Option ℕ
+remaining_at n None = None
+remaining_at n (Some e) = Some (e.count - n)
+
+-- how many counts an alarm has before it expires, where it is on
+abbrev pub remaining_of : System → AlarmTable → ℕ → Option ℕ
+remaining_of S a i = remaining_at (count S (state_of S a) i) (expiry (state_of S a) i)
+
+-- an alarm at a count: where it is due, it expires
+abbrev pub expired_at : ℕ → Option Expiry → Option Expiry
+expired_at n e = if is_due_at n e then renewed e else e
+
+-- the next tick, with the alarms as they were
+abbrev pub next_tick : AlarmTable → AlarmTable
+next_tick a = record a { tick = a.tick + 1 }
+
+-- the alarms that are due, in declaration order, and the alarms once these have expired
+abbrev pub due_of : System → AlarmTable → List ℕ
+due_of S a = due_alarms S (state_of S a)
+
+abbrev pub expired : System → AlarmTable → AlarmTable
+expired S a = record a { expiries = alarms_advanced S (state_of S a) }

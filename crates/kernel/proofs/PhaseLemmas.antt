@@ -1,0 +1,48 @@
+-- What the phases of a tick leave.
+use Rattle.std.proofs.Common.{◌≡◌, ℕ, zero, suc, ◌+◌, ◌<◌, ◌≤◌, Bool, true, false, List, [], ◌∷◌, ◌++◌, length, cond, sym, ◌∙◌, ap, subst, refl, arith, replicate, slice_index}
+use Rattle.std.specs.Prelude.{Option, Some, None}
+use Rattle.std.specs.List.{filter, AllByRecursion}
+use Rattle.std.specs.Option.{option_map}
+use Rattle.osek_base.specs.Lists.{below}
+use Rattle.osek_base.specs.System.{System}
+use Rattle.osek_base.specs.State.{State, may_dispatch}
+use Rattle.osek_base.specs.Choice.{choice}
+use Rattle.osek_base.specs.Reschedule.{reschedule, id_of, jobs_entered}
+
+-- the state after a reschedule
+pub reschedule_on : (S : System) (s : State) → may_dispatch s ≡ true
+    → (reschedule S s).state ≡ record s { running = option_map id_of (choice S s.jobs); jobs = jobs_entered S (choice S s.jobs) s.jobs }
+unfolding reschedule
+reschedule_on S s may = rw may refl
+
+-- numbers below a limit
+below_all : (n m : ℕ) → n ≤ m → AllByRecursion (λ k. k < m) (below n)
+below_all zero m h = tt
+below_all (suc n) m h = push (below n) n (below_all n m (omega arith)) (omega arith)
+  where
+    push : (xs : List ℕ) (y : ℕ) → AllByRecursion (λ k. k < m) xs → y < m → AllByRecursion (λ k. k < m) (xs ++ y ∷ [])
+    push [] y all here = (here, tt)
+    push (x ∷ xs) y all here = (all.0, push xs y all.1 here)
+
+filter_more : (test : ℕ → Bool) (m x : ℕ) (xs : List ℕ) (b : Bool) → x < m → AllByRecursion (λ k. k < m) xs
+    → AllByRecursion (λ k. k < m) (cond b (x ∷ xs) xs)
+filter_more test m x xs true here all = (here, all)
+filter_more test m x xs false here all = all
+
+filter_all : (test : ℕ → Bool) (m : ℕ) (xs : List ℕ) → AllByRecursion (λ k. k < m) xs → AllByRecursion (λ k. k < m) (filter test xs)
+filter_all test m [] all = tt
+filter_all test m (x ∷ xs) all = filter_more test m x (filter test xs) (test x) all.0 (filter_all test m xs all.1)
+
+at_all : (m : ℕ) (xs : List ℕ) (i : ℕ) → i < length xs → AllByRecursion (λ k. k < m) xs → slice_index xs i < m
+at_all m [] i within all = absurd (omega arith)
+at_all m (x ∷ xs) zero within all = all.0
+at_all m (x ∷ xs) (suc i) within all = at_all m xs i (omega arith) all.1
+
+-- one of the numbers below a limit that pass a test
+pub filtered_below : (test : ℕ → Bool) (n i : ℕ) → i < length (filter test (below n)) → slice_index (filter test (below n)) i < n
+filtered_below test n i within = at_all n (filter test (below n)) i within (filter_all test n (below n) (below_all n n (omega arith)))
+
+pub zero_at : (n t : ℕ) → slice_index (replicate n 0) t ≤ 0
+zero_at zero t = omega arith
+zero_at (suc n) zero = omega arith
+zero_at (suc n) (suc t) = zero_at n t

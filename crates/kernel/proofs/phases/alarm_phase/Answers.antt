@@ -1,0 +1,19 @@
+use Rattle.std.proofs.Common.{◌≡◌, ◌<◌, ◌+◌, ◌∙◌, ap, get_or, List, ℕ, length, arith}
+use Rattle.std.proofs.lemmas.List.{get_or_default}
+use Rattle.osek_base.specs.Alarm.{is_due, due_alarms}
+use Rattle.services.specs.Objects.{state_of, no_words}
+use Rattle.kernel.proofs.PhaseLemmas.{filtered_below}
+use Rattle.kernel.proofs.phases.alarm_phase.Goals as goal
+
+pub alarm_acts-requires-clause-alarm : goal.alarm_acts-requires-clause-alarm
+alarm_acts-requires-clause-alarm c =
+    let S = c.args.system.now in
+    let o = c.args.core.now in
+    let i = c.loop-number.number in
+    let s = state_of no_words (record o { tick = o.tick + 1 }) in
+    let same : c.deref.result.now ≡ due_alarms S s = c.deref.ensures.0 ∙ c.advance.ensures.due in
+    let size_of_due = ap (λ (v : List ℕ). length v) c.advance.ensures.due in
+    let within : i < length (due_alarms S s) = omega (arith, c.loop-number-test.true, c.len-number-end.ensures.value, size_of_due) in
+    let is = c.index-deref-number.is ∙ ap (λ (v : List ℕ). get_or v i c.index-deref-number.result) same
+    ∙ get_or_default (due_alarms S s) i c.index-deref-number.result 0 within in
+    omega (arith, is, filtered_below (is_due S s) (length S.alarms) i within)

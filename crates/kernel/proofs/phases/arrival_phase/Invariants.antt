@@ -1,0 +1,14 @@
+use Rattle.std.proofs.Common.{◌≡◌, ◌≤◌, ◌-◌, length}
+use Rattle.services.specs.Objects.{Fit}
+use Rattle.kernel.proofs.phases.arrival_phase.Given as goal
+
+-- what is left of the list
+abbrev pub decreases-loop-next : goal.decreases-loop-next
+decreases-loop-next l = length l.list - l.next
+
+abbrev pub invariant-loop-next : goal.invariant-loop-next
+invariant-loop-next l = record {
+  fit : Fit l.system l.core;
+  others : l.core ≡ record l.initial.core { pending = l.core.pending };
+  bound : l.next ≤ length l.list;
+}

@@ -1,0 +1,160 @@
+//! OSEK/VDX OS: system start-up; application modes. The kernel: boot, and ticks.
+
+ghost use Rattle.std.specs.Prelude.{◌≡◌, ◌<◌, ◌≤◌, ◌+◌, ◌++◌, ◌↔◌, false, Some, None, IfOk, length};
+ghost use Rattle.osek_base.specs.Names.{number_of};
+ghost use Rattle.kernel.specs.declared.kernel.BootFault.{BootFault};
+ghost use Rattle.kernel.specs.Run.{Run, AreKnown, IsStarted, is_over};
+
+use crate::dispatch::reschedule;
+use crate::execution::execute_phase;
+use crate::phases::{alarm_phase, arrival_phase, start_phase};
+use machine::Windows;
+use osek_base::{Arrivals, ModeId, Owner, System, TaskId, TickRecord, TraceEvent};
+use services::{Core, activate};
+use std::alloc::{AllocError, Global};
+use std::marker::Model;
+use std::mem;
+use thiserror::Error;
+
+/// How many ticks a run has at most.
+const TICKS: u32 = 1_000_000;
+
+/// Why a system isn't booted.
+#[derive(Clone, Copy, Debug, PartialEq, Eq, Error)]
+pub enum BootFault {
+    /// The system has no application mode of that name.
+    #[error("fault 1")]
+    UnknownMode,
+    /// A growth was refused.
+    #[error("memory")]
+    Memory,
+}
+
+impl From<AllocError> for BootFault {
+    ghost use Rattle.kernel.specs.declared.kernel.BootFault.TheVariants.{Memory};
+
+    ghost from_gives = { λ _ r. r ≡ Memory };
+
+    fn from(_: AllocError) -> Self {
+        BootFault::Memory
+    }
+}
+
+/// A kernel that runs a system from boot in a mode, with the interrupts of a list of arrivals.
+#[derive(Drop)]
+pub struct Kernel<'s> {
+    system: &'s System,
+    mode: ModeId,
+    arrivals: Arrivals,
+    arrived: usize,
+    ticks: u32,
+    core: Core,
+    windows: Windows,
+    opening: TickRecord,
+}
+
+impl<'s> Model for Kernel<'s> {
+    ghost use Rattle.kernel.specs.Run.{Run, IsKept};
+
+    ghost Value = { Run };
+
+    ghost view = { λ k. record {
+      system = k.system.now;
+      mode = k.mode;
+      arrivals = k.arrivals;
+      ticks = k.ticks;
+      shut_down = k.core.over;
+    } };
+
+    ghost invariant = { λ k. IsKept k.system.now k.arrivals k.arrived k.ticks k.core k.opening };
+}
+
+/// The objects of a system that is booted in a mode: its tasks of the mode are activated by number, its alarms of the mode
+/// are set.
+fn started(alloc: Global, system: &System, mode: ModeId) -> Result<Core, AllocError>
+    ensures { IfOk result (λ o. IsStarted system.now o) }
+{
+    let mut core = Core::new(alloc, system)?;
+    core.start_alarms(system, mode);
+    for number in 0..system.task_count() {
+        let task = TaskId::new(number as u8);
+        if system.starts_in(mode, task) {
+            let _status = activate(&mut core, system, task);
+        }
+    }
+    Ok(core)
+}
+
+impl<'s> Kernel<'s> {
+    /// Boots a system in the application mode of that name.
+    pub fn boot(
+        alloc: Global,
+        system: &'s System,
+        mode: &str,
+        arrivals: Arrivals,
+    ) -> Result<Self, BootFault>
+        requires { AreKnown system.now arrivals }
+        ensures booted { IfOk result (λ k. (k.system ≡ system.now) × (k.arrivals ≡ arrivals) × (k.ticks ≡ 0) × (number_of mode.now system.now.names.modes ≡ Some k.mode)) }
+        ensures unknown { (result ≡ Err BootFault.UnknownMode) ↔ (number_of mode.now system.now.names.modes ≡ None) }
+    {
+        let Some(mode) = system.names().mode(mode) else {
+            return Err(BootFault::UnknownMode);
+        };
+        let mut core = started(alloc, system, mode)?;
+        let mut opening = TickRecord::new();
+        if system.hooks().startup {
+            opening.push(TraceEvent::Startup);
+        }
+        reschedule(&mut core, system, &mut opening);
+        Ok(Kernel {
+            system,
+            mode,
+            arrivals,
+            arrived: 0,
+            ticks: 0,
+            core,
+            windows: Windows::new(),
+            opening,
+        })
+    }
+
+    /// Whether the run is over: after a ShutdownOS, or when 1,000,000 ticks are done.
+    pub fn is_over(&self) -> bool
+        ensures { result ≡ is_over self.now }
+    {
+        TICKS <= self.ticks || self.core.is_over()
+    }
+
+    /// The word of a task's or routine's window at an index below 64.
+    pub fn word(&self, owner: Owner, index: u32) -> u32
+        requires { index < 64 }
+    {
+        self.windows.word(owner, index as u8)
+    }
+
+    /// Does one tick, and answers its records. It takes no memory and never fails.
+    pub fn tick(&mut self) -> TickRecord
+        requires { is_over self.old ≡ false }
+        ensures { self.new ≡ record self.old { ticks = self.old.ticks + 1; shut_down = self.new.shut_down } }
+    {
+        let mut record_of_tick = mem::replace(&mut self.opening, TickRecord::new());
+        let list = self.arrivals.list();
+        if 0 < self.ticks {
+            alarm_phase(&mut self.core, self.system, &mut record_of_tick);
+        }
+        self.arrived = arrival_phase(&mut self.core, self.system, list, self.arrived, self.ticks);
+        reschedule(&mut self.core, self.system, &mut record_of_tick);
+        start_phase(&mut self.core, self.system);
+        execute_phase(
+            &mut self.core,
+            &mut self.windows,
+            self.system,
+            &mut record_of_tick,
+        );
+        if !self.core.is_over() {
+            reschedule(&mut self.core, self.system, &mut record_of_tick); // after the instruction
+        }
+        self.ticks += 1;
+        record_of_tick
+    }
+}

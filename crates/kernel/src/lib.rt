@@ -1,0 +1,11 @@
+//! OSEK/VDX OS: a kernel on one plain list of jobs. It is booted in an application mode, and then runs tick by tick.
+#![tactic(auto)]
+
+mod dispatch;
+mod execution;
+mod kernel;
+mod phases;
+#[cfg(test)]
+mod tests;
+
+pub use kernel::{BootFault, Kernel};

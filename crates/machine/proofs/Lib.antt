@@ -1,0 +1,2 @@
+mod WindowLemmas
+pub mod ExecutionLemmas

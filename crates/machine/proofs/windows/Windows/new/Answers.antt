@@ -1,0 +1,5 @@
+use Rattle.machine.proofs.WindowLemmas.{word_zeros}
+use Rattle.machine.proofs.windows.Windows.new.Goals as goal
+
+pub returns : goal.returns
+returns c = λ o i. word_zeros 3072 o i

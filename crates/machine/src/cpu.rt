@@ -1,0 +1,182 @@
+//! The eight registers and the place of who executes.
+
+ghost use Rattle.std.specs.Prelude.{◌≡◌, ◌<◌, ◌+◌, length};
+ghost use Rattle.osek_base.specs.Instruction.{value, next, with_value};
+ghost use Rattle.osek_base.specs.State.{fresh_context};
+ghost use Rattle.osek_base.specs.Tick.{answered, at_values, status_number, with_results};
+
+use osek_base::{Place, Register, Results, Service, Status};
+use std::marker::Model;
+
+/// The eight registers of 32 bits and the place in the program. Contracts see both as one context.
+#[derive(Drop)]
+pub struct Cpu {
+    registers: [u32; 8],
+    place: Place,
+}
+
+impl Model for Cpu {
+    ghost use Rattle.osek_base.specs.Instruction.{Context};
+
+    ghost Value = { Context };
+
+    ghost view = { λ c. record { registers = c.registers; place = c.place } };
+}
+
+/// The registers and the place that were saved of a job. Contracts see them as one context.
+#[derive(Drop)]
+pub struct Saved {
+    registers: [u32; 8],
+    place: Place,
+}
+
+impl Model for Saved {
+    ghost use Rattle.osek_base.specs.Instruction.{Context};
+
+    ghost Value = { Context };
+
+    ghost view = { λ s. record { registers = s.registers; place = s.place } };
+}
+
+impl Saved {
+    /// What a job has that hasn't begun: the registers and the place are 0.
+    pub fn fresh() -> Self
+        ensures { result ≡ fresh_context }
+    {
+        Saved {
+            registers: [0; 8],
+            place: Place::new(0),
+        }
+    }
+}
+
+impl Cpu {
+    /// The registers and the place are 0.
+    pub fn new() -> Self
+        ensures { result ≡ fresh_context }
+    {
+        Cpu {
+            registers: [0; 8],
+            place: Place::new(0),
+        }
+    }
+
+    /// The place of the next instruction, counted from 0.
+    pub fn place(&self) -> Place
+        ensures { result ≡ self.now.place }
+    {
+        self.place
+    }
+
+    /// The value of a register.
+    pub fn value(&self, register: Register) -> u32
+        ensures { result ≡ value self.now register }
+    {
+        self.registers[register.number() as usize]
+    }
+
+    /// Gives a register a value; the place stays.
+    pub fn set(&mut self, register: Register, new: u32)
+        ensures { self.new ≡ with_value self.old register new }
+    {
+        self.registers[register.number() as usize] = new;
+    }
+
+    /// Goes on to the next instruction; the registers stay.
+    pub fn go_on(&mut self)
+        requires { self.old.place + 1 < 1024 }
+        ensures { self.new ≡ next self.old }
+    {
+        self.place = self.place.next();
+    }
+
+    /// Goes on at a place; the registers stay.
+    pub fn jump(&mut self, to: Place)
+        ensures { self.new ≡ record self.old { place = to } }
+    {
+        self.place = to;
+    }
+
+    /// Takes what a service answers: the status into r0, the results into r1 to r3. Goes on to the next instruction.
+    pub fn answer(&mut self, status: Status, results: Results)
+        requires { self.old.place + 1 < 1024 }
+        ensures { self.new ≡ answered status results self.old }
+    {
+        self.set(Register::new(0), number_of(status));
+        match results {
+            Results::Nothing => {}
+            Results::One(a) => self.set(Register::new(1), a),
+            Results::Three(a, b, c) => {
+                self.set(Register::new(1), a);
+                self.set(Register::new(2), b);
+                self.set(Register::new(3), c);
+            }
+        }
+        self.go_on();
+    }
+
+    /// A service of a program with the values of its registers.
+    pub fn with_values(&self, service: &Service<Register>) -> Service<u32>
+        ensures { result ≡ at_values self.now service.now }
+    {
+        match *service {
+            Service::ActivateTask(task) => Service::ActivateTask(task),
+            Service::TerminateTask => Service::TerminateTask,
+            Service::ChainTask(task) => Service::ChainTask(task),
+            Service::Schedule => Service::Schedule,
+            Service::GetTaskId => Service::GetTaskId,
+            Service::GetTaskState(task) => Service::GetTaskState(task),
+            Service::GetResource(resource) => Service::GetResource(resource),
+            Service::ReleaseResource(resource) => Service::ReleaseResource(resource),
+            Service::SetEvent(task, mask) => Service::SetEvent(task, mask),
+            Service::ClearEvent(mask) => Service::ClearEvent(mask),
+            Service::GetEvent(task) => Service::GetEvent(task),
+            Service::WaitEvent(mask) => Service::WaitEvent(mask),
+            Service::SetRelAlarm(alarm, increment, cycle) => {
+                Service::SetRelAlarm(alarm, self.value(increment), self.value(cycle))
+            }
+            Service::SetAbsAlarm(alarm, start, cycle) => {
+                Service::SetAbsAlarm(alarm, self.value(start), self.value(cycle))
+            }
+            Service::CancelAlarm(alarm) => Service::CancelAlarm(alarm),
+            Service::GetAlarm(alarm) => Service::GetAlarm(alarm),
+            Service::GetAlarmBase(alarm) => Service::GetAlarmBase(alarm),
+        }
+    }
+
+    /// A copy of the registers and the place.
+    pub fn save(&self) -> Saved
+        ensures { result ≡ self.now }
+    {
+        Saved {
+            registers: self.registers,
+            place: self.place,
+        }
+    }
+
+    /// Takes saved registers and their place.
+    pub fn load(&mut self, saved: &Saved)
+        ensures { self.new ≡ saved.now }
+    {
+        self.registers = saved.registers;
+        self.place = saved.place;
+    }
+}
+
+/// The number of a status, as r0 shows it.
+fn number_of(status: Status) -> u32
+    ensures { result ≡ status_number status }
+{
+    match status {
+        Status::Ok => 0,
+        Status::Access => 1,
+        Status::CallLevel => 2,
+        Status::Id => 3,
+        Status::Limit => 4,
+        Status::NoFunc => 5,
+        Status::Resource => 6,
+        Status::State => 7,
+        Status::Value => 8,
+        Status::SysDisabled => 32,
+    }
+}

@@ -1,0 +1,97 @@
+//! The plain instructions.
+
+ghost use Rattle.std.specs.Prelude.{◌≡◌, ◌<◌, ◌+◌, ◌%◌, ℕ};
+ghost use Rattle.osek_base.specs.declared.ids.Owner.{Owner};
+ghost use Rattle.osek_base.specs.Instruction.{plain, sets, operate, holds};
+ghost use Rattle.osek_base.specs.State.{words_after};
+ghost use Rattle.machine.specs.Windows.{word};
+ghost use Rattle.machine.specs.Execution.{HasNext};
+
+use crate::cpu::Cpu;
+use crate::windows::Windows;
+use osek_base::{Comparison, Effect, Operation, Owner, Plain, Register};
+
+/// Executes a plain instruction of an owner. A load reads one word of the owner's own window, a store writes one, at the
+/// address modulo 64; no other word is touched. Sums, differences and products wrap. At the last place only a jump may stand.
+pub fn exec_plain(cpu: &mut Cpu, windows: &mut Windows, owner: Owner, instruction: &Plain) -> Effect
+    requires { HasNext instruction.now cpu.old }
+    ensures effect { result ≡ (plain instruction.now cpu.old (word windows.old owner)).effect }
+    ensures context { cpu.new ≡ (plain instruction.now cpu.old (word windows.old owner)).context }
+    ensures words { (o : Owner) (i : ℕ) → word windows.new o i ≡ words_after (word windows.old) owner result o i }
+{
+    match *instruction {
+        Plain::Nop => {
+            cpu.go_on();
+            Effect::Nothing
+        }
+        Plain::Li(to, number) => set(cpu, to, number),
+        Plain::Mov(to, from) => set(cpu, to, cpu.value(from)),
+        Plain::Compute(operation, to, a, b) => {
+            set(cpu, to, compute(operation, cpu.value(a), cpu.value(b)))
+        }
+        Plain::Ld(to, address) => set(cpu, to, windows.word(owner, index_of(cpu.value(address)))),
+        Plain::St(address, from) => {
+            let index = index_of(cpu.value(address));
+            let stored = cpu.value(from);
+            windows.store(owner, index, stored);
+            cpu.go_on();
+            Effect::Stored(index, stored)
+        }
+        Plain::Jmp(to) => {
+            cpu.jump(to);
+            Effect::Nothing
+        }
+        Plain::JumpIf(test, a, b, to) => {
+            if compare(test, cpu.value(a), cpu.value(b)) {
+                cpu.jump(to);
+            } else {
+                cpu.go_on();
+            }
+            Effect::Nothing
+        }
+    }
+}
+
+/// Gives a register a value, which is shown, and goes on.
+fn set(cpu: &mut Cpu, to: Register, new: u32) -> Effect
+    requires { cpu.old.place + 1 < 1024 }
+    ensures effect { result ≡ (sets cpu.old to new).effect }
+    ensures context { cpu.new ≡ (sets cpu.old to new).context }
+{
+    cpu.set(to, new);
+    cpu.go_on();
+    Effect::Value(new)
+}
+
+/// The index that an address means in a window.
+fn index_of(address: u32) -> u8
+    ensures value { result ≡ address % 64 }
+    ensures low { result < 64 }
+{
+    (address % 64) as u8
+}
+
+/// Sums, differences and products of 32 bits wrap.
+fn compute(operation: Operation, a: u32, b: u32) -> u32
+    ensures { result ≡ operate operation a b }
+{
+    match operation {
+        Operation::Add => a.wrapping_add(b),
+        Operation::Sub => a.wrapping_sub(b),
+        Operation::Mul => a.wrapping_mul(b),
+        Operation::And => a & b,
+        Operation::Or => a | b,
+        Operation::Xor => a ^ b,
+    }
+}
+
+/// Whether a jump is taken.
+fn compare(test: Comparison, a: u32, b: u32) -> bool
+    ensures { result ≡ holds test a b }
+{
+    match test {
+        Comparison::Equal => a == b,
+        Comparison::NotEqual => a != b,
+        Comparison::Less => a < b,
+    }
+}

@@ -1,0 +1,13 @@
+//! The modelled processor, no part of the standards: registers, windows of words, and the plain instructions on them.
+#![tactic(auto)]
+
+mod cpu;
+mod execution;
+mod windows;
+
+pub use cpu::{Cpu, Saved};
+pub use execution::exec_plain;
+pub use windows::Windows;
+
+#[cfg(test)]
+mod tests;

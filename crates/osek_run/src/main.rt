@@ -1,0 +1,47 @@
+//! `osek_run`: runs a system that an OIL file and programs describe, and prints its trace.
+#![tactic(auto)]
+
+mod answering;
+mod host_files;
+mod request;
+#[cfg(test)]
+mod tests;
+
+use answering::{REFUSED, REFUSED_LINE, command};
+use host_files::HostFiles;
+use std::env;
+use std::io::{self, BufWriter, ErrorKind, Write};
+use std::process::ExitCode;
+
+/// The words of the command line.
+fn words(rt: &HostRuntime) -> io::Result<Vec<String>> {
+    let words = env::args(rt)?.collect(rt.alloc())?;
+    Ok(words)
+}
+
+/// Answers the command line over the real files and streams. Output is buffered.
+fn answer(rt: &HostRuntime, err: &mut impl Write) -> io::Result<u8> {
+    let words = words(rt)?;
+    let mut out = BufWriter::new(rt.alloc(), rt.stdout())?;
+    let mut files = HostFiles::new(rt);
+    let status = command(rt.alloc(), words.as_slice(), &mut files, &mut out, err);
+    // What a failed write left is not tried again.
+    let (_stdout, _unwritten) = out.into_parts();
+    Ok(status)
+}
+
+fn main(rt: HostRuntime) -> ExitCode {
+    let mut err = rt.stderr();
+    let status = match answer(&rt, &mut err) {
+        Ok(status) => status,
+        Err(error) if error.kind() == ErrorKind::OutOfMemory => {
+            let _ = writeln!(err, "memory");
+            REFUSED
+        }
+        Err(_) => {
+            let _ = writeln!(err, "error: a word of the command line is not UTF-8");
+            REFUSED_LINE
+        }
+    };
+    ExitCode::from(status)
+}

@@ -1,0 +1,146 @@
+//! The resources of one job.
+
+ghost use Rattle.std.specs.Prelude.{◌≡◌, ◌<◌, [], ◌∷◌, ◌++◌, IsFalse, length, map};
+ghost use Rattle.osek_base.specs.Lists.{is_empty, greatest, same_resource};
+ghost use Rattle.osek_base.specs.Ceiling.{ceiling};
+ghost use Rattle.resources.specs.Held.{is_held, is_last, IsLow, number_of, priority_with, release_status, released};
+
+use arrayvec::ArrayVec;
+use osek_base::{ResId, ResourceNumber, Status, System, TaskId};
+use std::marker::Model;
+
+/// What one job holds: at most the 32 declared resources and RES_SCHEDULER, each once. Contracts see the list in the
+/// order got.
+#[derive(Drop)]
+pub struct Held {
+    resources: ArrayVec<ResId, 33>,
+}
+
+impl Model for Held {
+    ghost use Rattle.std.specs.Prelude.{List};
+    ghost use Rattle.osek_base.specs.declared.ids.ResId.{ResId};
+    ghost use Rattle.resources.specs.Held.{IsEachOnce};
+
+    ghost Value = { List ResId };
+
+    ghost view = { λ h. h.resources.items };
+
+    ghost invariant = { λ h. IsEachOnce h.resources.items };
+}
+
+impl Held {
+    /// Nothing is held.
+    pub fn new() -> Self
+        ensures { result ≡ [] }
+    {
+        Held {
+            resources: ArrayVec::new(),
+        }
+    }
+
+    /// Gets a resource that isn't held: it is the last.
+    pub fn get(&mut self, resource: ResId)
+        requires { IsFalse (is_held resource self.old) }
+        ensures { self.new ≡ self.old ++ resource ∷ [] }
+    {
+        let number = number_of(&resource);
+        prove!(number <= ResourceNumber::LIMIT);
+        self.resources.push(resource);
+    }
+
+    /// Releases the resource that was got last. Another one is refused with E_OS_NOFUNC, and nothing changes.
+    pub fn release(&mut self, resource: ResId) -> Status
+        ensures status { result ≡ release_status resource self.old }
+        ensures held { self.new ≡ released resource self.old }
+    {
+        if self.is_last(resource) {
+            self.resources.pop();
+            Status::Ok
+        } else {
+            Status::NoFunc
+        }
+    }
+
+    /// The dynamic priority of a job of the task that holds this: the greatest of the task's priority, the ceilings of
+    /// the resources and, where `taken`, the task's internal ceiling.
+    pub fn dynamic(&self, system: &System, task: TaskId, taken: bool) -> u8
+        requires { task < length system.now.tasks }
+        ensures { result ≡ priority_with system.now task self.now taken }
+    {
+        let internal = if taken {
+            system.internal_ceiling(task).unwrap_or(0)
+        } else {
+            0
+        };
+        let declared = highest_ceiling(system, self.resources.as_slice());
+        system.priority_of(task).max(declared.max(internal))
+    }
+
+    /// Whether nothing is held.
+    pub fn holds_none(&self) -> bool
+        ensures { result ≡ is_empty self.now }
+    {
+        self.resources.is_empty()
+    }
+
+    /// Whether a resource is held.
+    pub fn holds(&self, resource: ResId) -> bool
+        ensures { result ≡ is_held resource self.now }
+    {
+        self.resources.iter().any(|held| is_same(resource, *held))
+    }
+
+    /// What is held, in the order got.
+    pub fn held(&self) -> &[ResId]
+        ensures { result.now ≡ self.now }
+    {
+        self.resources.as_slice()
+    }
+
+    /// Whether a resource is the one that was got last.
+    fn is_last(&self, resource: ResId) -> bool
+        ensures { result ≡ is_last resource self.now }
+    {
+        match self.resources.as_slice().last() {
+            None => false,
+            Some(last) => is_same(*last, resource),
+        }
+    }
+}
+
+/// The greatest ceiling of some resources, 0 where there is none.
+fn highest_ceiling(system: &System, resources: &[ResId]) -> u8
+    ensures { result ≡ greatest (map (ceiling system.now) resources.now) }
+{
+    match resources.split_first() {
+        None => 0,
+        Some((first, rest)) => highest_ceiling(system, rest).max(system.ceiling(*first)),
+    }
+}
+
+/// Whether two resources are the same.
+fn is_same(a: ResId, b: ResId) -> bool
+    ensures { result ≡ same_resource a b }
+{
+    match a {
+        ResId::Declared(m) => match b {
+            ResId::Declared(n) => m.number() == n.number(),
+            ResId::Scheduler => false,
+        },
+        ResId::Scheduler => match b {
+            ResId::Declared(_) => false,
+            ResId::Scheduler => true,
+        },
+    }
+}
+
+/// A number of at most 32 for each resource, which tells it apart.
+fn number_of(resource: &ResId) -> u8
+    ensures value { result ≡ number_of resource.now }
+    ensures low { IsLow resource.now }
+{
+    match resource {
+        ResId::Declared(number) => number.number(),
+        ResId::Scheduler => ResourceNumber::LIMIT,
+    }
+}

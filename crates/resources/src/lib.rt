@@ -1,0 +1,9 @@
+//! OSEK/VDX OS: resource management, priority ceiling protocol. What one job holds.
+#![tactic(auto)]
+
+mod held;
+
+pub use held::Held;
+
+#[cfg(test)]
+mod tests;

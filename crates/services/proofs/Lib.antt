@@ -1,0 +1,7 @@
+pub mod JobLemmas
+pub mod ChoiceLemmas
+pub mod SoundLemmas
+pub mod FitLemmas
+pub mod PlaceLemmas
+pub mod ReleaseLemmas
+pub mod ServiceLemmas

@@ -1,0 +1,23 @@
+-- OIL: names of objects. The names that a system keeps.
+use Rattle.std.specs.Prelude.{◌≡◌, ℕ, List, [], map, slice_get}
+use Rattle.std.specs.Option.{option_map_or}
+use Rattle.osek_base.specs.Names.{Names}
+use Rattle.osek_base.specs.Numbering.{task_order}
+use Rattle.oil_reader.specs.Configuration.{Configuration, TaskRecord}
+
+-- the name of the task at a declared place
+abbrev pub task_name : List TaskRecord → ℕ → List ℕ
+task_name tasks place = option_map_or (λ t. t.name) (slice_get tasks place) []
+
+-- the declared places of tasks in the order of their numbers: by falling priority, ties in declaration order
+abbrev pub order_of : List TaskRecord → List ℕ
+order_of tasks = task_order (map (λ t. t.priority) tasks)
+
+-- the names of the objects of a file: tasks by their numbers, all else in the order of declaration
+pub record AreNamesOf (f : Configuration) (names : Names) : Type 0 where
+  pub tasks : names.tasks ≡ map (task_name f.tasks) (order_of f.tasks)
+  pub routines : names.routines ≡ map (λ o. o.name) f.routines
+  pub resources : names.resources ≡ map (λ o. o.name) f.resources
+  pub events : names.events ≡ map (λ o. o.name) f.events
+  pub alarms : names.alarms ≡ map (λ o. o.name) f.alarms
+  pub modes : names.modes ≡ f.app_modes

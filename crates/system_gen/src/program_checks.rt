@@ -1,0 +1,195 @@
+//! The modelled processor, no part of the standards. What generation refuses in programs.
+
+ghost use Rattle.std.specs.Prelude.{◌≡◌, OnOk, IfErr, IfSome, None, is_some, length, option_copied};
+ghost use Rattle.std.specs.List.{find, list_all, list_any};
+ghost use Rattle.system_gen.specs.Checks.{IsFoundOrMemory};
+ghost use Rattle.system_gen.specs.Programs.{
+  is_closed,
+  is_end,
+  jumps_below,
+  ends_well,
+  is_return,
+  returns_well,
+  is_kind,
+  is_program_of,
+  end_fault,
+  return_fault,
+  task_program_fault,
+  routine_program_fault,
+};
+
+use crate::fault::GenFault;
+use oil_reader::{IsrObject, TaskObject};
+use osek_base::{Control, Name, Plain};
+use task_asm::{NamedInstr, NamedLine, NamedProgram, ProgramKind};
+
+/// The program of the task or routine of that name.
+pub(crate) fn program_of<'a>(
+    kind: ProgramKind,
+    name: &Name,
+    programs: &'a [NamedProgram],
+) -> Option<&'a NamedProgram>
+    ensures found { is_some result ≡ list_any (is_program_of kind name.now) programs.now }
+    ensures value { option_copied result ≡ find (is_program_of kind name.now) programs.now }
+{
+    for program in programs {
+        if is_program_of(kind, name, program) {
+            return Some(program);
+        }
+    }
+    None
+}
+
+fn is_program_of(kind: ProgramKind, name: &Name, program: &NamedProgram) -> bool
+    ensures { result ≡ is_program_of kind name.now program.now }
+{
+    is_kind(program.kind, kind) && program.name.as_str() == name.as_str()
+}
+
+fn is_kind(one: ProgramKind, other: ProgramKind) -> bool
+    ensures { result ≡ is_kind one other }
+{
+    match (one, other) {
+        (ProgramKind::Task, ProgramKind::Task) => true,
+        (ProgramKind::Routine, ProgramKind::Routine) => true,
+        _ => false,
+    }
+}
+
+/// Each task has a program.
+pub(crate) fn check_task_programs(
+    tasks: &[TaskObject],
+    programs: &[NamedProgram],
+) -> Result<(), GenFault>
+    ensures passed { OnOk result (task_program_fault programs.now tasks.now ≡ None) }
+    ensures refused { IfErr result (IsFoundOrMemory (task_program_fault programs.now tasks.now)) }
+{
+    for task in tasks {
+        if !has_program(ProgramKind::Task, &task.name, programs) {
+            return Err(GenFault::NoProgram(task.name.clone()?));
+        }
+    }
+    Ok(())
+}
+
+/// Each routine has a program.
+pub(crate) fn check_routine_programs(
+    routines: &[IsrObject],
+    programs: &[NamedProgram],
+) -> Result<(), GenFault>
+    ensures passed { OnOk result (routine_program_fault programs.now routines.now ≡ None) }
+    ensures refused { IfErr result (IsFoundOrMemory (routine_program_fault programs.now routines.now)) }
+{
+    for routine in routines {
+        if !has_program(ProgramKind::Routine, &routine.name, programs) {
+            return Err(GenFault::NoProgram(routine.name.clone()?));
+        }
+    }
+    Ok(())
+}
+
+fn has_program(kind: ProgramKind, name: &Name, programs: &[NamedProgram]) -> bool
+    ensures { result ≡ list_any (is_program_of kind name.now) programs.now }
+{
+    programs
+        .iter()
+        .any(|program| is_program_of(kind, name, program))
+}
+
+/// No program can be left.
+pub(crate) fn check_ends(programs: &[NamedProgram]) -> Result<(), GenFault>
+    ensures passed { OnOk result (end_fault programs.now ≡ None) }
+    ensures refused { IfErr result (IsFoundOrMemory (end_fault programs.now)) }
+{
+    for program in programs {
+        if !is_closed(program) {
+            return Err(GenFault::LastNotJump(program.name.clone()?));
+        }
+    }
+    Ok(())
+}
+
+/// Whether a program can't be left, neither at its end nor by a jump.
+#[tactic(auto, unfolding(crate::specs::Programs::is_closed))]
+fn is_closed(program: &NamedProgram) -> bool
+    ensures { result ≡ is_closed program.now }
+{
+    let end = ends_well(program);
+    let jumps = jumps_within(program.lines.as_slice());
+    end && jumps && program.lines.len() <= 1024
+}
+
+fn jumps_within(lines: &[NamedLine]) -> bool
+    ensures { result ≡ list_all (jumps_below (length lines.now)) lines.now }
+{
+    let size = lines.len();
+    lines.iter().all(|line| jumps_below(size, line.instr()))
+}
+
+/// Whether an instruction jumps to a place below a number, if it jumps.
+fn jumps_below(size: usize, instr: &NamedInstr) -> bool
+    ensures { result ≡ jumps_below size instr.now }
+{
+    match instr {
+        NamedInstr::Plain(Plain::Jmp(to)) => usize::from(to.number()) < size,
+        NamedInstr::Plain(Plain::JumpIf(_, _, _, to)) => usize::from(to.number()) < size,
+        _ => true,
+    }
+}
+
+fn ends_well(program: &NamedProgram) -> bool
+    ensures { result ≡ ends_well program.now }
+{
+    match program.lines.last() {
+        None => false,
+        Some(line) => is_end(line.instr()),
+    }
+}
+
+/// Whether no instruction follows on this one.
+fn is_end(instr: &NamedInstr) -> bool
+    ensures { result ≡ is_end instr.now }
+{
+    match instr {
+        NamedInstr::Plain(Plain::Jmp(_)) => true,
+        NamedInstr::Control(Control::ReturnFromInterrupt) => true,
+        _ => false,
+    }
+}
+
+/// Only a routine returns from an interrupt.
+pub(crate) fn check_returns(programs: &[NamedProgram]) -> Result<(), GenFault>
+    ensures passed { OnOk result (return_fault programs.now ≡ None) }
+    ensures refused { IfErr result (IsFoundOrMemory (return_fault programs.now)) }
+{
+    for program in programs {
+        if !returns_well(program) {
+            return Err(GenFault::RetiInTask(program.name.clone()?));
+        }
+    }
+    Ok(())
+}
+
+fn returns_well(program: &NamedProgram) -> bool
+    ensures { result ≡ returns_well program.now }
+{
+    match program.kind {
+        ProgramKind::Task => !has_return(program),
+        ProgramKind::Routine => true,
+    }
+}
+
+fn has_return(program: &NamedProgram) -> bool
+    ensures { result ≡ list_any is_return program.now.instructions }
+{
+    program.lines.iter().any(|line| is_return(line.instr()))
+}
+
+fn is_return(instr: &NamedInstr) -> bool
+    ensures { result ≡ is_return instr.now }
+{
+    match instr {
+        NamedInstr::Control(Control::ReturnFromInterrupt) => true,
+        _ => false,
+    }
+}

@@ -1,0 +1,79 @@
+-- A program text has one list of tokens, which says one list of entries; a text with programs has no fault.
+use Rattle.std.proofs.Common.{◌≡◌, ℕ, Bool, true, false, List, ◌∷◌, take, Some, None, refl, sym, ap, ◌∙◌, subst, inl, inr}
+use Rattle.std.specs.Prelude.{if◌then◌else◌}
+use Rattle.osek_base.specs.Tokens.{Lexeme}
+use Rattle.osek_base.proofs.TokenLemmas.{Lexes-unique, fails_apart}
+use Rattle.task_asm.specs.declared.fault.AsmFault.{AsmFault}
+use Rattle.task_asm.specs.declared.fault.AsmFault.TheVariants as fault
+use Rattle.task_asm.specs.Tokens.{Symbol, Word, Number, Directive, Mark, LineEnd, IsPiece, IsTokenFault}
+use Rattle.task_asm.specs.Lines.{Tokens}
+use Rattle.task_asm.specs.Programs.{Program}
+use Rattle.task_asm.specs.Entries.{Entry, Reads, head, line_len, label_at, word_of, is_colon, is_line_end}
+use Rattle.task_asm.specs.Entries.Reads.{ends, new_line, label, heads}
+use Rattle.task_asm.specs.Meaning.{Says, IsProgramText, HasEntryFault, HasFault, first_fault, programs_of}
+use Rattle.task_asm.proofs.PieceLemmas.{pieces_are_tokens}
+
+-- ---- entries
+
+-- the end of a line is no word
+no_word : (place : ℕ) (s : Symbol) → is_line_end (record { place = place; word = s }) ≡ true → word_of (record { place = place; word = s }) ≡ None
+no_word place (Word w) e = absurd cc
+no_word place (Number n) e = refl
+no_word place (Directive kind) e = refl
+no_word place (Mark s) e = refl
+no_word place LineEnd e = refl
+
+label_by : (t : Lexeme Symbol) (b : Bool) (w : List ℕ) → word_of t ≡ None → (if b then word_of t else None) ≡ Some w → ⊥
+label_by t true w none e = cc
+label_by t false w none e = cc
+
+no_label : (t u : Lexeme Symbol) (ts : Tokens) (w : List ℕ) → is_line_end t ≡ true → label_at (t ∷ u ∷ ts) ≡ Some w → ⊥
+no_label t u ts w e l = label_by t (is_colon u) w (no_word t.place t.word e) l
+
+word_same : (v w : List ℕ) → Some v ≡ Some w → v ≡ w
+word_same v w e = cc
+
+pub Reads-unique : {ts : Tokens} {es fs : List Entry} → Reads ts es → Reads ts fs → es ≡ fs
+Reads-unique ends ends = refl
+Reads-unique (new_line t e more) (new_line u f more2) = Reads-unique more more2
+Reads-unique (new_line t e more) (label t2 u {ts} w l more2) = absurd (no_label t u ts w e l)
+Reads-unique (new_line t e more) (heads t2 f none more2) = absurd cc
+Reads-unique (label t u {ts} w l more) (new_line t2 e more2) = absurd (no_label t u ts w e l)
+Reads-unique (label t u {es = es} w l more) (label t2 u2 {es = fs} v k more2) =
+    let same = word_same w v (sym l ∙ k) in
+    let rest = Reads-unique more more2 in
+    cc
+Reads-unique (label t u w l more) (heads t2 f none more2) = absurd cc
+Reads-unique (heads t f none more) (new_line t2 e more2) = absurd cc
+Reads-unique (heads t f none more) (label t2 u w l more2) = absurd cc
+Reads-unique (heads t {ts} f none more) (heads t2 g none2 more2) =
+    ap (λ (es : List Entry). let said : Entry = record { place = t.place; item = head t (take (line_len ts) ts) } in said ∷ es) (Reads-unique more more2)
+
+pub says_one : (text : List ℕ) (es fs : List Entry) → Says text es → Says text fs → es ≡ fs
+says_one text es fs p q =
+    Reads-unique p.reads (subst (λ (ts : Tokens). Reads ts fs) (Lexes-unique IsPiece pieces_are_tokens text q.lexes p.lexes) q.reads)
+
+-- ---- texts
+
+pub one_list : (text : List ℕ) (ps qs : List Program) → IsProgramText text ps → IsProgramText text qs → ps ≡ qs
+one_list text ps qs p q = p.are ∙ ap programs_of (says_one text p.entries q.entries p.says q.says) ∙ sym q.are
+
+no_token_fault : (text : List ℕ) (ps : List Program) (e : AsmFault) → IsProgramText text ps → IsTokenFault text e → e ≡ fault.Memory
+no_token_fault text ps fault.Memory p h = refl
+no_token_fault text ps (fault.Token at) p h = absurd (fails_apart IsPiece pieces_are_tokens text h p.says.lexes)
+no_token_fault text ps (fault.UnknownMnemonic at) p h = absurd h
+no_token_fault text ps (fault.Operand at) p h = absurd h
+no_token_fault text ps (fault.UnknownLabel at) p h = absurd h
+no_token_fault text ps (fault.Twice at) p h = absurd h
+no_token_fault text ps (fault.TooLong at) p h = absurd h
+
+no_entry_fault : (text : List ℕ) (ps : List Program) (e : AsmFault) → IsProgramText text ps → HasEntryFault text e → ⊥
+no_entry_fault text ps e p h =
+    let same = says_one text p.entries h.entries p.says h.says in
+    let none : first_fault h.entries ≡ None = ap first_fault (sym same) ∙ p.faultless in
+    let some = h.first in
+    cc
+
+pub no_fault : (text : List ℕ) (ps : List Program) (e : AsmFault) → IsProgramText text ps → HasFault text e → e ≡ fault.Memory
+no_fault text ps e p (inl h) = no_token_fault text ps e p h
+no_fault text ps e p (inr h) = absurd (no_entry_fault text ps e p h)

@@ -1,0 +1,5 @@
+-- One digit less is left.
+use Rattle.task_asm.proofs.text.+push_digits.Given as goal
+
+abbrev pub decreases-push_digits : goal.decreases-push_digits
+decreases-push_digits l = l.count

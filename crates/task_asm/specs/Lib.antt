@@ -1,0 +1,9 @@
+pub mod Tokens
+pub mod Operands
+pub mod Mnemonics
+pub mod Programs
+pub mod Lines
+pub mod Rest
+pub mod Entries
+pub mod Meaning
+pub mod Faults

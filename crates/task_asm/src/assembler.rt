@@ -1,0 +1,148 @@
+//! Program texts to programs.
+
+ghost use Rattle.std.specs.Prelude.{ℕ, List, ◌≡◌, ◌≤◌, ◌<◌, length, IfOk, IfErr, unwrap_or};
+ghost use Rattle.task_asm.specs.declared.fault.AsmFault.{AsmFault};
+ghost use Rattle.task_asm.specs.declared.fault.AsmFault.TheVariants.{Memory};
+ghost use Rattle.task_asm.specs.Programs.{Program};
+ghost use Rattle.task_asm.specs.Entries.{Entry};
+ghost use Rattle.task_asm.specs.Faults.{Stands};
+ghost use Rattle.task_asm.specs.Lines.{written_value};
+ghost use Rattle.task_asm.specs.Meaning.{
+  within_program,
+  target_of,
+  finished,
+  targets_of,
+  programs_with,
+  IsProgramText,
+  first_fault,
+  HasFault,
+};
+
+use crate::entries::{Entry, Item, read_entries};
+use crate::fault::AsmFault;
+use crate::labels::{first_fault, place_in};
+use crate::operands::Written;
+use crate::program::{NamedInstr, NamedLine, NamedProgram};
+use crate::tokens::tokenize;
+use osek_base::{Place, Plain};
+use std::alloc::{AllocError, Global};
+
+/// The place of that number, or the last that a program has.
+fn place_of(number: usize) -> Place
+    ensures { result ≡ within_program number }
+{
+    if number < 1024 {
+        Place::new(number as u16)
+    } else {
+        Place::new(1023)
+    }
+}
+
+/// The place that an instruction names by a label, in the program whose entries stand first. 0 where it names none.
+fn target_of(program: &[Entry<'_>], written: &Written<'_>) -> Place
+    ensures { result ≡ target_of program.now (written_value written.now) }
+{
+    let label = match written {
+        Written::Ready(_) => return Place::new(0),
+        Written::Jump(label) => *label,
+        Written::JumpIf(_, _, _, label) => *label,
+    };
+    match place_in(program, label.word) {
+        Some(place) => place_of(place),
+        None => Place::new(0),
+    }
+}
+
+/// The places that the instructions name, each at the number of its entry.
+fn targets(alloc: Global, entries: &[Entry<'_>]) -> Result<Vec<Place>, AllocError>
+    ensures { IfOk result (λ targets. targets.items ≡ targets_of entries.now) }
+{
+    let mut targets = Vec::new(alloc);
+    let mut start = 0;
+    let mut at = 0;
+    'entries: while at < entries.len() {
+        let entry = &entries[at];
+        let mut target = Place::new(0);
+        match &entry.item {
+            Item::Program(_, _) => start = at + 1,
+            Item::Instruction(Some(written)) => target = target_of(&entries[start..], written),
+            _ => {}
+        }
+        targets.push(target)?;
+        at += 1;
+    }
+    Ok(targets)
+}
+
+fn finished(written: Written<'_>, target: Place) -> NamedInstr
+    ensures { result ≡ finished target (written_value written.entry) }
+{
+    match written {
+        Written::Ready(instr) => instr,
+        Written::Jump(_) => NamedInstr::Plain(Plain::Jmp(target)),
+        Written::JumpIf(test, left, right, _) => {
+            NamedInstr::Plain(Plain::JumpIf(test, left, right, target))
+        }
+    }
+}
+
+/// The programs of the entries, which are taken from the last to the first.
+fn programs(
+    alloc: Global,
+    mut entries: Vec<Entry<'_>>,
+    targets: &[Place],
+) -> Result<Vec<NamedProgram>, AllocError>
+    requires { length entries.items ≡ length targets.now }
+    ensures { IfOk result (λ programs. programs.items ≡ programs_with entries.entry.items targets.now) }
+{
+    let mut programs = Vec::new(alloc);
+    let mut lines = Vec::new(alloc);
+    'entries: while let Some(entry) = entries.pop() {
+        match entry.item {
+            Item::Program(kind, title) => {
+                if let Some(title) = title {
+                    lines.reverse();
+                    programs.push(NamedProgram {
+                        kind,
+                        name: title.name,
+                        lines,
+                    })?;
+                }
+                lines = Vec::new(alloc);
+            }
+            Item::Instruction(Some(written)) => {
+                let target = targets[entries.len()];
+                lines.push(NamedLine::new(finished(written, target)))?;
+            }
+            Item::Instruction(None) => {}
+            Item::Label(_) => {}
+            Item::Unknown => {}
+        }
+    }
+    programs.reverse();
+    Ok(programs)
+}
+
+/// The programs of a program text, in order. A fault is the text's first: a fault of its tokens, else of the others the
+/// one at the least place, and at one place the one that `AsmFault` has first.
+pub fn assemble(alloc: Global, text: &[u8]) -> Result<Vec<NamedProgram>, AsmFault>
+    ensures programs { IfOk result (λ programs. IsProgramText text.now programs.items) }
+    ensures fault { IfErr result (λ e. HasFault text.now e) }
+{
+    let tokens = tokenize(alloc, text)?;
+    let entries = read_entries(alloc, tokens.as_slice())?;
+    if let Some(fault) = first_fault(entries.as_slice()) {
+        return Err(fault);
+    }
+    let targets = targets(alloc, entries.as_slice())?;
+    Ok(programs(alloc, entries, targets.as_slice())?)
+}
+
+/// A program text has one list of programs, and then no fault; the first fault of a text's entries is one that stands
+/// in them, and where there is no first, none stands. (Laws about the definitions; the function does nothing.)
+pub fn one_meaning()
+    ensures programs { (text : List ℕ) (ps qs : List Program) → IsProgramText text ps → IsProgramText text qs → ps ≡ qs }
+    ensures faultless { (text : List ℕ) (ps : List Program) (e : AsmFault) → IsProgramText text ps → HasFault text e → e ≡ Memory }
+    ensures stands { (es : List Entry) (e : AsmFault) → first_fault es ≡ Some e → Stands es e }
+    ensures none_stands { (es : List Entry) (e : AsmFault) → first_fault es ≡ None → ¬ Stands es e }
+{}

@@ -1,0 +1,19 @@
+//! Program texts: reads them, and writes the texts of instructions.
+#![tactic(auto)]
+
+mod assembler;
+mod entries;
+mod fault;
+mod labels;
+mod mnemonic;
+mod operands;
+mod program;
+#[cfg(test)]
+mod tests;
+mod text;
+mod tokens;
+
+pub use assembler::{assemble, one_meaning};
+pub use fault::AsmFault;
+pub use program::{EventNames, NamedInstr, NamedLine, NamedProgram, NamedService, ProgramKind};
+pub use text::instr_text;

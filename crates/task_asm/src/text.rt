@@ -1,0 +1,289 @@
+//! The texts of instructions, no part of the standards: a mnemonic, then its operands, separated by `, `.
+
+ghost use Rattle.std.specs.Prelude.{◌≡◌, ◌+◌, ◌<◌, ◌≤◌, ◌++◌, ◌∷◌, [], length, decimal};
+ghost use Rattle.osek_base.specs.Text.{
+  task_text,
+  resource_text,
+  alarm_text,
+  register_text,
+  mask_text,
+  operation_word,
+  comparison_word,
+  written,
+  plain_text,
+  service_text,
+  control_text,
+  instruction_text,
+};
+ghost use Rattle.task_asm.specs.Operands.{
+  HasTask,
+  HasOperandResource,
+  HasAlarm,
+  HasServiceOperands,
+  HasOperands,
+  last_digits,
+};
+
+use arrayvec::ArrayString;
+use itoa::Buffer;
+use osek_base::{
+    AlarmId, Comparison, Control, Instr, Names, Operation, Plain, Register, ResId, Service, TaskId,
+};
+
+/// The text of one operand.
+type OperandText = ArrayString<32>;
+
+/// What an instruction's text is written to: the longest mnemonic and three of the longest operands fit.
+type InstrText = ArrayString<128>;
+
+fn word_of_operation(operation: Operation) -> &'static str
+    ensures word { result.now ≡ operation_word operation }
+    ensures short { length result.now ≤ 5 }
+{
+    match operation {
+        Operation::Add => "ADD",
+        Operation::Sub => "SUB",
+        Operation::Mul => "MUL",
+        Operation::And => "AND",
+        Operation::Or => "OR",
+        Operation::Xor => "XOR",
+    }
+}
+
+fn word_of_comparison(test: Comparison) -> &'static str
+    ensures word { result.now ≡ comparison_word test }
+    ensures short { length result.now ≤ 5 }
+{
+    match test {
+        Comparison::Equal => "JEQ",
+        Comparison::NotEqual => "JNE",
+        Comparison::Less => "JLT",
+    }
+}
+
+fn short_text(text: &str) -> OperandText
+    requires { length text.now ≤ 32 }
+    ensures { result.bytes ≡ text.now }
+{
+    let mut operand = ArrayString::new();
+    operand.push_str(text);
+    operand
+}
+
+fn number_text(number: u32) -> OperandText
+    ensures { result.bytes ≡ decimal number }
+{
+    let mut buffer = Buffer::new();
+    short_text(buffer.format(number))
+}
+
+fn register_text(register: Register) -> OperandText
+    ensures { result.bytes ≡ register_text register }
+{
+    let mut buffer = Buffer::new();
+    let mut operand = short_text("r");
+    operand.push_str(buffer.format(register.number()));
+    operand
+}
+
+/// Appends the last hexadecimal digits of a number, so many.
+fn push_digits(text: &mut OperandText, number: u32, count: usize)
+    requires { length text.old.bytes + count ≤ 32 }
+    ensures text { text.new.bytes ≡ text.old.bytes ++ last_digits count number }
+    ensures long { length text.new.bytes ≡ length text.old.bytes + count }
+{
+    if count > 0 {
+        push_digits(text, number / 16, count - 1);
+        if let Some(digit) = char::from_digit(number % 16, 16) {
+            text.push(digit);
+        }
+    }
+}
+
+fn mask_text(mask: u32) -> OperandText
+    ensures { result.bytes ≡ mask_text mask }
+{
+    let mut operand = short_text("0x");
+    push_digits(&mut operand, mask, 8);
+    operand
+}
+
+fn task_text(names: &Names, task: Option<TaskId>) -> OperandText
+    requires { HasTask names.now task }
+    ensures { result.bytes ≡ task_text names.now task }
+{
+    match task {
+        None => short_text("INVALID"),
+        Some(task) => short_text(names.tasks[task.number() as usize].as_str()),
+    }
+}
+
+fn resource_text(names: &Names, resource: Option<ResId>) -> OperandText
+    requires { HasOperandResource names.now resource }
+    ensures { result.bytes ≡ resource_text names.now resource }
+{
+    match resource {
+        None => short_text("INVALID"),
+        Some(resource) => match resource {
+            ResId::Declared(number) => {
+                short_text(names.resources[number.number() as usize].as_str())
+            }
+            ResId::Scheduler => short_text("RES_SCHEDULER"),
+        },
+    }
+}
+
+fn alarm_text(names: &Names, alarm: Option<AlarmId>) -> OperandText
+    requires { HasAlarm names.now alarm }
+    ensures { result.bytes ≡ alarm_text names.now alarm }
+{
+    match alarm {
+        None => short_text("INVALID"),
+        Some(alarm) => short_text(names.alarms[alarm.number() as usize].as_str()),
+    }
+}
+
+fn write_word(text: &mut InstrText, word: &str)
+    requires { length word.now ≤ 5 }
+    ensures { text.new.bytes ≡ word.now }
+{
+    text.clear();
+    text.push_str(word);
+}
+
+fn write_one(text: &mut InstrText, word: &str, operand: &OperandText)
+    requires { length word.now ≤ 5 }
+    ensures text { text.new.bytes ≡ written word.now (operand.now.bytes ∷ []) }
+    ensures short { length text.new.bytes ≤ 38 }
+{
+    write_word(text, word);
+    text.push_str(" ");
+    text.push_str(operand.as_str());
+}
+
+fn write_two(text: &mut InstrText, word: &str, first: &OperandText, second: &OperandText)
+    requires { length word.now ≤ 5 }
+    ensures text { text.new.bytes ≡ written word.now (first.now.bytes ∷ second.now.bytes ∷ []) }
+    ensures short { length text.new.bytes ≤ 72 }
+{
+    write_one(text, word, first);
+    text.push_str(", ");
+    text.push_str(second.as_str());
+}
+
+fn write_three(
+    text: &mut InstrText,
+    word: &str,
+    first: &OperandText,
+    second: &OperandText,
+    third: &OperandText,
+)
+    requires { length word.now ≤ 5 }
+    ensures { text.new.bytes ≡ written word.now (first.now.bytes ∷ second.now.bytes ∷ third.now.bytes ∷ []) }
+{
+    write_two(text, word, first, second);
+    text.push_str(", ");
+    text.push_str(third.as_str());
+}
+
+fn write_plain(text: &mut InstrText, plain: &Plain)
+    ensures { text.new.bytes ≡ plain_text plain.now }
+{
+    match *plain {
+        Plain::Nop => write_word(text, "NOP"),
+        Plain::Li(to, number) => { write_two(text, "LI", &register_text(to), &number_text(number)) }
+        Plain::Mov(to, from) => { write_two(text, "MOV", &register_text(to), &register_text(from)) }
+        Plain::Compute(operation, to, left, right) => write_three(
+            text,
+            word_of_operation(operation),
+            &register_text(to),
+            &register_text(left),
+            &register_text(right),
+        ),
+        Plain::Ld(to, address) => {
+            write_two(text, "LD", &register_text(to), &register_text(address))
+        }
+        Plain::St(address, from) => {
+            write_two(text, "ST", &register_text(address), &register_text(from))
+        }
+        Plain::Jmp(place) => write_one(text, "JMP", &number_text(place.number() as u32)),
+        Plain::JumpIf(test, left, right, place) => write_three(
+            text,
+            word_of_comparison(test),
+            &register_text(left),
+            &register_text(right),
+            &number_text(place.number() as u32),
+        ),
+    }
+}
+
+fn write_service(text: &mut InstrText, service: &Service<Register>, names: &Names)
+    requires { HasServiceOperands names.now service.now }
+    ensures { text.new.bytes ≡ service_text names.now service.now }
+{
+    match *service {
+        Service::ActivateTask(task) => write_one(text, "ACT", &task_text(names, task)),
+        Service::TerminateTask => write_word(text, "TERM"),
+        Service::ChainTask(task) => write_one(text, "CHAIN", &task_text(names, task)),
+        Service::Schedule => write_word(text, "SCHED"),
+        Service::GetTaskId => write_word(text, "GTID"),
+        Service::GetTaskState(task) => write_one(text, "GTST", &task_text(names, task)),
+        Service::GetResource(resource) => {
+            write_one(text, "GETR", &resource_text(names, resource))
+        }
+        Service::ReleaseResource(resource) => {
+            write_one(text, "RELR", &resource_text(names, resource))
+        }
+        Service::SetEvent(task, mask) => {
+            write_two(text, "SETE", &task_text(names, task), &mask_text(mask))
+        }
+        Service::ClearEvent(mask) => write_one(text, "CLRE", &mask_text(mask)),
+        Service::GetEvent(task) => write_one(text, "GETE", &task_text(names, task)),
+        Service::WaitEvent(mask) => write_one(text, "WAIT", &mask_text(mask)),
+        Service::SetRelAlarm(alarm, increment, cycle) => write_three(
+            text,
+            "SREL",
+            &alarm_text(names, alarm),
+            &register_text(increment),
+            &register_text(cycle),
+        ),
+        Service::SetAbsAlarm(alarm, start, cycle) => write_three(
+            text,
+            "SABS",
+            &alarm_text(names, alarm),
+            &register_text(start),
+            &register_text(cycle),
+        ),
+        Service::CancelAlarm(alarm) => write_one(text, "CANA", &alarm_text(names, alarm)),
+        Service::GetAlarm(alarm) => write_one(text, "GALM", &alarm_text(names, alarm)),
+        Service::GetAlarmBase(alarm) => write_one(text, "GBAS", &alarm_text(names, alarm)),
+    }
+}
+
+fn write_control(text: &mut InstrText, control: &Control)
+    ensures { text.new.bytes ≡ control_text control.now }
+{
+    match *control {
+        Control::DisableAllInterrupts => write_word(text, "DAI"),
+        Control::EnableAllInterrupts => write_word(text, "EAI"),
+        Control::SuspendAllInterrupts => write_word(text, "SAI"),
+        Control::ResumeAllInterrupts => write_word(text, "RAI"),
+        Control::SuspendOsInterrupts => write_word(text, "SOI"),
+        Control::ResumeOsInterrupts => write_word(text, "ROI"),
+        Control::ShutdownOs(number) => write_one(text, "SHUT", &number_text(number)),
+        Control::ReturnFromInterrupt => write_word(text, "RETI"),
+    }
+}
+
+/// Replaces the content of `text` by the instruction's text: its mnemonic, then its operands separated by `, `.
+/// Masks are written as `0x` and eight hexadecimal digits, labels as places.
+pub fn instr_text(instr: &Instr, names: &Names, text: &mut ArrayString<128>)
+    requires { HasOperands names.now instr.now }
+    ensures { text.new.bytes ≡ instruction_text names.now instr.now }
+{
+    match instr {
+        Instr::Plain(plain) => write_plain(text, plain),
+        Instr::Service(service) => write_service(text, service, names),
+        Instr::Control(control) => write_control(text, control),
+    }
+}

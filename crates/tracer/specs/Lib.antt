@@ -1,0 +1,4 @@
+pub mod Sinks
+pub mod Lines
+pub mod ArrivalText
+pub mod RunFaults

@@ -1,0 +1,191 @@
+//! The lines of a trace, no part of the standards.
+
+ghost use Rattle.std.specs.Prelude.{◌≡◌, ◌+◌, ◌<◌, ◌≤◌, ◌++◌, length, decimal, codes};
+ghost use Rattle.osek_base.specs.Names.{name_at, owner_name};
+ghost use Rattle.osek_base.specs.Text.{
+  instruction_text,
+  results_text,
+  outcome_text,
+  source_name,
+  event_text,
+  line,
+};
+ghost use Rattle.task_asm.specs.Operands.{HasOperands};
+ghost use Rattle.tracer.specs.Lines.{HasRecord};
+
+use arrayvec::ArrayString;
+use itoa::Buffer;
+use osek_base::{Effect, Instr, Name, Names, Outcome, Owner, Results, Source, TraceEvent};
+use task_asm::instr_text;
+
+/// What a trace line is written to: it has room for whatever names of 32 bytes and numbers of 32 bits come together.
+pub type LineText = ArrayString<256>;
+
+fn push_number(text: &mut LineText, number: u32)
+    requires { length text.old.bytes + 10 ≤ 256 }
+    ensures same { text.new.bytes ≡ text.old.bytes ++ decimal number }
+    ensures short { length text.new.bytes ≤ length text.old.bytes + 10 }
+{
+    let mut buffer = Buffer::new();
+    text.push_str(buffer.format(number));
+}
+
+/// The name of that number, empty where there is none.
+fn name_at(names: &[Name], number: usize) -> &str
+    ensures same { result.now ≡ name_at names.now number }
+    ensures short { length result.now ≤ 32 }
+{
+    match names.get(number) {
+        Some(name) => name.as_str(),
+        None => "",
+    }
+}
+
+fn push_owner(text: &mut LineText, names: &Names, who: Owner)
+    requires { length text.old.bytes + 32 ≤ 256 }
+    ensures same { text.new.bytes ≡ text.old.bytes ++ owner_name names.now who }
+    ensures short { length text.new.bytes ≤ length text.old.bytes + 32 }
+{
+    match who {
+        Owner::Task(task) => {
+            text.push_str(name_at(names.tasks.as_slice(), task.number() as usize));
+        }
+        Owner::Routine(routine) => {
+            text.push_str(name_at(names.routines.as_slice(), routine.number() as usize));
+        }
+    }
+}
+
+fn push_source(text: &mut LineText, names: &Names, who: Source)
+    requires { length text.old.bytes + 33 ≤ 256 }
+    ensures same { text.new.bytes ≡ text.old.bytes ++ source_name names.now who }
+    ensures short { length text.new.bytes ≤ length text.old.bytes + 33 }
+{
+    match who {
+        Source::Owner(owner) => push_owner(text, names, owner),
+        Source::Alarm(alarm) => {
+            text.push_str("@");
+            text.push_str(name_at(names.alarms.as_slice(), alarm.number() as usize));
+        }
+    }
+}
+
+fn push_instr(text: &mut LineText, names: &Names, what: &Instr)
+    requires known { HasOperands names.now what.now }
+    requires room { length text.old.bytes + 128 ≤ 256 }
+    ensures same { text.new.bytes ≡ text.old.bytes ++ instruction_text names.now what.now }
+    ensures short { length text.new.bytes ≤ length text.old.bytes + 128 }
+{
+    let mut operation = ArrayString::new();
+    instr_text(what, names, &mut operation);
+    text.push_str(operation.as_str());
+}
+
+fn push_results(text: &mut LineText, results: Results)
+    requires { length text.old.bytes + 35 ≤ 256 }
+    ensures same { text.new.bytes ≡ text.old.bytes ++ results_text results }
+    ensures short { length text.new.bytes ≤ length text.old.bytes + 35 }
+{
+    match results {
+        Results::Nothing => {}
+        Results::One(first) => {
+            text.push_str(" : ");
+            push_number(text, first);
+        }
+        Results::Three(first, second, third) => {
+            text.push_str(" : ");
+            push_number(text, first);
+            text.push_str(" ");
+            push_number(text, second);
+            text.push_str(" ");
+            push_number(text, third);
+        }
+    }
+}
+
+fn push_effect(text: &mut LineText, effect: Effect)
+    requires { length text.old.bytes + 48 ≤ 256 }
+    ensures same { text.new.bytes ≡ text.old.bytes ++ outcome_text (Outcome.Plain effect) }
+    ensures short { length text.new.bytes ≤ length text.old.bytes + 48 }
+{
+    match effect {
+        Effect::Nothing => {}
+        Effect::Value(value) => {
+            text.push_str(" -> ");
+            push_number(text, value);
+        }
+        Effect::Stored(index, value) => {
+            text.push_str(" -> [");
+            push_number(text, index as u32);
+            text.push_str("] ");
+            push_number(text, value);
+        }
+    }
+}
+
+fn push_outcome(text: &mut LineText, outcome: Outcome)
+    requires { length text.old.bytes + 48 ≤ 256 }
+    ensures same { text.new.bytes ≡ text.old.bytes ++ outcome_text outcome }
+    ensures short { length text.new.bytes ≤ length text.old.bytes + 48 }
+{
+    match outcome {
+        Outcome::Plain(effect) => push_effect(text, effect),
+        Outcome::Answer(status, results) => {
+            text.push_str(" = ");
+            push_number(text, status.number() as u32);
+            push_results(text, results);
+        }
+        Outcome::Control => {}
+    }
+}
+
+fn push_event(text: &mut LineText, names: &Names, event: &TraceEvent)
+    requires known { HasRecord names.now event.now }
+    requires room { length text.old.bytes ≤ 11 }
+    ensures { text.new.bytes ≡ text.old.bytes ++ event_text names.now event.now }
+{
+    match event {
+        TraceEvent::Startup => text.push_str("startup"),
+        TraceEvent::Pre(task) => {
+            text.push_str("pre ");
+            push_owner(text, names, Owner::Task(*task));
+        }
+        TraceEvent::Post(task) => {
+            text.push_str("post ");
+            push_owner(text, names, Owner::Task(*task));
+        }
+        TraceEvent::Executed(who, place, what, outcome) => {
+            push_owner(text, names, *who);
+            text.push_str(" ");
+            push_number(text, place.number() as u32);
+            text.push_str(" ");
+            push_instr(text, names, what);
+            push_outcome(text, *outcome);
+        }
+        TraceEvent::Idle => text.push_str("idle"),
+        TraceEvent::Other => text.push_str("other"),
+        TraceEvent::Error(who, what, status) => {
+            text.push_str("error ");
+            push_source(text, names, *who);
+            text.push_str(" ");
+            push_instr(text, names, what);
+            text.push_str(" ");
+            push_number(text, status.number() as u32);
+        }
+        TraceEvent::Shutdown(number) => {
+            text.push_str("shutdown ");
+            push_number(text, *number);
+        }
+    }
+}
+
+/// Replaces the content of `text` by the line of a record of that tick, without the line's end.
+pub fn line_text(names: &Names, tick: u32, event: &TraceEvent, text: &mut LineText)
+    requires { HasRecord names.now event.now }
+    ensures { text.new.bytes ≡ line names.now tick event.now }
+{
+    text.clear();
+    push_number(text, tick);
+    text.push_str(" ");
+    push_event(text, names, event);
+}
