@@ -11,3 +11,4 @@ pub mod UpperState
 pub mod UpperPhases
 pub mod UpperWords
 mod ProperLemmas
+pub mod PlaceLemmas

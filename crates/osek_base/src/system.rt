@@ -11,6 +11,7 @@ ghost use Rattle.osek_base.specs.System.{
   starts_in,
   program,
   instruction_at,
+  task as task_at,
   routine,
   alarm,
   counter_of,
@@ -24,7 +25,7 @@ use crate::ids::{AlarmId, IsrId, ModeId, Owner, Place, ResId, ResourceNumber, Ta
 use crate::instr::Instr;
 use crate::names::Names;
 use crate::parts::Parts;
-use crate::task::{Action, Counter, Hooks};
+use crate::task::{Action, Counter, Hooks, Schedule};
 use std::marker::Model;
 
 /// A system within the limits and as generation checks it. Contracts see its parts.
@@ -162,6 +163,24 @@ impl System {
     {
         let task = &self.parts.tasks[task.number() as usize];
         task.lists(resource)
+    }
+
+    /// The SCHEDULE of a task.
+    pub fn schedule_of(&self, task: TaskId) -> Schedule
+        requires { task < length self.now.tasks }
+        ensures { result ≡ (task_at self.now task).schedule }
+    {
+        let task = &self.parts.tasks[task.number() as usize];
+        task.schedule
+    }
+
+    /// The resources that a task lists, in the order listed.
+    pub fn resources_of(&self, task: TaskId) -> &[ResourceNumber]
+        requires { task < length self.now.tasks }
+        ensures { result.now ≡ (task_at self.now task).resources }
+    {
+        let task = &self.parts.tasks[task.number() as usize];
+        task.resources.as_slice()
     }
 
     /// Whether a declared resource is internal.
