@@ -1,25 +1,33 @@
 -- What the reader has checked holds of what a tree without a fault means.
-use Rattle.std.proofs.Common.{◌≡◌, ℕ, List, [], ◌∷◌, ◌++◌, Option, Some, None, Bool, true, false, cond, leb, refl, sym, ap, ◌∙◌, subst, inl, inr, append_assoc}
+use Rattle.std.proofs.Common.{◌≡◌, ℕ, List, [], ◌∷◌, ◌++◌, Option, Some, None, Bool, true, false, cond, not, ◌||◌, ◌&&◌, leb, length, arith, refl, sym, ap, ◌∙◌, subst, inl, inr, append_assoc}
 use Rattle.std.specs.Prelude.{codes}
+use Rattle.std.specs.List.{list_all}
 use Rattle.std.specs.Str.{bytes_eq}
-use Rattle.std.proofs.lemmas.Bool.{le-leb}
+use Rattle.std.proofs.lemmas.Bool.{le-leb, leb-true}
 use Rattle.std.proofs.lemmas.Slice.Eq.{bytes_eq-Decides}
+use Rattle.osek_base.specs.Lists.{is_empty}
 use Rattle.osek_base.specs.Names.{is_named, is_proper_name, are_distinct_names}
 use Rattle.osek_base.specs.Proper.{are_proper_names}
+use Rattle.osek_base.specs.Words.{is_letter, is_word_byte}
 use Rattle.oil_reader.specs.declared.fault.OilFault.TheVariants as fault
 use Rattle.oil_reader.specs.declared.syntax.Kind.{Kind}
 use Rattle.oil_reader.specs.declared.syntax.Kind.TheVariants as kind
 use Rattle.oil_reader.specs.declared.table.AttributeName.{AttributeName}
-use Rattle.oil_reader.specs.declared.table.AttributeName.TheVariants.{TaskPriority, Activation, TaskAutostart, TaskResource, TaskEvent, IsrPriority, EventMask, AlarmAutostart, AlarmTime, CycleTime, StartMode}
+use Rattle.oil_reader.specs.declared.table.AttributeName.TheVariants.{TaskPriority, Activation, TaskAutostart, TaskResource, TaskEvent, IsrPriority, EventMask, MaxAllowedValue, TicksPerBase, MinCycle, AlarmCounter, AlarmAction, AlarmAutostart, ActionTask, ActionEvent, AlarmTime, CycleTime, StartMode}
 use Rattle.oil_reader.specs.Grammar.{Value, Named, Numeric, Setting, Object, File}
-use Rattle.oil_reader.specs.Table.{word_of, presence_of, is_list, attributes_of, Between, AutoOrPositive, in_range, block_of}
-use Rattle.oil_reader.specs.Attributes.{Among, Scope, Names, object_scope, IsSoundScope, IsSoundObject, IsSoundFile, AreNamed}
-use Rattle.oil_reader.specs.Checked.{is_checked_task, is_checked_isr, is_checked_mask, is_checked_event, is_checked_start, is_checked_alarm, are_checked_modes, are_checked_tasks, are_checked_isrs, are_checked_resources, are_checked_events, are_checked_counters, are_checked_alarms, is_checked}
-use Rattle.oil_reader.specs.Meaning.{value_at, block_at, says, is_true, number_in, number_at, names_in, names_at, settings_in, mask_in, modes_by, start_by, os_among, no_objects, configuration_of, task_record, isr_record, resource_record, event_record, counter_record, alarm_record}
+use Rattle.oil_reader.specs.Table.{word_of, presence_of, is_list, attributes_of, Between, AutoOrPositive, in_range, block_of, is_one_of}
+use Rattle.oil_reader.specs.Attributes.{Among, Scope, Names, object_scope, reserved, IsSoundScope, IsSoundObject, IsSoundFile}
+use Rattle.oil_reader.specs.Checks.{same_kind, is_os, has_kind}
+use Rattle.oil_reader.specs.Checked.{is_name, are_names, is_object_name, is_number, is_checked_os, is_checked_task, is_checked_isr, is_checked_resource, is_checked_mask, is_checked_event, is_checked_counter, is_checked_start, is_checked_action, is_checked_alarm, are_checked_modes, are_checked_tasks, are_checked_isrs, are_checked_resources, are_checked_events, are_checked_counters, are_checked_alarms, is_checked}
+use Rattle.oil_reader.specs.Spelled.{are_spelled_settings, is_spelled_object, is_spelled}
+use Rattle.oil_reader.specs.Meaning.{value_at, block_at, says, is_true, number_in, number_at, names_in, names_at, has_name, settings_in, mask_in, modes_by, action_by, start_by, os_among, no_objects, configuration_of, os_record, task_record, isr_record, resource_record, event_record, counter_record, alarm_record}
 use Rattle.oil_reader.proofs.Firsts.{among_right}
 use Rattle.oil_reader.proofs.Listed.{any_is, both}
-use Rattle.oil_reader.proofs.Sound.{accepted, needed_stands, object_sound, task_priority, task_activation, isr_priority, has_modes, each_sound, block_scope_of}
-use Rattle.oil_reader.proofs.ObjectLists.{records_of, name_of, all_records, some_record, names_are, distinct_names, parts_of, later_parts, app_modes_are, tasks_are, routines_are, resources_are, events_are, counters_are, alarms_are}
+use Rattle.oil_reader.proofs.ObjectsListed.{one_of_is}
+use Rattle.oil_reader.proofs.Spelling.{and_true}
+use Rattle.oil_reader.proofs.SpelledValues.{all_is, number_spelled, bits_spelled, name_spelled, names_spelled, some_names, object_name, object_settings, object_block}
+use Rattle.oil_reader.proofs.Sound.{any_name, accepted, needed_stands, object_sound, task_priority, task_activation, isr_priority, alarm_counter, action_names, has_os, has_modes, each_sound, block_scope_of, block_name}
+use Rattle.oil_reader.proofs.ObjectLists.{records_of, name_of, all_records, some_record, names_are, distinct_names, parts_of, later_parts, cpu_is, os_is, app_modes_are, tasks_are, routines_are, resources_are, events_are, counters_are, alarms_are}
 
 -- ---- list attributes name nothing twice
 
@@ -87,20 +95,33 @@ true_is (Some (Named s)) w h = ap (λ (t : List ℕ). Some (Named t)) ((bytes_eq
 true_is (Some (Numeric n)) w h = absurd cc
 
 module _ (o : Object) (sound : IsSoundObject o) (p : AttributeName) (names : Names (attributes_of o.kind) (word_of p) p) (allowed : List AttributeName)
-    (block : block_of p (Named (codes "TRUE")) ≡ allowed) (mode : Names allowed (word_of StartMode) StartMode) where
-  start_modes : is_true p (settings_in o) ≡ true → are_distinct_names (names_at StartMode (block_at p o.attributes)) ≡ true
-  start_modes starts =
-      let b = block_scope_of o sound p names (Named (codes "TRUE")) (true_is (value_at p (settings_in o)) (codes "TRUE") starts) in
+    (block : block_of p (Named (codes "TRUE")) ≡ allowed) (stands : Among allowed StartMode) (mode : Names allowed (word_of StartMode) StartMode) (starts : is_true p (settings_in o) ≡ true) where
+  start_value : value_at p (settings_in o) ≡ Some (Named (codes "TRUE"))
+  start_value = true_is (value_at p (settings_in o)) (codes "TRUE") starts
+
+  -- the modes of a start are not named twice
+  distinct_modes : are_distinct_names (names_at StartMode (block_at p o.attributes)) ≡ true
+  distinct_modes =
+      let b = block_scope_of o sound p names (Named (codes "TRUE")) start_value in
       let named : Names b.scope.allowed (word_of StartMode) StartMode = subst (λ (l : List AttributeName). Names l (word_of StartMode) StartMode) (sym (b.allowed ∙ block)) mode in
       subst (λ (xs : List Setting). are_distinct_names (names_at StartMode xs) ≡ true) b.settings (distinct_list b.scope b.sound StartMode named refl)
 
-modes_if : (b : Bool) (block : List Setting) → (b ≡ true → are_distinct_names (names_at StartMode block) ≡ true) → are_distinct_names (modes_by b block) ≡ true
-modes_if true block h = h refl
-modes_if false block h = refl
+  -- a start has a mode
+  some_modes : is_empty (names_at StartMode (block_at p o.attributes)) ≡ false
+  some_modes = some_names StartMode (block_at p o.attributes) (block_name o sound p names (Named (codes "TRUE")) start_value StartMode allowed block stands mode refl any_name)
 
-start_if : (b : Bool) (block : List Setting) → (b ≡ true → are_distinct_names (names_at StartMode block) ≡ true) → is_checked_start (start_by b block) ≡ true
-start_if true block h = h refl
-start_if false block h = refl
+modes_distinct : (b : Bool) (block : List Setting) → (b ≡ true → are_distinct_names (names_at StartMode block) ≡ true) → are_distinct_names (modes_by b block) ≡ true
+modes_distinct true block h = h refl
+modes_distinct false block h = refl
+
+modes_named : (b : Bool) (block : List Setting) → are_spelled_settings block ≡ true → are_names (modes_by b block) ≡ true
+modes_named true block spelled = names_spelled StartMode block spelled
+modes_named false block spelled = refl
+
+start_if : (b : Bool) (block : List Setting) → are_spelled_settings block ≡ true → (b ≡ true → is_empty (names_at StartMode block) ≡ false) → (b ≡ true → are_distinct_names (names_at StartMode block) ≡ true) → is_checked_start (start_by b block) ≡ true
+start_if true block spelled some distinct =
+    rw (some refl, distinct refl, names_spelled StartMode block spelled, number_spelled AlarmTime block spelled, number_spelled CycleTime block spelled) refl
+start_if false block spelled some distinct = refl
 
 -- ---- objects
 
@@ -114,83 +135,188 @@ activation_low o sound k =
     let v = needed_stands scope (object_sound o sound) Activation (rw k (inr (inr (inl refl)))) refl in
     rw v.1 (low_of 1 15 v.0 (accepted scope (object_sound o sound) Activation (rw k refl) v.0 v.1))
 
-task_checked : (o : Object) → IsSoundObject o → o.kind ≡ kind.Task → is_checked_task (task_record o) ≡ true
-task_checked o sound k =
-    let high = le-leb (number_at TaskPriority (settings_in o)) 31 (task_priority o sound k) in
-    let low = activation_low o sound k in
-    let top = le-leb (number_at Activation (settings_in o)) 15 (task_activation o sound k) in
-    let modes = modes_if (is_true TaskAutostart (settings_in o)) (block_at TaskAutostart o.attributes) (start_modes o sound TaskAutostart (rw k refl) (StartMode ∷ []) refl refl) in
-    let resources = distinct_list (object_scope o) (object_sound o sound) TaskResource (rw k refl) refl in
-    let events = distinct_list (object_scope o) (object_sound o sound) TaskEvent (rw k refl) refl in
-    rw (high, low, top, modes, resources, events) refl
+free_if : (o : Object) → IsSoundObject o → (b : Bool) → is_one_of (reserved o.kind) o.name ≡ b → b ≡ false
+free_if o sound false t = refl
+free_if o sound true t = absurd (sound (fault.Range o.place) (inr (one_of_is (reserved o.kind) o.name t, refl)))
 
-isr_checked : (o : Object) → IsSoundObject o → o.kind ≡ kind.Isr → is_checked_isr (isr_record o) ≡ true
-isr_checked o sound k = le-leb (number_at IsrPriority (settings_in o)) 31 (isr_priority o sound k)
+mask_if : (o : Option Value) → ((v : Value) → o ≡ Some v → in_range AutoOrPositive v ≡ true) → ((n : ℕ) → o ≡ Some (Numeric n) → is_number n ≡ true) → is_checked_mask (mask_in o) ≡ true
+mask_if None h small = refl
+mask_if (Some (Named s)) h small = refl
+mask_if (Some (Numeric n)) h small = rw (h (Numeric n) refl) (small n refl)
 
-mask_if : (o : Option Value) → ((v : Value) → o ≡ Some v → in_range AutoOrPositive v ≡ true) → is_checked_mask (mask_in o) ≡ true
-mask_if None h = refl
-mask_if (Some (Named s)) h = refl
-mask_if (Some (Numeric n)) h = h (Numeric n) refl
+action_if : (sets : Bool) (block : List Setting) → are_spelled_settings block ≡ true → has_name ActionTask block ≡ true → (sets ≡ true → has_name ActionEvent block ≡ true) → is_checked_action (action_by sets block) ≡ true
+action_if true block spelled task event = rw (name_spelled ActionTask block spelled task) (name_spelled ActionEvent block spelled (event refl))
+action_if false block spelled task event = name_spelled ActionTask block spelled task
 
-event_checked : (o : Object) → IsSoundObject o → o.kind ≡ kind.Event → is_checked_event (event_record o) ≡ true
-event_checked o sound k = mask_if (value_at EventMask (settings_in o)) (accepted (object_scope o) (object_sound o sound) EventMask (rw k refl))
+module _ (o : Object) (sound : IsSoundObject o) (spelled : is_spelled_object o ≡ true) where
+  -- an object has a name that its kind may have
+  name_checked : (k : Kind) → o.kind ≡ k → is_object_name k o.name ≡ true
+  name_checked k is =
+      let free : is_one_of (reserved k) o.name ≡ false = ap (λ (j : Kind). is_one_of (reserved j) o.name) (sym is) ∙ free_if o sound (is_one_of (reserved o.kind) o.name) refl in
+      and_true (is_name o.name) (not (is_one_of (reserved k) o.name)) (object_name o spelled) (ap not free)
 
-alarm_checked : (o : Object) → IsSoundObject o → o.kind ≡ kind.Alarm → is_checked_alarm (alarm_record o) ≡ true
-alarm_checked o sound k =
-    start_if (is_true AlarmAutostart (settings_in o)) (block_at AlarmAutostart o.attributes) (start_modes o sound AlarmAutostart (rw k refl) (AlarmTime ∷ CycleTime ∷ StartMode ∷ []) refl refl)
+  task_checked : o.kind ≡ kind.Task → is_checked_task (task_record o) ≡ true
+  task_checked k =
+      let name = name_checked kind.Task k in
+      let xs = settings_in o in
+      let scope = object_sound o sound in
+      let high = le-leb (number_at TaskPriority xs) 31 (task_priority o sound k) in
+      let low = activation_low o sound k in
+      let top = le-leb (number_at Activation xs) 15 (task_activation o sound k) in
+      let block = object_block o spelled TaskAutostart in
+      let starts = is_true TaskAutostart xs in
+      let distinct = modes_distinct starts (block_at TaskAutostart o.attributes) (distinct_modes o sound TaskAutostart (rw k refl) (StartMode ∷ []) refl (inl refl) refl) in
+      let modes = modes_named starts (block_at TaskAutostart o.attributes) block in
+      let resources = distinct_list (object_scope o) scope TaskResource (rw k refl) refl in
+      let events = distinct_list (object_scope o) scope TaskEvent (rw k refl) refl in
+      let resource_names = names_spelled TaskResource xs (object_settings o spelled) in
+      let event_names = names_spelled TaskEvent xs (object_settings o spelled) in
+      rw (name, high, low, top, distinct, resources, events, modes, resource_names, event_names) refl
+
+  isr_checked : o.kind ≡ kind.Isr → is_checked_isr (isr_record o) ≡ true
+  isr_checked k = rw (name_checked kind.Isr k) (le-leb (number_at IsrPriority (settings_in o)) 31 (isr_priority o sound k))
+
+  resource_checked : o.kind ≡ kind.Resource → is_checked_resource (resource_record o) ≡ true
+  resource_checked k = name_checked kind.Resource k
+
+  event_checked : o.kind ≡ kind.Event → is_checked_event (event_record o) ≡ true
+  event_checked k =
+      rw (name_checked kind.Event k) (mask_if (value_at EventMask (settings_in o)) (accepted (object_scope o) (object_sound o sound) EventMask (rw k refl)) (λ n e. bits_spelled EventMask (settings_in o) n (object_settings o spelled) e))
+
+  counter_checked : o.kind ≡ kind.Counter → is_checked_counter (counter_record o) ≡ true
+  counter_checked k =
+      let xs = settings_in o in
+      let all = object_settings o spelled in
+      rw (name_checked kind.Counter k, number_spelled MaxAllowedValue xs all, number_spelled TicksPerBase xs all, number_spelled MinCycle xs all) refl
+
+  alarm_checked : o.kind ≡ kind.Alarm → is_checked_alarm (alarm_record o) ≡ true
+  alarm_checked k =
+      let counter = name_spelled AlarmCounter (settings_in o) (object_settings o spelled) (alarm_counter o sound k) in
+      let names = action_names o sound k in
+      let action = action_if (says (value_at AlarmAction (settings_in o)) (codes "SETEVENT")) (block_at AlarmAction o.attributes) (object_block o spelled AlarmAction) names.task names.event in
+      let allowed = AlarmTime ∷ CycleTime ∷ StartMode ∷ [] in
+      let start = start_if (is_true AlarmAutostart (settings_in o)) (block_at AlarmAutostart o.attributes) (object_block o spelled AlarmAutostart)
+      (some_modes o sound AlarmAutostart (rw k refl) allowed refl (inr (inr (inl refl))) refl)
+      (distinct_modes o sound AlarmAutostart (rw k refl) allowed refl (inr (inr (inl refl))) refl) in
+      rw (name_checked kind.Alarm k, counter, action, start) refl
+
+  os_checked : o.kind ≡ kind.Os → is_checked_os (os_record o) ≡ true
+  os_checked k = name_checked kind.Os k
 
 -- ---- files
 
-module _ (f : File) (sound : IsSoundFile f) (named : AreNamed f) where
+proper_of : (name : List ℕ) → is_name name ≡ true → is_proper_name name ≡ true
+proper_of [] h = absurd cc
+proper_of (b ∷ bytes) h =
+    let short = leb-true (length bytes) 31 (both (is_letter b && list_all is_word_byte bytes) (leb (length bytes) 31) h).1 in
+    and_true (leb 1 (length (b ∷ bytes))) (leb (length (b ∷ bytes)) 32) (le-leb 1 (length (b ∷ bytes)) (omega arith)) (le-leb (length (b ∷ bytes)) 32 (omega (arith, short)))
+
+is_os_is : (k : Kind) → is_os k ≡ true → k ≡ kind.Os
+is_os_is kind.Os h = refl
+is_os_is kind.AppMode h = absurd cc
+is_os_is kind.Task h = absurd cc
+is_os_is kind.Isr h = absurd cc
+is_os_is kind.Resource h = absurd cc
+is_os_is kind.Event h = absurd cc
+is_os_is kind.Counter h = absurd cc
+is_os_is kind.Alarm h = absurd cc
+
+other_kind : (k : Kind) (b : Bool) → is_os k ≡ false → (same_kind k kind.Os || b) ≡ true → b ≡ true
+other_kind kind.Os b h has = absurd cc
+other_kind kind.AppMode b h has = has
+other_kind kind.Task b h has = has
+other_kind kind.Isr b h has = has
+other_kind kind.Resource b h has = has
+other_kind kind.Event b h has = has
+other_kind kind.Counter b h has = has
+other_kind kind.Alarm b h has = has
+
+os_step : (o : Object) (os : List Object) (b : Bool) → is_os o.kind ≡ b → (o.kind ≡ kind.Os → is_checked_os (os_record o) ≡ true) → (has_kind kind.Os os ≡ true → is_checked_os (os_among os) ≡ true)
+    → has_kind kind.Os (o ∷ os) ≡ true → is_checked_os (cond b (os_record o) (os_among os)) ≡ true
+os_step o os true e here next has = here (is_os_is o.kind e)
+os_step o os false e here next has = next (other_kind o.kind (has_kind kind.Os os) e has)
+
+os_from : (os : List Object) → ((o : Object) → Among os o → o.kind ≡ kind.Os → is_checked_os (os_record o) ≡ true) → has_kind kind.Os os ≡ true → is_checked_os (os_among os) ≡ true
+os_from [] each has = absurd cc
+os_from (o ∷ os) each has = os_step o os (is_os o.kind) refl (each o (inl refl)) (os_from os (λ p among. each p (inr among))) has
+
+module _ (f : File) (sound : IsSoundFile f) (spelled : is_spelled f ≡ true) where
+  each_spelled : (o : Object) → Among f.objects o → is_spelled_object o ≡ true
+  each_spelled o among = all_is is_spelled_object f.objects o (both (is_name f.cpu) (list_all is_spelled_object f.objects) spelled).1 among
+
+  -- a test of what an object without a fault says
+  each_passes : {R : Type 0} (test : R → Bool) (k : Kind) (r : Object → R) → ((o : Object) → IsSoundObject o → is_spelled_object o ≡ true → o.kind ≡ k → test (r o) ≡ true) → list_all test (records_of k r f.objects) ≡ true
+  each_passes test k r one = all_records test k r f.objects (λ o among is. one o (each_sound f sound o among) (each_spelled o among) is)
+
   proper_names : (k : Kind) → are_proper_names (records_of k name_of f.objects) ≡ true
-  proper_names k = rw (all_records is_proper_name k name_of f.objects (λ o among e. named o among), distinct_names f sound k) refl
+  proper_names k = rw (all_records is_proper_name k name_of f.objects (λ o among e. proper_of o.name (object_name o (each_spelled o among))), distinct_names f sound k) refl
+
+  os_is_checked : is_checked_os (configuration_of f).os ≡ true
+  os_is_checked =
+      ap is_checked_os (os_is (no_objects f.cpu (os_among f.objects)) f.objects)
+      ∙ os_from f.objects (λ o among is. os_checked o (each_sound f sound o among) (each_spelled o among) is) (has_os f sound)
+
+  cpu_is_checked : is_name (configuration_of f).cpu ≡ true
+  cpu_is_checked =
+      ap is_name (cpu_is (no_objects f.cpu (os_among f.objects)) f.objects)
+      ∙ (both (is_name f.cpu) (list_all is_spelled_object f.objects) spelled).0
 
   modes_checked : are_checked_modes (configuration_of f).app_modes ≡ true
   modes_checked =
       ap are_checked_modes (app_modes_are (no_objects f.cpu (os_among f.objects)) f.objects)
-      ∙ (rw (some_record kind.AppMode name_of f.objects (has_modes f sound)) (proper_names kind.AppMode))
+      ∙ (rw (
+        some_record kind.AppMode name_of f.objects (has_modes f sound),
+        each_passes (is_object_name kind.AppMode) kind.AppMode name_of (λ o s w k. name_checked o s w kind.AppMode k),
+      ) (proper_names kind.AppMode))
 
   tasks_checked : are_checked_tasks (configuration_of f).tasks ≡ true
   tasks_checked =
       ap are_checked_tasks (tasks_are (no_objects f.cpu (os_among f.objects)) f.objects)
       ∙ (rw (
-        all_records is_checked_task kind.Task task_record f.objects (λ o among k. task_checked o (each_sound f sound o among) k),
-        names_are kind.Task task_record (λ t. t.name) (λ o. refl) f.objects,
+        each_passes is_checked_task kind.Task task_record task_checked,
+        names_are kind.Task task_record (λ x. x.name) (λ o. refl) f.objects,
       ) (proper_names kind.Task))
 
   isrs_checked : are_checked_isrs (configuration_of f).routines ≡ true
   isrs_checked =
       ap are_checked_isrs (routines_are (no_objects f.cpu (os_among f.objects)) f.objects)
       ∙ (rw (
-        all_records is_checked_isr kind.Isr isr_record f.objects (λ o among k. isr_checked o (each_sound f sound o among) k),
-        names_are kind.Isr isr_record (λ t. t.name) (λ o. refl) f.objects,
+        each_passes is_checked_isr kind.Isr isr_record isr_checked,
+        names_are kind.Isr isr_record (λ x. x.name) (λ o. refl) f.objects,
       ) (proper_names kind.Isr))
 
   resources_checked : are_checked_resources (configuration_of f).resources ≡ true
   resources_checked =
       ap are_checked_resources (resources_are (no_objects f.cpu (os_among f.objects)) f.objects)
-      ∙ (rw (names_are kind.Resource resource_record (λ t. t.name) (λ o. refl) f.objects) (proper_names kind.Resource))
+      ∙ (rw (
+        each_passes is_checked_resource kind.Resource resource_record resource_checked,
+        names_are kind.Resource resource_record (λ x. x.name) (λ o. refl) f.objects,
+      ) (proper_names kind.Resource))
 
   events_checked : are_checked_events (configuration_of f).events ≡ true
   events_checked =
       ap are_checked_events (events_are (no_objects f.cpu (os_among f.objects)) f.objects)
       ∙ (rw (
-        all_records is_checked_event kind.Event event_record f.objects (λ o among k. event_checked o (each_sound f sound o among) k),
-        names_are kind.Event event_record (λ t. t.name) (λ o. refl) f.objects,
+        each_passes is_checked_event kind.Event event_record event_checked,
+        names_are kind.Event event_record (λ x. x.name) (λ o. refl) f.objects,
       ) (proper_names kind.Event))
 
   counters_checked : are_checked_counters (configuration_of f).counters ≡ true
   counters_checked =
       ap are_checked_counters (counters_are (no_objects f.cpu (os_among f.objects)) f.objects)
-      ∙ (rw (names_are kind.Counter counter_record (λ t. t.name) (λ o. refl) f.objects) (proper_names kind.Counter))
+      ∙ (rw (
+        each_passes is_checked_counter kind.Counter counter_record counter_checked,
+        names_are kind.Counter counter_record (λ x. x.name) (λ o. refl) f.objects,
+      ) (proper_names kind.Counter))
 
   alarms_checked : are_checked_alarms (configuration_of f).alarms ≡ true
   alarms_checked =
       ap are_checked_alarms (alarms_are (no_objects f.cpu (os_among f.objects)) f.objects)
       ∙ (rw (
-        all_records is_checked_alarm kind.Alarm alarm_record f.objects (λ o among k. alarm_checked o (each_sound f sound o among) k),
-        names_are kind.Alarm alarm_record (λ t. t.name) (λ o. refl) f.objects,
+        each_passes is_checked_alarm kind.Alarm alarm_record alarm_checked,
+        names_are kind.Alarm alarm_record (λ x. x.name) (λ o. refl) f.objects,
       ) (proper_names kind.Alarm))
 
   pub configuration_checked : is_checked (configuration_of f) ≡ true
-  configuration_checked = rw (modes_checked, tasks_checked, isrs_checked, resources_checked, events_checked, counters_checked, alarms_checked) refl
+  configuration_checked =
+      rw (cpu_is_checked, os_is_checked, modes_checked, tasks_checked, isrs_checked, resources_checked, events_checked, counters_checked, alarms_checked) refl

@@ -1,5 +1,5 @@
 -- The first fault of a list is the first of all faults that stand.
-use Rattle.std.proofs.Common.{◌≡◌, ℕ, ◌+◌, ◌<◌, ◌≤◌, ◌⊎◌, length, take, map, get_or, List, [], ◌∷◌, ◌++◌, Option, Some, None, refl, sym, ap, ◌∙◌, subst, arith, inl, inr}
+use Rattle.std.proofs.Common.{◌≡◌, ℕ, ◌+◌, ◌<◌, ◌≤◌, ◌⊎◌, length, take, map, get_or, List, [], ◌∷◌, ◌++◌, Option, Some, None, Result, Ok, Err, IfOk, refl, sym, ap, ◌∙◌, subst, arith, inl, inr}
 use Rattle.std.proofs.lemmas.List.{take_more, take_all, map_push}
 use Rattle.std.proofs.lemmas.Bool.{cases_lt, lt-ltb, le-ltb, eq-eqb, le-leb, lt-leb, ne_eqb, cases_eq}
 use Rattle.oil_reader.specs.declared.fault.OilFault.{OilFault}
@@ -114,3 +114,8 @@ some_at {X} {Y} f F xs i x a b next inside is e so_far one =
 
 pub some_done : {X Y : Type 0} (f : X → Y) (F : Y → OilFault → Type 0) (xs : List X) (i : ℕ) (a : Option OilFault) → length xs ≤ i → Finds (SomeFault F (map f (take i xs))) a → Finds (SomeFault F (map f xs)) a
 some_done {X} f F xs i a over h = subst (λ (ys : List X). Finds (SomeFault F (map f ys)) a) (take_all i xs over) h
+
+-- what holds of a result where there is one
+pub ok_map : {X E : Type 0} (P Q : X → Type 0) → ((x : X) → P x → Q x) → (r : Result X E) → IfOk r P → IfOk r Q
+ok_map P Q to (Ok x) h = to x h
+ok_map P Q to (Err e) h = tt

@@ -7,9 +7,13 @@ pub mod Firsts
 pub mod Listed
 pub mod Scopes
 pub mod ObjectsListed
+pub mod Keys
+pub mod Standing
 pub mod Sound
 pub mod ObjectLists
+pub mod Spelling
+pub mod SpelledValues
 pub mod CheckedLemmas
+pub mod CheckedParts
 pub mod OneTree
 pub mod TextMeaning
-pub mod ProperNames

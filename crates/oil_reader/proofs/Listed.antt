@@ -48,7 +48,7 @@ again_is o x y h =
     let t = both (bytes_eq x.name y.name) (not (is_list o) || same_value x.value y.value) h in
     ((bytes_eq-Decides x.name y.name).0 t.0, λ e. same_value_is x.value y.value (list_is (is_list o) (same_value x.value y.value) t.1 e))
 
-is_again_by : (o : Presence) (x y : Setting) → x.name ≡ y.name → (is_list o ≡ true → x.value ≡ y.value) → is_again o x y ≡ true
+pub is_again_by : (o : Presence) (x y : Setting) → x.name ≡ y.name → (is_list o ≡ true → x.value ≡ y.value) → is_again o x y ≡ true
 is_again_by o x y n v = rw ((bytes_eq-Decides x.name y.name).1 n) (is_list_by (is_list o) (same_value x.value y.value) (λ e. is_same_value x.value y.value (v e)))
 
 pub or_true : (a b : Bool) → b ≡ true → (a || b) ≡ true

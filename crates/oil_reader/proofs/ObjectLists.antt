@@ -13,7 +13,7 @@ use Rattle.oil_reader.specs.Grammar.{Object, File}
 use Rattle.oil_reader.specs.Attributes.{Among, IsSoundFile}
 use Rattle.oil_reader.specs.Checks.{same_kind, has_kind}
 use Rattle.oil_reader.specs.Configuration.{Configuration}
-use Rattle.oil_reader.specs.Meaning.{add_by, with_objects, task_record, isr_record, resource_record, event_record, counter_record, alarm_record}
+use Rattle.oil_reader.specs.Meaning.{add_by, with_object, with_objects, task_record, isr_record, resource_record, event_record, counter_record, alarm_record}
 use Rattle.oil_reader.proofs.Firsts.{among_right}
 use Rattle.oil_reader.proofs.Listed.{any_is}
 use Rattle.oil_reader.proofs.ObjectsListed.{same_kind_is}
@@ -25,6 +25,38 @@ records_of k r (o ∷ os) = cond (same_kind o.kind k) (r o ∷ records_of k r os
 
 abbrev pub name_of : Object → List ℕ
 name_of o = o.name
+
+-- ---- objects change neither the CPU's name nor the OS object
+
+cpu_step : (k : Kind) (c : Configuration) (o : Object) → (add_by k c o).cpu ≡ c.cpu
+cpu_step kind.Os c o = refl
+cpu_step kind.AppMode c o = refl
+cpu_step kind.Task c o = refl
+cpu_step kind.Isr c o = refl
+cpu_step kind.Resource c o = refl
+cpu_step kind.Event c o = refl
+cpu_step kind.Counter c o = refl
+cpu_step kind.Alarm c o = refl
+
+pub cpu_is : (c : Configuration) (os : List Object) → (with_objects c os).cpu ≡ c.cpu
+cpu_is c [] = refl
+cpu_is c (o ∷ os) = cpu_is (with_object c o) os ∙ cpu_step o.kind c o
+
+os_step : (k : Kind) (c : Configuration) (o : Object) → (add_by k c o).os ≡ c.os
+os_step kind.Os c o = refl
+os_step kind.AppMode c o = refl
+os_step kind.Task c o = refl
+os_step kind.Isr c o = refl
+os_step kind.Resource c o = refl
+os_step kind.Event c o = refl
+os_step kind.Counter c o = refl
+os_step kind.Alarm c o = refl
+
+pub os_is : (c : Configuration) (os : List Object) → (with_objects c os).os ≡ c.os
+os_is c [] = refl
+os_is c (o ∷ os) = os_is (with_object c o) os ∙ os_step o.kind c o
+
+-- ---- the lists
 
 abbrev app_modes_goal : Kind → Configuration → Object → List Object → Type 0
 app_modes_goal k c o os = (with_objects (add_by k c o) os).app_modes ≡ c.app_modes ++ cond (same_kind k kind.AppMode) (name_of o ∷ records_of kind.AppMode name_of os) (records_of kind.AppMode name_of os)

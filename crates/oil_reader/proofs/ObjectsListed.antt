@@ -64,7 +64,7 @@ name_clash : (x y : Object) → (x.kind ≡ kind.Os) ⊎ (x.name ≡ y.name) →
 name_clash x y (inl a) = ap (λ (k : Kind). is_os k || bytes_eq x.name y.name) a
 name_clash x y (inr b) = or_true (is_os x.kind) (bytes_eq x.name y.name) ((bytes_eq-Decides x.name y.name).1 b)
 
-is_clash : (x y : Object) → x.kind ≡ y.kind → (x.kind ≡ kind.Os) ⊎ (x.name ≡ y.name) → clashes x y ≡ true
+pub is_clash : (x y : Object) → x.kind ≡ y.kind → (x.kind ≡ kind.Os) ⊎ (x.name ≡ y.name) → clashes x y ≡ true
 is_clash x y k n = rw (is_same_kind x.kind y.kind k) (name_clash x y n)
 
 abbrev file : List ℕ → List Object → ℕ → File

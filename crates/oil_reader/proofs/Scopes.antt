@@ -1,7 +1,7 @@
 -- Going over settings that stand together.
-use Rattle.std.proofs.Common.{◌≡◌, ℕ, ◌+◌, ◌<◌, ◌≤◌, List, [], ◌∷◌, ◌++◌, length, take, drop, map, get_or, Option, Some, None, Bool, ◌||◌, refl, sym, ap, ◌∙◌}
+use Rattle.std.proofs.Common.{◌≡◌, ℕ, ◌+◌, ◌<◌, List, [], ◌∷◌, ◌++◌, length, take, drop, map, get_or, Option, Some, None, Bool, ◌||◌, refl, sym, ap, ◌∙◌}
 use Rattle.std.specs.List.{list_any}
-use Rattle.std.proofs.lemmas.List.{drop_more, drop_all, take_more, map_push}
+use Rattle.std.proofs.lemmas.List.{drop_more, take_more, map_push}
 use Rattle.oil_reader.specs.declared.fault.OilFault.{OilFault}
 use Rattle.oil_reader.specs.declared.syntax.Setting as code_setting
 use Rattle.oil_reader.specs.declared.table.AttributeName.{AttributeName}
@@ -38,12 +38,8 @@ setting_more allowed xs i d found next whole inside is step_at so_far =
     ∙ sym (first_of_both found (setting_faults allowed before x) (settings_faults allowed (before ++ x ∷ []) after)) ∙ now
 
 -- all settings were gone over
-pub settings_done : (allowed : List AttributeName) (xs : List code_setting.Setting) (i close : ℕ) (found : Option OilFault) → length xs ≤ i
-    → first_of_all found (settings_faults allowed (settings_of (take i xs)) (settings_of (drop i xs))) ≡ first_of_all None (settings_faults allowed [] (settings_of xs))
+pub settings_end : (allowed : List AttributeName) (xs : List code_setting.Setting) (close : ℕ) (found : Option OilFault) → found ≡ first_of_all None (settings_faults allowed [] (settings_of xs))
     → first_of_all found (lacking_faults allowed (settings_of xs) close) ≡ first_of_all None (scope_faults allowed (settings_of xs) close)
-settings_done allowed xs i close found over so_far =
-    let nothing : settings_of (drop i xs) ≡ [] = ap settings_of (drop_all i xs over) in
-    let found_is : found ≡ first_of_all None (settings_faults allowed [] (settings_of xs)) =
-    sym (ap (λ (us : List Setting). first_of_all found (settings_faults allowed (settings_of (take i xs)) us)) nothing) ∙ so_far in
-    ap (λ (o : Option OilFault). first_of_all o (lacking_faults allowed (settings_of xs) close)) found_is
+settings_end allowed xs close found e =
+    ap (λ (o : Option OilFault). first_of_all o (lacking_faults allowed (settings_of xs) close)) e
     ∙ sym (first_of_both None (settings_faults allowed [] (settings_of xs)) (lacking_faults allowed (settings_of xs) close))

@@ -92,7 +92,7 @@ number_below : (o : Option Value) (low high : ℕ) → ((v : Value) → o ≡ So
 number_below None low high h = omega arith
 number_below (Some v) low high h = between low high v (h v refl)
 
-any_name : (v : Value) → in_range AnyName v ≡ true → is_name (Some v) ≡ true
+pub any_name : (v : Value) → in_range AnyName v ≡ true → is_name (Some v) ≡ true
 any_name (Named s) h = refl
 any_name (Numeric n) h = absurd cc
 

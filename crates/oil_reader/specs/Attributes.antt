@@ -7,7 +7,6 @@ use Rattle.oil_reader.specs.declared.syntax.Kind.{Kind}
 use Rattle.oil_reader.specs.declared.table.AttributeName.{AttributeName}
 use Rattle.oil_reader.specs.Grammar.{Setting, Block, Attribute, Object, File}
 use Rattle.std.specs.List.{find}
-use Rattle.osek_base.specs.Names.{is_proper_name}
 use Rattle.std.specs.Str.{bytes_eq}
 use Rattle.oil_reader.specs.Table.{word_of, presence_of, is_list, may_lack, attributes_of, accepts, block_of}
 use Rattle.oil_reader.specs.Order.{IsNoLater}
@@ -172,7 +171,3 @@ IsSoundObject o = (e : OilFault) → ¬ OneObjectFault o e
 
 abbrev pub IsSoundFile : File → Type 0
 IsSoundFile f = (e : OilFault) → ¬ Stands f e
-
--- objects' names have 1 to 32 bytes, as all names of a text
-abbrev pub AreNamed : File → Type 0
-AreNamed f = (o : Object) → Among f.objects o → IsTrue (is_proper_name o.name)

@@ -29,6 +29,13 @@ faults_by (Some p) before x =
     (if was_set (presence_of p) before x then fault.Twice x.name_place ∷ [] else [])
     ++ (if accepts p x.value then [] else fault.Range x.value_place ∷ [])
 
+-- the same, where it is known whether its name stood before, and whether its name with this value did
+abbrev pub faults_where : Option AttributeName → Bool → Bool → Setting → List OilFault
+faults_where None named valued x = fault.UnknownAttribute x.name_place ∷ []
+faults_where (Some p) named valued x =
+    (if (if is_list (presence_of p) then valued else named) then fault.Twice x.name_place ∷ [] else [])
+    ++ (if accepts p x.value then [] else fault.Range x.value_place ∷ [])
+
 -- the faults of a setting behind others
 abbrev pub setting_faults : List AttributeName → List Setting → Setting → List OilFault
 setting_faults allowed before x = faults_by (attribute_named allowed x.name) before x
@@ -49,6 +56,19 @@ lacking_faults (p ∷ ps) settings close =
 abbrev pub scope_faults : List AttributeName → List Setting → ℕ → List OilFault
 scope_faults allowed settings close = settings_faults allowed [] settings ++ lacking_faults allowed settings close
 
+-- a value as numbers and bytes: what it is, the word and the number
+abbrev pub value_sort : Value → ℕ
+value_sort (Named s) = 0
+value_sort (Numeric n) = 1
+
+abbrev pub value_word : Value → List ℕ
+value_word (Named s) = s
+value_word (Numeric n) = []
+
+abbrev pub value_number : Value → ℕ
+value_number (Named s) = 0
+value_number (Numeric n) = n
+
 -- ---- objects
 
 -- kinds are told apart by numbers
@@ -68,6 +88,10 @@ same_kind j k = kind_number j == kind_number k
 abbrev pub is_os : Kind → Bool
 is_os kind.Os = true
 is_os _ = false
+
+-- the name by which objects of its kind are told apart; of kind OS there is one
+abbrev pub key_name : Object → List ℕ
+key_name o = if is_os o.kind then [] else o.name
 
 -- y may not stand behind x
 abbrev pub clashes : Object → Object → Bool

@@ -1,5 +1,6 @@
 pub mod Configuration
 pub mod Checked
+pub mod Spelled
 pub mod Tokens
 pub mod Grammar
 pub mod Table

@@ -1,10 +1,11 @@
 //! OIL: standard objects. The faults of attributes and of objects.
 
-ghost use Rattle.std.specs.Prelude.{◌≡◌, ◌++◌, ◌||◌, ◌&&◌, not, [], None, IfOk, map};
+ghost use Rattle.std.specs.Prelude.{◌≡◌, ◌++◌, ◌||◌, ◌&&◌, not, [], ◌∷◌, None, IfOk, map, if◌then◌else◌};
 ghost use Rattle.oil_reader.specs.Attributes.{attribute_named, Finds, ScopeFault, BlockFault, SomeFault, AttributeFault, OneObjectFault, ReservedFault, ObjectFault, Stands, reserved, reserved_everywhere};
 ghost use Rattle.oil_reader.specs.Order.{first_of_all, earlier_of};
+ghost use Rattle.oil_reader.specs.declared.fault.OilFault.TheVariants as fault;
 ghost use Rattle.oil_reader.specs.declared.syntax.Kind.TheVariants as kind;
-ghost use Rattle.oil_reader.specs.Checks.{same_value, is_again, was_set, is_set, setting_faults, scope_faults, same_kind, is_os, clashes, stood, has_kind, seconds, lacks};
+ghost use Rattle.oil_reader.specs.Checks.{value_sort, value_word, value_number, faults_where, settings_faults, scope_faults, is_set, same_kind, is_os, key_name, kind_number, has_kind, seconds, lacks};
 ghost use Rattle.oil_reader.specs.Table.{is_one_of, presence_of, may_lack};
 ghost use Rattle.oil_reader.specs.Trees.{value_of, setting_of, settings_of, attribute_of, attributes_of, object_of, objects_of, file_of};
 
@@ -12,6 +13,7 @@ use crate::fault::OilFault;
 use crate::syntax::{Attribute, Kind, Object, Setting, SyntaxTree, Value};
 use crate::table::{AttributeName, Presence, attributes_of};
 use std::alloc::{AllocError, Global};
+use std::collections::HashSet;
 
 /// The attribute of that word, where it is allowed.
 fn attribute_named(allowed: &[AttributeName], name: &str) -> Option<AttributeName>
@@ -23,31 +25,17 @@ fn attribute_named(allowed: &[AttributeName], name: &str) -> Option<AttributeNam
         .find(|attribute| attribute.word() == name)
 }
 
-fn same_value(one: Value<'_>, other: Value<'_>) -> bool
-    ensures { result ≡ same_value (value_of one.entry) (value_of other.entry) }
+/// What tells a name and its value from others: the name, and the value's sort, word and number.
+fn value_key<'a>(setting: Setting<'a>) -> (&'a str, u8, &'a str, u32)
+    ensures name { result.0.now ≡ setting.entry.name.text.now }
+    ensures sort { result.1 ≡ value_sort (value_of setting.entry.value) }
+    ensures word { result.2.now ≡ value_word (value_of setting.entry.value) }
+    ensures number { result.3 ≡ value_number (value_of setting.entry.value) }
 {
-    match (one, other) {
-        (Value::Name(one), Value::Name(other)) => one.text == other.text,
-        (Value::Number(one), Value::Number(other)) => one == other,
-        _ => false,
+    match setting.value {
+        Value::Name(word) => (setting.name.text, 0, word.text, 0),
+        Value::Number(number) => (setting.name.text, 1, "", number),
     }
-}
-
-fn is_again(presence: Presence, one: Setting<'_>, other: Setting<'_>) -> bool
-    ensures { result ≡ is_again presence (setting_of one.entry) (setting_of other.entry) }
-{
-    one.name.text == other.name.text && (!presence.is_list() || same_value(one.value, other.value))
-}
-
-fn was_set(presence: Presence, before: &[Setting<'_>], setting: Setting<'_>) -> bool
-    ensures { result ≡ was_set presence (settings_of before.now) (setting_of setting.entry) }
-{
-    for other in before {
-        if is_again(presence, *other, setting) {
-            return true;
-        }
-    }
-    false
 }
 
 fn is_set(settings: &[Setting<'_>], attribute: AttributeName) -> bool
@@ -61,22 +49,36 @@ fn is_set(settings: &[Setting<'_>], attribute: AttributeName) -> bool
     false
 }
 
-/// The first fault of a setting behind others, and of what was found so far.
+/// The first of what was found so far and of a second standing, where it is one.
+fn twice(is_again: bool, place: usize, so_far: Option<OilFault>) -> Option<OilFault>
+    ensures { result ≡ first_of_all so_far (if is_again then fault.Twice place ∷ [] else []) }
+{
+    if is_again {
+        Some(OilFault::Twice(place).or_earlier(so_far))
+    } else {
+        so_far
+    }
+}
+
+/// The first fault of a setting, and of what was found so far. Its name stood before, or its name with its value.
 fn setting_fault(
     allowed: &[AttributeName],
-    before: &[Setting<'_>],
     setting: Setting<'_>,
+    is_named: bool,
+    is_valued: bool,
     so_far: Option<OilFault>,
 ) -> Option<OilFault>
-    ensures { result ≡ first_of_all so_far (setting_faults allowed.now (settings_of before.now) (setting_of setting.entry)) }
+    ensures { result ≡ first_of_all so_far (faults_where (attribute_named allowed.now setting.entry.name.text.now) is_named is_valued (setting_of setting.entry)) }
 {
     let Some(attribute) = attribute_named(allowed, setting.name.text) else {
         return Some(OilFault::UnknownAttribute(setting.name_place).or_earlier(so_far));
     };
-    let mut found = so_far;
-    if was_set(attribute.presence(), before, setting) {
-        found = Some(OilFault::Twice(setting.name_place).or_earlier(found));
-    }
+    let is_again = if attribute.presence().is_list() {
+        is_valued
+    } else {
+        is_named
+    };
+    let mut found = twice(is_again, setting.name_place, so_far);
     if !attribute.accepts(setting.value) {
         found = Some(OilFault::Range(setting.value_place).or_earlier(found));
     }
@@ -89,35 +91,54 @@ fn is_lacking(attribute: AttributeName, settings: &[Setting<'_>]) -> bool
     !attribute.presence().may_lack() && !is_set(settings, attribute)
 }
 
+/// The first fault that a setting has among those before it.
+fn settings_fault(
+    alloc: Global,
+    allowed: &[AttributeName],
+    settings: &[Setting<'_>],
+) -> Result<Option<OilFault>, AllocError>
+    ensures { IfOk result (λ found. found ≡ first_of_all None (settings_faults allowed.now [] (settings_of settings.now))) }
+{
+    let mut names = HashSet::new(alloc);
+    let mut values = HashSet::new(alloc);
+    let mut found = None;
+    for setting in settings {
+        let is_new_name = names.insert(setting.name.text)?;
+        let is_new_value = values.insert(value_key(*setting))?;
+        found = setting_fault(allowed, *setting, !is_new_name, !is_new_value, found);
+    }
+    Ok(found)
+}
+
 /// The first fault of settings that stand together.
 fn scope_fault_listed(
+    alloc: Global,
     allowed: &[AttributeName],
     settings: &[Setting<'_>],
     close: usize,
-) -> Option<OilFault>
-    ensures { result ≡ first_of_all None (scope_faults allowed.now (settings_of settings.now) close) }
+) -> Result<Option<OilFault>, AllocError>
+    ensures { IfOk result (λ found. found ≡ first_of_all None (scope_faults allowed.now (settings_of settings.now) close)) }
 {
-    let mut found = None;
-    for (index, setting) in settings.iter().enumerate() {
-        found = setting_fault(allowed, &settings[..index], *setting, found);
-    }
+    let mut found = settings_fault(alloc, allowed, settings)?;
     for attribute in allowed {
         if is_lacking(*attribute, settings) {
             found = Some(OilFault::Missing(close).or_earlier(found));
         }
     }
-    found
+    Ok(found)
 }
 
 /// The first fault of settings that stand together.
 pub fn scope_fault(
+    alloc: Global,
     allowed: &[AttributeName],
     settings: &[Setting<'_>],
     close: usize,
-) -> Option<OilFault>
-    ensures { Finds (ScopeFault (record { allowed = allowed.now; settings = settings_of settings.now; close = close })) result }
+) -> Result<Option<OilFault>, AllocError>
+    ensures { IfOk result (λ found. Finds (ScopeFault (record { allowed = allowed.now; settings = settings_of settings.now; close = close })) found) }
 {
-    scope_fault_listed(allowed, settings, close)
+    let found = scope_fault_listed(alloc, allowed, settings, close)?;
+    Ok(found)
 }
 
 fn earlier_of(one: Option<OilFault>, other: Option<OilFault>) -> Option<OilFault>
@@ -130,28 +151,37 @@ fn earlier_of(one: Option<OilFault>, other: Option<OilFault>) -> Option<OilFault
 }
 
 /// The first fault in the block behind a value.
-fn block_fault(allowed: &[AttributeName], attribute: &Attribute<'_>) -> Option<OilFault>
-    ensures { Finds (BlockFault allowed.now (attribute_of attribute.now)) result }
+fn block_fault(
+    alloc: Global,
+    allowed: &[AttributeName],
+    attribute: &Attribute<'_>,
+) -> Result<Option<OilFault>, AllocError>
+    ensures { IfOk result (λ found. Finds (BlockFault allowed.now (attribute_of attribute.now)) found) }
 {
     let Some(name) = attribute_named(allowed, attribute.setting.name.text) else {
-        return None;
+        return Ok(None);
     };
     let inner = name.block(attribute.setting.value);
     match &attribute.block {
-        Some(block) => scope_fault(inner, &block.settings, block.close),
-        None => scope_fault(inner, &[], attribute.end),
+        Some(block) => scope_fault(alloc, inner, &block.settings, block.close),
+        None => scope_fault(alloc, inner, &[], attribute.end),
     }
 }
 
 /// The first fault in the blocks of attributes.
-fn blocks_fault(allowed: &[AttributeName], attributes: &[Attribute<'_>]) -> Option<OilFault>
-    ensures { Finds (SomeFault (BlockFault allowed.now) (attributes_of attributes.now)) result }
+fn blocks_fault(
+    alloc: Global,
+    allowed: &[AttributeName],
+    attributes: &[Attribute<'_>],
+) -> Result<Option<OilFault>, AllocError>
+    ensures { IfOk result (λ found. Finds (SomeFault (BlockFault allowed.now) (attributes_of attributes.now)) found) }
 {
     let mut found = None;
     for attribute in attributes {
-        found = earlier_of(found, block_fault(allowed, attribute));
+        let inner = block_fault(alloc, allowed, attribute)?;
+        found = earlier_of(found, inner);
     }
-    found
+    Ok(found)
 }
 
 /// The settings of attributes, without their blocks.
@@ -174,8 +204,9 @@ fn object_fault(alloc: Global, object: &Object<'_>) -> Result<Option<OilFault>, 
 {
     let allowed = attributes_of(object.kind);
     let settings = settings_in(alloc, &object.attributes)?;
-    let found = scope_fault(allowed, &settings, object.end);
-    Ok(earlier_of(found, blocks_fault(allowed, &object.attributes)))
+    let found = scope_fault(alloc, allowed, &settings, object.end)?;
+    let inner = blocks_fault(alloc, allowed, &object.attributes)?;
+    Ok(earlier_of(found, inner))
 }
 
 /// Whether no object of the kind may have the name.
@@ -213,21 +244,33 @@ pub fn is_os(kind: Kind) -> bool
     }
 }
 
-fn clashes(one: &Object<'_>, other: &Object<'_>) -> bool
-    ensures { result ≡ clashes (object_of one.now) (object_of other.now) }
+/// Kinds are told apart by numbers.
+fn kind_number(kind: Kind) -> u8
+    ensures { result ≡ kind_number kind }
 {
-    same_kind(one.kind, other.kind) && (is_os(one.kind) || one.name.text == other.name.text)
+    match kind {
+        Kind::Os => 0,
+        Kind::AppMode => 1,
+        Kind::Task => 2,
+        Kind::Isr => 3,
+        Kind::Resource => 4,
+        Kind::Event => 5,
+        Kind::Counter => 6,
+        Kind::Alarm => 7,
+    }
 }
 
-fn stood(before: &[Object<'_>], object: &Object<'_>) -> bool
-    ensures { result ≡ stood (objects_of before.now) (object_of object.now) }
+/// What tells an object from the others of a file: its kind, and its name where there may be several of the kind.
+fn key_of<'a>(object: &Object<'a>) -> (u8, &'a str)
+    ensures kind { result.0 ≡ kind_number object.now.kind }
+    ensures name { result.1.now ≡ key_name (object_of object.now) }
 {
-    for other in before {
-        if clashes(other, object) {
-            return true;
-        }
-    }
-    false
+    let name = if is_os(object.kind) {
+        ""
+    } else {
+        object.name.text
+    };
+    (kind_number(object.kind), name)
 }
 
 fn has_kind(kind: Kind, objects: &[Object<'_>]) -> bool
@@ -242,16 +285,16 @@ fn has_kind(kind: Kind, objects: &[Object<'_>]) -> bool
 }
 
 /// The first second object of one kind and name.
-fn second_fault(objects: &[Object<'_>]) -> Option<OilFault>
-    ensures { result ≡ first_of_all None (seconds [] (objects_of objects.now)) }
+fn second_fault(alloc: Global, objects: &[Object<'_>]) -> Result<Option<OilFault>, AllocError>
+    ensures { IfOk result (λ found. found ≡ first_of_all None (seconds [] (objects_of objects.now))) }
 {
+    let mut seen = HashSet::new(alloc);
     let mut found = None;
-    for (index, object) in objects.iter().enumerate() {
-        if stood(&objects[..index], object) {
-            found = Some(OilFault::Twice(object.place).or_earlier(found));
-        }
+    for object in objects {
+        let is_new = seen.insert(key_of(object))?;
+        found = twice(!is_new, object.place, found);
     }
-    found
+    Ok(found)
 }
 
 fn reserved_fault(object: &Object<'_>) -> Option<OilFault>
@@ -291,27 +334,31 @@ fn has_needed(objects: &[Object<'_>]) -> bool
 }
 
 /// The first fault of which objects there are.
-fn names_fault_listed(objects: &[Object<'_>], close: usize) -> Option<OilFault>
-    ensures { result ≡ first_of_all None (seconds [] (objects_of objects.now) ++ lacks (objects_of objects.now) close) }
+fn names_fault_listed(
+    alloc: Global,
+    objects: &[Object<'_>],
+    close: usize,
+) -> Result<Option<OilFault>, AllocError>
+    ensures { IfOk result (λ found. found ≡ first_of_all None (seconds [] (objects_of objects.now) ++ lacks (objects_of objects.now) close)) }
 {
-    let found = second_fault(objects);
+    let found = second_fault(alloc, objects)?;
     if has_needed(objects) {
-        found
-    } else {
-        Some(OilFault::Missing(close).or_earlier(found))
+        return Ok(found);
     }
+    Ok(Some(OilFault::Missing(close).or_earlier(found)))
 }
 
-fn names_fault(tree: &SyntaxTree<'_>) -> Option<OilFault>
-    ensures { Finds (ObjectFault (file_of tree.now)) result }
+fn names_fault(alloc: Global, tree: &SyntaxTree<'_>) -> Result<Option<OilFault>, AllocError>
+    ensures { IfOk result (λ found. Finds (ObjectFault (file_of tree.now)) found) }
 {
-    names_fault_listed(&tree.objects, tree.close)
+    let found = names_fault_listed(alloc, &tree.objects, tree.close)?;
+    Ok(found)
 }
 
 /// The first fault of a file whose syntax is right.
 pub fn file_fault(alloc: Global, tree: &SyntaxTree<'_>) -> Result<Option<OilFault>, AllocError>
     ensures { IfOk result (λ found. Finds (Stands (file_of tree.now)) found) }
 {
-    let found = names_fault(tree);
+    let found = names_fault(alloc, tree)?;
     Ok(earlier_of(found, objects_fault(alloc, &tree.objects)?))
 }

@@ -2,6 +2,8 @@
 
 ghost use Rattle.std.specs.Prelude.{◌≡◌, IsTrue};
 ghost use Rattle.oil_reader.specs.Checked.{
+  is_name,
+  is_checked_os,
   are_checked_modes,
   are_checked_tasks,
   are_checked_isrs,
@@ -201,8 +203,8 @@ impl Model for OilParts {
     } };
 }
 
-/// A file that was read. Its numbers are in range, names have 1 to 32 bytes, no name stands twice in one kind or list,
-/// and there is an application mode.
+/// A file that was read. Names are words of the grammar and not reserved, and none stands twice in one kind or list.
+/// Numbers are in range. There is an application mode, and an alarm that starts by itself has one.
 #[derive(Debug, Drop)]
 pub struct OilFile {
     parts: OilParts,
@@ -231,14 +233,16 @@ impl OilFile {
 
     /// The name of the CPU.
     pub fn cpu(&self) -> &Name
-        ensures { result.now ≡ self.now.cpu }
+        ensures value { result.now ≡ self.now.cpu }
+        ensures checked { IsTrue (is_name result.now) }
     {
         &self.parts.cpu
     }
 
     /// The OS object.
     pub fn os(&self) -> &Os
-        ensures { result.now ≡ self.now.os }
+        ensures value { result.now ≡ self.now.os }
+        ensures checked { IsTrue (is_checked_os result.now) }
     {
         &self.parts.os
     }

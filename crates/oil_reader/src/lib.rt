@@ -7,6 +7,8 @@
 mod checks;
 mod fault;
 mod file;
+#[cfg(test)]
+mod hostile_tests;
 mod ident;
 mod objects;
 mod reading;

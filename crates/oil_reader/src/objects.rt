@@ -1,7 +1,8 @@
 //! OIL: standard objects. From the tree of a text without a fault to what its file holds.
 
 ghost use Rattle.std.specs.Prelude.{◌≡◌, [], ◌∷◌, IsTrue, IfOk, OnOk, IfSome, option_map};
-ghost use Rattle.oil_reader.specs.Attributes.{IsSoundObject, IsSoundFile, AreNamed};
+ghost use Rattle.oil_reader.specs.Attributes.{IsSoundObject, IsSoundFile};
+ghost use Rattle.oil_reader.specs.Spelled.{is_spelled};
 ghost use Rattle.oil_reader.specs.Checks.{has_kind};
 ghost use Rattle.oil_reader.specs.declared.syntax.Kind.TheVariants as kind;
 ghost use Rattle.oil_reader.specs.declared.table.AttributeName.TheVariants.{ActionTask, ActionEvent};
@@ -317,7 +318,7 @@ fn os_among(alloc: Global, objects: &[Object<'_>]) -> Result<Os, AllocError>
 /// What a file without a fault holds.
 pub fn oil_file(alloc: Global, tree: &SyntaxTree<'_>) -> Result<OilFile, AllocError>
     requires sound { IsSoundFile (file_of tree.now) }
-    requires named { AreNamed (file_of tree.now) }
+    requires spelled { IsTrue (is_spelled (file_of tree.now)) }
     ensures { IfOk result (λ file. file ≡ configuration_of (file_of tree.now)) }
 {
     let mut parts = OilParts {

@@ -27,4 +27,4 @@ new-requires-8 c =
     let items = c.deref-object-items.result.now in
     let none = drop_all c.loop-object.object-index items c.loop-object-test.false in
     let done : c.loop-object.parts ≡ configuration_of f = ap (λ xs. with_objects c.loop-object.parts (objects_of xs)) (sym none) ∙ c.loop-object.invariant.same in
-    subst (λ (d : Configuration). is_checked d ≡ true) (sym done) (configuration_checked f c.requires.sound c.requires.named)
+    subst (λ (d : Configuration). is_checked d ≡ true) (sym done) (configuration_checked f c.requires.sound c.requires.spelled)

@@ -1,0 +1,45 @@
+-- The parts of a file that was checked are checked.
+use Rattle.std.proofs.Common.{◌≡◌, Bool, true, ◌&&◌}
+use Rattle.oil_reader.specs.Configuration.{Configuration}
+use Rattle.oil_reader.specs.Checked.{is_name, is_checked_os, are_checked_modes, are_checked_tasks, are_checked_isrs, are_checked_resources, are_checked_events, are_checked_counters, are_checked_alarms, is_checked}
+use Rattle.oil_reader.proofs.Listed.{both}
+
+record AllNine (a b c d e f g h i : Bool) : Type 0 where
+  pub cpu : a ≡ true
+  pub os : b ≡ true
+  pub app_modes : c ≡ true
+  pub tasks : d ≡ true
+  pub routines : e ≡ true
+  pub resources : f ≡ true
+  pub events : g ≡ true
+  pub counters : h ≡ true
+  pub alarms : i ≡ true
+
+all_nine : (a b c d e f g h i : Bool) → (a && b && c && d && e && f && g && h && i) ≡ true → AllNine a b c d e f g h i
+all_nine a b c d e f g h i all =
+    let nine = both (a && b && c && d && e && f && g && h) i all in
+    let eight = both (a && b && c && d && e && f && g) h nine.0 in
+    let seven = both (a && b && c && d && e && f) g eight.0 in
+    let six = both (a && b && c && d && e) f seven.0 in
+    let five = both (a && b && c && d) e six.0 in
+    let four = both (a && b && c) d five.0 in
+    let three = both (a && b) c four.0 in
+    let two = both a b three.0 in
+    record { cpu = two.0; os = two.1; app_modes = three.1; tasks = four.1; routines = five.1; resources = six.1; events = seven.1; counters = eight.1; alarms = nine.1 }
+
+pub record CheckedParts (c : Configuration) : Type 0 where
+  pub cpu : is_name c.cpu ≡ true
+  pub os : is_checked_os c.os ≡ true
+  pub app_modes : are_checked_modes c.app_modes ≡ true
+  pub tasks : are_checked_tasks c.tasks ≡ true
+  pub routines : are_checked_isrs c.routines ≡ true
+  pub resources : are_checked_resources c.resources ≡ true
+  pub events : are_checked_events c.events ≡ true
+  pub counters : are_checked_counters c.counters ≡ true
+  pub alarms : are_checked_alarms c.alarms ≡ true
+
+pub checked_parts : (c : Configuration) → is_checked c ≡ true → CheckedParts c
+checked_parts c h =
+    let p = all_nine (is_name c.cpu) (is_checked_os c.os) (are_checked_modes c.app_modes) (are_checked_tasks c.tasks) (are_checked_isrs c.routines)
+    (are_checked_resources c.resources) (are_checked_events c.events) (are_checked_counters c.counters) (are_checked_alarms c.alarms) h in
+    record { cpu = p.cpu; os = p.os; app_modes = p.app_modes; tasks = p.tasks; routines = p.routines; resources = p.resources; events = p.events; counters = p.counters; alarms = p.alarms }
