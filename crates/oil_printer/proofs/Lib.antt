@@ -1,0 +1,14 @@
+pub mod LayoutLemmas
+pub mod Parts
+pub mod Numbers
+pub mod Words
+pub mod TreeParts
+pub mod Spelled
+pub mod Placed
+pub mod Faultless
+pub mod Bare
+pub mod Back
+pub mod CheckedObjects
+pub mod CheckedTasks
+pub mod CheckedFile
+pub mod ReadAgain
