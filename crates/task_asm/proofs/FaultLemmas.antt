@@ -1,28 +1,20 @@
 -- The first fault of what stands in a text, one entry after the other.
-use Rattle.std.proofs.Common.{◌≡◌, ◌≢◌, ℕ, ◌+◌, ◌-◌, ◌≤◌, ◌<◌, Bool, true, false, List, [], ◌∷◌, ◌++◌, length, take, drop, get_or, Option, Some, None, refl, sym, ap, ◌∙◌, arith, length-drop}
+use Rattle.std.proofs.Common.{◌≡◌, ℕ, ◌+◌, ◌-◌, ◌≤◌, ◌<◌, Bool, true, false, List, [], ◌∷◌, ◌++◌, length, take, drop, get_or, Option, Some, None, refl, sym, ap, ◌∙◌, arith, length-drop}
 use Rattle.std.specs.Prelude.{IfSome, if◌then◌else◌}
 use Rattle.std.specs.Option.{option_map}
 use Rattle.std.proofs.lemmas.List.{drop_more, drop-drop, drop_all, take_more, take-append-drop, get_or-drop}
-use Rattle.std.proofs.lemmas.Bool.{ne_eqb}
 use Rattle.task_asm.specs.declared.fault.AsmFault.{AsmFault}
 use Rattle.task_asm.specs.Mnemonics.{or_else}
-use Rattle.task_asm.specs.Lines.{Written}
 use Rattle.task_asm.specs.Entries.{Entry}
-use Rattle.task_asm.specs.Meaning.{instruction_count, instruction_fault, operand_fault, is_program, open_after, entry_fault, front_fault, fault_behind, first_fault, own_of}
+use Rattle.task_asm.specs.Labels.{is_program, open_after}
+use Rattle.task_asm.specs.Walk.{entry_fault, front_fault, fault_behind, first_fault, own_of}
 
 -- the entries of a program so far, and those from a number on
-joined : (es : List Entry) (s at : ℕ) → s ≤ at → take (at - s) (drop s es) ++ drop at es ≡ drop s es
+pub joined : (es : List Entry) (s at : ℕ) → s ≤ at → take (at - s) (drop s es) ++ drop at es ≡ drop s es
 joined es s at started =
     let number : s + (at - s) ≡ at = omega arith in
     ap (λ (xs : List Entry). take (at - s) (drop s es) ++ xs) (sym (drop-drop (at - s) s es ∙ ap (λ (k : ℕ). drop k es) number))
     ∙ take-append-drop (at - s) (drop s es)
-
-pub instruction_by : (es : List Entry) (s at place : ℕ) (w : Written) → s ≤ at → instruction_count (take (at - s) (drop s es)) ≢ 1024
-    → operand_fault (drop s es) w ≡ instruction_fault (Some (take (at - s) (drop s es))) (drop at es) place (Some w)
-instruction_by es s at place w started count =
-    let few = ne_eqb (instruction_count (take (at - s) (drop s es))) 1024 count in
-    let whole = joined es s at started in
-    rw (few, whole) refl
 
 -- ---- one entry after the other
 
@@ -46,14 +38,14 @@ started_more at None h = tt
 started_more at (Some s) h = omega arith
 
 module _ (es : List Entry) (at : ℕ) (x : Entry) (inside : at < length es) (is : x ≡ get_or es at x) where
-  here : drop at es ≡ x ∷ drop (at + 1) es
+  pub here : drop at es ≡ x ∷ drop (at + 1) es
   here = drop_more es at x inside ∙ ap (λ (y : Entry). y ∷ drop (at + 1) es) (sym is)
 
-  so_far : take (at + 1) es ≡ take at es ++ x ∷ []
+  pub so_far : take (at + 1) es ≡ take at es ++ x ∷ []
   so_far = take_more es at x inside ∙ ap (λ (y : Entry). take at es ++ y ∷ []) (sym is)
 
   -- one entry more of the open program
-  own_more : (start : Option ℕ) → IfSome start (λ s. s ≤ at) → option_map (λ own. own ++ x ∷ []) (own_of es at start) ≡ own_of es (at + 1) start
+  pub own_more : (start : Option ℕ) → IfSome start (λ s. s ≤ at) → option_map (λ own. own ++ x ∷ []) (own_of es at start) ≡ own_of es (at + 1) start
   own_more None h = refl
   own_more (Some s) h =
       let number : s + (at - s) ≡ at = omega arith in

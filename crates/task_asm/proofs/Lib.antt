@@ -6,3 +6,8 @@ pub mod FaultLemmas
 pub mod ProgramLemmas
 pub mod OneMeaning
 pub mod StandLemmas
+pub mod Rising
+pub mod Firsts
+pub mod LabelLemmas
+pub mod OpenLemmas
+pub mod TargetLemmas

@@ -1,7 +1,8 @@
 -- A program text has one list of tokens, which says one list of entries; a text with programs has no fault.
-use Rattle.std.proofs.Common.{◌≡◌, ℕ, Bool, true, false, List, ◌∷◌, take, Some, None, refl, sym, ap, ◌∙◌, subst, inl, inr}
+use Rattle.std.proofs.Common.{◌≡◌, ℕ, ◌+◌, Bool, true, false, List, ◌∷◌, take, drop, Some, None, refl, sym, ap, ◌∙◌, subst, inl, inr, arith}
 use Rattle.std.specs.Prelude.{if◌then◌else◌}
-use Rattle.osek_base.specs.Tokens.{Lexeme}
+use Rattle.osek_base.specs.Tokens.{Lexeme, LexFails}
+use Rattle.osek_base.specs.Tokens.LexFails.{here, later}
 use Rattle.osek_base.proofs.TokenLemmas.{Lexes-unique, fails_apart}
 use Rattle.task_asm.specs.declared.fault.AsmFault.{AsmFault}
 use Rattle.task_asm.specs.declared.fault.AsmFault.TheVariants as fault
@@ -10,7 +11,9 @@ use Rattle.task_asm.specs.Lines.{Tokens}
 use Rattle.task_asm.specs.Programs.{Program}
 use Rattle.task_asm.specs.Entries.{Entry, Reads, head, line_len, label_at, word_of, is_colon, is_line_end}
 use Rattle.task_asm.specs.Entries.Reads.{ends, new_line, label, heads}
-use Rattle.task_asm.specs.Meaning.{Says, IsProgramText, HasEntryFault, HasFault, first_fault, programs_of}
+use Rattle.task_asm.specs.Meaning.{Says, IsProgramText, HasEntryFault, HasFault, programs_of}
+use Rattle.task_asm.specs.Order.{place_of, number_of, IsNoLater}
+use Rattle.task_asm.specs.Faults.{Stands}
 use Rattle.task_asm.proofs.PieceLemmas.{pieces_are_tokens}
 
 -- ---- entries
@@ -53,6 +56,25 @@ pub says_one : (text : List ℕ) (es fs : List Entry) → Says text es → Says 
 says_one text es fs p q =
     Reads-unique p.reads (subst (λ (ts : Tokens). Reads ts fs) (Lexes-unique IsPiece pieces_are_tokens text q.lexes p.lexes) q.reads)
 
+-- ---- faults
+
+-- a fault is told by its number and its place
+told : (e f : AsmFault) → place_of e ≡ place_of f → number_of e ≡ number_of f → e ≡ f
+told fault.Memory fault.Memory p n = refl
+told (fault.Token q) (fault.Token r) p n = ap fault.Token p
+told (fault.UnknownMnemonic q) (fault.UnknownMnemonic r) p n = ap fault.UnknownMnemonic p
+told (fault.Operand q) (fault.Operand r) p n = ap fault.Operand p
+told (fault.UnknownLabel q) (fault.UnknownLabel r) p n = ap fault.UnknownLabel p
+told (fault.Twice q) (fault.Twice r) p n = ap fault.Twice p
+told (fault.TooLong q) (fault.TooLong r) p n = ap fault.TooLong p
+told _ _ p n = absurd (omega (arith, n))
+
+same_order : (e f : AsmFault) → IsNoLater e f → IsNoLater f e → e ≡ f
+same_order e f (inl a) (inl b) = absurd (omega arith)
+same_order e f (inl a) (inr b) = absurd (omega (arith, b.0))
+same_order e f (inr a) (inl b) = absurd (omega (arith, a.0))
+same_order e f (inr a) (inr b) = told e f a.0 (omega (arith, a.1, b.1))
+
 -- ---- texts
 
 pub one_list : (text : List ℕ) (ps qs : List Program) → IsProgramText text ps → IsProgramText text qs → ps ≡ qs
@@ -69,11 +91,52 @@ no_token_fault text ps (fault.TooLong at) p h = absurd h
 
 no_entry_fault : (text : List ℕ) (ps : List Program) (e : AsmFault) → IsProgramText text ps → HasEntryFault text e → ⊥
 no_entry_fault text ps e p h =
-    let same = says_one text p.entries h.entries p.says h.says in
-    let none : first_fault h.entries ≡ None = ap first_fault (sym same) ∙ p.faultless in
-    let some = h.first in
-    cc
+    p.faultless e (subst (λ (es : List Entry). Stands es e) (says_one text h.entries p.entries h.says p.says) h.first.stands)
 
 pub no_fault : (text : List ℕ) (ps : List Program) (e : AsmFault) → IsProgramText text ps → HasFault text e → e ≡ fault.Memory
 no_fault text ps e p (inl h) = no_token_fault text ps e p h
 no_fault text ps e p (inr h) = absurd (no_entry_fault text ps e p h)
+
+-- ---- one fault
+
+fails_once : (text : List ℕ) {p q r : ℕ} → LexFails IsPiece text p q → LexFails IsPiece text p r → q ≡ r
+fails_once text (here inside none) (here also nothing) = refl
+fails_once text (here inside none) (later n t piece more) = absurd (none n t piece)
+fails_once text (later n t piece more) (here inside none) = absurd (none n t piece)
+fails_once text {p} {q} {r} (later m t piece more) (later n u piece2 more2) =
+    let same = pieces_are_tokens.same_length (drop p text) n m u t piece2 piece in
+    fails_once text more (subst (λ (i : ℕ). LexFails IsPiece text (p + i) r) same more2)
+
+-- where a token fault stands there are no entries
+no_says : (text : List ℕ) (e : AsmFault) (es : List Entry) → (e ≡ fault.Memory → ⊥) → IsTokenFault text e → Says text es → ⊥
+no_says text fault.Memory es real h says = real refl
+no_says text (fault.Token at) es real h says = fails_apart IsPiece pieces_are_tokens text h says.lexes
+no_says text (fault.UnknownMnemonic at) es real h says = h
+no_says text (fault.Operand at) es real h says = h
+no_says text (fault.UnknownLabel at) es real h says = h
+no_says text (fault.Twice at) es real h says = h
+no_says text (fault.TooLong at) es real h says = h
+
+one_token_fault : (text : List ℕ) (e f : AsmFault) → (e ≡ fault.Memory → ⊥) → (f ≡ fault.Memory → ⊥) → IsTokenFault text e → IsTokenFault text f → e ≡ f
+one_token_fault text (fault.Token p) (fault.Token q) er fr a b = ap fault.Token (fails_once text a b)
+one_token_fault text fault.Memory f er fr a b = absurd (er refl)
+one_token_fault text (fault.Token p) fault.Memory er fr a b = absurd (fr refl)
+one_token_fault text (fault.Token p) (fault.UnknownMnemonic q) er fr a b = absurd b
+one_token_fault text (fault.Token p) (fault.Operand q) er fr a b = absurd b
+one_token_fault text (fault.Token p) (fault.UnknownLabel q) er fr a b = absurd b
+one_token_fault text (fault.Token p) (fault.Twice q) er fr a b = absurd b
+one_token_fault text (fault.Token p) (fault.TooLong q) er fr a b = absurd b
+one_token_fault text (fault.UnknownMnemonic p) f er fr a b = absurd a
+one_token_fault text (fault.Operand p) f er fr a b = absurd a
+one_token_fault text (fault.UnknownLabel p) f er fr a b = absurd a
+one_token_fault text (fault.Twice p) f er fr a b = absurd a
+one_token_fault text (fault.TooLong p) f er fr a b = absurd a
+
+pub one_fault : (text : List ℕ) (e f : AsmFault) → HasFault text e → HasFault text f → (e ≡ fault.Memory → ⊥) → (f ≡ fault.Memory → ⊥) → e ≡ f
+one_fault text e f (inl a) (inl b) er fr = one_token_fault text e f er fr a b
+one_fault text e f (inl a) (inr b) er fr = absurd (no_says text e b.entries er a b.says)
+one_fault text e f (inr a) (inl b) er fr = absurd (no_says text f a.entries fr b a.says)
+one_fault text e f (inr a) (inr b) er fr =
+    let same = says_one text b.entries a.entries b.says a.says in
+    same_order e f (a.first.first f (subst (λ (es : List Entry). Stands es f) same b.first.stands))
+    (b.first.first e (subst (λ (es : List Entry). Stands es e) (sym same) a.first.stands))

@@ -8,7 +8,8 @@ use Rattle.task_asm.specs.declared.operands.Title.{Title}
 use Rattle.task_asm.specs.Programs.{Program}
 use Rattle.task_asm.specs.Lines.{Written}
 use Rattle.task_asm.specs.Entries.{Entry, Item}
-use Rattle.task_asm.specs.Meaning.{instructions, programs_of, finished, target_of, targets_from, lines_with, programs_with}
+use Rattle.task_asm.specs.Meaning.{instructions, programs_of, finished, target_of}
+use Rattle.task_asm.specs.Walk.{targets_from, lines_with, programs_with}
 
 -- ---- with the places at hand
 

@@ -10,10 +10,11 @@ use Rattle.task_asm.specs.declared.fault.AsmFault.TheVariants as fault
 use Rattle.task_asm.specs.Mnemonics.{or_else}
 use Rattle.task_asm.specs.Lines.{Written, Ready, Jump, JumpIf, Label}
 use Rattle.task_asm.specs.Entries.{Entry, Item}
-use Rattle.task_asm.specs.Meaning.{place_in, has_instruction, defines, instruction_count, has_program, open_after, entry_fault, fault_behind, first_fault, jump_fault, operand_fault}
+use Rattle.task_asm.specs.Labels.{place_in, has_instruction, defines, instruction_count, has_program, open_after}
+use Rattle.task_asm.specs.Walk.{entry_fault, fault_behind, first_fault, jump_fault, operand_fault}
 use Rattle.task_asm.specs.Faults.{StandsAt, Stands, NamesUnknown}
 
-same_fault : (a e : AsmFault) → Some a ≡ Some e → a ≡ e
+pub same_fault : (a e : AsmFault) → Some a ≡ Some e → a ≡ e
 same_fault a e h = cc
 
 said : ℕ → Item → Entry
@@ -61,7 +62,7 @@ module _ (before after : List Entry) (place : ℕ) where
   title_found own kind t e true p h = found own (Item.Program kind (Some t)) (fault.Twice t.place) e h (refl, p)
   title_found own kind t e false p h = absurd cc
 
-  entry_found : (own : Option (List Entry)) (i : Item) (e : AsmFault) → entry_fault before own (record { place = place; item = i }) after ≡ Some e
+  pub entry_found : (own : Option (List Entry)) (i : Item) (e : AsmFault) → entry_fault before own (record { place = place; item = i }) after ≡ Some e
       → StandsAt before own (record { place = place; item = i }) after e
   entry_found None (Item.Label w) e h = found None (Item.Label w) (fault.UnknownMnemonic place) e h (refl, refl)
   entry_found (Some own) (Item.Label w) e h = label_found own w e (has_instruction after) refl (defines own w) refl h
@@ -151,7 +152,7 @@ module _ (before after : List Entry) (place : ℕ) where
   title_none own kind t (fault.TooLong p) false q f h = h.1
   title_none own kind t fault.Memory false q f h = h
 
-  entry_none : (own : Option (List Entry)) (i : Item) (e : AsmFault) → entry_fault before own (record { place = place; item = i }) after ≡ None
+  pub entry_none : (own : Option (List Entry)) (i : Item) (e : AsmFault) → entry_fault before own (record { place = place; item = i }) after ≡ None
       → StandsAt before own (record { place = place; item = i }) after e → ⊥
   entry_none None (Item.Label w) e f h = absurd cc
   entry_none (Some own) (Item.Label w) e f h =

@@ -4,7 +4,7 @@ use Rattle.task_asm.specs.declared.fault.AsmFault.{AsmFault}
 use Rattle.task_asm.specs.declared.fault.AsmFault.TheVariants as fault
 use Rattle.task_asm.specs.Lines.{Written, Ready, Jump, JumpIf}
 use Rattle.task_asm.specs.Entries.{Entry, Item}
-use Rattle.task_asm.specs.Meaning.{place_in, has_instruction, defines, instruction_count, has_program, open_after}
+use Rattle.task_asm.specs.Labels.{place_in, has_instruction, defines, instruction_count, has_program, open_after}
 
 -- no label, directive or mnemonic, or a label or a mnemonic where no program is open
 abbrev pub IsOutOfPlace : Item → Option (List Entry) → Type 0

@@ -5,5 +5,8 @@ pub mod Programs
 pub mod Lines
 pub mod Rest
 pub mod Entries
-pub mod Meaning
+pub mod Labels
+pub mod Order
 pub mod Faults
+pub mod Meaning
+pub mod Walk

@@ -1,26 +1,17 @@
 //! Program texts to programs.
 
-ghost use Rattle.std.specs.Prelude.{ℕ, List, ◌≡◌, ◌≤◌, ◌<◌, length, IfOk, IfErr, unwrap_or};
+ghost use Rattle.std.specs.Prelude.{ℕ, List, ◌≡◌, ◌≢◌, ◌≤◌, ◌<◌, length, IfOk, IfErr, unwrap_or};
 ghost use Rattle.task_asm.specs.declared.fault.AsmFault.{AsmFault};
 ghost use Rattle.task_asm.specs.declared.fault.AsmFault.TheVariants.{Memory};
 ghost use Rattle.task_asm.specs.Programs.{Program};
-ghost use Rattle.task_asm.specs.Entries.{Entry};
-ghost use Rattle.task_asm.specs.Faults.{Stands};
 ghost use Rattle.task_asm.specs.Lines.{written_value};
-ghost use Rattle.task_asm.specs.Meaning.{
-  within_program,
-  target_of,
-  finished,
-  targets_of,
-  programs_with,
-  IsProgramText,
-  first_fault,
-  HasFault,
-};
+ghost use Rattle.task_asm.specs.Meaning.{within_program, target_of, finished, IsProgramText, HasFault};
+ghost use Rattle.task_asm.specs.Walk.{found_target, targets_of, programs_with, first_fault};
 
+use crate::checks::first_fault;
 use crate::entries::{Entry, Item, read_entries};
 use crate::fault::AsmFault;
-use crate::labels::{first_fault, place_in};
+use crate::labels::Labels;
 use crate::operands::Written;
 use crate::program::{NamedInstr, NamedLine, NamedProgram};
 use crate::tokens::tokenize;
@@ -38,17 +29,17 @@ fn place_of(number: usize) -> Place
     }
 }
 
-/// The place that an instruction names by a label, in the program whose entries stand first. 0 where it names none.
-fn target_of(program: &[Entry<'_>], written: &Written<'_>) -> Place
-    ensures { result ≡ target_of program.now (written_value written.now) }
+/// The place that an instruction names by a label of these. 0 where it names none.
+fn target_of(labels: &Labels<'_>, written: &Written<'_>) -> Place
+    ensures { result ≡ found_target labels.now (written_value written.now) }
 {
     let label = match written {
         Written::Ready(_) => return Place::new(0),
         Written::Jump(label) => *label,
         Written::JumpIf(_, _, _, label) => *label,
     };
-    match place_in(program, label.word) {
-        Some(place) => place_of(place),
+    match labels.find(label.word) {
+        Some(definition) => place_of(definition.place),
         None => Place::new(0),
     }
 }
@@ -58,15 +49,17 @@ fn targets(alloc: Global, entries: &[Entry<'_>]) -> Result<Vec<Place>, AllocErro
     ensures { IfOk result (λ targets. targets.items ≡ targets_of entries.now) }
 {
     let mut targets = Vec::new(alloc);
-    let mut start = 0;
+    let mut labels = Labels::of(alloc, entries)?;
     let mut at = 0;
     'entries: while at < entries.len() {
         let entry = &entries[at];
         let mut target = Place::new(0);
         match &entry.item {
-            Item::Program(_, _) => start = at + 1,
-            Item::Instruction(Some(written)) => target = target_of(&entries[start..], written),
-            _ => {}
+            Item::Program(_, _) => labels = Labels::of(alloc, &entries[at + 1..])?,
+            Item::Instruction(Some(written)) => target = target_of(&labels, written),
+            Item::Instruction(None) => {}
+            Item::Label(_) => {}
+            Item::Unknown => {}
         }
         targets.push(target)?;
         at += 1;
@@ -131,18 +124,17 @@ pub fn assemble(alloc: Global, text: &[u8]) -> Result<Vec<NamedProgram>, AsmFaul
 {
     let tokens = tokenize(alloc, text)?;
     let entries = read_entries(alloc, tokens.as_slice())?;
-    if let Some(fault) = first_fault(entries.as_slice()) {
+    if let Some(fault) = first_fault(alloc, entries.as_slice())? {
         return Err(fault);
     }
     let targets = targets(alloc, entries.as_slice())?;
     Ok(programs(alloc, entries, targets.as_slice())?)
 }
 
-/// A program text has one list of programs, and then no fault; the first fault of a text's entries is one that stands
-/// in them, and where there is no first, none stands. (Laws about the definitions; the function does nothing.)
+/// A program text has one list of programs, and then no fault; it has one fault at most. Of want of memory nothing is
+/// said. (Laws about the definitions; the function does nothing.)
 pub fn one_meaning()
     ensures programs { (text : List ℕ) (ps qs : List Program) → IsProgramText text ps → IsProgramText text qs → ps ≡ qs }
     ensures faultless { (text : List ℕ) (ps : List Program) (e : AsmFault) → IsProgramText text ps → HasFault text e → e ≡ Memory }
-    ensures stands { (es : List Entry) (e : AsmFault) → first_fault es ≡ Some e → Stands es e }
-    ensures none_stands { (es : List Entry) (e : AsmFault) → first_fault es ≡ None → ¬ Stands es e }
+    ensures fault { (text : List ℕ) (e f : AsmFault) → HasFault text e → HasFault text f → e ≢ Memory → f ≢ Memory → e ≡ f }
 {}

@@ -1,246 +1,83 @@
-//! Program texts: the labels of a program, and the first fault of what stands in a text.
+//! Program texts: the labels of a program.
 
-ghost use Rattle.std.specs.Prelude.{◌≡◌, ◌<◌, ◌≤◌, ◌+◌, length, drop, take, IfSome, option_map, option_copied};
-ghost use Rattle.task_asm.specs.Meaning.{
-  place_in,
-  has_instruction,
-  defines,
-  instruction_count,
-  has_program,
-  is_program,
-  label_fault,
-  operand_fault,
-  instruction_fault,
-  program_fault,
-  front_fault,
-  first_fault,
-  own_of,
-};
-ghost use Rattle.task_asm.specs.Lines.{written_value};
+ghost use Rattle.std.specs.Prelude.{◌≡◌, ℕ, List, IfOk, length};
+ghost use Rattle.task_asm.specs.Walk.{program_size, definition_from, finds, Knows};
 
 use crate::entries::{Entry, Item};
-use crate::fault::AsmFault;
-use crate::operands::{Title, Written};
-use crate::program::ProgramKind;
+use std::alloc::{AllocError, Global};
+use std::collections::BTreeMap;
 
-/// How many instructions a program may have.
-const PROGRAM_MAX: usize = 1024;
-
-/// The place of the instruction that a label names in the program whose entries stand first.
-pub fn place_in(entries: &[Entry<'_>], word: &str) -> Option<usize>
-    ensures { result ≡ place_in entries.now word.now }
-{
-    let mut place = 0;
-    'entries: for entry in entries {
-        match &entry.item {
-            Item::Label(label) => {
-                if *label == word {
-                    return Some(place);
-                }
-            }
-            Item::Instruction(_) => place += 1,
-            Item::Program(_, _) => return None,
-            Item::Unknown => {}
-        }
-    }
-    None
+/// Where a label is defined: how many entries and how many instructions of its program stand before it.
+#[derive(Clone, Copy, Debug, PartialEq, Eq)]
+pub struct Definition {
+    pub entry: usize,
+    pub place: usize,
 }
 
-/// Whether an instruction of the program follows, whose entries stand first.
-fn has_instruction(entries: &[Entry<'_>]) -> bool
-    ensures { result ≡ has_instruction entries.now }
+/// The labels of a program, each where it is first defined, and how many instructions the program has.
+#[derive(Drop)]
+pub struct Labels<'a> {
+    pub definitions: BTreeMap<&'a str, Definition>,
+    pub instructions: usize,
+}
+
+/// How many instructions the program has whose entries stand first.
+fn program_size(entries: &[Entry<'_>]) -> usize
+    ensures { result ≡ program_size entries.now }
 {
+    let mut size = 0;
     'entries: for entry in entries {
         match &entry.item {
-            Item::Instruction(_) => return true,
-            Item::Program(_, _) => return false,
+            Item::Instruction(_) => size += 1,
+            Item::Program(_, _) => return size,
             _ => {}
         }
     }
-    false
+    size
 }
 
-fn defines(entries: &[Entry<'_>], word: &str) -> bool
-    ensures { result ≡ defines entries.now word.now }
+/// The first definitions of the labels of the program whose entries stand first.
+fn definitions<'a>(
+    alloc: Global,
+    entries: &[Entry<'a>],
+) -> Result<BTreeMap<&'a str, Definition>, AllocError>
+    ensures { IfOk result (λ m. (w : List ℕ) → finds m w ≡ definition_from 0 0 entries.now w) }
 {
-    'entries: for entry in entries {
-        if let Item::Label(label) = &entry.item {
-            if *label == word {
-                return true;
-            }
-        }
-    }
-    false
-}
-
-fn instruction_count(entries: &[Entry<'_>]) -> usize
-    ensures { result ≡ instruction_count entries.now }
-{
-    let mut count = 0;
-    'entries: for entry in entries {
-        if let Item::Instruction(_) = &entry.item {
-            count += 1;
-        }
-    }
-    count
-}
-
-fn has_program(entries: &[Entry<'_>], kind: ProgramKind, name: &str) -> bool
-    ensures { result ≡ has_program entries.now kind name.now }
-{
-    'entries: for entry in entries {
-        if let Item::Program(other, Some(title)) = &entry.item {
-            if *other == kind && title.name.as_str() == name {
-                return true;
-            }
-        }
-    }
-    false
-}
-
-/// The fault of a label: no program is open, no instruction follows, or it was defined before in its program.
-fn label_fault(
-    own: Option<&[Entry<'_>]>,
-    place: usize,
-    word: &str,
-    after: &[Entry<'_>],
-) -> Option<AsmFault>
-    ensures { result ≡ label_fault (option_copied own.entry) place word.now after.now }
-{
-    let Some(own) = own else {
-        return Some(AsmFault::UnknownMnemonic(place));
-    };
-    if !has_instruction(after) {
-        return Some(AsmFault::UnknownLabel(place));
-    }
-    if defines(own, word) {
-        return Some(AsmFault::Twice(place));
-    }
-    None
-}
-
-/// The fault of a jump's operand: its program doesn't define the label.
-fn operand_fault(program: &[Entry<'_>], written: &Written<'_>) -> Option<AsmFault>
-    ensures { result ≡ operand_fault program.now (written_value written.now) }
-{
-    let label = match written {
-        Written::Ready(_) => return None,
-        Written::Jump(label) => *label,
-        Written::JumpIf(_, _, _, label) => *label,
-    };
-    match place_in(program, label.word) {
-        Some(_) => None,
-        None => Some(AsmFault::UnknownLabel(label.place)),
-    }
-}
-
-/// The entries of the open program up to a number.
-fn own_entries<'t, 'a>(
-    entries: &'t [Entry<'a>],
-    at: usize,
-    start: Option<usize>,
-) -> Option<&'t [Entry<'a>]>
-    requires within { at ≤ length entries.now }
-    requires started { IfSome start (λ s. s ≤ at) }
-    ensures { option_copied result ≡ own_of entries.now at start }
-{
-    match start {
-        Some(start) => Some(&entries[start..at]),
-        None => None,
-    }
-}
-
-/// The fault of an instruction: no program is open, its operands are faulty, it is one too many, or its label is unknown.
-fn instruction_fault(
-    entries: &[Entry<'_>],
-    at: usize,
-    start: Option<usize>,
-    place: usize,
-    written: &Option<Written<'_>>,
-) -> Option<AsmFault>
-    requires within { at < length entries.now }
-    requires started { IfSome start (λ s. s ≤ at) }
-    ensures { result ≡ instruction_fault (own_of entries.now at start) (drop at entries.now) place (option_map written_value written.now) }
-{
-    let Some(start) = start else {
-        return Some(AsmFault::UnknownMnemonic(place));
-    };
-    let Some(written) = written else {
-        return Some(AsmFault::Operand(place));
-    };
-    if instruction_count(&entries[start..at]) == PROGRAM_MAX {
-        return Some(AsmFault::TooLong(place));
-    }
-    operand_fault(&entries[start..], written)
-}
-
-/// The fault of a directive: no name alone follows, or there is a program of that kind and name.
-fn program_fault(
-    before: &[Entry<'_>],
-    place: usize,
-    kind: ProgramKind,
-    title: &Option<Title>,
-) -> Option<AsmFault>
-    ensures { result ≡ program_fault before.now place kind title.now }
-{
-    match title {
-        None => Some(AsmFault::Operand(place)),
-        Some(title) => {
-            if has_program(before, kind, title.name.as_str()) {
-                return Some(AsmFault::Twice(title.place));
-            }
-            None
-        }
-    }
-}
-
-/// The fault of the entry of that number, where the open program has its entries from `start` on.
-fn entry_fault(entries: &[Entry<'_>], at: usize, start: Option<usize>) -> Option<AsmFault>
-    requires within { at < length entries.now }
-    requires started { IfSome start (λ s. s ≤ at) }
-    ensures { result ≡ front_fault (take at entries.now) (own_of entries.now at start) (drop at entries.now) }
-{
-    let entry = &entries[at];
-    let place = entry.place;
-    match &entry.item {
-        Item::Label(word) => {
-            label_fault(
-                own_entries(entries, at, start),
-                place,
-                word,
-                &entries[at + 1..],
-            )
-        }
-        Item::Instruction(written) => instruction_fault(entries, at, start, place, written),
-        Item::Program(kind, title) => program_fault(&entries[..at], place, *kind, title),
-        Item::Unknown => Some(AsmFault::UnknownMnemonic(place)),
-    }
-}
-
-fn is_program(entry: &Entry<'_>) -> bool
-    ensures { result ≡ is_program entry.now }
-{
-    match &entry.item {
-        Item::Program(_, _) => true,
-        _ => false,
-    }
-}
-
-/// The first fault of the entries, if they have one.
-pub fn first_fault(entries: &[Entry<'_>]) -> Option<AsmFault>
-    ensures { result ≡ first_fault entries.now }
-{
-    let mut start = None;
+    let mut definitions = BTreeMap::new(alloc);
+    let mut place = 0;
     let mut at = 0;
     'entries: while at < entries.len() {
-        let fault = entry_fault(entries, at, start);
-        if let Some(fault) = fault {
-            return Some(fault);
-        }
-        if is_program(&entries[at]) {
-            start = Some(at + 1);
+        let entry = &entries[at];
+        match &entry.item {
+            Item::Label(word) => {
+                if !definitions.contains_key(*word) {
+                    definitions.insert(*word, Definition { entry: at, place })?;
+                }
+            }
+            Item::Instruction(_) => place += 1,
+            Item::Program(_, _) => return Ok(definitions),
+            Item::Unknown => {}
         }
         at += 1;
     }
-    None
+    Ok(definitions)
+}
+
+impl<'a> Labels<'a> {
+    /// The labels of the program whose entries stand first.
+    pub fn of(alloc: Global, entries: &[Entry<'a>]) -> Result<Self, AllocError>
+        ensures { IfOk result (λ labels. Knows labels entries.now) }
+    {
+        Ok(Labels {
+            definitions: definitions(alloc, entries)?,
+            instructions: program_size(entries),
+        })
+    }
+
+    /// Where a label is first defined.
+    pub fn find(&self, word: &str) -> Option<Definition>
+        ensures { result ≡ finds self.now.definitions word.now }
+    {
+        self.definitions.get(word).copied()
+    }
 }

@@ -2,6 +2,7 @@
 #![tactic(auto)]
 
 mod assembler;
+mod checks;
 mod entries;
 mod fault;
 mod labels;

@@ -1,9 +1,10 @@
 //! What no clause says: worked programs, a table of faults, and printed texts.
 
-use crate::{NamedInstr, NamedService, ProgramKind, assemble, instr_text};
+use crate::{AsmFault, NamedInstr, NamedService, ProgramKind, assemble, instr_text};
 use arrayvec::ArrayString;
 use osek_base::{Instr, Names, Plain, Register, Service};
 use std::alloc::{AllocError, Global};
+use std::process::Abort;
 use std::test::Fail;
 
 fn is_jump_to(instr: &NamedInstr, place: u16) -> bool {
@@ -66,45 +67,164 @@ fn fault_text(alloc: Global, text: &str) -> Result<String, AllocError> {
     }
 }
 
+/// What each text is answered.
+fn tell_all(rt: &impl Abort, alloc: Global, rows: &[(&str, &str)]) -> Result<(), Fail> {
+    for (text, want) in rows {
+        let found = fault_text(alloc, text)?;
+        assert_eq!(rt; found.as_str(), *want, "of {text:?}");
+    }
+    Ok(())
+}
+
+#[test]
+fn tokens_and_lines(rt: HostRuntime) -> Result<(), Fail> {
+    let rows = [
+        ("", "0 programs"),
+        ("; only this", "0 programs"),
+        (".task A", "1 programs"),
+        (".taskA", "1 programs"),
+        (".tasks.isrs", "fault 3 at 0"),
+        (".task9", "fault 3 at 0"),
+        (".isr9", "fault 3 at 0"),
+        (".", "fault 1 at 0"),
+        (".Task A", "fault 1 at 0"),
+        (".task A\n.foo", "fault 1 at 8"),
+        (".task A\nLI r0, 00", "fault 1 at 15"),
+        (".task A\nNOP NOP\n/", "fault 1 at 16"),
+        (".task A\nXYZ\nLI r0, 4294967296", "fault 1 at 19"),
+        (".task A\nNOP\rNOP", "fault 3 at 8"),
+        (".task A\r\nNOP\r\n", "1 programs"),
+        (".task A\nNOP ; \u{e9}\u{0}", "1 programs"),
+        (".task A\n\u{b}NOP", "fault 1 at 8"),
+    ];
+    tell_all(&rt, rt.alloc(), &rows)
+}
+
 #[test]
 fn faults_with_their_places(rt: HostRuntime) -> Result<(), Fail> {
     let rows = [
         (".task A\nXYZ\nz: JMP z\n", "fault 2 at 8"),
-        ("", "0 programs"),
-        (".taskA", "1 programs"),
-        (".tasks.isrs", "fault 3 at 0"),
-        (".task9", "fault 3 at 0"),
-        (".task A\n.foo", "fault 1 at 8"),
-        (".task A\nLI r0, 00", "fault 1 at 15"),
-        (".task A\nNOP NOP\n/", "fault 1 at 16"),
-        ("x: .task A", "fault 2 at 0"),
         ("NOP\n.task A", "fault 2 at 0"),
-        (".task A\nNOP\nx: .task B\nNOP", "fault 4 at 12"),
-        (".task A\nNOP: NOP\nr1: JMP r1", "1 programs"),
-        (".task A\nx: XYZ", "fault 4 at 8"),
-        (".task A\nx: XYZ\nNOP", "fault 2 at 11"),
+        (".task A\nnop", "fault 2 at 8"),
+        (".task A\nNop", "fault 2 at 8"),
+        (".task A\nLDR S, r1", "fault 2 at 8"),
+        (".task A\n7: NOP", "fault 2 at 8"),
+        (".task A\nACT r1", "fault 3 at 8"),
+        (".task A\nWAIT r0", "fault 3 at 8"),
+        (".task A\nGETR 1", "fault 3 at 8"),
+        (".task A\nWAIT E+", "fault 3 at 8"),
+        (".task A\nMOV r1 r2", "fault 3 at 8"),
+        (".task A\nJMP", "fault 3 at 8"),
+        (".task A B", "fault 3 at 0"),
         (".task A\nJMP x\nXYZ", "fault 4 at 12"),
         (".task A\nJMP x\nXYZ\nx: NOP", "fault 2 at 14"),
         (".task A\nJMP x\n.task\nx: NOP", "fault 4 at 12"),
-        (".task A\nx: NOP\nx:", "fault 4 at 15"),
+        (".task A\nJMP x\nNOP 1\n.task B\nx: NOP", "fault 4 at 12"),
+        (".task A\nJEQ r1, r2, x\nNOP 1", "fault 4 at 20"),
         (".task A\nx: NOP\nx: NOP", "fault 5 at 15"),
         (".task A\nNOP\n.isr A\nRETI\n.task A\nNOP", "fault 5 at 30"),
-        (".task A\nACT r1", "fault 3 at 8"),
+        (".task A\nNOP\n.isr A\nRETI", "2 programs"),
+    ];
+    tell_all(&rt, rt.alloc(), &rows)
+}
+
+#[test]
+fn labels(rt: HostRuntime) -> Result<(), Fail> {
+    let rows = [
+        (".task A\nNOP: NOP\nr1: JMP r1", "1 programs"),
+        (".task A\nINVALID : NOP\nJMP INVALID", "1 programs"),
+        (".task A\nLDR: nop: JMP LDR", "1 programs"),
+        (".task A\nx\n: NOP", "fault 2 at 8"),
+        ("x: .task A", "fault 2 at 0"),
+        (".task A\nNOP\nx: .task B\nNOP", "fault 4 at 12"),
+        (".task A\nx: XYZ", "fault 4 at 8"),
+        (".task A\nx: XYZ\nNOP", "fault 2 at 11"),
+        (".task A\nx: : NOP", "fault 4 at 8"),
+        (".task A\nx: : NOP\nNOP", "fault 2 at 11"),
+        (".task A\nx: NOP\nx:", "fault 4 at 15"),
+        (".task A\nx: NOP 1", "fault 3 at 11"),
+        (".task A\nx: x: NOP", "fault 5 at 11"),
+        (".task A\nx: NOP\n.task B\nx: NOP", "2 programs"),
+    ];
+    tell_all(&rt, rt.alloc(), &rows)
+}
+
+#[test]
+fn operands(rt: HostRuntime) -> Result<(), Fail> {
+    let rows = [
+        (".task r1\nNOP", "1 programs"),
+        (".isr INVALID\nNOP", "1 programs"),
+        (".task A\nACT r8\nACT R1\nGETR INVALID", "1 programs"),
         (
-            ".task A\nACT r8\nACT R1\nGETR INVALID\nWAIT INVALID",
+            ".task A\nACT RES_SCHEDULER\nCANA RES_SCHEDULER",
             "1 programs",
         ),
-        (".task A\nGETR 1", "fault 3 at 8"),
-        (".task A\nnop", "fault 2 at 8"),
-        (".task A\nNOP\rNOP", "fault 3 at 8"),
-        (".task A\nWAIT E+", "fault 3 at 8"),
-        (".task A\nMOV r1 r2", "fault 3 at 8"),
-        (".task r1\nNOP", "1 programs"),
-        (".task A\nLDR S, r1", "fault 2 at 8"),
+        (".task A\nWAIT RES_SCHEDULER\nWAIT INVALID", "1 programs"),
+        (
+            ".task A\nSETE A, INVALID\nSETE INVALID, E + E",
+            "1 programs",
+        ),
+        (".task A\nSHUT 4294967295\nSHUT 0xFF", "1 programs"),
+        (".task A\nSHUT r1", "fault 3 at 8"),
     ];
-    for (text, want) in rows {
-        let found = fault_text(rt.alloc(), text)?;
-        assert_eq!(rt; found.as_str(), want, "of {text:?}");
+    tell_all(&rt, rt.alloc(), &rows)
+}
+
+/// The place of a fault that is no want of memory.
+fn fault_place(fault: &AsmFault) -> Option<usize> {
+    match fault {
+        AsmFault::Token(place)
+        | AsmFault::UnknownMnemonic(place)
+        | AsmFault::Operand(place)
+        | AsmFault::UnknownLabel(place)
+        | AsmFault::Twice(place)
+        | AsmFault::TooLong(place) => Some(*place),
+        AsmFault::Memory => None,
+    }
+}
+
+/// Whether a text is read, or refused with a fault at one of its bytes.
+fn is_answered(alloc: Global, text: &[u8]) -> bool {
+    match assemble(alloc, text) {
+        Ok(_) => true,
+        Err(fault) => match fault_place(&fault) {
+            Some(place) => place < text.len(),
+            None => false,
+        },
+    }
+}
+
+const SMALL: &[u8] = b".task A\nx: SETE B, E+F\nJEQ r0, r1, x\n.isr I\nRETI ; end\n";
+
+#[test]
+fn one_byte_of_each_value(rt: HostRuntime) -> Result<(), Fail> {
+    for byte in 0..=255u8 {
+        assert!(rt; is_answered(rt.alloc(), &[byte]), "of {byte}");
+    }
+    Ok(())
+}
+
+#[test]
+fn each_beginning_of_a_text(rt: HostRuntime) -> Result<(), Fail> {
+    for size in 0..=SMALL.len() {
+        assert!(rt; is_answered(rt.alloc(), &SMALL[..size]), "of {size}");
+    }
+    Ok(())
+}
+
+#[test]
+fn each_changed_byte_of_a_text(rt: HostRuntime) -> Result<(), Fail> {
+    let bytes = b"\x00\t\n\r ,+:;.0A8_r\x7f\xff";
+    let mut text = Vec::from_slice(rt.alloc(), SMALL)?;
+    for place in 0..SMALL.len() {
+        for byte in bytes {
+            text[place] = *byte;
+            assert!(rt;
+                is_answered(rt.alloc(), text.as_slice()),
+                "of {byte} at {place}"
+            );
+        }
+        text[place] = SMALL[place];
     }
     Ok(())
 }

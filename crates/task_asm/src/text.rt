@@ -1,6 +1,7 @@
 //! The texts of instructions, no part of the standards: a mnemonic, then its operands, separated by `, `.
 
 ghost use Rattle.std.specs.Prelude.{◌≡◌, ◌+◌, ◌<◌, ◌≤◌, ◌++◌, ◌∷◌, [], length, decimal};
+ghost use Rattle.osek_base.specs.Names.{name_at};
 ghost use Rattle.osek_base.specs.Text.{
   task_text,
   resource_text,
@@ -15,19 +16,13 @@ ghost use Rattle.osek_base.specs.Text.{
   control_text,
   instruction_text,
 };
-ghost use Rattle.task_asm.specs.Operands.{
-  HasTask,
-  HasOperandResource,
-  HasAlarm,
-  HasServiceOperands,
-  HasOperands,
-  last_digits,
-};
+ghost use Rattle.task_asm.specs.Operands.{last_digits};
 
 use arrayvec::ArrayString;
 use itoa::Buffer;
 use osek_base::{
-    AlarmId, Comparison, Control, Instr, Names, Operation, Plain, Register, ResId, Service, TaskId,
+    AlarmId, Comparison, Control, Instr, Name, Names, Operation, Plain, Register, ResId, Service,
+    TaskId,
 };
 
 /// The text of one operand.
@@ -108,25 +103,33 @@ fn mask_text(mask: u32) -> OperandText
     operand
 }
 
+/// The name of that number, empty where there is none.
+fn name_at(names: &[Name], number: usize) -> OperandText
+    ensures { result.bytes ≡ name_at names.now number }
+{
+    match names.get(number) {
+        Some(name) => short_text(name.as_str()),
+        None => ArrayString::new(),
+    }
+}
+
 fn task_text(names: &Names, task: Option<TaskId>) -> OperandText
-    requires { HasTask names.now task }
     ensures { result.bytes ≡ task_text names.now task }
 {
     match task {
         None => short_text("INVALID"),
-        Some(task) => short_text(names.tasks[task.number() as usize].as_str()),
+        Some(task) => name_at(names.tasks.as_slice(), task.number() as usize),
     }
 }
 
 fn resource_text(names: &Names, resource: Option<ResId>) -> OperandText
-    requires { HasOperandResource names.now resource }
     ensures { result.bytes ≡ resource_text names.now resource }
 {
     match resource {
         None => short_text("INVALID"),
         Some(resource) => match resource {
             ResId::Declared(number) => {
-                short_text(names.resources[number.number() as usize].as_str())
+                name_at(names.resources.as_slice(), number.number() as usize)
             }
             ResId::Scheduler => short_text("RES_SCHEDULER"),
         },
@@ -134,12 +137,11 @@ fn resource_text(names: &Names, resource: Option<ResId>) -> OperandText
 }
 
 fn alarm_text(names: &Names, alarm: Option<AlarmId>) -> OperandText
-    requires { HasAlarm names.now alarm }
     ensures { result.bytes ≡ alarm_text names.now alarm }
 {
     match alarm {
         None => short_text("INVALID"),
-        Some(alarm) => short_text(names.alarms[alarm.number() as usize].as_str()),
+        Some(alarm) => name_at(names.alarms.as_slice(), alarm.number() as usize),
     }
 }
 
@@ -218,7 +220,6 @@ fn write_plain(text: &mut InstrText, plain: &Plain)
 }
 
 fn write_service(text: &mut InstrText, service: &Service<Register>, names: &Names)
-    requires { HasServiceOperands names.now service.now }
     ensures { text.new.bytes ≡ service_text names.now service.now }
 {
     match *service {
@@ -276,9 +277,9 @@ fn write_control(text: &mut InstrText, control: &Control)
 }
 
 /// Replaces the content of `text` by the instruction's text: its mnemonic, then its operands separated by `, `.
-/// Masks are written as `0x` and eight hexadecimal digits, labels as places.
+/// Masks are written as `0x` and eight hexadecimal digits, labels as places. An object without a name is written as
+/// nothing.
 pub fn instr_text(instr: &Instr, names: &Names, text: &mut ArrayString<128>)
-    requires { HasOperands names.now instr.now }
     ensures { text.new.bytes ≡ instruction_text names.now instr.now }
 {
     match instr {

@@ -1,7 +1,10 @@
 -- The places that are at hand are those that the labels name.
-use Rattle.std.proofs.Common.{◌∙◌, sym, ap, length}
-use Rattle.task_asm.specs.Meaning.{targets_of, programs_with, first_fault}
+use Rattle.std.proofs.Common.{◌≡◌, ◌∙◌, Some, inr, sym, ap, length}
+use Rattle.task_asm.specs.Walk.{targets_of, programs_with, first_fault}
 use Rattle.task_asm.proofs.ProgramLemmas.{programs_are, targets_length}
+use Rattle.task_asm.specs.Meaning.{Says}
+use Rattle.task_asm.proofs.Firsts.{is_first}
+use Rattle.task_asm.proofs.StandLemmas.{none_stands}
 use Rattle.task_asm.proofs.assembler.assemble.Goals as goal
 
 pub programs-requires : goal.programs-requires
@@ -16,6 +19,14 @@ returns-clause-programs c =
     record {
       entries = es;
       says = record { tokens = _; lexes = c.in_ok-tokens.ensures.tokens; reads = rw c.as_slice.ensures.value at c.in_ok-entries.ensures };
-      faultless = ap first_fault (sym c.as_slice-2.ensures.value) ∙ sym c.first_fault.ensures ∙ c.in_default.is;
+      faultless = λ e. none_stands es e (ap first_fault (sym c.as_slice-2.ensures.value) ∙ sym c.in_ok-fault.ensures ∙ c.in_default.is);
       are = c.in_ok-programs.ensures ∙ ap (programs_with es) targets ∙ programs_are es es;
     }
+
+pub returns-in-Some-clause-fault : goal.returns-in-Some-clause-fault
+returns-in-Some-clause-fault c =
+    let es = c.in_ok-entries.entries.items in
+    let says : Says c.args.text.now es =
+    record { tokens = _; lexes = c.in_ok-tokens.ensures.tokens; reads = rw c.as_slice.ensures.value at c.in_ok-entries.ensures } in
+    let found : first_fault es ≡ Some c.in-Some.fault = ap first_fault (sym c.as_slice-2.ensures.value) ∙ sym c.in_ok-fault.ensures ∙ c.in-Some.is in
+    inr (record { entries = es; says = says; first = is_first c.args.text.now es c.in-Some.fault says found })

@@ -1,14 +1,10 @@
--- The places so far, and those of the entries that are left.
-use Rattle.std.proofs.Common.{length, ◌-◌, ◌≤◌, ◌≡◌, ◌++◌, drop}
-use Rattle.task_asm.specs.Meaning.{targets_from, targets_of}
+-- The places so far, and the labels of the open program.
+use Rattle.std.proofs.Common.{length, ◌-◌}
+use Rattle.task_asm.proofs.TargetLemmas.{Aimed}
 use Rattle.task_asm.proofs.assembler.targets.Given as goal
 
 abbrev pub invariant-entries : goal.invariant-entries
-invariant-entries l = record {
-  started : l.start ≤ l.at;
-  within : l.at ≤ length l.entries;
-  whole : l.targets.items ++ targets_from (drop l.start l.entries) (drop l.at l.entries) ≡ targets_of l.entries;
-}
+invariant-entries l = Aimed l.entries l.at l.labels l.targets.items
 
 abbrev pub decreases-entries : goal.decreases-entries
 decreases-entries l = length l.entries - l.at
