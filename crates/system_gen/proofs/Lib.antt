@@ -1,2 +1,5 @@
 pub mod Tasks
 pub mod Places
+pub mod LimitLemmas
+pub mod FaultLemmas
+pub mod GeneratedLemmas

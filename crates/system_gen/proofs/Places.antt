@@ -1,14 +1,13 @@
 -- The order of tasks has places of the declared tasks alone.
 use Rattle.std.proofs.Common.{ℕ, zero, suc, ◌<◌, ◌≤◌, Bool, true, false, cond, eqb, List, [], ◌∷◌, ◌++◌, length, map, get_or, subst, arith}
-use Rattle.std.specs.List.{filter}
+use Rattle.std.specs.List.{filter, AllByRecursion}
 use Rattle.std.proofs.lemmas.List.{length-map}
 use Rattle.osek_base.specs.Lists.{below}
 use Rattle.osek_base.specs.Numbering.{places_of, order_below, task_order}
 use Rattle.system_gen.specs.Order.{ArePlaces}
 
 abbrev EachBelow : ℕ → List ℕ → Type 0
-EachBelow m [] = Unit {0}
-EachBelow m (x ∷ xs) = (x < m) × EachBelow m xs
+EachBelow m xs = AllByRecursion (λ i. i < m) xs
 
 each_append : (m : ℕ) (xs ys : List ℕ) → EachBelow m xs → EachBelow m ys → EachBelow m (xs ++ ys)
 each_append m [] ys a b = b
@@ -32,6 +31,10 @@ places_from_each : (m : ℕ) (xs : List ℕ) → EachBelow m xs → ArePlaces m 
 places_from_each m [] h k lt = absurd (omega arith)
 places_from_each m (x ∷ xs) h zero lt = h.0
 places_from_each m (x ∷ xs) h (suc k) lt = places_from_each m xs h.1 k (omega arith)
+
+pub order_each : (ps : List ℕ) → AllByRecursion (λ i. i < length ps) (task_order ps)
+unfolding task_order
+order_each ps = each_order ps 32
 
 pub order_places : (ps : List ℕ) → ArePlaces (length ps) (task_order ps)
 unfolding task_order

@@ -4,3 +4,7 @@ pub mod Programs
 pub mod Order
 pub mod Passes
 pub mod ObjectNames
+pub mod DeclaredNames
+pub mod References
+pub mod Generated
+pub mod Faults

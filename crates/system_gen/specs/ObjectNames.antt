@@ -13,6 +13,17 @@ task_name tasks place = option_map_or (λ t. t.name) (slice_get tasks place) []
 abbrev pub order_of : List TaskRecord → List ℕ
 order_of tasks = task_order (map (λ t. t.priority) tasks)
 
+-- the names that a system of a file keeps
+abbrev pub names_of : Configuration → Names
+names_of f = record {
+  tasks = map (task_name f.tasks) (order_of f.tasks);
+  routines = map (λ o. o.name) f.routines;
+  resources = map (λ o. o.name) f.resources;
+  events = map (λ o. o.name) f.events;
+  alarms = map (λ o. o.name) f.alarms;
+  modes = f.app_modes;
+}
+
 -- the names of the objects of a file: tasks by their numbers, all else in the order of declaration
 pub record AreNamesOf (f : Configuration) (names : Names) : Type 0 where
   pub tasks : names.tasks ≡ map (task_name f.tasks) (order_of f.tasks)

@@ -94,7 +94,7 @@ fn has_internal(resources: &[ResourceObject], names: &[Name]) -> bool
 }
 
 /// Whether a name is that of an internal resource.
-fn is_internal(resources: &[ResourceObject], name: &Name) -> bool
+pub(crate) fn is_internal(resources: &[ResourceObject], name: &Name) -> bool
     ensures { result ≡ is_internal resources.now name.now }
 {
     resources

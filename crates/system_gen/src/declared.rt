@@ -1,9 +1,12 @@
 //! OIL: standard objects. What is declared, to be looked up by name.
 
-use crate::fault::{GenFault, ObjectKind};
+ghost use Rattle.std.specs.Prelude.{◌≡◌, ◌≤◌, length};
+ghost use Rattle.system_gen.specs.DeclaredNames.{declared_by, number};
+ghost use Rattle.system_gen.specs.References.{is_res_scheduler};
+
 use crate::tables::NameTable;
-use osek_base::{AlarmId, CounterId, ModeId, Name, Names, ResId, ResourceNumber, TaskId};
-use std::alloc::{AllocError, Global};
+use osek_base::{AlarmId, CounterId, ModeId, Name, Names, ResourceNumber, TaskId};
+use std::marker::Model;
 
 /// The declared names by kind. Tasks stand by their numbers, all else in the order of declaration.
 #[derive(Drop)]
@@ -17,79 +20,78 @@ pub(crate) struct Declared<'a> {
     pub alarms: NameTable<'a>,
 }
 
+impl<'a> Model for Declared<'a> {
+    ghost use Rattle.system_gen.specs.DeclaredNames.{Declared as Names};
+
+    ghost Value = { Names };
+
+    ghost view = { λ d. record {
+      modes = d.modes;
+      tasks = d.tasks;
+      routines = d.routines;
+      resources = d.resources;
+      events = d.events;
+      counters = d.counters;
+      alarms = d.alarms;
+    } };
+}
+
 impl<'a> Declared<'a> {
-    pub(crate) fn new(
-        alloc: Global,
-        names: &'a Names,
-        counters: &'a [Name],
-    ) -> Result<Self, AllocError> {
-        Ok(Declared {
-            modes: NameTable::new(alloc, names.modes.as_slice())?,
-            tasks: NameTable::new(alloc, names.tasks.as_slice())?,
-            routines: NameTable::new(alloc, names.routines.as_slice())?,
-            resources: NameTable::new(alloc, names.resources.as_slice())?,
-            events: NameTable::new(alloc, names.events.as_slice())?,
-            counters: NameTable::new(alloc, counters)?,
-            alarms: NameTable::new(alloc, names.alarms.as_slice())?,
-        })
-    }
-
-    /// The application mode of that name.
-    pub(crate) fn mode(&self, name: &Name) -> Result<ModeId, GenFault> {
-        let number = self.modes.find(name)?;
-        if number >= usize::from(ModeId::LIMIT) {
-            return Err(GenFault::Limit(ObjectKind::AppMode));
-        }
-        Ok(ModeId::new(number as u8))
-    }
-
-    /// The task of that name.
-    pub(crate) fn task(&self, name: &Name) -> Result<TaskId, GenFault> {
-        let number = self.tasks.find(name)?;
-        if number >= usize::from(TaskId::LIMIT) {
-            return Err(GenFault::Limit(ObjectKind::Task));
-        }
-        Ok(TaskId::new(number as u8))
-    }
-
-    /// The declared resource of that name.
-    pub(crate) fn resource(&self, name: &Name) -> Result<ResourceNumber, GenFault> {
-        let number = self.resources.find(name)?;
-        if number >= usize::from(ResourceNumber::LIMIT) {
-            return Err(GenFault::Limit(ObjectKind::Resource));
-        }
-        Ok(ResourceNumber::new(number as u8))
-    }
-
-    /// The resource that an operand names.
-    pub(crate) fn resource_operand(&self, name: &Name) -> Result<ResId, GenFault> {
-        if is_res_scheduler(name) {
-            Ok(ResId::Scheduler)
-        } else {
-            Ok(ResId::Declared(self.resource(name)?))
+    /// What has these names, and those of the counters.
+    pub(crate) fn new(names: &'a Names, counters: &'a [Name]) -> Self
+        ensures { result ≡ declared_by names.now counters.now }
+    {
+        Declared {
+            modes: NameTable::new(names.modes.as_slice()),
+            tasks: NameTable::new(names.tasks.as_slice()),
+            routines: NameTable::new(names.routines.as_slice()),
+            resources: NameTable::new(names.resources.as_slice()),
+            events: NameTable::new(names.events.as_slice()),
+            counters: NameTable::new(counters),
+            alarms: NameTable::new(names.alarms.as_slice()),
         }
     }
 
-    /// The counter of that name.
-    pub(crate) fn counter(&self, name: &Name) -> Result<CounterId, GenFault> {
-        let number = self.counters.find(name)?;
-        if number >= usize::from(CounterId::LIMIT) {
-            return Err(GenFault::Limit(ObjectKind::Counter));
-        }
-        Ok(CounterId::new(number as u8))
+    /// The number of the application mode of that name, 0 where there is none; so for the other kinds.
+    pub(crate) fn mode(&self, name: &Name) -> ModeId
+        requires { length self.now.modes ≤ 8 }
+        ensures { result ≡ number self.now.modes name.now }
+    {
+        ModeId::new(self.modes.number(name) as u8)
     }
 
-    /// The alarm of that name.
-    pub(crate) fn alarm(&self, name: &Name) -> Result<AlarmId, GenFault> {
-        let number = self.alarms.find(name)?;
-        if number >= usize::from(AlarmId::LIMIT) {
-            return Err(GenFault::Limit(ObjectKind::Alarm));
-        }
-        Ok(AlarmId::new(number as u8))
+    pub(crate) fn task(&self, name: &Name) -> TaskId
+        requires { length self.now.tasks ≤ 32 }
+        ensures { result ≡ number self.now.tasks name.now }
+    {
+        TaskId::new(self.tasks.number(name) as u8)
+    }
+
+    pub(crate) fn resource(&self, name: &Name) -> ResourceNumber
+        requires { length self.now.resources ≤ 32 }
+        ensures { result ≡ number self.now.resources name.now }
+    {
+        ResourceNumber::new(self.resources.number(name) as u8)
+    }
+
+    pub(crate) fn counter(&self, name: &Name) -> CounterId
+        requires { length self.now.counters ≤ 8 }
+        ensures { result ≡ number self.now.counters name.now }
+    {
+        CounterId::new(self.counters.number(name) as u8)
+    }
+
+    pub(crate) fn alarm(&self, name: &Name) -> AlarmId
+        requires { length self.now.alarms ≤ 64 }
+        ensures { result ≡ number self.now.alarms name.now }
+    {
+        AlarmId::new(self.alarms.number(name) as u8)
     }
 }
 
 /// Whether a name is that of the scheduler's resource.
-pub(crate) fn is_res_scheduler(name: &Name) -> bool {
+pub(crate) fn is_res_scheduler(name: &Name) -> bool
+    ensures { result ≡ is_res_scheduler name.now }
+{
     name.as_str() == "RES_SCHEDULER"
 }

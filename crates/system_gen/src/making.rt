@@ -1,7 +1,27 @@
 //! OIL: standard objects; OSEK/VDX OS: system generation. From an OIL file and its programs to a system.
 
-ghost use Rattle.std.specs.Prelude.{◌≡◌, IfOk, OnOk, Ok, length, map};
-ghost use Rattle.system_gen.specs.ObjectNames.{AreNamesOf, order_of};
+ghost use Rattle.std.specs.Prelude.{◌≡◌, ◌<◌, IfOk, IfErr, OnOk, Ok, None, length, map};
+ghost use Rattle.std.specs.Option.{option_map};
+ghost use Rattle.system_gen.specs.declared.fault.GenFault.TheVariants.{Limit};
+ghost use Rattle.system_gen.specs.Checks.{IsFoundOrMemory, beyond_limit};
+ghost use Rattle.system_gen.specs.ObjectNames.{AreNamesOf, order_of, names_of};
+ghost use Rattle.system_gen.specs.DeclaredNames.{declared_in, counter_names};
+ghost use Rattle.system_gen.specs.Generated.{
+  AreObjectsOf,
+  known_of,
+  masks_of,
+  task_declared,
+  resolved_routine,
+  resolved_alarm,
+  generated,
+};
+ghost use Rattle.system_gen.specs.Faults.{
+  generation_fault,
+  declaration_fault,
+  program_fault,
+  value_fault,
+  IsRefusal,
+};
 ghost use Rattle.system_gen.specs.Order.{ArePlaces};
 ghost use Rattle.system_gen.specs.Masks.{all_masks};
 ghost use Rattle.system_gen.specs.Passes.{Passes};
@@ -20,6 +40,7 @@ use crate::references::check_references;
 use oil_reader::{AlarmObject, CounterObject, IsrObject, OilFile, ResourceObject, TaskObject};
 use osek_base::{Alarm, Counter, Name, Names, Parts, Property, Routine, System, Task, task_order};
 use std::alloc::{AllocError, Global};
+use std::marker::Model;
 use task_asm::NamedProgram;
 
 /// The objects of a system whose references are numbers.
@@ -30,12 +51,24 @@ struct Objects {
     alarms: Vec<Alarm>,
 }
 
+impl Model for Objects {
+    ghost use Rattle.system_gen.specs.Generated.{Objects as Resolved};
+
+    ghost Value = { Resolved };
+
+    ghost view = { λ o. record { tasks = o.tasks.items; routines = o.routines.items; alarms = o.alarms.items } };
+}
+
 /// The system that an OIL file and its programs name, or the first fault of the lowest number.
+#[tactic(auto, unfolding(crate::specs::Generated::generated))]
 pub fn generate(
     alloc: Global,
     file: OilFile,
     programs: Vec<NamedProgram>,
 ) -> Result<System, GenFault>
+    ensures made { IfOk result (λ s. s ≡ generated file programs.items) }
+    ensures sound { OnOk result (generation_fault file programs.items ≡ None) }
+    ensures fault { IfErr result (IsRefusal file programs.items) }
     ensures passed { OnOk result (Passes file programs.items) }
     ensures names { IfOk result (λ s. AreNamesOf file s.names) }
     ensures masks { IfOk result (λ s. all_masks file.events ≡ Ok s.events) }
@@ -53,14 +86,11 @@ pub fn generate(
 }
 
 /// The parts of the system.
+#[tactic(auto, unfolding(crate::specs::Generated::generated))]
 fn parts_of(alloc: Global, file: &OilFile, programs: &[NamedProgram]) -> Result<Parts, GenFault>
-    ensures passed { OnOk result (Passes file.now programs.now) }
-    ensures names { IfOk result (λ s. AreNamesOf file.now s.names) }
-    ensures masks { IfOk result (λ s. all_masks file.now.events ≡ Ok s.events) }
-    ensures resources { IfOk result (λ s. s.resources ≡ map (λ r. r.property) file.now.resources) }
-    ensures counters { IfOk result (λ s. s.counters ≡ map (λ c. c.counter) file.now.counters) }
-    ensures hooks { IfOk result (λ s. s.hooks ≡ file.now.os.hooks) }
-    ensures scheduler { IfOk result (λ s. s.use_res_scheduler ≡ file.now.os.use_res_scheduler) }
+    ensures made { IfOk result (λ s. s ≡ generated file.now programs.now) }
+    ensures sound { OnOk result (generation_fault file.now programs.now ≡ None) }
+    ensures fault { IfErr result (IsFoundOrMemory (generation_fault file.now programs.now)) }
 {
     let order = order_of(alloc, file.tasks())?;
     let names = names_of(alloc, file, order.as_slice())?;
@@ -95,17 +125,19 @@ fn resolve<'a>(
     counters: &'a [Name],
     order: &[usize],
 ) -> Result<(Objects, Vec<u32>), GenFault>
-    requires { ArePlaces (length file.now.tasks) order.now }
-    ensures passed { OnOk result (Passes file.now programs.now) }
-    ensures masks { IfOk result (λ r. all_masks file.now.events ≡ Ok r.1.items) }
+    requires places { ArePlaces (length file.now.tasks) order.now }
+    requires order { order.now ≡ order_of file.now.tasks }
+    requires names { names.now ≡ names_of file.now }
+    requires counters { counters.now ≡ counter_names file.now.counters }
+    ensures made { IfOk result (λ r. AreObjectsOf (known_of file.now) file.now programs.now r.0) }
+    ensures masks { IfOk result (λ r. r.1.items ≡ masks_of file.now.events) }
+    ensures sound { OnOk result (generation_fault file.now programs.now ≡ None) }
+    ensures fault { IfErr result (IsFoundOrMemory (generation_fault file.now programs.now)) }
 {
-    let declared = Declared::new(alloc, names, counters)?;
+    let declared = Declared::new(names, counters);
     let masks = checked(alloc, &declared, file, programs)?;
     let objects = {
-        let resolver = Resolver {
-            declared,
-            masks: masks.as_slice(),
-        };
+        let resolver = Resolver::new(declared, masks.as_slice());
         objects_of(alloc, &resolver, file, programs, order)?
     };
     Ok((objects, masks))
@@ -118,8 +150,10 @@ fn objects_of(
     file: &OilFile,
     programs: &[NamedProgram],
     order: &[usize],
-) -> Result<Objects, GenFault>
-    requires { ArePlaces (length file.now.tasks) order.now }
+) -> Result<Objects, AllocError>
+    requires places { ArePlaces (length file.now.tasks) order.now }
+    requires order { order.now ≡ order_of file.now.tasks }
+    ensures { IfOk result (AreObjectsOf resolver.now file.now programs.now) }
 {
     let tasks = tasks_of(alloc, resolver, file.tasks(), programs, order)?;
     let routines = routines_of(alloc, resolver, file.routines(), programs)?;
@@ -132,33 +166,76 @@ fn objects_of(
 }
 
 /// The masks of the events, once the ten checks have passed.
+#[tactic(auto, unfolding(crate::specs::Faults::generation_fault))]
 fn checked(
     alloc: Global,
     declared: &Declared,
     file: &OilFile,
     programs: &[NamedProgram],
 ) -> Result<Vec<u32>, GenFault>
-    ensures passed { OnOk result (Passes file.now programs.now) }
-    ensures masks { IfOk result (λ masks. all_masks file.now.events ≡ Ok masks.items) }
+    requires { declared.now ≡ declared_in file.now }
+    ensures sound { OnOk result (generation_fault file.now programs.now ≡ None) }
+    ensures limits { OnOk result (beyond_limit file.now ≡ None) }
+    ensures fault { IfErr result (IsFoundOrMemory (generation_fault file.now programs.now)) }
+    ensures masks { IfOk result (λ masks. masks.items ≡ masks_of file.now.events) }
+{
+    check_declarations(declared, file, programs)?;
+    check_programs(file, programs)?;
+    checked_values(alloc, file)
+}
+
+/// Faults 1 to 4.
+fn check_declarations(
+    declared: &Declared,
+    file: &OilFile,
+    programs: &[NamedProgram],
+) -> Result<(), GenFault>
+    requires { declared.now ≡ declared_in file.now }
+    ensures passed { OnOk result (declaration_fault file.now programs.now ≡ None) }
+    ensures limits { OnOk result (beyond_limit file.now ≡ None) }
+    ensures refused { IfErr result (IsFoundOrMemory (declaration_fault file.now programs.now)) }
 {
     check_references(declared, file, programs)?;
-    if let Some(kind) = beyond_limit(file) {
-        return Err(GenFault::Limit(kind));
-    }
+    check_limits(file)?;
     check_activations(file.tasks())?;
-    check_internal_resources(file.resources(), file.tasks())?;
+    check_internal_resources(file.resources(), file.tasks())
+}
+
+/// Faults 5 to 7.
+fn check_programs(file: &OilFile, programs: &[NamedProgram]) -> Result<(), GenFault>
+    ensures passed { OnOk result (program_fault file.now programs.now ≡ None) }
+    ensures refused { IfErr result (IsFoundOrMemory (program_fault file.now programs.now)) }
+{
     check_task_programs(file.tasks(), programs)?;
     check_routine_programs(file.routines(), programs)?;
     check_ends(programs)?;
-    check_returns(programs)?;
+    check_returns(programs)
+}
+
+/// The masks of the events, without faults 8 to 10.
+fn checked_values(alloc: Global, file: &OilFile) -> Result<Vec<u32>, GenFault>
+    ensures passed { OnOk result (value_fault file.now ≡ None) }
+    ensures refused { IfErr result (IsFoundOrMemory (value_fault file.now)) }
+    ensures masks { IfOk result (λ masks. masks.items ≡ masks_of file.now.events) }
+{
     let masks = masks(alloc, file.events())?;
     check_counters(file.counters())?;
     check_alarms(file)?;
     Ok(masks)
 }
 
+fn check_limits(file: &OilFile) -> Result<(), GenFault>
+    ensures passed { OnOk result (beyond_limit file.now ≡ None) }
+    ensures refused { IfErr result (IsFoundOrMemory (option_map Limit (beyond_limit file.now))) }
+{
+    match beyond_limit(file) {
+        Some(kind) => Err(GenFault::Limit(kind)),
+        None => Ok(()),
+    }
+}
+
 /// The declared places of the tasks in the order of their numbers.
-fn order_of(alloc: Global, tasks: &[TaskObject]) -> Result<Vec<usize>, GenFault>
+fn order_of(alloc: Global, tasks: &[TaskObject]) -> Result<Vec<usize>, AllocError>
     ensures order { IfOk result (λ order. order.items ≡ order_of tasks.now) }
     ensures places { IfOk result (λ order. ArePlaces (length tasks.now) order.items) }
 {
@@ -178,15 +255,32 @@ fn tasks_of(
     objects: &[TaskObject],
     programs: &[NamedProgram],
     order: &[usize],
-) -> Result<Vec<Task>, GenFault>
+) -> Result<Vec<Task>, AllocError>
     requires { ArePlaces (length objects.now) order.now }
+    ensures { IfOk result (λ tasks. tasks.items ≡ map (task_declared resolver.now programs.now objects.now) order.now) }
 {
     let mut tasks = Vec::new(alloc);
     for place in order {
-        let object = &objects[*place];
-        tasks.push(resolver.task(alloc, object, programs)?)?;
+        tasks.push(task_at(alloc, resolver, objects, programs, *place)?)?;
     }
     Ok(tasks)
+}
+
+/// The task that is declared at a place.
+fn task_at(
+    alloc: Global,
+    resolver: &Resolver,
+    objects: &[TaskObject],
+    programs: &[NamedProgram],
+    place: usize,
+) -> Result<Task, AllocError>
+    requires { place < length objects.now }
+    ensures { IfOk result (λ task. task ≡ task_declared resolver.now programs.now objects.now place) }
+{
+    match objects.get(place) {
+        Some(object) => resolver.task(alloc, object, programs),
+        None => unreachable!(),
+    }
 }
 
 fn routines_of(
@@ -194,7 +288,9 @@ fn routines_of(
     resolver: &Resolver,
     objects: &[IsrObject],
     programs: &[NamedProgram],
-) -> Result<Vec<Routine>, GenFault> {
+) -> Result<Vec<Routine>, AllocError>
+    ensures { IfOk result (λ routines. routines.items ≡ map (resolved_routine resolver.now programs.now) objects.now) }
+{
     let mut routines = Vec::new(alloc);
     for object in objects {
         routines.push(resolver.routine(alloc, object, programs)?)?;
@@ -206,7 +302,9 @@ fn alarms_of(
     alloc: Global,
     resolver: &Resolver,
     objects: &[AlarmObject],
-) -> Result<Vec<Alarm>, GenFault> {
+) -> Result<Vec<Alarm>, AllocError>
+    ensures { IfOk result (λ alarms. alarms.items ≡ map (resolved_alarm resolver.now) objects.now) }
+{
     let mut alarms = Vec::new(alloc);
     for object in objects {
         alarms.push(resolver.alarm(alloc, object)?)?;

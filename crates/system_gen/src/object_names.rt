@@ -1,10 +1,9 @@
 //! OIL: names of objects. The names of the objects of a file, kind by kind.
 
 ghost use Rattle.std.specs.Prelude.{◌≡◌, ◌<◌, IfOk, length, map};
-ghost use Rattle.system_gen.specs.ObjectNames.{AreNamesOf, order_of, task_name};
+ghost use Rattle.system_gen.specs.ObjectNames.{names_of, order_of, task_name};
 ghost use Rattle.system_gen.specs.Order.{ArePlaces};
 
-use crate::fault::GenFault;
 use oil_reader::{
     AlarmObject, CounterObject, EventObject, IsrObject, OilFile, ResourceObject, TaskObject,
 };
@@ -12,10 +11,10 @@ use osek_base::{Name, Names};
 use std::alloc::{AllocError, Global};
 
 /// The names that a system keeps: of tasks by their numbers, of all else in the order of declaration.
-pub(crate) fn names_of(alloc: Global, file: &OilFile, order: &[usize]) -> Result<Names, GenFault>
+pub(crate) fn names_of(alloc: Global, file: &OilFile, order: &[usize]) -> Result<Names, AllocError>
     requires places { ArePlaces (length file.now.tasks) order.now }
     requires order { order.now ≡ order_of file.now.tasks }
-    ensures { IfOk result (AreNamesOf file.now) }
+    ensures { IfOk result (λ names. names ≡ names_of file.now) }
 {
     let tasks = task_names_of(alloc, file.tasks(), order)?;
     let routines = routine_names_of(alloc, file.routines())?;
@@ -38,7 +37,7 @@ fn task_names_of(
     alloc: Global,
     tasks: &[TaskObject],
     order: &[usize],
-) -> Result<Vec<Name>, GenFault>
+) -> Result<Vec<Name>, AllocError>
     requires { ArePlaces (length tasks.now) order.now }
     ensures { IfOk result (λ names. names.items ≡ map (task_name tasks.now) order.now) }
 {

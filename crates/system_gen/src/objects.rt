@@ -1,11 +1,23 @@
 //! OIL: standard objects. Objects whose references are numbers.
 
-use crate::fault::GenFault;
+ghost use Rattle.std.specs.Prelude.{◌≡◌, IfOk, map};
+ghost use Rattle.system_gen.specs.DeclaredNames.{number};
+ghost use Rattle.std.specs.Option.{option_map};
+ghost use Rattle.system_gen.specs.Generated.{
+  program_for,
+  mask_of,
+  resolved_task,
+  resolved_routine,
+  resolved_action,
+  resolved_start,
+  resolved_alarm,
+};
+
 use crate::program_checks::program_of;
 use crate::programs::Resolver;
 use oil_reader::{ActionObject, AlarmObject, AlarmStartObject, IsrObject, TaskObject};
-use osek_base::{Action, Alarm, AlarmStart, ModeId, Name, ResourceNumber, Routine, Task};
-use std::alloc::Global;
+use osek_base::{Action, Alarm, AlarmStart, ModeId, Name, Program, ResourceNumber, Routine, Task};
+use std::alloc::{AllocError, Global};
 use task_asm::{NamedProgram, ProgramKind};
 
 impl<'a, 'm> Resolver<'a, 'm> {
@@ -14,8 +26,9 @@ impl<'a, 'm> Resolver<'a, 'm> {
         alloc: Global,
         object: &TaskObject,
         programs: &[NamedProgram],
-    ) -> Result<Task, GenFault> {
-        let named = named_program(ProgramKind::Task, &object.name, programs)?;
+    ) -> Result<Task, AllocError>
+        ensures { IfOk result (λ t. t ≡ resolved_task self.now programs.now object.now) }
+    {
         Ok(Task {
             priority: object.priority,
             schedule: object.schedule,
@@ -23,7 +36,7 @@ impl<'a, 'm> Resolver<'a, 'm> {
             autostart: self.modes(alloc, object.autostart.as_slice())?,
             resources: self.resources(alloc, object.resources.as_slice())?,
             events: self.masks(alloc, object.events.as_slice())?,
-            program: self.program(alloc, named)?,
+            program: self.program_for(alloc, ProgramKind::Task, &object.name, programs)?,
         })
     }
 
@@ -32,31 +45,50 @@ impl<'a, 'm> Resolver<'a, 'm> {
         alloc: Global,
         object: &IsrObject,
         programs: &[NamedProgram],
-    ) -> Result<Routine, GenFault> {
-        let named = named_program(ProgramKind::Routine, &object.name, programs)?;
+    ) -> Result<Routine, AllocError>
+        ensures { IfOk result (λ r. r ≡ resolved_routine self.now programs.now object.now) }
+    {
         Ok(Routine {
             priority: object.priority,
-            program: self.program(alloc, named)?,
+            program: self.program_for(alloc, ProgramKind::Routine, &object.name, programs)?,
         })
     }
 
-    pub(crate) fn alarm(&self, alloc: Global, object: &AlarmObject) -> Result<Alarm, GenFault> {
+    /// The program of the task or routine of that name, empty where there is none.
+    fn program_for(
+        &self,
+        alloc: Global,
+        kind: ProgramKind,
+        name: &Name,
+        programs: &[NamedProgram],
+    ) -> Result<Program, AllocError>
+        ensures { IfOk result (λ p. p ≡ program_for self.now kind name.now programs.now) }
+    {
+        match program_of(kind, name, programs) {
+            Some(named) => self.program(alloc, named.lines.as_slice()),
+            None => Ok(Program::new(alloc)),
+        }
+    }
+
+    pub(crate) fn alarm(&self, alloc: Global, object: &AlarmObject) -> Result<Alarm, AllocError>
+        ensures { IfOk result (λ a. a ≡ resolved_alarm self.now object.now) }
+    {
         Ok(Alarm {
-            counter: self.declared.counter(&object.counter)?,
-            action: self.action(&object.action)?,
+            counter: self.declared().counter(&object.counter),
+            action: self.action(&object.action),
             autostart: self.start(alloc, &object.autostart)?,
         })
     }
 
-    fn action(&self, object: &ActionObject) -> Result<Action, GenFault> {
+    fn action(&self, object: &ActionObject) -> Action
+        ensures { result ≡ resolved_action self.now object.now }
+    {
         match object {
-            ActionObject::ActivateTask { task } => Ok(Action::ActivateTask(
-                self.declared.task(task)?,
-            )),
-            ActionObject::SetEvent { task, event } => Ok(Action::SetEvent(
-                self.declared.task(task)?,
-                self.mask(event)?,
-            )),
+            ActionObject::ActivateTask { task } => Action::ActivateTask(self.declared().task(task)),
+            ActionObject::SetEvent { task, event } => Action::SetEvent(
+                self.declared().task(task),
+                self.mask(event),
+            ),
         }
     }
 
@@ -64,7 +96,9 @@ impl<'a, 'm> Resolver<'a, 'm> {
         &self,
         alloc: Global,
         object: &Option<AlarmStartObject>,
-    ) -> Result<Option<AlarmStart>, GenFault> {
+    ) -> Result<Option<AlarmStart>, AllocError>
+        ensures { IfOk result (λ s. s ≡ option_map (resolved_start self.now) object.now) }
+    {
         match object {
             None => Ok(None),
             Some(start) => Ok(Some(AlarmStart {
@@ -75,39 +109,33 @@ impl<'a, 'm> Resolver<'a, 'm> {
         }
     }
 
-    fn modes(&self, alloc: Global, names: &[Name]) -> Result<Vec<ModeId>, GenFault> {
+    fn modes(&self, alloc: Global, names: &[Name]) -> Result<Vec<ModeId>, AllocError>
+        ensures { IfOk result (λ modes. modes.items ≡ map (number self.now.declared.modes) names.now) }
+    {
         let mut modes = Vec::new(alloc);
         for name in names {
-            modes.push(self.declared.mode(name)?)?;
+            modes.push(self.declared().mode(name))?;
         }
         Ok(modes)
     }
 
-    fn resources(&self, alloc: Global, names: &[Name]) -> Result<Vec<ResourceNumber>, GenFault> {
+    fn resources(&self, alloc: Global, names: &[Name]) -> Result<Vec<ResourceNumber>, AllocError>
+        ensures { IfOk result (λ numbers. numbers.items ≡ map (number self.now.declared.resources) names.now) }
+    {
         let mut resources = Vec::new(alloc);
         for name in names {
-            resources.push(self.declared.resource(name)?)?;
+            resources.push(self.declared().resource(name))?;
         }
         Ok(resources)
     }
 
-    fn masks(&self, alloc: Global, names: &[Name]) -> Result<Vec<u32>, GenFault> {
+    fn masks(&self, alloc: Global, names: &[Name]) -> Result<Vec<u32>, AllocError>
+        ensures { IfOk result (λ masks. masks.items ≡ map (mask_of self.now) names.now) }
+    {
         let mut masks = Vec::new(alloc);
         for name in names {
-            masks.push(self.mask(name)?)?;
+            masks.push(self.mask(name))?;
         }
         Ok(masks)
-    }
-}
-
-/// The program of the task or routine of that name.
-fn named_program<'a>(
-    kind: ProgramKind,
-    name: &Name,
-    programs: &'a [NamedProgram],
-) -> Result<&'a NamedProgram, GenFault> {
-    match program_of(kind, name, programs) {
-        Some(program) => Ok(program),
-        None => Err(GenFault::NoProgram(name.clone()?)),
     }
 }

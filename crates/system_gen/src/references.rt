@@ -1,53 +1,122 @@
 //! OIL: references between objects; the modelled processor: operands. Each name must stand for a declared object.
 
+ghost use Rattle.std.specs.Prelude.{◌≡◌, OnOk, IfErr, None};
+ghost use Rattle.system_gen.specs.Checks.{IsFoundOrMemory};
+ghost use Rattle.system_gen.specs.References.{
+  first_of,
+  unknown,
+  unknown_in,
+  unknown_operand,
+  task_reference,
+  action_reference,
+  start_reference,
+  alarm_reference,
+  may_be_got,
+  resource_reference,
+  service_reference,
+  instruction_reference,
+  owner_reference,
+  program_reference,
+  reference_fault,
+};
+
+use crate::checks::is_internal;
 use crate::declared::{Declared, is_res_scheduler};
 use crate::fault::GenFault;
 use crate::tables::NameTable;
-use oil_reader::{ActionObject, AlarmObject, OilFile, ResourceObject, TaskObject};
-use osek_base::{Name, Property};
-use task_asm::{NamedInstr, NamedProgram, NamedService, ProgramKind};
+use oil_reader::{ActionObject, AlarmObject, AlarmStartObject, OilFile, TaskObject};
+use osek_base::Name;
+use task_asm::{NamedInstr, NamedLine, NamedProgram, NamedService, ProgramKind};
 
 /// Looks each name up: those of the tasks, of the alarms, and of the programs.
 pub(crate) fn check_references(
     declared: &Declared,
     file: &OilFile,
     programs: &[NamedProgram],
-) -> Result<(), GenFault> {
-    for task in file.tasks() {
+) -> Result<(), GenFault>
+    ensures passed { OnOk result (reference_fault file.now declared.now programs.now ≡ None) }
+    ensures refused { IfErr result (IsFoundOrMemory (reference_fault file.now declared.now programs.now)) }
+{
+    check_tasks(declared, file.tasks())?;
+    check_alarms(declared, file.alarms())?;
+    check_programs(declared, file, programs)
+}
+
+fn check_tasks(declared: &Declared, tasks: &[TaskObject]) -> Result<(), GenFault>
+    ensures passed { OnOk result (first_of (task_reference declared.now) tasks.now ≡ None) }
+    ensures refused { IfErr result (IsFoundOrMemory (first_of (task_reference declared.now) tasks.now)) }
+{
+    for task in tasks {
         check_task(declared, task)?;
-    }
-    for alarm in file.alarms() {
-        check_alarm(declared, alarm)?;
-    }
-    for program in programs {
-        check_program(declared, file, program)?;
     }
     Ok(())
 }
 
 /// A task names its modes, then its resources, then its events.
-fn check_task(declared: &Declared, task: &TaskObject) -> Result<(), GenFault> {
+fn check_task(declared: &Declared, task: &TaskObject) -> Result<(), GenFault>
+    ensures passed { OnOk result (task_reference declared.now task.now ≡ None) }
+    ensures refused { IfErr result (IsFoundOrMemory (task_reference declared.now task.now)) }
+{
     check_names(&declared.modes, task.autostart.as_slice())?;
     check_names(&declared.resources, task.resources.as_slice())?;
     check_names(&declared.events, task.events.as_slice())
 }
 
+fn check_alarms(declared: &Declared, alarms: &[AlarmObject]) -> Result<(), GenFault>
+    ensures passed { OnOk result (first_of (alarm_reference declared.now) alarms.now ≡ None) }
+    ensures refused { IfErr result (IsFoundOrMemory (first_of (alarm_reference declared.now) alarms.now)) }
+{
+    for alarm in alarms {
+        check_alarm(declared, alarm)?;
+    }
+    Ok(())
+}
+
 /// An alarm names its counter, then the task and the event of its action, then its modes.
-fn check_alarm(declared: &Declared, alarm: &AlarmObject) -> Result<(), GenFault> {
-    declared.counters.find(&alarm.counter)?;
-    match &alarm.action {
-        ActionObject::ActivateTask { task } => {
-            declared.tasks.find(task)?;
-        }
+fn check_alarm(declared: &Declared, alarm: &AlarmObject) -> Result<(), GenFault>
+    ensures passed { OnOk result (alarm_reference declared.now alarm.now ≡ None) }
+    ensures refused { IfErr result (IsFoundOrMemory (alarm_reference declared.now alarm.now)) }
+{
+    check_name(&declared.counters, &alarm.counter)?;
+    check_action(declared, &alarm.action)?;
+    check_start(declared, &alarm.autostart)
+}
+
+fn check_action(declared: &Declared, action: &ActionObject) -> Result<(), GenFault>
+    ensures passed { OnOk result (action_reference declared.now action.now ≡ None) }
+    ensures refused { IfErr result (IsFoundOrMemory (action_reference declared.now action.now)) }
+{
+    match action {
+        ActionObject::ActivateTask { task } => check_name(&declared.tasks, task),
         ActionObject::SetEvent { task, event } => {
-            declared.tasks.find(task)?;
-            declared.events.find(event)?;
+            check_name(&declared.tasks, task)?;
+            check_name(&declared.events, event)
         }
     }
-    match &alarm.autostart {
+}
+
+fn check_start(declared: &Declared, start: &Option<AlarmStartObject>) -> Result<(), GenFault>
+    ensures passed { OnOk result (start_reference declared.now start.now ≡ None) }
+    ensures refused { IfErr result (IsFoundOrMemory (start_reference declared.now start.now)) }
+{
+    match start {
         None => Ok(()),
         Some(start) => check_names(&declared.modes, start.app_modes.as_slice()),
     }
+}
+
+fn check_programs(
+    declared: &Declared,
+    file: &OilFile,
+    programs: &[NamedProgram],
+) -> Result<(), GenFault>
+    ensures passed { OnOk result (first_of (program_reference file.now declared.now) programs.now ≡ None) }
+    ensures refused { IfErr result (IsFoundOrMemory (first_of (program_reference file.now declared.now) programs.now)) }
+{
+    for program in programs {
+        check_program(declared, file, program)?;
+    }
+    Ok(())
 }
 
 /// A program has the name of a task or routine, and its operands name objects.
@@ -55,24 +124,56 @@ fn check_program(
     declared: &Declared,
     file: &OilFile,
     program: &NamedProgram,
-) -> Result<(), GenFault> {
-    match program.kind {
-        ProgramKind::Task => declared.tasks.find(&program.name)?,
-        ProgramKind::Routine => declared.routines.find(&program.name)?,
-    };
-    for line in program.lines.as_slice() {
-        if let NamedInstr::Service(service) = line.instr() {
-            check_service(declared, file, service)?;
-        }
+) -> Result<(), GenFault>
+    ensures passed { OnOk result (program_reference file.now declared.now program.now ≡ None) }
+    ensures refused { IfErr result (IsFoundOrMemory (program_reference file.now declared.now program.now)) }
+{
+    check_owner(declared, program.kind, &program.name)?;
+    check_lines(declared, file, program.lines.as_slice())
+}
+
+fn check_owner(declared: &Declared, kind: ProgramKind, name: &Name) -> Result<(), GenFault>
+    ensures passed { OnOk result (owner_reference declared.now kind name.now ≡ None) }
+    ensures refused { IfErr result (IsFoundOrMemory (owner_reference declared.now kind name.now)) }
+{
+    match kind {
+        ProgramKind::Task => check_name(&declared.tasks, name),
+        ProgramKind::Routine => check_name(&declared.routines, name),
+    }
+}
+
+fn check_lines(declared: &Declared, file: &OilFile, lines: &[NamedLine]) -> Result<(), GenFault>
+    ensures passed { OnOk result (first_of (instruction_reference file.now declared.now) lines.now ≡ None) }
+    ensures refused { IfErr result (IsFoundOrMemory (first_of (instruction_reference file.now declared.now) lines.now)) }
+{
+    for line in lines {
+        check_instruction(declared, file, line.instr())?;
     }
     Ok(())
+}
+
+fn check_instruction(
+    declared: &Declared,
+    file: &OilFile,
+    instr: &NamedInstr,
+) -> Result<(), GenFault>
+    ensures passed { OnOk result (instruction_reference file.now declared.now instr.now ≡ None) }
+    ensures refused { IfErr result (IsFoundOrMemory (instruction_reference file.now declared.now instr.now)) }
+{
+    match instr {
+        NamedInstr::Service(service) => check_service(declared, file, service),
+        NamedInstr::Plain(_) | NamedInstr::Control(_) => Ok(()),
+    }
 }
 
 fn check_service(
     declared: &Declared,
     file: &OilFile,
     service: &NamedService,
-) -> Result<(), GenFault> {
+) -> Result<(), GenFault>
+    ensures passed { OnOk result (service_reference file.now declared.now service.now ≡ None) }
+    ensures refused { IfErr result (IsFoundOrMemory (service_reference file.now declared.now service.now)) }
+{
     match service {
         NamedService::ActivateTask(task)
         | NamedService::ChainTask(task)
@@ -98,31 +199,28 @@ fn check_service(
 }
 
 /// The operand INVALID names nothing.
-fn check_operand(table: &NameTable, operand: &Option<Name>) -> Result<(), GenFault> {
+fn check_operand(table: &NameTable, operand: &Option<Name>) -> Result<(), GenFault>
+    ensures passed { OnOk result (unknown_operand table.now operand.now ≡ None) }
+    ensures refused { IfErr result (IsFoundOrMemory (unknown_operand table.now operand.now)) }
+{
     match operand {
         None => Ok(()),
-        Some(name) => {
-            table.find(name)?;
-            Ok(())
-        }
+        Some(name) => check_name(table, name),
     }
 }
 
-/// An operand may name a standard resource, and RES_SCHEDULER where it exists.
 fn check_resource_operand(
     declared: &Declared,
     file: &OilFile,
     operand: &Option<Name>,
-) -> Result<(), GenFault> {
+) -> Result<(), GenFault>
+    ensures passed { OnOk result (resource_reference file.now declared.now operand.now ≡ None) }
+    ensures refused { IfErr result (IsFoundOrMemory (resource_reference file.now declared.now operand.now)) }
+{
     match operand {
         None => Ok(()),
         Some(name) => {
-            let is_known = if is_res_scheduler(name) {
-                file.os().use_res_scheduler
-            } else {
-                !is_internal(file.resources(), declared.resources.find(name)?)
-            };
-            if is_known {
+            if may_be_got(declared, file, name) {
                 Ok(())
             } else {
                 Err(GenFault::UnknownName(name.clone()?))
@@ -131,17 +229,34 @@ fn check_resource_operand(
     }
 }
 
-/// Whether the resource of that number is internal.
-fn is_internal(resources: &[ResourceObject], number: usize) -> bool {
-    match resources.get(number) {
-        None => false,
-        Some(resource) => resource.property == Property::Internal,
+/// Whether a name is that of a standard resource, or RES_SCHEDULER where it exists.
+fn may_be_got(declared: &Declared, file: &OilFile, name: &Name) -> bool
+    ensures { result ≡ may_be_got file.now declared.now name.now }
+{
+    if is_res_scheduler(name) {
+        file.os().use_res_scheduler
+    } else {
+        declared.resources.has(name) && !is_internal(file.resources(), name)
     }
 }
 
-fn check_names(table: &NameTable, names: &[Name]) -> Result<(), GenFault> {
+fn check_names(table: &NameTable, names: &[Name]) -> Result<(), GenFault>
+    ensures passed { OnOk result (unknown_in table.now names.now ≡ None) }
+    ensures refused { IfErr result (IsFoundOrMemory (unknown_in table.now names.now)) }
+{
     for name in names {
-        table.find(name)?;
+        check_name(table, name)?;
     }
     Ok(())
+}
+
+fn check_name(table: &NameTable, name: &Name) -> Result<(), GenFault>
+    ensures passed { OnOk result (unknown table.now name.now ≡ None) }
+    ensures refused { IfErr result (IsFoundOrMemory (unknown table.now name.now)) }
+{
+    if table.has(name) {
+        Ok(())
+    } else {
+        Err(GenFault::UnknownName(name.clone()?))
+    }
 }

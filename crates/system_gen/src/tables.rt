@@ -1,30 +1,69 @@
 //! OIL: names of objects. The names of one kind of object, with their numbers.
 
-use crate::fault::GenFault;
-use indexmap::IndexSet;
+ghost use Rattle.std.specs.Prelude.{◌≡◌, ◌<◌, ◌≤◌, ◌-◌, IfSome, length};
+ghost use Rattle.osek_base.specs.Names.{is_named, number_of};
+ghost use Rattle.system_gen.specs.DeclaredNames.{number};
+
 use osek_base::Name;
-use std::alloc::{AllocError, Global};
+use std::marker::Model;
 
 /// The names of one kind of object. The place of a name is the number of its object.
 #[derive(Drop)]
 pub(crate) struct NameTable<'a> {
-    names: IndexSet<&'a str>,
+    names: &'a [Name],
+}
+
+impl<'a> Model for NameTable<'a> {
+    ghost use Rattle.std.specs.Prelude.{List, ℕ};
+
+    ghost Value = { List (List ℕ) };
+
+    ghost view = { λ t. t.names.now };
 }
 
 impl<'a> NameTable<'a> {
-    pub(crate) fn new(alloc: Global, names: &'a [Name]) -> Result<Self, AllocError> {
-        let mut table = IndexSet::new(alloc);
-        for name in names {
-            table.insert(name.as_str())?;
-        }
-        Ok(NameTable { names: table })
+    pub(crate) fn new(names: &'a [Name]) -> Self
+        ensures { result ≡ names.now }
+    {
+        NameTable { names }
     }
 
-    /// The number of the object of that name; without one the name is unknown.
-    pub(crate) fn find(&self, name: &Name) -> Result<usize, GenFault> {
-        match self.names.get_index_of(name.as_str()) {
-            Some(number) => Ok(number),
-            None => Err(GenFault::UnknownName(name.clone()?)),
+    /// Whether there is an object of that name.
+    pub(crate) fn has(&self, name: &Name) -> bool
+        ensures { result ≡ is_named name.now self.now }
+    {
+        self.names
+            .iter()
+            .any(|other| name.as_str() == other.as_str())
+    }
+
+    /// The number of the object of that name, 0 where there is none.
+    pub(crate) fn number(&self, name: &Name) -> usize
+        ensures value { result ≡ number self.now name.now }
+        ensures low { result ≤ length self.now - 1 }
+    {
+        match number_of(name, self.names) {
+            Some(number) => number,
+            None => 0,
+        }
+    }
+}
+
+fn number_of(name: &Name, names: &[Name]) -> Option<usize>
+    ensures value { result ≡ number_of name.now names.now }
+    ensures bound { IfSome result (λ n. n < length names.now) }
+{
+    match names.split_first() {
+        None => None,
+        Some((first, rest)) => {
+            if first.as_str() == name.as_str() {
+                Some(0)
+            } else {
+                match number_of(name, rest) {
+                    None => None,
+                    Some(number) => Some(number + 1),
+                }
+            }
         }
     }
 }
