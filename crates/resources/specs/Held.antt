@@ -1,9 +1,8 @@
 -- OSEK/VDX OS: resource management. What one job holds, as the list of its resources in the order got.
-use Rattle.std.specs.Prelude.{ℕ, ◌<◌, Bool, true, IsFalse, List, [], ◌∷◌, None, if◌then◌else◌}
+use Rattle.std.specs.Prelude.{ℕ, ◌<◌, Bool, true, IsFalse, List, [], ◌∷◌, None}
 use Rattle.std.specs.List.{list_any}
 use Rattle.osek_base.specs.declared.ids.ResId.{ResId}
-use Rattle.osek_base.specs.declared.status.Status.{Status}
-use Rattle.osek_base.specs.Lists.{same_resource, last_of, without_last}
+use Rattle.osek_base.specs.Lists.{same_resource, last_of}
 use Rattle.osek_base.specs.System.{System}
 use Rattle.osek_base.specs.State.{Job, fresh_context}
 use Rattle.osek_base.specs.Priority.{dynamic_priority}
@@ -40,10 +39,3 @@ job_with t held taken =
 -- the dynamic priority of such a job
 abbrev pub priority_with : System → ℕ → List ResId → Bool → ℕ
 priority_with S t held taken = dynamic_priority S (job_with t held taken)
-
--- the status of a release, and what is held after it
-abbrev pub release_status : ResId → List ResId → Status
-release_status r held = if is_last r held then Status.Ok else Status.NoFunc
-
-abbrev pub released : ResId → List ResId → List ResId
-released r held = if is_last r held then without_last held else held

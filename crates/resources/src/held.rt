@@ -1,12 +1,12 @@
 //! The resources of one job.
 
 ghost use Rattle.std.specs.Prelude.{◌≡◌, ◌<◌, [], ◌∷◌, ◌++◌, IsFalse, length, map};
-ghost use Rattle.osek_base.specs.Lists.{is_empty, greatest, same_resource};
+ghost use Rattle.osek_base.specs.Lists.{is_empty, greatest, same_resource, without_last};
 ghost use Rattle.osek_base.specs.Ceiling.{ceiling};
-ghost use Rattle.resources.specs.Held.{is_held, is_last, IsLow, number_of, priority_with, release_status, released};
+ghost use Rattle.resources.specs.Held.{is_held, is_last, IsLow, number_of, priority_with};
 
 use arrayvec::ArrayVec;
-use osek_base::{ResId, ResourceNumber, Status, System, TaskId};
+use osek_base::{ResId, ResourceNumber, System, TaskId};
 use std::marker::Model;
 
 /// What one job holds: at most the 32 declared resources and RES_SCHEDULER, each once. Contracts see the list in the
@@ -48,17 +48,11 @@ impl Held {
         self.resources.push(resource);
     }
 
-    /// Releases the resource that was got last. Another one is refused with E_OS_NOFUNC, and nothing changes.
-    pub fn release(&mut self, resource: ResId) -> Status
-        ensures status { result ≡ release_status resource self.old }
-        ensures held { self.new ≡ released resource self.old }
+    /// Releases the resource that was got last; where nothing is held, nothing changes.
+    pub fn release_last(&mut self)
+        ensures { self.new ≡ without_last self.old }
     {
-        if self.is_last(resource) {
-            self.resources.pop();
-            Status::Ok
-        } else {
-            Status::NoFunc
-        }
+        self.resources.pop();
     }
 
     /// The dynamic priority of a job of the task that holds this: the greatest of the task's priority, the ceilings of
@@ -98,7 +92,7 @@ impl Held {
     }
 
     /// Whether a resource is the one that was got last.
-    fn is_last(&self, resource: ResId) -> bool
+    pub fn is_last(&self, resource: ResId) -> bool
         ensures { result ≡ is_last resource self.now }
     {
         match self.resources.as_slice().last() {

@@ -5,7 +5,7 @@ ghost use Rattle.std.specs.Prelude.{◌≡◌};
 use super::Held;
 use osek_base::{
     Hooks, Instr, Name, Names, Parts, Place, Plain, Program, Property, ResId, ResourceNumber,
-    Schedule, Service, Status, System, Task, TaskId,
+    Schedule, Service, System, Task, TaskId,
 };
 use std::alloc::{AllocError, Global};
 use std::test::Fail;
@@ -84,11 +84,11 @@ fn nested_resources_are_released_in_turn(rt: HostRuntime) -> Result<(), Fail> {
     assert_eq!(rt; held.dynamic(&system, task, false), 2);
     held.get(s);
     assert_eq!(rt; held.dynamic(&system, task, false), 3);
-    assert_eq!(rt; held.release(r), Status::NoFunc);
-    assert_eq!(rt; held.release(s), Status::Ok);
+    assert!(rt; held.is_last(s) && !held.is_last(r));
+    held.release_last();
     assert_eq!(rt; held.dynamic(&system, task, false), 2);
     assert!(rt; held.holds(r) && !held.holds(s) && !held.holds_none());
-    assert_eq!(rt; held.release(r), Status::Ok);
+    held.release_last();
     assert_eq!(rt; held.dynamic(&system, task, false), 1);
     assert!(rt; held.holds_none());
     Ok(())

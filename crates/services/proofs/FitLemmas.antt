@@ -16,7 +16,7 @@ use Rattle.osek_base.specs.System.{System, program, activation_of}
 use Rattle.osek_base.specs.State.{Job, JobId, Active, Expiry, waits, fresh_context, jobs_of, job_of, jobs_but, with_job, same_id}
 use Rattle.osek_base.specs.Activation.{new_job, woken}
 use Rattle.services.specs.Objects.{Objects, Fit, Keeps, Grows, AreCounted, AreSound, jobs_without, jobs_changed, jobs_released_by, jobs_dispatched, running_job, begun, caller, calling_job, calling_id, state_of, no_words, added, is_placed}
-use Rattle.services.proofs.PlaceLemmas.{some_program}
+use Rattle.osek_base.proofs.PlaceLemmas.{some_program}
 use Rattle.services.proofs.SoundLemmas.{and_split, same_id-is, found_id, found_keeps}
 use Rattle.services.specs.Execution.{IsAtPlace}
 use Rattle.services.specs.declared.objects.Executor.{Executor}

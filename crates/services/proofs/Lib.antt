@@ -2,6 +2,5 @@ pub mod JobLemmas
 pub mod ChoiceLemmas
 pub mod SoundLemmas
 pub mod FitLemmas
-pub mod PlaceLemmas
 pub mod ReleaseLemmas
 pub mod ServiceLemmas

@@ -3,7 +3,6 @@ use Rattle.std.specs.Prelude.{ℕ, zero, suc, ◌+◌, ◌≡◌, ◌<◌, ◌�
 use Rattle.std.specs.List.{All, filter}
 use Rattle.std.specs.Option.{option_map}
 use Rattle.osek_base.specs.declared.ids.Owner.{Owner}
-use Rattle.osek_base.specs.declared.ids.ResId.{ResId}
 use Rattle.osek_base.specs.declared.instr.Service.{Service}
 use Rattle.osek_base.specs.System.{System, program, activation_of, is_extended}
 use Rattle.osek_base.specs.Lists.{is_empty}
@@ -14,7 +13,6 @@ use Rattle.osek_base.specs.State.{with_job, jobs_but, job_of, same_id, Job, JobI
 use Rattle.osek_base.specs.Service.{is_met, Caller, JobCalls, Reply, unmasked_service, service}
 use Rattle.osek_base.specs.Reschedule.{id_of}
 use Rattle.osek_base.specs.Tick.{caller_of}
-use Rattle.resources.specs.Held.{released}
 
 -- the fields of a state, and how many jobs there is room for
 pub record Objects : Type 0 where
@@ -117,10 +115,6 @@ added S t o =
       masks = if is_extended S t && is_empty (jobs_of t o.jobs) then slice_set o.masks t 0 else o.masks;
     }
 
--- a job that releases a resource, where it is the last that it got
-abbrev pub releasing : ResId → Job → Job
-releasing r j = record j { held = released r j.held }
-
 -- the jobs, of which the one of that id enters running
 abbrev pub jobs_dispatched : System → Option JobId → List Job → List Job
 jobs_dispatched S None jobs = jobs
@@ -182,11 +176,6 @@ IsOnAlarm (Service.CancelAlarm a) = Unit {0}
 IsOnAlarm (Service.GetAlarm a) = Unit {0}
 IsOnAlarm (Service.GetAlarmBase a) = Unit {0}
 IsOnAlarm _ = ⊥
-
--- the service isn't the release of a resource, whose exact answer isn't proved yet
-abbrev pub IsNoRelease : Service ℕ → Type 0
-IsNoRelease (Service.ReleaseResource (Some r)) = ⊥
-IsNoRelease _ = Unit {0}
 
 -- the system is proper, the lists have its lengths, the jobs are sound, and there is room for all
 pub record Fit (S : System) (o : Objects) : Type 0 where

@@ -5,7 +5,7 @@ ghost use Rattle.std.specs.Option.{option_map, option_copied};
 ghost use Rattle.osek_base.specs.State.{Words};
 ghost use Rattle.osek_base.specs.Activation.{ended};
 ghost use Rattle.osek_base.specs.Reschedule.{id_of};
-ghost use Rattle.osek_base.specs.Service.{by_routine, holds_any, is_own_task, is_basic_caller, caller_may_take, is_above_ceiling, is_outranked, running_task};
+ghost use Rattle.osek_base.specs.Service.{by_routine, holds_any, is_own_task, is_basic_caller, caller_may_take, is_above_ceiling, got_last, is_outranked, running_task};
 ghost use Rattle.services.specs.Objects.{AreSound, caller, calling_job, calling_id, task_of};
 
 use crate::job::{Job, JobId};
@@ -109,6 +109,16 @@ impl Core {
         match self.calling_task(system) {
             None => false,
             Some(task) => system.ceiling(*resource) < system.priority_of(task),
+        }
+    }
+
+    /// Whether a resource is the last that the caller got and still holds.
+    pub(crate) fn got_last(&self, resource: &ResId) -> bool
+        ensures { result ≡ got_last (caller self.now) resource.now }
+    {
+        match self.calling_job() {
+            None => false,
+            Some(job) => job.got_last(resource),
         }
     }
 

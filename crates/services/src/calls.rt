@@ -5,7 +5,7 @@ ghost use Rattle.osek_base.specs.State.{Words};
 ghost use Rattle.osek_base.specs.declared.instr.Service.{Service};
 ghost use Rattle.osek_base.specs.declared.status.Status.{Status};
 ghost use Rattle.osek_base.specs.declared.trace_event.Results.{Results};
-ghost use Rattle.services.specs.Objects.{Fit, AreMadeBelow, Keeps, IsKnown, IsNoRelease, IsOnAlarm, unmasked, reply, state_of};
+ghost use Rattle.services.specs.Objects.{Fit, AreMadeBelow, Keeps, IsKnown, IsOnAlarm, unmasked, reply, state_of};
 
 use crate::objects::Core;
 use crate::requests::get_alarm_base;
@@ -55,8 +55,9 @@ pub fn call(core: &mut Core, system: &System, service: &Service<u32>) -> Answer
     requires known { IsKnown system.now service.now }
     requires made { AreMadeBelow (2 ^ 32 - 1) core.old }
     ensures keeps { Keeps system.now core.old core.new }
-    ensures status { (w : Words) → IsNoRelease service.now → result.status ≡ (reply system.now w core.old service.now).status }
-    ensures state { (w : Words) → IsNoRelease service.now → state_of w core.new ≡ (reply system.now w core.old service.now).state }
+    ensures status { (w : Words) → result.status ≡ (reply system.now w core.old service.now).status }
+    ensures results { (w : Words) → result.results ≡ (reply system.now w core.old service.now).results }
+    ensures state { (w : Words) → state_of w core.new ≡ (reply system.now w core.old service.now).state }
 {
     if core.interrupts_off() {
         return Answer::plain(Status::SysDisabled);
@@ -96,8 +97,9 @@ impl Core {
         requires known { IsKnown system.now service.now }
         requires made { AreMadeBelow (2 ^ 32 - 1) self.old }
         ensures keeps { Keeps system.now self.old self.new }
-        ensures status { (w : Words) → IsNoRelease service.now → result.status ≡ (unmasked system.now w self.old service.now).status }
-        ensures state { (w : Words) → IsNoRelease service.now → state_of w self.new ≡ (unmasked system.now w self.old service.now).state }
+        ensures status { (w : Words) → result.status ≡ (unmasked system.now w self.old service.now).status }
+        ensures results { (w : Words) → result.results ≡ (unmasked system.now w self.old service.now).results }
+        ensures state { (w : Words) → state_of w self.new ≡ (unmasked system.now w self.old service.now).state }
     {
         match *service {
             Service::ActivateTask(task) => match task {
@@ -142,6 +144,7 @@ impl Core {
         requires alarm { IsOnAlarm service.now }
         ensures keeps { Keeps system.now self.old self.new }
         ensures status { (w : Words) → result.status ≡ (unmasked system.now w self.old service.now).status }
+        ensures results { (w : Words) → result.results ≡ (unmasked system.now w self.old service.now).results }
         ensures state { (w : Words) → state_of w self.new ≡ (unmasked system.now w self.old service.now).state }
     {
         match *service {

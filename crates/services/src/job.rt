@@ -3,15 +3,15 @@
 ghost use Rattle.std.specs.Prelude.{◌≡◌, ◌<◌, ◌∷◌, ◌++◌, Some, None, is_some, true, IsFalse, length};
 ghost use Rattle.osek_base.specs.State.{same_id, waits};
 ghost use Rattle.osek_base.specs.Activation.{new_job, woken};
-ghost use Rattle.osek_base.specs.Service.{given_up, gets, waiting_for, is_met, holds};
+ghost use Rattle.osek_base.specs.Service.{given_up, gets, releases, waiting_for, is_met, holds};
 ghost use Rattle.osek_base.specs.Lists.{is_empty};
 ghost use Rattle.osek_base.specs.Priority.{dynamic_priority};
 ghost use Rattle.osek_base.specs.Tick.{job_moved};
-ghost use Rattle.resources.specs.Held.{release_status};
-ghost use Rattle.services.specs.Objects.{begun, releasing};
+ghost use Rattle.resources.specs.Held.{is_last};
+ghost use Rattle.services.specs.Objects.{begun};
 
 use machine::{Cpu, Saved};
-use osek_base::{ResId, Status, System, TaskId};
+use osek_base::{ResId, System, TaskId};
 use resources::Held;
 use std::marker::Model;
 
@@ -182,12 +182,18 @@ impl Job {
         self.held.get(*resource);
     }
 
-    /// Releases the resource that was got last. Another one is refused with E_OS_NOFUNC, and nothing changes.
-    pub fn release(&mut self, resource: &ResId) -> Status
-        ensures status { result ≡ release_status resource.now self.old.held }
-        ensures job { self.new ≡ releasing resource.now self.old }
+    /// Whether a resource is the last that the job got and still holds.
+    pub fn got_last(&self, resource: &ResId) -> bool
+        ensures { result ≡ is_last resource.now self.now.held }
     {
-        self.held.release(*resource)
+        self.held.is_last(*resource)
+    }
+
+    /// Releases the resource that the job got last.
+    pub fn release_last(&mut self)
+        ensures { self.new ≡ releases self.old }
+    {
+        self.held.release_last();
     }
 
     /// The dynamic priority.

@@ -7,13 +7,13 @@ ghost use Rattle.osek_base.specs.State.{job_of, jobs_of, jobs_but, with_job, wai
 ghost use Rattle.osek_base.specs.Priority.{dynamic_priority};
 ghost use Rattle.osek_base.specs.Choice.{choice};
 ghost use Rattle.osek_base.specs.Reschedule.{id_of};
-ghost use Rattle.osek_base.specs.Service.{given_up, waiting_for, gets, holds};
+ghost use Rattle.osek_base.specs.Service.{given_up, waiting_for, gets, releases, holds};
 ghost use Rattle.osek_base.specs.Tick.{job_moved};
-ghost use Rattle.services.specs.Objects.{IsFirstOf, begun, releasing, is_placed};
+ghost use Rattle.services.specs.Objects.{IsFirstOf, begun, is_placed};
 
 use crate::job::{Job, JobId};
 use machine::Cpu;
-use osek_base::{ResId, Status, System, TaskId};
+use osek_base::{ResId, System, TaskId};
 
 /// The job of an id, if it hasn't ended.
 pub fn find<'j>(jobs: &'j [Job], id: &JobId) -> Option<&'j Job>
@@ -140,17 +140,15 @@ pub fn get(jobs: &mut [Job], id: &JobId, resource: &ResId)
     }
 }
 
-/// The job of an id releases the resource that it got last. Another one is refused with E_OS_NOFUNC.
-pub fn release(jobs: &mut [Job], id: &JobId, resource: &ResId) -> Status
-    ensures { jobs.new ≡ with_job id.now (releasing resource.now) jobs.old }
+/// The job of an id releases the resource that it got last.
+pub fn release_last(jobs: &mut [Job], id: &JobId)
+    ensures { jobs.new ≡ with_job id.now releases jobs.old }
 {
-    let mut status = Status::NoFunc;
     for job in jobs.iter_mut() {
         if job.is(id) {
-            status = job.release(resource);
+            job.release_last();
         }
     }
-    status
 }
 
 /// The job of an id gets other registers and another place.

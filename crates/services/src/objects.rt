@@ -12,13 +12,13 @@ ghost use Rattle.osek_base.specs.System.{activation_of};
 ghost use Rattle.osek_base.specs.Activation.{is_full, activated, new_job, woken, ended, released};
 ghost use Rattle.osek_base.specs.Choice.{choice};
 ghost use Rattle.osek_base.specs.Reschedule.{id_of, jobs_entered};
-ghost use Rattle.osek_base.specs.Service.{controlled, is_suspended, holds_any, by_routine, is_own_task, running_task, given_up, gets, holds, waiting_for};
+ghost use Rattle.osek_base.specs.Service.{controlled, is_suspended, holds_any, by_routine, is_own_task, running_task, given_up, gets, releases, holds, waiting_for};
 ghost use Rattle.osek_base.specs.Tick.{flagged, routine_started, routine_choice, moved, job_moved};
 ghost use Rattle.osek_base.specs.Trace.{starting_alarms};
 ghost use Rattle.osek_base.specs.declared.instr.Service.{Service};
 ghost use Rattle.alarms.specs.Alarms.{status_of, after_call, remaining_at};
 ghost use Rattle.osek_base.specs.Alarm.{count, expiry, due_alarms, alarms_advanced};
-ghost use Rattle.services.specs.Objects.{Objects, AreSound, Fit, Keeps, KeepsFit, Grows, IsTask, state_of, no_words, unmasked, caller, sum_to, still_objects, added, jobs_dispatched, running_job, calling_id, jobs_released_by, jobs_without, jobs_changed, releasing, begun};
+ghost use Rattle.services.specs.Objects.{Objects, AreSound, Fit, Keeps, KeepsFit, Grows, IsTask, state_of, no_words, unmasked, caller, sum_to, still_objects, added, jobs_dispatched, running_job, calling_id, jobs_released_by, jobs_without, jobs_changed, begun};
 
 use crate::job::{Job, JobId};
 use crate::jobs;
@@ -436,6 +436,7 @@ impl Core {
         requires os { self.old.suspended_os + 1 < 2 ^ 32 }
         ensures state { (w : Words) → state_of w self.new ≡ controlled control.now (state_of w self.old) }
         ensures fit { (S : Configured) → Fit S self.old → Fit S self.new }
+        ensures room { self.new.room ≡ self.old.room }
         ensures made { self.new.made ≡ self.old.made }
         ensures active { IsSameOrNone self.old.active self.new.active }
         ensures grows { Grows self.old self.new }
@@ -495,13 +496,12 @@ impl Core {
         }
     }
 
-    /// The calling job releases a resource. E_OS_NOFUNC where it isn't the last that it got and still holds.
-    pub(crate) fn release_held(&mut self, resource: &ResId) -> Status
-        ensures { self.new ≡ record self.old { jobs = jobs_changed (calling_id self.old) (releasing resource.now) self.old.jobs } }
+    /// The calling job releases the resource that it got last.
+    pub(crate) fn release_last(&mut self)
+        ensures { self.new ≡ record self.old { jobs = jobs_changed (calling_id self.old) releases self.old.jobs } }
     {
-        match &self.calling_id() {
-            None => Status::NoFunc,
-            Some(id) => jobs::release(self.jobs.as_mut_slice(), id, resource),
+        if let Some(id) = &self.calling_id() {
+            jobs::release_last(self.jobs.as_mut_slice(), id);
         }
     }
 

@@ -38,14 +38,24 @@ impl Core {
 
     /// The caller releases a resource. E_OS_ACCESS in a routine, or where the resource's ceiling is below the caller's static
     /// priority; E_OS_NOFUNC where it isn't the last that the caller got and still holds.
+    #[tactic(auto, unfolding(osek_base::specs::Service::unmasked_service))]
     pub(crate) fn release_resource(&mut self, system: &System, resource: &ResId) -> Status
         requires { Fit system.now self.old }
         ensures keeps { Keeps system.now self.old self.new }
+        ensures status { (w : Words) → result ≡ (unmasked system.now w self.old (Service.ReleaseResource (Some resource.now))).status }
+        ensures state { (w : Words) → state_of w self.new ≡ (unmasked system.now w self.old (Service.ReleaseResource (Some resource.now))).state }
     {
-        if self.by_routine() || self.is_above_ceiling(system, resource) {
+        if self.by_routine() {
             return Status::Access;
         }
-        self.release_held(resource)
+        if self.is_above_ceiling(system, resource) {
+            return Status::Access;
+        }
+        if !self.got_last(resource) {
+            return Status::NoFunc;
+        }
+        self.release_last();
+        Status::Ok
     }
 
     /// A task's events gain a mask, and a job that waits for one of them is released as the newest. E_OS_ACCESS where the
