@@ -1,2 +1,9 @@
 pub mod PlaceLemmas
 pub mod PhaseLemmas
+pub mod ArrivalLemmas
+pub mod AlarmLemmas
+pub mod RoutineLemmas
+pub mod ExecutionLemmas
+pub mod RunLemmas
+pub mod StartLemmas
+pub mod TickLemmas

@@ -1,6 +1,6 @@
 -- What an instruction at a place needs, and where it leads.
-use Rattle.std.proofs.Common.{◌≡◌, ℕ, ◌+◌, ◌<◌, ◌≤◌, Bool, true, false, ◌&&◌, not, length, cond, sym, ◌∙◌, ap, subst, refl, arith}
-use Rattle.std.specs.Prelude.{Option, Some, None}
+use Rattle.std.proofs.Common.{◌≡◌, ℕ, ◌+◌, ◌<◌, Bool, true, false, length, cond, sym, ◌∙◌, ap, refl, arith}
+use Rattle.std.specs.Prelude.{Some, None}
 use Rattle.std.proofs.lemmas.Bool.{ltb-true}
 use Rattle.osek_base.specs.declared.ids.Owner.{Owner}
 use Rattle.osek_base.specs.declared.instr.Instr.{Instr}
@@ -16,7 +16,7 @@ use Rattle.osek_base.specs.Tick.{at_values, answered}
 use Rattle.machine.specs.Execution.{HasNext}
 use Rattle.services.specs.Objects.{IsKnown}
 use Rattle.services.proofs.SoundLemmas.{and_split}
-use Rattle.services.proofs.PlaceLemmas.{KnownPlace, is_routine}
+use Rattle.osek_base.proofs.PlaceLemmas.{KnownPlace, is_routine}
 use Rattle.kernel.specs.Run.{ends_routine}
 
 module _ (S : System) (owner : Owner) (x : Context) (k : KnownPlace S owner x.place) where
@@ -108,6 +108,6 @@ module _ (S : System) (owner : Owner) (x : Context) (k : KnownPlace S owner x.pl
 
 -- behind an answer the next instruction follows
 pub answered_place : (status : Status) (found : Results) (x : Context) → (answered status found x).place ≡ x.place + 1
-answered_place status Results.Nothing x = refl
-answered_place status (Results.One a) x = refl
-answered_place status (Results.Three a b c) x = refl
+answered_place answer Results.Nothing x = refl
+answered_place answer (Results.One a) x = refl
+answered_place answer (Results.Three a b c) x = refl

@@ -1,52 +1,98 @@
 -- OSEK/VDX OS: system start-up. A run of a system, as far as it has come.
-use Rattle.std.specs.Prelude.{ℕ, ◌≡◌, ◌<◌, ◌≤◌, ◌+◌, ◌*◌, ◌-◌, Bool, true, false, ◌||◌, nat_le, List, length}
-use Rattle.std.specs.List.{All}
+use Rattle.std.specs.Prelude.{ℕ, ◌≡◌, ◌<◌, ◌≤◌, ◌+◌, ◌*◌, ◌-◌, Bool, true, false, not, ◌||◌, nat_le, List, drop, Option, length}
+use Rattle.std.specs.List.{All, list_all}
 use Rattle.osek_base.specs.declared.arrivals.Arrival.{Arrival}
 use Rattle.osek_base.specs.declared.trace_event.TraceEvent.{TraceEvent}
 use Rattle.osek_base.specs.declared.instr.Instr.{Instr}
 use Rattle.osek_base.specs.declared.instr.Control.{Control}
 use Rattle.osek_base.specs.System.{System, instruction_at}
+use Rattle.osek_base.specs.State.{Expiry, Words}
+use Rattle.osek_base.specs.Reschedule.{Recorded}
+use Rattle.osek_base.specs.Alarm.{is_due_at}
+use Rattle.osek_base.specs.Tick.{Step, tick, executed}
+use Rattle.osek_base.specs.ArrivalList.{are_in_order}
+use Rattle.osek_base.specs.Trace.{Run as RunSoFar, arriving, run, with_earlier, starting_tasks, starting_alarms, all_activated}
+use Rattle.machine.specs.Windows.{word}
 use Rattle.services.specs.declared.objects.Execution.{Execution}
 use Rattle.services.specs.Execution.{owner_of}
-use Rattle.services.specs.Objects.{Objects, Fit, AreCounted}
+use Rattle.services.specs.Objects.{Objects, Fit, AreCounted, caller, state_of, still_objects}
 
--- the system, the mode, all arrivals, the ticks done, and whether it was shut down
+-- the system, the mode, all arrivals, and the ticks done
 pub record Run : Type 0 where
   pub system : System
   pub mode : ℕ
   pub arrivals : List Arrival
   pub ticks : ℕ
-  pub shut_down : Bool
+
+-- what has run by then
+abbrev pub run_of : Run → RunSoFar
+run_of r = run r.system r.mode r.arrivals r.ticks
 
 -- whether no tick follows: after ShutdownOS, or when 1,000,000 ticks are done
 abbrev pub is_over : Run → Bool
-is_over r = nat_le 1000000 r.ticks || r.shut_down
+is_over r = nat_le 1000000 r.ticks || (run_of r).state.over
+
+-- the step that follows, with the records of boot where it is the first
+abbrev pub next_step : System → List Arrival → RunSoFar → Step
+next_step S arrivals r = with_earlier r.unwritten (tick S (arriving arrivals r.state.tick) r.state)
+
+-- the step of a tick, and its records
+abbrev pub step_at : System → ℕ → List Arrival → ℕ → Step
+step_at S mode arrivals t = next_step S arrivals (run S mode arrivals t)
+
+abbrev pub record_at : System → ℕ → List Arrival → ℕ → List TraceEvent
+record_at S mode arrivals t = (step_at S mode arrivals t).events
 
 -- each arrival is of a routine of the system
 abbrev pub AreKnown : System → List Arrival → Type 0
 AreKnown S arrivals = All (λ a. a.routine < length S.routines) arrivals
 
--- what a kernel keeps after so many ticks
-pub record IsKept (S : System) (arrivals : List Arrival) (cursor ticks : ℕ) (o : Objects) (opening : List TraceEvent) : Type 0 where
+-- of a list, the arrivals from the tick on stand in order from the cursor on
+pub record AreLeft (arrivals : List Arrival) (cursor tick : ℕ) : Type 0 where
+  pub within : cursor ≤ length arrivals
+  pub ordered : are_in_order tick (drop cursor arrivals) ≡ true
+  pub same : (t : ℕ) → tick ≤ t → arriving arrivals t ≡ arriving (drop cursor arrivals) t
+
+-- no alarm expires at count 0
+abbrev pub AreAhead : List (Option Expiry) → Type 0
+AreAhead alarms = list_all (λ e. not (is_due_at 0 e)) alarms ≡ true
+
+-- what a kernel keeps after so many ticks. The objects have the number of the last tick, and the state that of the next
+pub record IsKept (S : System) (mode : ℕ) (arrivals : List Arrival) (ticks cursor : ℕ) (o : Objects) (words : List ℕ) (opening : List TraceEvent) : Type 0 where
   pub fit : Fit S o
   pub known : AreKnown S arrivals
-  pub arrived : cursor ≤ length arrivals
+  pub left : AreLeft arrivals cursor ticks
   pub counted : AreCounted o (65 * ticks + 32) ticks
   pub tick : o.tick ≡ ticks - 1
   pub limit : ticks ≤ 1000000
+  pub state : (run S mode arrivals ticks).state ≡ state_of (word words) (record o { tick = ticks })
+  pub ahead : ticks ≡ 0 → AreAhead o.alarms
   -- the records of boot stand in tick 0 alone
+  pub unwritten : opening ≡ (run S mode arrivals ticks).unwritten
   pub few : length opening ≤ 3
   pub none_later : 1 ≤ ticks → length opening ≤ 0
 
+-- the objects before the tasks of the mode are activated
+abbrev pub objects_begun : System → ℕ → Objects
+objects_begun S mode = record (still_objects S) { alarms = starting_alarms S mode }
+
 -- what the objects keep at boot
-pub record IsStarted (S : System) (o : Objects) : Type 0 where
+pub record IsStarted (S : System) (mode : ℕ) (o : Objects) : Type 0 where
   pub fit : Fit S o
   pub counted : AreCounted o 32 0
   pub tick : o.tick ≡ 0
+  pub ahead : AreAhead o.alarms
+  pub state : (w : Words) → state_of w o ≡ all_activated S (starting_tasks S mode) (state_of w (objects_begun S mode))
 
--- the instruction is the one at the place of who executes
+-- the instruction at the place of who executes, and what an instruction of theirs comes to
+abbrev pub next_of : System → Execution → Instr
+next_of S e = instruction_at S (owner_of e.executor) e.cpu.place
+
 abbrev pub IsNext : System → Execution → Instr → Type 0
-IsNext S e i = instruction_at S (owner_of e.executor) e.cpu.place ≡ i
+IsNext S e i = next_of S e ≡ i
+
+abbrev pub executed_by : System → Execution → Instr → Words → Objects → Recorded
+executed_by S e i w o = executed S (owner_of e.executor) (caller o) e.cpu i (state_of w o)
 
 -- whether a routine ends, so that nothing follows
 abbrev pub ends_routine : Control → Bool

@@ -1,13 +1,15 @@
 //! OSEK/VDX OS: system services; the modelled processor. One instruction of who executes.
 
 ghost use Rattle.std.specs.Prelude.{◌≡◌, ◌<◌, ◌≤◌, ◌+◌, ◌++◌, ◌-◌, ◌^◌, length};
-ghost use Rattle.osek_base.specs.Tick.{shutdown_record};
-ghost use Rattle.services.specs.Objects.{Fit, Keeps, Grows, AreCounted};
-ghost use Rattle.services.specs.Execution.{IsAtPlace, IsSameOrNone};
 ghost use Rattle.osek_base.specs.declared.instr.Instr.{Instr};
-ghost use Rattle.osek_base.specs.Proper.{IsProper};
-ghost use Rattle.kernel.specs.Run.{IsNext, ends_routine};
+ghost use Rattle.osek_base.specs.State.{Words};
+ghost use Rattle.osek_base.specs.Tick.{execute_phase, from_execution, shutdown_record};
+ghost use Rattle.machine.specs.Windows.{word};
+ghost use Rattle.services.specs.Objects.{Fit, Grows, AreCounted, caller, state_of};
+ghost use Rattle.services.specs.Execution.{Executes, IsAtPlace};
+ghost use Rattle.kernel.specs.Run.{IsNext, executed_by, next_of, ends_routine};
 
+use crate::dispatch::reschedule;
 use crate::phases::record_error;
 use machine::{Windows, exec_plain};
 use osek_base::{
@@ -15,8 +17,31 @@ use osek_base::{
 };
 use services::{Core, Execution, call};
 
+/// A tick from its instruction on: the instruction, and then the job that is to run becomes the running one, which is left
+/// out after ShutdownOS.
+pub fn from_execution(
+    core: &mut Core,
+    windows: &mut Windows,
+    system: &System,
+    record_of_tick: &mut TickRecord,
+)
+    requires fit { Fit system.now core.old }
+    requires counted { AreCounted core.old (2 ^ 32 - 2) (2 ^ 32 - 2) }
+    requires room { length record_of_tick.old + 4 ≤ 72 }
+    ensures fit { Fit system.now core.new }
+    ensures grows { Grows core.old core.new }
+    ensures state { state_of (word windows.new) core.new ≡ (from_execution system.now (state_of (word windows.old) core.old)).state }
+    ensures events { record_of_tick.new ≡ record_of_tick.old ++ (from_execution system.now (state_of (word windows.old) core.old)).events }
+{
+    execute_phase(core, windows, system, record_of_tick);
+    if !core.is_over() {
+        reschedule(core, system, record_of_tick);
+    }
+}
+
 /// The active routine, else the running job, executes one instruction; where there is neither, nobody does.
-pub fn execute_phase(
+#[tactic(auto, unfolding(osek_base::specs::Tick::execute_phase))]
+fn execute_phase(
     core: &mut Core,
     windows: &mut Windows,
     system: &System,
@@ -27,42 +52,67 @@ pub fn execute_phase(
     requires room { length record_of_tick.old + 2 ≤ 72 }
     ensures fit { Fit system.now core.new }
     ensures grows { Grows core.old core.new }
+    ensures state { state_of (word windows.new) core.new ≡ (execute_phase system.now (state_of (word windows.old) core.old)).state }
+    ensures events { record_of_tick.new ≡ record_of_tick.old ++ (execute_phase system.now (state_of (word windows.old) core.old)).events }
     ensures few { length record_of_tick.new ≤ length record_of_tick.old + 2 }
 {
     match core.executor(system) {
         None => record_of_tick.push(TraceEvent::Idle),
-        Some(mut execution) => {
-            let instr = system.instruction_at(execution.executor.owner(), execution.cpu.place());
-            match &instr {
-                Instr::Plain(plain) => {
-                    execute_plain(system, &mut execution, windows, plain, record_of_tick)
-                }
-                Instr::Service(service) => {
-                    execute_service(core, system, &mut execution, service, record_of_tick)
-                }
-                Instr::Control(control) => {
-                    execute_control(core, system, &mut execution, control, record_of_tick)
-                }
-            }
-            core.go_on(system, &execution.executor, &execution.cpu);
+        Some(mut execution) => execute(core, windows, system, &mut execution, record_of_tick),
+    }
+}
+
+/// The next instruction of who executes.
+fn execute(
+    core: &mut Core,
+    windows: &mut Windows,
+    system: &System,
+    execution: &mut Execution,
+    record_of_tick: &mut TickRecord,
+)
+    requires fit { Fit system.now core.old }
+    requires counted { AreCounted core.old (2 ^ 32 - 2) (2 ^ 32 - 2) }
+    requires who { Executes (caller core.old) execution.old }
+    requires place { IsAtPlace system.now execution.old.executor execution.old.cpu }
+    requires room { length record_of_tick.old + 2 ≤ 72 }
+    ensures fit { Fit system.now core.new }
+    ensures grows { Grows core.old core.new }
+    ensures state { state_of (word windows.new) core.new ≡ (executed_by system.now execution.old (next_of system.now execution.old) (word windows.old) core.old).state }
+    ensures events { record_of_tick.new ≡ record_of_tick.old ++ (executed_by system.now execution.old (next_of system.now execution.old) (word windows.old) core.old).events }
+    ensures few { length record_of_tick.new ≤ length record_of_tick.old + 2 }
+{
+    let instr = system.instruction_at(execution.executor.owner(), execution.cpu.place());
+    match &instr {
+        Instr::Plain(plain) => {
+            execute_plain(core, windows, system, execution, plain, record_of_tick)
+        }
+        Instr::Service(service) => {
+            execute_service(core, system, execution, service, record_of_tick)
+        }
+        Instr::Control(control) => {
+            execute_control(core, system, execution, control, record_of_tick)
         }
     }
 }
 
 /// A plain instruction.
 fn execute_plain(
+    core: &mut Core,
+    windows: &mut Windows,
     system: &System,
     execution: &mut Execution,
-    windows: &mut Windows,
     plain: &Plain,
     record_of_tick: &mut TickRecord,
 )
-    requires proper { IsProper system.now }
+    requires fit { Fit system.now core.old }
+    requires who { Executes (caller core.old) execution.old }
     requires place { IsAtPlace system.now execution.old.executor execution.old.cpu }
     requires instruction { IsNext system.now execution.old (Instr.Plain plain.now) }
     requires room { length record_of_tick.old < 72 }
-    ensures executor { execution.new.executor ≡ execution.old.executor }
-    ensures place { IsAtPlace system.now execution.new.executor execution.new.cpu }
+    ensures fit { Fit system.now core.new }
+    ensures grows { Grows core.old core.new }
+    ensures state { state_of (word windows.new) core.new ≡ (executed_by system.now execution.old (Instr.Plain plain.now) (word windows.old) core.old).state }
+    ensures events { record_of_tick.new ≡ record_of_tick.old ++ (executed_by system.now execution.old (Instr.Plain plain.now) (word windows.old) core.old).events }
     ensures few { length record_of_tick.new ≤ length record_of_tick.old + 1 }
 {
     let place = execution.cpu.place();
@@ -72,6 +122,7 @@ fn execute_plain(
         execution.executor.owner(),
         plain,
     );
+    core.go_on(system, &execution.executor, &execution.cpu);
     record_of_tick.push(TraceEvent::Executed(
         execution.executor.owner(),
         place,
@@ -90,17 +141,20 @@ fn execute_service(
 )
     requires fit { Fit system.now core.old }
     requires counted { AreCounted core.old (2 ^ 32 - 2) (2 ^ 32 - 2) }
+    requires who { Executes (caller core.old) execution.old }
     requires place { IsAtPlace system.now execution.old.executor execution.old.cpu }
     requires instruction { IsNext system.now execution.old (Instr.Service service.now) }
     requires room { length record_of_tick.old + 2 ≤ 72 }
-    ensures executor { execution.new.executor ≡ execution.old.executor }
-    ensures place { IsAtPlace system.now execution.new.executor execution.new.cpu }
-    ensures keeps { Keeps system.now core.old core.new }
+    ensures fit { Fit system.now core.new }
+    ensures grows { Grows core.old core.new }
+    ensures state { (w : Words) → state_of w core.new ≡ (executed_by system.now execution.old (Instr.Service service.now) w core.old).state }
+    ensures events { (w : Words) → record_of_tick.new ≡ record_of_tick.old ++ (executed_by system.now execution.old (Instr.Service service.now) w core.old).events }
     ensures few { length record_of_tick.new ≤ length record_of_tick.old + 2 }
 {
     let place = execution.cpu.place();
     let answer = call(core, system, &execution.cpu.with_values(service));
     execution.cpu.answer(answer.status, answer.results);
+    core.go_on(system, &execution.executor, &execution.cpu);
     record_of_tick.push(TraceEvent::Executed(
         execution.executor.owner(),
         place,
@@ -127,14 +181,14 @@ fn execute_control(
 )
     requires fit { Fit system.now core.old }
     requires counted { AreCounted core.old (2 ^ 32 - 2) (2 ^ 32 - 2) }
+    requires who { Executes (caller core.old) execution.old }
     requires place { IsAtPlace system.now execution.old.executor execution.old.cpu }
     requires instruction { IsNext system.now execution.old (Instr.Control control.now) }
     requires room { length record_of_tick.old + 2 ≤ 72 }
-    ensures executor { execution.new.executor ≡ execution.old.executor }
-    ensures place { IsAtPlace system.now execution.new.executor execution.new.cpu }
     ensures fit { Fit system.now core.new }
     ensures grows { Grows core.old core.new }
-    ensures active { IsSameOrNone core.old.active core.new.active }
+    ensures state { (w : Words) → state_of w core.new ≡ (executed_by system.now execution.old (Instr.Control control.now) w core.old).state }
+    ensures events { (w : Words) → record_of_tick.new ≡ record_of_tick.old ++ (executed_by system.now execution.old (Instr.Control control.now) w core.old).events }
     ensures few { length record_of_tick.new ≤ length record_of_tick.old + 2 }
 {
     let place = execution.cpu.place();
@@ -142,6 +196,7 @@ fn execute_control(
     if !ends_routine(control) {
         execution.cpu.go_on();
     }
+    core.go_on(system, &execution.executor, &execution.cpu);
     record_of_tick.push(TraceEvent::Executed(
         execution.executor.owner(),
         place,

@@ -1,13 +1,14 @@
 //! OSEK/VDX OS: system start-up; application modes. The kernel: boot, and ticks.
 
-ghost use Rattle.std.specs.Prelude.{◌≡◌, ◌<◌, ◌≤◌, ◌+◌, ◌++◌, ◌↔◌, false, Some, None, IfOk, length};
+ghost use Rattle.std.specs.Prelude.{◌≡◌, ◌<◌, ◌≤◌, ◌+◌, ◌↔◌, false, Some, None, IfOk, length};
 ghost use Rattle.osek_base.specs.Names.{number_of};
+ghost use Rattle.osek_base.specs.Reschedule.{hooked};
 ghost use Rattle.kernel.specs.declared.kernel.BootFault.{BootFault};
-ghost use Rattle.kernel.specs.Run.{Run, AreKnown, IsStarted, is_over};
+ghost use Rattle.kernel.specs.Run.{AreKnown, IsStarted, is_over, record_at, run_of};
 
 use crate::dispatch::reschedule;
-use crate::execution::execute_phase;
-use crate::phases::{alarm_phase, arrival_phase, start_phase};
+use crate::execution::from_execution;
+use crate::phases::before_execution;
 use machine::Windows;
 use osek_base::{Arrivals, ModeId, Owner, System, TaskId, TickRecord, TraceEvent};
 use services::{Core, activate};
@@ -63,16 +64,15 @@ impl<'s> Model for Kernel<'s> {
       mode = k.mode;
       arrivals = k.arrivals;
       ticks = k.ticks;
-      shut_down = k.core.over;
     } };
 
-    ghost invariant = { λ k. IsKept k.system.now k.arrivals k.arrived k.ticks k.core k.opening };
+    ghost invariant = { λ k. IsKept k.system.now k.mode k.arrivals k.ticks k.arrived k.core k.windows k.opening };
 }
 
 /// The objects of a system that is booted in a mode: its tasks of the mode are activated by number, its alarms of the mode
 /// are set.
 fn started(alloc: Global, system: &System, mode: ModeId) -> Result<Core, AllocError>
-    ensures { IfOk result (λ o. IsStarted system.now o) }
+    ensures { IfOk result (λ o. IsStarted system.now mode o) }
 {
     let mut core = Core::new(alloc, system)?;
     core.start_alarms(system, mode);
@@ -83,6 +83,18 @@ fn started(alloc: Global, system: &System, mode: ModeId) -> Result<Core, AllocEr
         }
     }
     Ok(core)
+}
+
+/// Records the start-up, where StartupHook is on.
+fn startup_record(system: &System) -> TickRecord
+    ensures value { result ≡ hooked system.now.hooks.startup TraceEvent.Startup }
+    ensures few { length result ≤ 1 }
+{
+    let mut record_of_boot = TickRecord::new();
+    if system.hooks().startup {
+        record_of_boot.push(TraceEvent::Startup);
+    }
+    record_of_boot
 }
 
 impl<'s> Kernel<'s> {
@@ -101,10 +113,7 @@ impl<'s> Kernel<'s> {
             return Err(BootFault::UnknownMode);
         };
         let mut core = started(alloc, system, mode)?;
-        let mut opening = TickRecord::new();
-        if system.hooks().startup {
-            opening.push(TraceEvent::Startup);
-        }
+        let mut opening = startup_record(system);
         reschedule(&mut core, system, &mut opening);
         Ok(Kernel {
             system,
@@ -128,6 +137,7 @@ impl<'s> Kernel<'s> {
     /// The word of a task's or routine's window at an index below 64.
     pub fn word(&self, owner: Owner, index: u32) -> u32
         requires { index < 64 }
+        ensures { result ≡ (run_of self.now).state.words owner index }
     {
         self.windows.word(owner, index as u8)
     }
@@ -135,25 +145,24 @@ impl<'s> Kernel<'s> {
     /// Does one tick, and answers its records. It takes no memory and never fails.
     pub fn tick(&mut self) -> TickRecord
         requires { is_over self.old ≡ false }
-        ensures { self.new ≡ record self.old { ticks = self.old.ticks + 1; shut_down = self.new.shut_down } }
+        ensures records { result ≡ record_at self.old.system self.old.mode self.old.arrivals self.old.ticks }
+        ensures next { self.new ≡ record self.old { ticks = self.old.ticks + 1 } }
     {
         let mut record_of_tick = mem::replace(&mut self.opening, TickRecord::new());
-        let list = self.arrivals.list();
-        if 0 < self.ticks {
-            alarm_phase(&mut self.core, self.system, &mut record_of_tick);
-        }
-        self.arrived = arrival_phase(&mut self.core, self.system, list, self.arrived, self.ticks);
-        reschedule(&mut self.core, self.system, &mut record_of_tick);
-        start_phase(&mut self.core, self.system);
-        execute_phase(
+        self.arrived = before_execution(
+            &mut self.core,
+            self.system,
+            self.arrivals.list(),
+            self.arrived,
+            self.ticks,
+            &mut record_of_tick,
+        );
+        from_execution(
             &mut self.core,
             &mut self.windows,
             self.system,
             &mut record_of_tick,
         );
-        if !self.core.is_over() {
-            reschedule(&mut self.core, self.system, &mut record_of_tick); // after the instruction
-        }
         self.ticks += 1;
         record_of_tick
     }

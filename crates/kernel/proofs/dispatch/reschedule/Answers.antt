@@ -4,7 +4,7 @@ use Rattle.std.specs.Option.{option_map}
 use Rattle.osek_base.specs.State.{Job, JobId}
 use Rattle.osek_base.specs.Choice.{choice}
 use Rattle.osek_base.specs.Reschedule.{id_of}
-use Rattle.services.specs.Objects.{Objects, state_of, jobs_dispatched}
+use Rattle.services.specs.Objects.{state_of, jobs_dispatched}
 use Rattle.services.proofs.FitLemmas.{dispatched_is}
 use Rattle.kernel.proofs.PhaseLemmas.{reschedule_on}
 use Rattle.kernel.proofs.dispatch.reschedule.Goals as goal

@@ -1,7 +1,8 @@
 use Rattle.std.proofs.Common.{◌≡◌, ◌<◌, ◌+◌, ◌∙◌, ap, get_or, List, ℕ, length, arith}
 use Rattle.std.proofs.lemmas.List.{get_or_default}
 use Rattle.osek_base.specs.Alarm.{is_due, due_alarms}
-use Rattle.services.specs.Objects.{state_of, no_words}
+use Rattle.services.specs.Objects.{Objects, state_of, no_words}
+use Rattle.kernel.proofs.AlarmLemmas.{acted_phase}
 use Rattle.kernel.proofs.PhaseLemmas.{filtered_below}
 use Rattle.kernel.proofs.phases.alarm_phase.Goals as goal
 
@@ -17,3 +18,17 @@ alarm_acts-requires-clause-alarm c =
     let is = c.index-deref-number.is ∙ ap (λ (v : List ℕ). get_or v i c.index-deref-number.result) same
     ∙ get_or_default (due_alarms S s) i c.index-deref-number.result 0 within in
     omega (arith, is, filtered_below (is_due S s) (length S.alarms) i within)
+
+pub returns-clause-state : goal.returns-clause-state
+returns-clause-state c =
+    let o : Objects = c.args.core.now in
+    (acted_phase c.args.system.now c.advance.new.due.items c.loop-number.number (record o { tick = o.tick + 1 }) c.advance.new.self
+    c.loop-number.core c.args.record_of_tick.now c.loop-number.record_of_tick c.loop-number.invariant.acting
+    (omega (arith, c.loop-number-test.false, c.len-number-end.ensures.value)) c.advance.ensures.due c.advance.ensures.objects).state
+
+pub returns-clause-events : goal.returns-clause-events
+returns-clause-events c =
+    let o : Objects = c.args.core.now in
+    (acted_phase c.args.system.now c.advance.new.due.items c.loop-number.number (record o { tick = o.tick + 1 }) c.advance.new.self
+    c.loop-number.core c.args.record_of_tick.now c.loop-number.record_of_tick c.loop-number.invariant.acting
+    (omega (arith, c.loop-number-test.false, c.len-number-end.ensures.value)) c.advance.ensures.due c.advance.ensures.objects).events

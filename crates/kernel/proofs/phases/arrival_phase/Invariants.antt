@@ -1,14 +1,16 @@
-use Rattle.std.proofs.Common.{◌≡◌, ◌≤◌, ◌-◌, length}
+use Rattle.std.proofs.Common.{◌≡◌, ◌-◌, length}
 use Rattle.services.specs.Objects.{Fit}
+use Rattle.kernel.proofs.ArrivalLemmas.{AreFlagged}
 use Rattle.kernel.proofs.phases.arrival_phase.Given as goal
 
 -- what is left of the list
 abbrev pub decreases-loop-next : goal.decreases-loop-next
 decreases-loop-next l = length l.list - l.next
 
+-- the arrivals so far have set their flags
 abbrev pub invariant-loop-next : goal.invariant-loop-next
 invariant-loop-next l = record {
   fit : Fit l.system l.core;
   others : l.core ≡ record l.initial.core { pending = l.core.pending };
-  bound : l.next ≤ length l.list;
+  flagged : AreFlagged l.list l.tick l.next l.initial.core.pending l.core.pending;
 }

@@ -1,0 +1,163 @@
+-- Due alarms act in turn; at the first tick none is due.
+use Rattle.std.proofs.Common.{◌≡◌, ℕ, zero, suc, ◌+◌, ◌/◌, ◌<◌, ◌≤◌, Bool, true, false, not, ◌&&◌, cond, List, [], ◌∷◌, ◌++◌, map, take, drop, get_or, length, refl, sym, ◌∙◌, ap, ap₂, arith, append_assoc}
+use Rattle.std.specs.Prelude.{Option, None, slice_index_or}
+use Rattle.std.specs.List.{filter}
+use Rattle.std.proofs.Math.Seq.{drop-cons, take-length}
+use Rattle.std.proofs.lemmas.Bool.{false≢true}
+use Rattle.std.proofs.lemmas.List.{map-append, append-nil, take_more}
+use Rattle.std.proofs.Math.ListN.{drop_of_length-le}
+use Rattle.std.proofs.lemmas.List.Elements.{filter-append}
+use Rattle.std.proofs.Math.Numerals.{add-one}
+use Rattle.std.proofs.Math.Nat.{zero-div}
+use Rattle.osek_base.specs.declared.task.Action.{Action}
+use Rattle.osek_base.specs.declared.trace_event.Source.{Source}
+use Rattle.osek_base.specs.declared.trace_event.TraceEvent.{TraceEvent}
+use Rattle.osek_base.specs.declared.instr.Instr.{Instr}
+use Rattle.osek_base.specs.Lists.{below}
+use Rattle.osek_base.specs.System.{System, alarm, counter_of}
+use Rattle.osek_base.specs.State.{State, Expiry, Words}
+use Rattle.osek_base.specs.Alarm.{count, expiry, is_due, is_due_at, due_alarms, alarms_advanced, renewed}
+use Rattle.osek_base.specs.Reschedule.{Recorded}
+use Rattle.osek_base.specs.Service.{Caller, NobodyCalls, unmasked_service}
+use Rattle.osek_base.specs.Tick.{alarm_acts, alarm_reply, alarms_act, action_call, error_record, alarm_phase, silent}
+use Rattle.services.specs.Objects.{Objects, state_of, no_words, unmasked}
+use Rattle.kernel.specs.Run.{AreAhead}
+
+-- an action's service answers the same whoever calls
+nobody_calls : (S : System) (c : Caller) (s : State) (action : Action)
+    → unmasked_service S NobodyCalls s (action_call action) ≡ unmasked_service S c s (action_call action)
+unfolding unmasked_service
+nobody_calls S c s (Action.ActivateTask t) = refl
+nobody_calls S c s (Action.SetEvent t m) = refl
+
+-- an alarm acts by the service of its action
+pub acts_by : (S : System) (a : ℕ) (w : Words) (o : Objects) (action : Action) → (alarm S a).action ≡ action
+    → alarm_acts S a (state_of w o) ≡ alarm_reply S a (unmasked S w o (action_call action))
+acts_by S a w o action is =
+    ap (λ v. alarm_reply S a (unmasked_service S NobodyCalls (state_of w o) (action_call v))) is
+    ∙ ap (alarm_reply S a) (nobody_calls S _ (state_of w o) action)
+
+pub records_by : (S : System) (a : ℕ) (w : Words) (o : Objects) (action : Action) → (alarm S a).action ≡ action
+    → (alarm_acts S a (state_of w o)).events
+    ≡ error_record S (Source.Alarm a) (Instr.Service (action_call action)) (unmasked S w o (action_call action)).status
+records_by S a w o action is =
+    ap (λ (r : Recorded). r.events) (acts_by S a w o action is)
+    ∙ ap (λ v. error_record S (Source.Alarm a) (Instr.Service (action_call v)) (unmasked S w o (action_call action)).status) is
+
+-- the alarms from the i-th on complete what all are to do
+pub record AreActing (S : System) (due : List ℕ) (i : ℕ) (before now : Objects) (earlier records : List TraceEvent) : Type 0 where
+  pub state : (w : Words) → (alarms_act S (drop i due) (state_of w now)).state ≡ (alarms_act S due (state_of w before)).state
+  pub events : (w : Words) → records ++ (alarms_act S (drop i due) (state_of w now)).events ≡ earlier ++ (alarms_act S due (state_of w before)).events
+
+pub acting_more : (S : System) (due : List ℕ) (i a : ℕ) (before old new : Objects) (earlier records after : List TraceEvent)
+    → AreActing S due i before old earlier records → i < length due → get_or due i 0 ≡ a
+    → ((w : Words) → state_of w new ≡ (alarm_acts S a (state_of w old)).state)
+    → ((w : Words) → after ≡ records ++ (alarm_acts S a (state_of w old)).events)
+    → AreActing S due (i + 1) before new earlier after
+acting_more S due i a before old new earlier records after acting low found state events =
+    let rest : List ℕ = drop (i + 1) due in
+    let here : drop i due ≡ a ∷ rest =
+    drop-cons due i 0 low ∙ ap (λ v. v ∷ drop (suc i) due) found ∙ ap (λ k. a ∷ drop k due) (sym (add-one i)) in
+    record {
+      state = λ w.
+          ap (λ s. (alarms_act S rest s).state) (state w)
+          ∙ ap (λ v. (alarms_act S v (state_of w old)).state) (sym here) ∙ acting.state w;
+      events = λ w.
+          ap (λ s. after ++ (alarms_act S rest s).events) (state w)
+          ∙ ap (λ v. v ++ (alarms_act S rest (alarm_acts S a (state_of w old)).state).events) (events w)
+          ∙ append_assoc records _ _
+          ∙ ap (λ v. records ++ (alarms_act S v (state_of w old)).events) (sym here) ∙ acting.events w;
+    }
+
+-- all alarms have acted
+pub record HaveActed (S : System) (due : List ℕ) (before now : Objects) (earlier records : List TraceEvent) : Type 0 where
+  pub state : (w : Words) → state_of w now ≡ (alarms_act S due (state_of w before)).state
+  pub events : (w : Words) → records ≡ earlier ++ (alarms_act S due (state_of w before)).events
+
+pub acting_all : (S : System) (due : List ℕ) (i : ℕ) (before now : Objects) (earlier records : List TraceEvent)
+    → AreActing S due i before now earlier records → length due ≤ i → HaveActed S due before now earlier records
+acting_all S due i before now earlier records acting end =
+    let none : drop i due ≡ [] = drop_of_length-le due end in
+    record {
+      state = λ w. ap (λ v. (alarms_act S v (state_of w now)).state) (sym none) ∙ acting.state w;
+      events = λ w.
+          sym (append-nil records) ∙ ap (λ v. records ++ (alarms_act S v (state_of w now)).events) (sym none)
+          ∙ acting.events w;
+    }
+
+-- the phase: those that are due act, once they have expired
+pub phase_is : (S : System) (w : Words) (o : Objects)
+    → alarm_phase S (state_of w o)
+    ≡ alarms_act S (due_alarms S (state_of no_words o)) (state_of w (record o { alarms = alarms_advanced S (state_of no_words o) }))
+unfolding alarm_phase
+phase_is S w o = refl
+
+-- all alarms of the phase have acted
+pub record IsDone (S : System) (before now : Objects) (earlier records : List TraceEvent) : Type 0 where
+  pub state : (w : Words) → state_of w now ≡ (alarm_phase S (state_of w before)).state
+  pub events : (w : Words) → records ≡ earlier ++ (alarm_phase S (state_of w before)).events
+
+pub acted_phase : (S : System) (due : List ℕ) (i : ℕ) (before advanced now : Objects) (earlier records : List TraceEvent)
+    → AreActing S due i advanced now earlier records → length due ≤ i
+    → due ≡ due_alarms S (state_of no_words before)
+    → advanced ≡ record before { alarms = alarms_advanced S (state_of no_words before) }
+    → IsDone S before now earlier records
+acted_phase S due i before advanced now earlier records acting end due_is advanced_is =
+    let h : HaveActed S due advanced now earlier records = acting_all S due i advanced now earlier records acting end in
+    let same : (w : Words) → alarms_act S due (state_of w advanced) ≡ alarm_phase S (state_of w before) = λ w.
+    ap₂ (λ (v : List ℕ) (o : Objects). alarms_act S v (state_of w o)) due_is advanced_is ∙ sym (phase_is S w before) in
+    record {
+      state = λ w. h.state w ∙ ap (λ (r : Recorded). r.state) (same w);
+      events = λ w. h.events w ∙ ap (λ (r : Recorded). earlier ++ r.events) (same w);
+    }
+
+-- ---- the first tick
+
+head_tail : (b : Bool) (c : Bool) → (not b && c) ≡ true → (b ≡ false) × (c ≡ true)
+head_tail true c h = absurd (false≢true h)
+head_tail false c h = (refl, h)
+
+none_at : (alarms : List (Option Expiry)) (i : ℕ) → AreAhead alarms → is_due_at 0 (slice_index_or alarms i None) ≡ false
+none_at [] i ahead = refl
+none_at (e ∷ rest) zero ahead = (head_tail _ _ ahead).0
+none_at (e ∷ rest) (suc i) ahead = none_at rest i (head_tail _ _ ahead).1
+
+filter_none : (test : ℕ → Bool) (n : ℕ) → ((i : ℕ) → test i ≡ false) → filter test (below n) ≡ []
+filter_none test zero none = refl
+filter_none test (suc n) none = filter-append test (below n) (n ∷ []) ∙ rw (filter_none test n none, none n) refl
+
+map_read : (alarms : List (Option Expiry)) (n : ℕ) → n ≤ length alarms → map (λ i. slice_index_or alarms i None) (below n) ≡ take n alarms
+map_read alarms zero low = refl
+map_read alarms (suc n) low =
+    map-append (λ i. slice_index_or alarms i None) (below n) (n ∷ [])
+    ∙ ap (λ v. v ++ slice_index_or alarms n None ∷ []) (map_read alarms n (omega arith))
+    ∙ sym (take_more alarms n None (omega arith)) ∙ ap (λ k. take k alarms) (add-one n)
+
+map_same : (f g : ℕ → Option Expiry) (numbers : List ℕ) → ((i : ℕ) → f i ≡ g i) → map f numbers ≡ map g numbers
+map_same f g [] same = refl
+map_same f g (i ∷ rest) same = rw (same i, map_same f g rest same) refl
+
+module _ (S : System) (s : State) (first : s.tick ≡ 0) (size : length s.alarms ≡ length S.alarms) (ahead : AreAhead s.alarms) where
+  at_zero : (a : ℕ) → count S s a ≡ 0
+  at_zero a = ap (λ t. t / (counter_of S a).ticks_per_base) first ∙ zero-div (counter_of S a).ticks_per_base
+
+  not_due : (a : ℕ) → is_due S s a ≡ false
+  not_due a = ap (λ n. is_due_at n (expiry s a)) (at_zero a) ∙ none_at s.alarms a ahead
+
+  nothing_due : due_alarms S s ≡ []
+  nothing_due = filter_none (is_due S s) (length S.alarms) not_due
+
+  same_expiry : (a : ℕ) → cond (is_due S s a) (renewed (expiry s a)) (expiry s a) ≡ expiry s a
+  same_expiry a = rw (not_due a) refl
+
+  nothing_advanced : alarms_advanced S s ≡ s.alarms
+  nothing_advanced =
+      map_same _ (expiry s) (below (length S.alarms)) same_expiry
+      ∙ ap (λ n. map (λ i. slice_index_or s.alarms i None) (below n)) (sym size)
+      ∙ map_read s.alarms (length s.alarms) (omega arith) ∙ take-length s.alarms
+
+  -- at the first tick nothing is due
+  pub first_alarm_phase : alarm_phase S s ≡ silent s
+  unfolding alarm_phase
+  first_alarm_phase =
+      ap₂ (λ (due : List ℕ) (alarms : List (Option Expiry)). alarms_act S due (record s { alarms = alarms })) nothing_due nothing_advanced
