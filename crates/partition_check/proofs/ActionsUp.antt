@@ -1,0 +1,77 @@
+-- Services by who calls them: a job, a routine, or an alarm whose action calls. And the activations of boot.
+use Rattle.std.proofs.Common.{◌≡◌, ℕ, ◌<◌, true, false, length, refl, ap}
+use Rattle.std.specs.Prelude.{Some, not, ◌&&◌}
+use Rattle.osek_base.specs.declared.instr.Service.{Service}
+use Rattle.osek_base.specs.declared.task.Action.{Action}
+use Rattle.osek_base.specs.System.{System}
+use Rattle.osek_base.specs.State.{Job, Active, State}
+use Rattle.osek_base.specs.Activation.{activated}
+use Rattle.osek_base.specs.Service.{JobCalls, RoutineCalls, NobodyCalls, service, unmasked_service}
+use Rattle.osek_base.specs.Tick.{action_call}
+use Rattle.osek_base.specs.Upper.{is_upper_task, action_task}
+use Rattle.osek_base.specs.Agree.{renumbered_service, upper_core}
+use Rattle.osek_base.proofs.UpperState.{up, up_job, is_upper_job}
+use Rattle.partition_check.proofs.Shared.{IsCounterpart, IsLow, IsLayeredJob, IsLayered, IsUpperCall, IsSameReply}
+use Rattle.partition_check.proofs.PriorityUp.{later_tasks}
+use Rattle.partition_check.proofs.ServiceUp.{service_up, unmasked_up}
+use Rattle.partition_check.proofs.LayersKept.{IsLaid, activated_laid, laid_of}
+use Rattle.partition_check.proofs.ServiceLow.{IsUnseen, activated_unseen, activation_unseen, event_unseen, activation_layered, event_layered}
+
+module _ (S : System) (p : ℕ) (both : IsCounterpart S p) (below : IsLow S p) (s : State) (layered : IsLayered S p s) where
+  -- a job's call, and a routine's
+  pub job_service_up : (j : Job) (call : Service ℕ) → IsLayeredJob S p j → is_upper_job S p j ≡ true → s.running ≡ Some j.id
+      → IsUpperCall S p (JobCalls j) call
+      → IsSameReply S p (service S (JobCalls j) s call)
+      (service (upper_core S p) (JobCalls (up_job S p j)) (up S p s) (renumbered_service S p call))
+  job_service_up j call laid high runs named = service_up S p both below s (JobCalls j) call layered (laid, high, runs) named tt
+
+  pub routine_service_up : (a : Active) (call : Service ℕ) → IsUpperCall S p (RoutineCalls a) call
+      → IsSameReply S p (service S (RoutineCalls a) s call)
+      (service (upper_core S p) (RoutineCalls a) (up S p s) (renumbered_service S p call))
+  routine_service_up a call named = service_up S p both below s (RoutineCalls a) call layered tt named tt
+
+  -- the action of an upper alarm
+  pub action_up : (action : Action) → action_task action < length S.tasks → is_upper_task S p (action_task action) ≡ true
+      → IsSameReply S p (unmasked_service S NobodyCalls s (action_call action))
+      (unmasked_service (upper_core S p) NobodyCalls (up S p s) (action_call action))
+  action_up (Action.ActivateTask t) inside high =
+      unmasked_up S p both below s NobodyCalls (Service.ActivateTask (Some t)) layered tt
+      (record { known = inside; names = ap (λ b. true && not b) high; by_routine = λ a e. refl }) refl
+  action_up (Action.SetEvent t m) inside high =
+      unmasked_up S p both below s NobodyCalls (Service.SetEvent (Some t) m) layered tt
+      (record { known = inside; names = ap (λ b. true && not b) high; by_routine = λ a e. refl }) refl
+
+-- the action of a lower alarm
+pub action_unseen : (S : System) (p : ℕ) → IsCounterpart S p → (s : State) (action : Action)
+    → action_task action < length S.tasks → is_upper_task S p (action_task action) ≡ false
+    → up S p (unmasked_service S NobodyCalls s (action_call action)).state ≡ up S p s
+action_unseen S p both s (Action.ActivateTask t) inside low = activation_unseen S p both s t inside low
+action_unseen S p both s (Action.SetEvent t m) inside low = event_unseen S p both s t m inside low
+
+-- the action of an alarm keeps the layers
+pub action_layered : (S : System) (p : ℕ) (s : State) (action : Action) → action_task action < length S.tasks → IsLayered S p s
+    → IsLayered S p (unmasked_service S NobodyCalls s (action_call action)).state
+action_layered S p s (Action.ActivateTask t) inside layered = activation_layered S p s t inside layered
+action_layered S p s (Action.SetEvent t m) inside layered = event_layered S p s t m inside layered
+
+-- ---- activations at boot
+
+pub activated_lower_up : (S : System) (p : ℕ) → IsCounterpart S p → (t : ℕ) (s : State) → t < length S.tasks → is_upper_task S p t ≡ false
+    → up S p (activated S t s) ≡ up S p s
+unfolding activated
+activated_lower_up S p both t s inside low =
+    let unseen : IsUnseen S p s (activated S t s) = activated_unseen S p t s (later_tasks S p both t inside low) low in
+    λ i. record (up S p s) { jobs = unseen.jobs i; made = unseen.made i; masks = unseen.masks i; alarms = unseen.alarms i }
+
+pub activated_layered : (S : System) (p t : ℕ) (s : State) → t < length S.tasks → IsLayered S p s → IsLayered S p (activated S t s)
+unfolding activated
+activated_layered S p t s inside layered =
+    let after : IsLaid S p (activated S t s) = activated_laid S p t s inside (laid_of S p s layered) in
+    record {
+      made = after.made;
+      masks = after.masks;
+      alarms = after.alarms;
+      jobs = after.jobs;
+      running = layered.running;
+      quiet = layered.quiet;
+    }

@@ -1,0 +1,63 @@
+//! Partitions, no part of the standards. The rules, and what breaks one of them.
+
+ghost use Rattle.std.specs.Prelude.{◌≡◌};
+ghost use Rattle.partition_check.specs.Partition.{rule_number};
+
+use osek_base::Owner;
+use std::marker::Model;
+
+/// A rule under which the upper part of a system is separable from the lower one.
+#[derive(Clone, Copy, Debug, PartialEq, Eq)]
+pub enum Rule {
+    /// Lower tasks have SCHEDULE FULL.
+    FullPreemption,
+    /// Lower tasks list no resource, standard or internal, whose ceiling is upper.
+    LowerResources,
+    /// Lower programs never name RES_SCHEDULER.
+    NoScheduler,
+    /// Lower programs leave interrupts as they are, and don't shut down.
+    NoControl,
+    /// Lower programs name only lower objects.
+    LowerNames,
+    /// Programs of upper tasks and of routines name only upper objects, or RES_SCHEDULER.
+    UpperNames,
+    /// No routine asks which task runs.
+    NoTaskId,
+}
+
+impl Rule {
+    /// The number of the rule, 1 to 7.
+    pub fn number(self) -> u8
+        ensures { result ≡ rule_number self }
+    {
+        match self {
+            Rule::FullPreemption => 1,
+            Rule::LowerResources => 2,
+            Rule::NoScheduler => 3,
+            Rule::NoControl => 4,
+            Rule::LowerNames => 5,
+            Rule::UpperNames => 6,
+            Rule::NoTaskId => 7,
+        }
+    }
+}
+
+/// Where a rule is broken: its first subject, and for the rules on programs the first place of its program.
+#[derive(Clone, Copy, Debug, PartialEq, Eq)]
+pub struct Denial {
+    pub rule: Rule,
+    /// A task by its number or a routine as declared.
+    pub subject: Owner,
+    /// The place of an instruction, 0 to 1,023.
+    pub place: Option<u16>,
+}
+
+impl Model for Denial {
+    ghost use Rattle.partition_check.specs.Partition.{Told};
+
+    ghost Value = { Told };
+
+    ghost view = { λ d. record { rule = d.rule; subject = d.subject; place = d.place } };
+
+    ghost inverse = { λ d. record { rule = d.rule; subject = d.subject; place = d.place } };
+}

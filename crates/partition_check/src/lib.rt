@@ -1,0 +1,11 @@
+//! Partitions, no part of the standards: whether the tasks below a priority can delay or disturb those from it upward.
+#![tactic(auto)]
+
+mod check;
+mod denial;
+mod instructions;
+mod programs;
+mod tasks;
+
+pub use check::check_partition;
+pub use denial::{Denial, Rule};
