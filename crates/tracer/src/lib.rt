@@ -2,7 +2,6 @@
 #![tactic(auto)]
 
 mod arrivals;
-mod known;
 mod line;
 mod sink;
 #[cfg(test)]

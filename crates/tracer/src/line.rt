@@ -10,8 +10,6 @@ ghost use Rattle.osek_base.specs.Text.{
   event_text,
   line,
 };
-ghost use Rattle.task_asm.specs.Operands.{HasOperands};
-ghost use Rattle.tracer.specs.Lines.{HasRecord};
 
 use arrayvec::ArrayString;
 use itoa::Buffer;
@@ -71,8 +69,7 @@ fn push_source(text: &mut LineText, names: &Names, who: Source)
 }
 
 fn push_instr(text: &mut LineText, names: &Names, what: &Instr)
-    requires known { HasOperands names.now what.now }
-    requires room { length text.old.bytes + 128 ≤ 256 }
+    requires { length text.old.bytes + 128 ≤ 256 }
     ensures same { text.new.bytes ≡ text.old.bytes ++ instruction_text names.now what.now }
     ensures short { length text.new.bytes ≤ length text.old.bytes + 128 }
 {
@@ -140,8 +137,7 @@ fn push_outcome(text: &mut LineText, outcome: Outcome)
 }
 
 fn push_event(text: &mut LineText, names: &Names, event: &TraceEvent)
-    requires known { HasRecord names.now event.now }
-    requires room { length text.old.bytes ≤ 11 }
+    requires { length text.old.bytes ≤ 11 }
     ensures { text.new.bytes ≡ text.old.bytes ++ event_text names.now event.now }
 {
     match event {
@@ -181,7 +177,6 @@ fn push_event(text: &mut LineText, names: &Names, event: &TraceEvent)
 
 /// Replaces the content of `text` by the line of a record of that tick, without the line's end.
 pub fn line_text(names: &Names, tick: u32, event: &TraceEvent, text: &mut LineText)
-    requires { HasRecord names.now event.now }
     ensures { text.new.bytes ≡ line names.now tick event.now }
 {
     text.clear();

@@ -180,6 +180,81 @@ fn trace_through_a_writer_that_takes_two_bytes_at_once(rt: HostRuntime) -> Resul
     Ok(())
 }
 
+/// A writer that takes a byte a call, and from some call on answers an error, or takes nothing.
+#[derive(Drop)]
+struct Single {
+    taken: Vec<u8>,
+    room: usize,
+    takes_nothing: bool,
+}
+
+impl Write for Single {
+    fn write(&mut self, buf: &[u8]) -> io::Result<usize> {
+        if self.taken.len() >= self.room {
+            if self.takes_nothing {
+                return Ok(0);
+            }
+            return Err(io::Error::from(ErrorKind::StorageFull));
+        }
+        let count = buf.len().min(1);
+        self.taken.extend_from_slice(&buf[..count])?;
+        Ok(count)
+    }
+
+    fn flush(&mut self) -> io::Result<()> {
+        Ok(())
+    }
+}
+
+#[test]
+fn writer_that_fails_at_each_byte_in_turn(rt: HostRuntime) -> Result<(), Fail> {
+    let alloc = rt.alloc();
+    for room in 0..30 {
+        for takes_nothing in [false, true] {
+            let mut out = StdSink::new(Single {
+                taken: Vec::new(alloc),
+                room,
+                takes_nothing,
+            });
+            let ran = run(alloc, OIL, PROGRAMS, b"", "M", 3, &mut out);
+            assert_eq!(rt; ran.is_ok(), room == 29);
+            assert_eq!(rt; matches!(ran, Err(RunFault::Write)), room < 29);
+            assert_eq!(rt; out.into_writer().taken.as_slice(), &TRACE[..room.min(29)]);
+        }
+    }
+    Ok(())
+}
+
+/// The answer of a run in that mode, and how many bytes it wrote.
+fn ending(alloc: Global, oil: &[u8], asm: &[u8], irqs: &[u8], mode: &str) -> Result<String, Fail> {
+    let mut out = StdSink::new(Slow {
+        taken: Vec::new(alloc),
+        at_once: 100,
+        room: 1000,
+    });
+    let ran = run(alloc, oil, asm, irqs, mode, 3, &mut out);
+    let written = out.into_writer().taken.len();
+    match ran {
+        Ok(()) => Ok(format!(in alloc; "ok, {written} bytes")?),
+        Err(fault) => Ok(format!(in alloc; "{fault}, {written} bytes")?),
+    }
+}
+
+#[test]
+fn first_refusal_of_several(rt: HostRuntime) -> Result<(), Fail> {
+    let alloc = rt.alloc();
+    let cases: [(&[u8], &[u8], &[u8], &str, &str); 4] = [
+        (OIL, PROGRAMS, b"", "M", "ok, 29 bytes"),
+        (OIL, PROGRAMS, b"", "N", "boot: fault 1, 0 bytes"),
+        (OIL, PROGRAMS, b"x", "N", "irq: fault 1 at line 1, 0 bytes"),
+        (OIL, b"", b"x", "N", "gen: fault 5 in A, 0 bytes"),
+    ];
+    for (oil, asm, irqs, mode, want) in cases {
+        assert_eq!(rt; ending(alloc, oil, asm, irqs, mode)?.as_str(), want);
+    }
+    Ok(())
+}
+
 #[test]
 fn writer_that_fails_after_five_bytes(rt: HostRuntime) {
     let alloc = rt.alloc();

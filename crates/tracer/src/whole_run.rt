@@ -1,20 +1,20 @@
 //! Whole runs, no part of the standards: from the three texts to the trace.
 
-ghost use Rattle.std.specs.Prelude.{◌≡◌, ◌≢◌, ◌≤◌, true, false, IfErr, OnOk, OnErr};
+ghost use Rattle.std.specs.Prelude.{◌≡◌, ◌≢◌, ◌≤◌, ℕ, List, true, false, IfOk, IfErr, OnOk, OnErr};
 ghost use Rattle.std.specs.Io.KnownBytes.{Appends};
-ghost use Rattle.osek_base.specs.Text.{line};
-ghost use Rattle.tracer.specs.Lines.{HasRecord, ended, tick_text};
-ghost use Rattle.tracer.specs.RunFaults.{TellsOil, TellsPrograms, TellsArrivals};
+ghost use Rattle.osek_base.specs.Text.{line, text};
+ghost use Rattle.osek_base.specs.Trace.{run};
+ghost use Rattle.tracer.specs.Lines.{ended, tick_text};
 ghost use Rattle.tracer.specs.Sinks.{AppendsSome};
+ghost use Rattle.tracer.specs.WholeRuns.{IsSystemOf, IsBegun, IsTrace, RefusesSystem, RefusesStart, IsFirstRefusal};
 
 use crate::arrivals::{IrqFault, read_arrivals};
-use crate::known::has_record;
 use crate::line::line_text;
 use crate::sink::{Sink, SinkFault, write_all};
 use arrayvec::ArrayString;
 use kernel::{BootFault, Kernel};
 use oil_reader::{OilFault, read_oil};
-use osek_base::{Names, TickRecord, TraceEvent};
+use osek_base::{Names, System, TickRecord, TraceEvent};
 use std::alloc::Global;
 use system_gen::{GenFault, generate};
 use task_asm::{AsmFault, assemble};
@@ -128,8 +128,7 @@ fn write_record<S: Sink>(
     event: &TraceEvent,
     out: &mut S,
 ) -> Result<(), SinkFault>
-    requires known { HasRecord names.now event.now }
-    requires fresh { S.has_failed out.old ≡ false }
+    requires { S.has_failed out.old ≡ false }
     ensures written { OnOk result (Appends (S.taken out.old) (S.taken out.new) (ended (line names.now tick event.now))) }
     ensures beginning { OnErr result (AppendsSome (S.taken out.old) (S.taken out.new) (ended (line names.now tick event.now))) }
     ensures still { OnOk result (S.has_failed out.new ≡ false) }
@@ -155,21 +154,23 @@ fn write_tick<S: Sink>(
     ensures failed { OnErr result (S.has_failed out.new ≡ true) }
 {
     'records: for entry in records.entries() {
-        if has_record(names, entry.event()) {
-            write_record(names, tick, entry.event(), out)?;
-        }
+        write_record(names, tick, entry.event(), out)?;
     }
     Ok(())
 }
 
-/// Writes the ticks of a run, as many as asked for, or up to a shutdown.
+/// Writes the ticks of a run that has just begun, as many as asked for, or up to a shutdown.
 fn write_ticks<S: Sink>(
     kernel: &mut Kernel<'_>,
     names: &Names,
     ticks: u32,
     out: &mut S,
 ) -> Result<(), SinkFault>
-    requires { S.has_failed out.old ≡ false }
+    requires begun { kernel.old.ticks ≡ 0 }
+    requires ticks { ticks ≤ 1000000 }
+    requires fresh { S.has_failed out.old ≡ false }
+    ensures written { OnOk result (Appends (S.taken out.old) (S.taken out.new) (text names.now (run kernel.old.system kernel.old.mode kernel.old.arrivals ticks))) }
+    ensures beginning { OnErr result (AppendsSome (S.taken out.old) (S.taken out.new) (text names.now (run kernel.old.system kernel.old.mode kernel.old.arrivals ticks))) }
     ensures still { OnOk result (S.has_failed out.new ≡ false) }
     ensures failed { OnErr result (S.has_failed out.new ≡ true) }
 {
@@ -183,9 +184,34 @@ fn write_ticks<S: Sink>(
     Ok(())
 }
 
+/// The system of an OIL text and a program text, or the first fault of these.
+fn system_of(alloc: Global, oil: &[u8], asm: &[u8]) -> Result<System, RunFault>
+    ensures made { IfOk result (IsSystemOf oil.now asm.now) }
+    ensures refusal { IfErr result (RefusesSystem oil.now asm.now) }
+{
+    let file = read_oil(alloc, oil)?;
+    let programs = assemble(alloc, asm)?;
+    Ok(generate(alloc, file, programs)?)
+}
+
+/// The system, booted in a mode with the arrivals of a list, or the first fault of these.
+fn begin<'s>(
+    alloc: Global,
+    system: &'s System,
+    irqs: &[u8],
+    mode: &str,
+) -> Result<Kernel<'s>, RunFault>
+    ensures begun { IfOk result (IsBegun system.now irqs.now mode.now) }
+    ensures refusal { IfErr result (RefusesStart system.now irqs.now mode.now) }
+{
+    let arrivals = read_arrivals(alloc, irqs, system)?;
+    Ok(Kernel::boot(alloc, system, mode, arrivals)?)
+}
+
 /// Runs a system for some ticks, at most 1,000,000, and writes its trace. The OIL text is read, then the programs, the
 /// system is made of both, then the arrival list is read and the system is booted in the mode: the first refusal is the
-/// answer, and nothing is written. A write that fails ends the run, and nothing is tried again.
+/// answer, and nothing is written. A write that fails ends the run, nothing is tried again, and what was written is a
+/// beginning of the trace.
 pub fn run<S: Sink>(
     alloc: Global,
     oil: &[u8],
@@ -197,18 +223,15 @@ pub fn run<S: Sink>(
 ) -> Result<(), RunFault>
     requires ticks { ticks ≤ 1000000 }
     requires fresh { S.has_failed out.old ≡ false }
+    ensures written { OnOk result ((bytes : List ℕ) × IsTrace oil.now asm.now irqs.now mode.now ticks bytes × Appends (S.taken out.old) (S.taken out.new) bytes) }
     ensures still { OnOk result (S.has_failed out.new ≡ false) }
+    ensures beginning { IfErr result (λ fault. fault ≡ RunFault.Write → (bytes : List ℕ) × IsTrace oil.now asm.now irqs.now mode.now ticks bytes × AppendsSome (S.taken out.old) (S.taken out.new) bytes) }
     ensures failed { IfErr result (λ fault. fault ≡ RunFault.Write → S.has_failed out.new ≡ true) }
     ensures unwritten { IfErr result (λ fault. fault ≢ RunFault.Write → out.new ≡ out.old) }
-    ensures oil { TellsOil oil.now result }
-    ensures programs { TellsPrograms asm.now result }
-    ensures arrivals { TellsArrivals irqs.now result }
+    ensures refusal { IfErr result (λ fault. fault ≢ RunFault.Write → IsFirstRefusal oil.now asm.now irqs.now mode.now fault) }
 {
-    let file = read_oil(alloc, oil)?;
-    let programs = assemble(alloc, asm)?;
-    let system = generate(alloc, file, programs)?;
-    let arrivals = read_arrivals(alloc, irqs, &system)?;
-    let mut kernel = Kernel::boot(alloc, &system, mode, arrivals)?;
+    let system = system_of(alloc, oil, asm)?;
+    let mut kernel = begin(alloc, &system, irqs, mode)?;
     write_ticks(&mut kernel, system.names(), ticks, out)?;
     Ok(())
 }

@@ -1,65 +1,51 @@
-use Rattle.std.proofs.Common.{◌≡◌, ℕ, List, Result, Err, ◌∙◌, ap}
+use Rattle.std.proofs.Common.{Err, inl, inr, ◌∙◌, ap}
 use Rattle.std.proofs.lemmas.Result.{err_from_is_err_and}
-use Rattle.oil_reader.specs.declared.fault.OilFault.{OilFault}
-use Rattle.oil_reader.specs.Configuration.{Configuration}
-use Rattle.oil_reader.specs.Faults.{Means}
-use Rattle.task_asm.specs.Programs.{Program}
-use Rattle.task_asm.specs.Meaning.{IsProgramText}
-use Rattle.oil_reader.specs.Faults.{HasFault}
-use Rattle.tracer.specs.declared.whole_run.RunFault.{RunFault}
-use Rattle.task_asm.specs.declared.fault.AsmFault.{AsmFault}
-use Rattle.task_asm.specs.Meaning.{HasFault as HasAsmFault}
-use Rattle.tracer.specs.RunFaults.{of_oil, TellsOil, of_asm, TellsPrograms}
+use Rattle.tracer.proofs.TraceLemmas.{trace_of, if_err, no_write_of_system, no_write_of_start}
 use Rattle.tracer.proofs.whole_run.run.Goals as goal
 
-told : (text : List ℕ) (fault : OilFault) → HasFault text fault → TellsOil text (Err (of_oil fault))
-told text OilFault.Memory h = tt
-told text (OilFault.Token place) h = h
-told text (OilFault.Syntax place) h = h
-told text (OilFault.UnknownAttribute place) h = h
-told text (OilFault.Missing place) h = h
-told text (OilFault.Twice place) h = h
-told text (OilFault.Range place) h = h
-
-told_by : (text : List ℕ) (fault : OilFault) (r : Result (Unit {0}) RunFault) → r ≡ Err (of_oil fault) → HasFault text fault → TellsOil text r
-told_by text fault r e h = rw e (told text fault h)
-
-pub returns-in_err-file-clause-oil : goal.returns-in_err-file-clause-oil
-returns-in_err-file-clause-oil g c =
+pub returns-in_err-system-clause-beginning : goal.returns-in_err-system-clause-beginning
+returns-in_err-system-clause-beginning g c =
     let p = err_from_is_err_and c.from_residual.result c.from_residual.ensures.1 in
-    told_by c.args.oil.now c.in_err-file.field-0.0 c.from_residual.result (p.1 ∙ ap Err p.2) c.in_err-file.ensures.err
+    if_err _ _ _ (p.1 ∙ ap Err p.2) (no_write_of_system _ _ _ _ c.in_err-system.ensures.refusal)
 
-told_programs : (text : List ℕ) (fault : AsmFault) → HasAsmFault text fault → TellsPrograms text (Err (of_asm fault))
-told_programs text AsmFault.Memory h = tt
-told_programs text (AsmFault.Token place) h = h
-told_programs text (AsmFault.UnknownMnemonic place) h = h
-told_programs text (AsmFault.Operand place) h = h
-told_programs text (AsmFault.UnknownLabel place) h = h
-told_programs text (AsmFault.Twice place) h = h
-told_programs text (AsmFault.TooLong place) h = h
+pub returns-in_err-system-clause-failed : goal.returns-in_err-system-clause-failed
+returns-in_err-system-clause-failed g c =
+    let p = err_from_is_err_and c.from_residual.result c.from_residual.ensures.1 in
+    if_err _ _ _ (p.1 ∙ ap Err p.2) (no_write_of_system _ _ _ _ c.in_err-system.ensures.refusal)
 
-told_programs_by : (text : List ℕ) (fault : AsmFault) (r : Result (Unit {0}) RunFault) → r ≡ Err (of_asm fault) → HasAsmFault text fault
-    → TellsPrograms text r
-told_programs_by text fault r e h = rw e (told_programs text fault h)
+pub returns-in_err-system-clause-refusal : goal.returns-in_err-system-clause-refusal
+returns-in_err-system-clause-refusal g c =
+    let p = err_from_is_err_and c.from_residual.result c.from_residual.ensures.1 in
+    if_err _ _ _ (p.1 ∙ ap Err p.2) (λ other. inl c.in_err-system.ensures.refusal)
 
-pub returns-in_err-programs-clause-programs : goal.returns-in_err-programs-clause-programs
-returns-in_err-programs-clause-programs g c =
-    let p = err_from_is_err_and c.from_residual-in_err-programs.result c.from_residual-in_err-programs.ensures.1 in
-    told_programs_by c.args.asm.now c.in_err-programs.field-0.0 c.from_residual-in_err-programs.result (p.1 ∙ ap Err p.2) c.in_err-programs.ensures.fault
+pub returns-in_err-kernel-clause-beginning : goal.returns-in_err-kernel-clause-beginning
+returns-in_err-kernel-clause-beginning g c =
+    let p = err_from_is_err_and c.from_residual-in_err-kernel.result c.from_residual-in_err-kernel.ensures.1 in
+    if_err _ _ _ (p.1 ∙ ap Err p.2) (no_write_of_start c.in_ok-system.system c.args.irqs.now c.args.mode.now _ _ c.in_err-kernel.ensures.refusal)
 
-oil_meant : (text : List ℕ) (r : Result (Unit {0}) RunFault) (file : Configuration) → r ≡ Err RunFault.Write → Means text file → TellsOil text r
-oil_meant text r file e m = rw e (file, m)
+pub returns-in_err-kernel-clause-failed : goal.returns-in_err-kernel-clause-failed
+returns-in_err-kernel-clause-failed g c =
+    let p = err_from_is_err_and c.from_residual-in_err-kernel.result c.from_residual-in_err-kernel.ensures.1 in
+    if_err _ _ _ (p.1 ∙ ap Err p.2) (no_write_of_start c.in_ok-system.system c.args.irqs.now c.args.mode.now _ _ c.in_err-kernel.ensures.refusal)
 
-programs_meant : (text : List ℕ) (r : Result (Unit {0}) RunFault) (programs : List Program) → r ≡ Err RunFault.Write
-    → IsProgramText text programs → TellsPrograms text r
-programs_meant text r programs e m = rw e (programs, m)
+pub returns-in_err-kernel-clause-refusal : goal.returns-in_err-kernel-clause-refusal
+returns-in_err-kernel-clause-refusal g c =
+    let p = err_from_is_err_and c.from_residual-in_err-kernel.result c.from_residual-in_err-kernel.ensures.1 in
+    if_err _ _ _ (p.1 ∙ ap Err p.2) (λ other. inr (_, c.in_ok-system.ensures.made, c.in_err-kernel.ensures.refusal))
 
-pub returns-in_err-write_ticks-clause-oil : goal.returns-in_err-write_ticks-clause-oil
-returns-in_err-write_ticks-clause-oil g c =
+pub returns-in_err-write_ticks-clause-beginning : goal.returns-in_err-write_ticks-clause-beginning
+returns-in_err-write_ticks-clause-beginning g c =
     let p = err_from_is_err_and c.from_residual-in_err-write_ticks.result c.from_residual-in_err-write_ticks.ensures.1 in
-    oil_meant c.args.oil.now c.from_residual-in_err-write_ticks.result _ (p.1 ∙ ap Err p.2) c.in_ok-file.ensures.ok
+    if_err _ _ _ (p.1 ∙ ap Err p.2)
+    (λ same. (
+      _,
+      trace_of _ _ _ _ _ _ _ _ c.in_ok-system.ensures.made c.in_ok-kernel.ensures.begun c.names.ensures.value,
+      c.in_err-write_ticks.ensures.beginning,
+    ))
 
-pub returns-in_err-write_ticks-clause-programs : goal.returns-in_err-write_ticks-clause-programs
-returns-in_err-write_ticks-clause-programs g c =
-    let p = err_from_is_err_and c.from_residual-in_err-write_ticks.result c.from_residual-in_err-write_ticks.ensures.1 in
-    programs_meant c.args.asm.now c.from_residual-in_err-write_ticks.result _ (p.1 ∙ ap Err p.2) c.in_ok-programs.ensures.programs
+pub returns-clause-written : goal.returns-clause-written
+returns-clause-written g c = (
+  _,
+  trace_of _ _ _ _ _ _ _ _ c.in_ok-system.ensures.made c.in_ok-kernel.ensures.begun c.names.ensures.value,
+  c.in_ok-write_ticks.ensures.written,
+)

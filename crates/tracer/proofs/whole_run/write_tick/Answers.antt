@@ -1,4 +1,4 @@
-use Rattle.std.proofs.Common.{◌≡◌, ℕ, suc, ◌<◌, true, List, [], ◌∷◌, ◌++◌, length, take, drop, get_or, Option, refl, sym, ap, subst, ◌∙◌, append_assoc}
+use Rattle.std.proofs.Common.{◌≡◌, ℕ, suc, ◌<◌, List, [], ◌∷◌, ◌++◌, length, take, drop, get_or, Option, refl, sym, ap, subst, ◌∙◌, append_assoc}
 use Rattle.std.proofs.Math.Seq.{drop-cons}
 use Rattle.std.proofs.lemmas.List.{take-append-drop}
 use Rattle.std.specs.Io.KnownBytes.{Appends}
@@ -6,7 +6,7 @@ use Rattle.std.specs.List.{flat_map}
 use Rattle.osek_base.specs.declared.trace_event.TraceEvent.{TraceEvent}
 use Rattle.osek_base.specs.Names.{Names}
 use Rattle.osek_base.specs.Text.{line}
-use Rattle.tracer.specs.Lines.{has_record, record_text, tick_text, ended}
+use Rattle.tracer.specs.Lines.{record_text, tick_text, ended}
 use Rattle.tracer.specs.Sinks.{AppendsSome}
 use Rattle.tracer.proofs.SinkLemmas.{begins_longer, begins_later, on_err}
 use Rattle.tracer.proofs.whole_run.write_tick.Goals as goal
@@ -26,23 +26,19 @@ texts_at f xs i x h e =
     ∙ ap (flat_map f) (take-append-drop i xs)
 
 stopped_at : (a b c : Option (List ℕ)) (names : Names) (t : ℕ) (xs : List TraceEvent) (i : ℕ) (x : TraceEvent)
-    → i < length xs → x ≡ get_or xs i x → has_record names x ≡ true
+    → i < length xs → x ≡ get_or xs i x
     → Appends a b (tick_text names t (take i xs)) → AppendsSome b c (ended (line names t x)) → AppendsSome a c (tick_text names t xs)
-stopped_at a b c names t xs i x h e known p q =
-    let same : record_text names t x ≡ ended (line names t x) = rw known refl in
-    let here : AppendsSome b c (record_text names t x) = subst (AppendsSome b c) (sym same) q in
+stopped_at a b c names t xs i x h e p q =
     let text = record_text names t in
     subst (AppendsSome a c) (texts_at text xs i x h e)
     (begins_longer a c (flat_map text (take i xs) ++ text x) (flat_map text (drop (suc i) xs))
-    (begins_later a b c (flat_map text (take i xs)) (text x) p here))
+    (begins_later a b c (flat_map text (take i xs)) (text x) p q))
 
 pub returns-in_err-write_record-clause-beginning : goal.returns-in_err-write_record-clause-beginning
 returns-in_err-write_record-clause-beginning g c =
     let entries = c.entries-entry-items.ensures in
-    let known : has_record c.args.names.now c.entry-item.result ≡ true =
-    rw (← c.event.ensures) (sym c.has_record.ensures.value ∙ c.if-has_record.true) in
     on_err c.from_residual.result _
     (stopped_at _ _ _ c.args.names.now c.args.tick c.args.records.now c.records.entry-index c.entry-item.result
-    (rw (← entries) c.records-test.true) (rw (← entries) c.entry-item.is) known
+    (rw (← entries) c.records-test.true) (rw (← entries) c.entry-item.is)
     (rw (← entries) c.records.invariant.so_far)
-    (rw (c.event-then-has_record.ensures) at c.in_err-write_record.ensures.beginning))
+    (rw (c.event.ensures) at c.in_err-write_record.ensures.beginning))

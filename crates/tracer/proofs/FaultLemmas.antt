@@ -1,0 +1,71 @@
+-- What the refusals of a run's texts tell, once they are faults of the run.
+use Rattle.std.proofs.Common.{◌≡◌, ℕ, List, None, inl, inr, refl}
+use Rattle.std.specs.Prelude.{◌⊎◌}
+use Rattle.oil_reader.specs.Configuration.{Configuration}
+use Rattle.oil_reader.specs.Faults.{HasFault as HasOilFault, Means}
+use Rattle.oil_reader.specs.declared.fault.OilFault.{OilFault}
+use Rattle.task_asm.specs.Programs.{Program}
+use Rattle.task_asm.specs.Meaning.{HasFault as HasAsmFault, IsProgramText}
+use Rattle.task_asm.specs.declared.fault.AsmFault.{AsmFault}
+use Rattle.system_gen.specs.declared.fault.GenFault.{GenFault}
+use Rattle.osek_base.specs.declared.arrivals.Arrival.{Arrival}
+use Rattle.osek_base.specs.Names.{number_of}
+use Rattle.osek_base.specs.System.{System}
+use Rattle.kernel.specs.declared.kernel.BootFault.{BootFault}
+use Rattle.tracer.specs.ArrivalText.{IsArrivalList, IsFirstFault}
+use Rattle.tracer.specs.RunFaults.{of_oil, of_asm, of_gen, of_irq, of_boot}
+use Rattle.system_gen.specs.Faults.{IsRefusal}
+use Rattle.tracer.specs.WholeRuns.{RefusesSystem, RefusesStart}
+use Rattle.tracer.specs.declared.arrivals.IrqFault.{IrqFault}
+
+pub told_of_oil : (oil asm : List ℕ) (fault : OilFault) → HasOilFault oil fault → RefusesSystem oil asm (of_oil fault)
+told_of_oil oil asm OilFault.Memory h = tt
+told_of_oil oil asm (OilFault.Token place) h = h
+told_of_oil oil asm (OilFault.Syntax place) h = h
+told_of_oil oil asm (OilFault.UnknownAttribute place) h = h
+told_of_oil oil asm (OilFault.Missing place) h = h
+told_of_oil oil asm (OilFault.Twice place) h = h
+told_of_oil oil asm (OilFault.Range place) h = h
+
+pub told_of_programs : (oil asm : List ℕ) (file : Configuration) (fault : AsmFault) → Means oil file → HasAsmFault asm fault
+    → RefusesSystem oil asm (of_asm fault)
+told_of_programs oil asm file AsmFault.Memory m h = tt
+told_of_programs oil asm file (AsmFault.Token place) m h = (file, m, h)
+told_of_programs oil asm file (AsmFault.UnknownMnemonic place) m h = (file, m, h)
+told_of_programs oil asm file (AsmFault.Operand place) m h = (file, m, h)
+told_of_programs oil asm file (AsmFault.UnknownLabel place) m h = (file, m, h)
+told_of_programs oil asm file (AsmFault.Twice place) m h = (file, m, h)
+told_of_programs oil asm file (AsmFault.TooLong place) m h = (file, m, h)
+
+pub told_of_system : (oil asm : List ℕ) (file : Configuration) (programs : List Program) (fault : GenFault) → Means oil file
+    → IsProgramText asm programs → IsRefusal file programs fault → RefusesSystem oil asm (of_gen fault)
+told_of_system oil asm file programs GenFault.Memory m p h = tt
+told_of_system oil asm file programs (GenFault.UnknownName name) m p h = (file, (programs, m, p, h))
+told_of_system oil asm file programs (GenFault.Limit kind) m p h = (file, (programs, m, p, h))
+told_of_system oil asm file programs (GenFault.ExtendedActivation name) m p h = (file, (programs, m, p, h))
+told_of_system oil asm file programs (GenFault.TwoInternal name) m p h = (file, (programs, m, p, h))
+told_of_system oil asm file programs (GenFault.NoProgram name) m p h = (file, (programs, m, p, h))
+told_of_system oil asm file programs (GenFault.LastNotJump name) m p h = (file, (programs, m, p, h))
+told_of_system oil asm file programs (GenFault.RetiInTask name) m p h = (file, (programs, m, p, h))
+told_of_system oil asm file programs (GenFault.Mask name) m p h = (file, (programs, m, p, h))
+told_of_system oil asm file programs (GenFault.Counter name) m p h = (file, (programs, m, p, h))
+told_of_system oil asm file programs (GenFault.Alarm name) m p h = (file, (programs, m, p, h))
+
+pub told_of_arrivals : (S : System) (irqs mode : List ℕ) (fault : IrqFault) → (fault ≡ IrqFault.Memory) ⊎ IsFirstFault S.names irqs fault
+    → RefusesStart S irqs mode (of_irq fault)
+told_of_arrivals S irqs mode IrqFault.Memory h = tt
+told_of_arrivals S irqs mode (IrqFault.Syntax line) (inl e) = absurd (cc e)
+told_of_arrivals S irqs mode (IrqFault.Syntax line) (inr h) = h
+told_of_arrivals S irqs mode (IrqFault.UnknownIsr line) (inl e) = absurd (cc e)
+told_of_arrivals S irqs mode (IrqFault.UnknownIsr line) (inr h) = h
+told_of_arrivals S irqs mode (IrqFault.Order line) (inl e) = absurd (cc e)
+told_of_arrivals S irqs mode (IrqFault.Order line) (inr h) = h
+told_of_arrivals S irqs mode (IrqFault.TooMany line) (inl e) = absurd (cc e)
+told_of_arrivals S irqs mode (IrqFault.TooMany line) (inr h) = h
+told_of_arrivals S irqs mode (IrqFault.TickRange line) (inl e) = absurd (cc e)
+told_of_arrivals S irqs mode (IrqFault.TickRange line) (inr h) = h
+
+pub told_of_boot : (S : System) (irqs mode : List ℕ) (arrivals : List Arrival) (fault : BootFault) → IsArrivalList S.names irqs arrivals
+    → (fault ≡ BootFault.UnknownMode → number_of mode S.names.modes ≡ None) → RefusesStart S irqs mode (of_boot fault)
+told_of_boot S irqs mode arrivals BootFault.Memory l h = tt
+told_of_boot S irqs mode arrivals BootFault.UnknownMode l h = (arrivals, l, h refl)

@@ -1,0 +1,82 @@
+-- What the texts of a run mean together, the trace that is asked for, and which fault is the first. No part of the standards.
+use Rattle.std.specs.Prelude.{◌≡◌, ◌⊎◌, ℕ, List, None, Some}
+use Rattle.oil_reader.specs.Configuration.{Configuration}
+use Rattle.oil_reader.specs.Faults.{HasFault as HasOilFault, Means}
+use Rattle.oil_reader.specs.declared.fault.OilFault.{OilFault}
+use Rattle.task_asm.specs.Programs.{Program}
+use Rattle.task_asm.specs.Meaning.{HasFault as HasAsmFault, IsProgramText}
+use Rattle.task_asm.specs.declared.fault.AsmFault.{AsmFault}
+use Rattle.system_gen.specs.declared.fault.GenFault.{GenFault}
+use Rattle.system_gen.specs.Generated.{generated}
+use Rattle.system_gen.specs.Faults.{generation_fault, IsRefusal}
+use Rattle.osek_base.specs.declared.arrivals.Arrival.{Arrival}
+use Rattle.osek_base.specs.Names.{number_of}
+use Rattle.osek_base.specs.System.{System}
+use Rattle.osek_base.specs.Text.{text}
+use Rattle.osek_base.specs.Trace.{run}
+use Rattle.kernel.specs.declared.kernel.BootFault.{BootFault}
+use Rattle.kernel.specs.Run.{Run}
+use Rattle.tracer.specs.ArrivalText.{IsArrivalList, IsFirstFault}
+use Rattle.tracer.specs.declared.whole_run.RunFault.{RunFault}
+
+-- ---- the system of two texts
+
+-- what generation gives of a file and programs, in which no fault applies
+pub record IsGenerated (file : Configuration) (programs : List Program) (S : System) : Type 0 where
+  pub value : S ≡ generated file programs
+  pub sound : generation_fault file programs ≡ None
+
+-- the texts mean a file and programs, and generation gives the system of them
+pub record IsSystemOf (oil asm : List ℕ) (S : System) : Type 0 where
+  pub file : Configuration
+  pub programs : List Program
+  pub meant : Means oil file
+  pub written : IsProgramText asm programs
+  pub generated : IsGenerated file programs S
+
+-- ---- the trace
+
+-- the system is booted in the mode of that name, with the arrivals of that list
+pub record IsBegun (S : System) (irqs mode : List ℕ) (r : Run) : Type 0 where
+  pub system : r.system ≡ S
+  pub listed : IsArrivalList S.names irqs r.arrivals
+  pub started : number_of mode S.names.modes ≡ Some r.mode
+  pub ticks : r.ticks ≡ 0
+
+-- the bytes are the text of so many ticks of the system of the texts, in the mode of that name, with the arrivals
+pub record IsTrace (oil asm irqs mode : List ℕ) (ticks : ℕ) (bytes : List ℕ) : Type 0 where
+  pub system : System
+  pub number : ℕ
+  pub arrivals : List Arrival
+  pub made : IsSystemOf oil asm system
+  pub listed : IsArrivalList system.names irqs arrivals
+  pub started : number_of mode system.names.modes ≡ Some number
+  pub spelled : bytes ≡ text system.names (run system number arrivals ticks)
+
+-- ---- the first fault
+
+-- of the OIL text; of the programs, where the OIL text has none; of the system of both. Want of memory is no fault of theirs
+abbrev pub RefusesSystem : List ℕ → List ℕ → RunFault → Type 0
+RefusesSystem oil asm (RunFault.Oil OilFault.Memory) = ⊥
+RefusesSystem oil asm (RunFault.Oil fault) = HasOilFault oil fault
+RefusesSystem oil asm (RunFault.Asm AsmFault.Memory) = ⊥
+RefusesSystem oil asm (RunFault.Asm fault) = (file : Configuration) × Means oil file × HasAsmFault asm fault
+RefusesSystem oil asm (RunFault.Gen GenFault.Memory) = ⊥
+RefusesSystem oil asm (RunFault.Gen fault) =
+    (file : Configuration) × ((programs : List Program) × Means oil file × IsProgramText asm programs × IsRefusal file programs fault)
+RefusesSystem oil asm RunFault.Memory = Unit {0}
+RefusesSystem oil asm _ = ⊥
+
+-- of the arrival list; of the mode, where the list has none
+abbrev pub RefusesStart : System → List ℕ → List ℕ → RunFault → Type 0
+RefusesStart S irqs mode (RunFault.Irq fault) = IsFirstFault S.names irqs fault
+RefusesStart S irqs mode (RunFault.Boot BootFault.Memory) = ⊥
+RefusesStart S irqs mode (RunFault.Boot BootFault.UnknownMode) =
+    (arrivals : List Arrival) × IsArrivalList S.names irqs arrivals × (number_of mode S.names.modes ≡ None)
+RefusesStart S irqs mode RunFault.Memory = Unit {0}
+RefusesStart S irqs mode _ = ⊥
+
+-- of the system, or else of the start
+abbrev pub IsFirstRefusal : List ℕ → List ℕ → List ℕ → List ℕ → RunFault → Type 0
+IsFirstRefusal oil asm irqs mode fault =
+    RefusesSystem oil asm fault ⊎ ((S : System) × IsSystemOf oil asm S × RefusesStart S irqs mode fault)
