@@ -6,9 +6,10 @@ use clap::Error as LineError;
 use clap::error::ErrorKind;
 use oil_reader::read_oil;
 use osek_base::System;
+use partition_check::{Denial, check_partition};
 use std::alloc::Global;
 use std::convert::AsStr;
-use std::io::Write;
+use std::io::{self, Write};
 use system_gen::{class_of, generate};
 use task_asm::assemble;
 use thiserror::Error;
@@ -22,6 +23,9 @@ pub const REFUSED: u8 = 1;
 
 /// Exit status: the line itself is refused.
 pub const REFUSED_LINE: u8 = 2;
+
+/// Exit status: a partition is denied.
+pub const DENIED: u8 = 3;
 
 /// Exit status: a write failed.
 pub const WRITE_FAILED: u8 = 4;
@@ -87,12 +91,43 @@ fn write_class<O: Write>(
     }
 }
 
+/// Writes whether the part of a system from a priority upward is separable, or the first denial.
+fn write_check<O: Write>(
+    alloc: Global,
+    oil: &[u8],
+    asm: &[u8],
+    priority: u8,
+    out: &mut O,
+) -> Result<u8, RunFault> {
+    let system = read_system(alloc, oil, asm)?;
+    let (written, status) = match check_partition(&system, priority) {
+        Ok(()) => (writeln!(out, "accepted"), DONE),
+        Err(denial) => (write_denial(&system, &denial, out), DENIED),
+    };
+    match written {
+        Ok(()) => Ok(status),
+        Err(_) => Err(RunFault::Write),
+    }
+}
+
+/// Writes a denial: the rule, its subject by name, and a place where the rule is on programs.
+fn write_denial<O: Write>(system: &System, denial: &Denial, out: &mut O) -> io::Result<()> {
+    let rule = denial.rule.number();
+    let name = system.names().of(denial.subject);
+    match denial.place {
+        None => writeln!(out, "denied: rule {rule}, {name}"),
+        Some(place) => writeln!(out, "denied: rule {rule}, {name}, {place}"),
+    }
+}
+
+/// Answers a request, and gives the exit status.
 fn answer<'a, F: Files, O: Write>(
     alloc: Global,
     request: Request<'a>,
     files: &mut F,
     out: &mut O,
-) -> Result<(), Failure<'a>> {
+) -> Result<u8, Failure<'a>> {
+    let mut status = DONE;
     match request {
         Request::Trace {
             oil,
@@ -115,6 +150,11 @@ fn answer<'a, F: Files, O: Write>(
                 &mut sink,
             )?;
         }
+        Request::Check { oil, asm, priority } => {
+            let oil = read_file(alloc, files, oil)?;
+            let asm = read_file(alloc, files, asm)?;
+            status = write_check(alloc, &oil, &asm, priority, out)?;
+        }
         Request::Class { oil, asm } => {
             let oil = read_file(alloc, files, oil)?;
             let asm = read_file(alloc, files, asm)?;
@@ -122,7 +162,7 @@ fn answer<'a, F: Files, O: Write>(
         }
     }
     match out.flush() {
-        Ok(()) => Ok(()),
+        Ok(()) => Ok(status),
         Err(_) => Err(Failure::Run(RunFault::Write)),
     }
 }
@@ -145,8 +185,8 @@ fn explain<O: Write, E: Write>(error: LineError, out: &mut O, err: &mut E) -> u8
 }
 
 /// Answers a command line, of which the first word is the program's name, and gives the exit status: 0, also after help;
-/// 1 for a refused input, an unreadable file or want of memory; 2 for a refused line; 4 for a failed write. For 1 and 4
-/// one line says on `err` what it was.
+/// 1 for a refused input, an unreadable file or want of memory; 2 for a refused line; 3 for a denied partition; 4 for a
+/// failed write. For 1 and 4 one line says on `err` what it was.
 pub fn command<S: AsStr, F: Files, O: Write, E: Write>(
     alloc: Global,
     words: &[S],
@@ -157,7 +197,7 @@ pub fn command<S: AsStr, F: Files, O: Write, E: Write>(
     match read_line(alloc, words) {
         Err(error) => explain(error, out, err),
         Ok(request) => match answer(alloc, request, files, out) {
-            Ok(()) => DONE,
+            Ok(status) => status,
             Err(failure) => {
                 let _ = writeln!(err, "{failure}");
                 failure.status()

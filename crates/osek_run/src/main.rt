@@ -2,6 +2,8 @@
 #![tactic(auto)]
 
 mod answering;
+#[cfg(test)]
+mod check_tests;
 mod host_files;
 mod request;
 #[cfg(test)]

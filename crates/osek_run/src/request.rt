@@ -16,6 +16,12 @@ pub enum Request<'a> {
         mode: &'a str,
         ticks: u32,
     },
+    /// Whether the part of a system from a priority upward, 0 to 31, is separable from what is below.
+    Check {
+        oil: &'a str,
+        asm: &'a str,
+        priority: u8,
+    },
     /// The conformance class of a system.
     Class {
         oil: &'a str,
@@ -38,6 +44,15 @@ fn trace_line<'a>(alloc: Global) -> Result<Command<'a>, AllocError> {
         .arg(ticks)
 }
 
+fn check_line<'a>(alloc: Global) -> Result<Command<'a>, AllocError> {
+    let priority = word(alloc, "P").value_parser(value_parser!(u8).range(0..=31));
+    Command::new(alloc, "check")
+        .about("Checks that the part from priority P upward is separable from the part below")
+        .arg(word(alloc, "OIL"))?
+        .arg(word(alloc, "ASM"))?
+        .arg(priority)
+}
+
 fn class_line<'a>(alloc: Global) -> Result<Command<'a>, AllocError> {
     Command::new(alloc, "class")
         .about("Prints the conformance class of a system")
@@ -49,6 +64,7 @@ fn lines<'a>(alloc: Global) -> Result<Command<'a>, AllocError> {
     Command::new(alloc, "osek_run")
         .about("Runs a system that an OIL file and programs describe")
         .subcommand(trace_line(alloc)?)?
+        .subcommand(check_line(alloc)?)?
         .subcommand(class_line(alloc)?)
 }
 
@@ -63,6 +79,11 @@ pub fn read_line<'a, S: AsStr>(alloc: Global, words: &'a [S]) -> Result<Request<
     let mut line = lines(alloc)?;
     let matches = line.try_get_matches_from_mut(words)?;
     match matches.subcommand() {
+        Some(("check", found)) => Ok(Request::Check {
+            oil: text(found, "OIL"),
+            asm: text(found, "ASM"),
+            priority: found.get_one::<u8>("P").unwrap_or(0),
+        }),
         Some(("class", found)) => Ok(Request::Class {
             oil: text(found, "OIL"),
             asm: text(found, "ASM"),
