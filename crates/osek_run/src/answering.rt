@@ -1,5 +1,7 @@
 //! Answers to command lines: what is printed, and the exit status.
 
+ghost use Rattle.osek_base.specs.Names.{HasOwner};
+
 use crate::host_files::{FileFault, Files};
 use crate::request::{Request, read_line};
 use clap::Error as LineError;
@@ -111,7 +113,9 @@ fn write_check<O: Write>(
 }
 
 /// Writes a denial: the rule, its subject by name, and a place where the rule is on programs.
-fn write_denial<O: Write>(system: &System, denial: &Denial, out: &mut O) -> io::Result<()> {
+fn write_denial<O: Write>(system: &System, denial: &Denial, out: &mut O) -> io::Result<()>
+    requires { HasOwner system.now.names denial.now.subject }
+{
     let rule = denial.rule.number();
     let name = system.names().of(denial.subject);
     match denial.place {
