@@ -96,6 +96,7 @@ impl Files for TwoFiles {
 }
 
 /// A system, its programs, a priority, the line that is wanted and the exit status.
+#[derive(Clone, Copy)]
 struct Case {
     oil: &'static str,
     asm: &'static str,
