@@ -8,11 +8,13 @@ use Rattle.system_gen.specs.declared.fault.GenFault.{GenFault}
 use Rattle.system_gen.specs.declared.fault.ObjectKind.{ObjectKind}
 use Rattle.std.specs.Option.{option_map}
 use Rattle.system_gen.specs.Masks.{all_masks}
+use Rattle.system_gen.specs.DeclaredNames.{declared_in}
+use Rattle.system_gen.specs.References.{reference_fault}
 use Rattle.system_gen.specs.Generated.{masks_of}
 use Rattle.system_gen.specs.Faults.{generation_fault}
 use Rattle.system_gen.specs.Passes.{Passes}
 
-none_of : (a b : Option GenFault) → option_or a b ≡ None → (a ≡ None) × (b ≡ None)
+pub none_of : (a b : Option GenFault) → option_or a b ≡ None → (a ≡ None) × (b ≡ None)
 none_of None b e = (refl, e)
 none_of (Some x) b e = grind (arith, e)
 
@@ -62,3 +64,9 @@ module _ (f : Configuration) (programs : List Program) where
       let values = none_of _ _ others.1 in
       let masks = none_of _ _ values.0 in
       has_masks _ _ masks.0
+
+  pub none_references : generation_fault f programs ≡ None → reference_fault f (declared_in f) programs ≡ None
+  unfolding generation_fault
+  none_references e =
+      let declarations = none_of _ _ e in
+      (none_of _ _ declarations.0).0

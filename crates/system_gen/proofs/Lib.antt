@@ -1,5 +1,16 @@
 pub mod Tasks
 pub mod Places
+pub mod OrderLemmas
 pub mod LimitLemmas
 pub mod FaultLemmas
 pub mod GeneratedLemmas
+pub mod NumberedNames
+pub mod NamePlaces
+pub mod TasksDeclared
+pub mod MasksProper
+pub mod ObjectsProper
+pub mod AlarmsProper
+pub mod NamesProper
+pub mod DistinctNames
+pub mod ProgramsProper
+pub mod GeneratedProper

@@ -1,7 +1,7 @@
 -- OIL: names of objects. What is declared, kind by kind, and the numbers of what is declared.
-use Rattle.std.specs.Prelude.{ℕ, List, map}
-use Rattle.std.specs.Option.{unwrap_or}
-use Rattle.osek_base.specs.Names.{Names, number_of}
+pub use Rattle.name_tables.specs.Numbers.{number}
+use Rattle.std.specs.Prelude.{ℕ, List, IsTrue, map}
+use Rattle.osek_base.specs.Names.{Names, are_distinct_names}
 use Rattle.oil_reader.specs.Configuration.{Configuration, CounterRecord}
 use Rattle.system_gen.specs.ObjectNames.{names_of}
 
@@ -34,6 +34,12 @@ counter_names counters = map (λ c. c.name) counters
 abbrev pub declared_in : Configuration → Declared
 declared_in f = declared_by (names_of f) (counter_names f.counters)
 
--- the number of the object of that name, 0 where there is none
-abbrev pub number : List (List ℕ) → List ℕ → ℕ
-number names name = unwrap_or (number_of name names) 0
+-- no name of a kind stands twice
+pub record AreDistinct (d : Declared) : Type 0 where
+  pub modes : IsTrue (are_distinct_names d.modes)
+  pub tasks : IsTrue (are_distinct_names d.tasks)
+  pub routines : IsTrue (are_distinct_names d.routines)
+  pub resources : IsTrue (are_distinct_names d.resources)
+  pub events : IsTrue (are_distinct_names d.events)
+  pub counters : IsTrue (are_distinct_names d.counters)
+  pub alarms : IsTrue (are_distinct_names d.alarms)

@@ -1,18 +1,15 @@
 -- OSEK/VDX OS: system generation. Which fault a file and its programs have.
-use Rattle.std.specs.Prelude.{◌≡◌, ◌⊎◌, List, [], ◌∷◌, Option, None}
+use Rattle.std.specs.Prelude.{List, [], ◌∷◌, Option, None}
 use Rattle.std.specs.Option.{option_or, option_map}
 use Rattle.std.specs.Result.{result_err}
-use Rattle.osek_base.specs.Proper.{IsProper}
 use Rattle.oil_reader.specs.Configuration.{Configuration}
 use Rattle.task_asm.specs.Programs.{Program}
 use Rattle.system_gen.specs.declared.fault.GenFault.{GenFault}
-use Rattle.system_gen.specs.declared.fault.ObjectKind.{ObjectKind}
 use Rattle.system_gen.specs.DeclaredNames.{declared_in}
 use Rattle.system_gen.specs.References.{reference_fault}
-use Rattle.system_gen.specs.Checks.{IsFoundOrMemory, beyond_limit, activation_fault, resource_fault, counter_fault, alarm_fault}
+use Rattle.system_gen.specs.Checks.{beyond_limit, activation_fault, resource_fault, counter_fault, alarm_fault}
 use Rattle.system_gen.specs.Programs.{task_program_fault, routine_program_fault, end_fault, return_fault}
 use Rattle.system_gen.specs.Masks.{all_masks}
-use Rattle.system_gen.specs.Generated.{generated}
 
 -- the first that is there
 abbrev pub first_found : List (Option GenFault) → Option GenFault
@@ -46,12 +43,3 @@ value_fault f = first_found (result_err (all_masks f.events) ∷ counter_fault f
 -- the fault of a file and its programs: of the lowest number that applies that of the first subject
 unfoldable pub generation_fault : Configuration → List Program → Option GenFault
 generation_fault f programs = first_found (declaration_fault f programs ∷ program_fault f programs ∷ value_fault f ∷ [])
-
--- an answer that the contract of generation doesn't exclude: no fault applies, and the system isn't proper
-abbrev pub IsImproper : Configuration → List Program → GenFault → Type 0
-IsImproper f programs e =
-    (e ≡ GenFault.Limit ObjectKind.Task) × (generation_fault f programs ≡ None) × (IsProper (generated f programs) → ⊥)
-
--- what is answered in place of a system: the fault of the two files, or want of memory
-abbrev pub IsRefusal : Configuration → List Program → GenFault → Type 0
-IsRefusal f programs e = IsFoundOrMemory (generation_fault f programs) e ⊎ IsImproper f programs e

@@ -6,5 +6,6 @@ pub mod Passes
 pub mod ObjectNames
 pub mod DeclaredNames
 pub mod References
+pub mod Typed
 pub mod Generated
 pub mod Faults

@@ -1,11 +1,12 @@
 //! OIL: standard objects. What is declared, to be looked up by name.
 
-ghost use Rattle.std.specs.Prelude.{◌≡◌, ◌≤◌, length};
-ghost use Rattle.system_gen.specs.DeclaredNames.{declared_by, number};
+ghost use Rattle.std.specs.Prelude.{◌≡◌, ◌≤◌, IfOk, length};
+ghost use Rattle.system_gen.specs.DeclaredNames.{AreDistinct, declared_by, number};
 ghost use Rattle.system_gen.specs.References.{is_res_scheduler};
 
-use crate::tables::NameTable;
+use name_tables::NameTable;
 use osek_base::{AlarmId, CounterId, ModeId, Name, Names, ResourceNumber, TaskId};
+use std::alloc::{AllocError, Global};
 use std::marker::Model;
 
 /// The declared names by kind. Tasks stand by their numbers, all else in the order of declaration.
@@ -36,20 +37,42 @@ impl<'a> Model for Declared<'a> {
     } };
 }
 
+/// The modes, and the tasks and routines that run in them.
+#[derive(Drop)]
+struct Owners<'a> {
+    modes: NameTable<'a>,
+    tasks: NameTable<'a>,
+    routines: NameTable<'a>,
+}
+
+/// What tasks list.
+#[derive(Drop)]
+struct Listed<'a> {
+    resources: NameTable<'a>,
+    events: NameTable<'a>,
+}
+
+/// What counts, and what is counted to.
+#[derive(Drop)]
+struct Timers<'a> {
+    counters: NameTable<'a>,
+    alarms: NameTable<'a>,
+}
+
 impl<'a> Declared<'a> {
-    /// What has these names, and those of the counters.
-    pub(crate) fn new(names: &'a Names, counters: &'a [Name]) -> Self
-        ensures { result ≡ declared_by names.now counters.now }
+    /// What has these names, and those of the counters. No name of a kind stands twice.
+    pub(crate) fn new(
+        alloc: Global,
+        names: &'a Names,
+        counters: &'a [Name],
+    ) -> Result<Self, AllocError>
+        requires { AreDistinct (declared_by names.now counters.now) }
+        ensures { IfOk result (λ declared. declared ≡ declared_by names.now counters.now) }
     {
-        Declared {
-            modes: NameTable::new(names.modes.as_slice()),
-            tasks: NameTable::new(names.tasks.as_slice()),
-            routines: NameTable::new(names.routines.as_slice()),
-            resources: NameTable::new(names.resources.as_slice()),
-            events: NameTable::new(names.events.as_slice()),
-            counters: NameTable::new(counters),
-            alarms: NameTable::new(names.alarms.as_slice()),
-        }
+        let owners = owner_tables(alloc, names, counters)?;
+        let listed = listed_tables(alloc, names, counters)?;
+        let timers = timer_tables(alloc, names, counters)?;
+        Ok(joined(owners, listed, timers))
     }
 
     /// The number of the application mode of that name, 0 where there is none; so for the other kinds.
@@ -86,6 +109,79 @@ impl<'a> Declared<'a> {
         ensures { result ≡ number self.now.alarms name.now }
     {
         AlarmId::new(self.alarms.number(name) as u8)
+    }
+}
+
+fn owner_tables<'a>(
+    alloc: Global,
+    names: &'a Names,
+    counters: &[Name],
+) -> Result<Owners<'a>, AllocError>
+    requires { AreDistinct (declared_by names.now counters.now) }
+    ensures { IfOk result (λ t. (t.modes ≡ names.now.modes) × (t.tasks ≡ names.now.tasks) × (t.routines ≡ names.now.routines)) }
+{
+    let modes = NameTable::new(alloc, names.modes.as_slice())?;
+    let tasks = NameTable::new(alloc, names.tasks.as_slice())?;
+    let routines = NameTable::new(alloc, names.routines.as_slice())?;
+    Ok(Owners {
+        modes,
+        tasks,
+        routines,
+    })
+}
+
+fn listed_tables<'a>(
+    alloc: Global,
+    names: &'a Names,
+    counters: &[Name],
+) -> Result<Listed<'a>, AllocError>
+    requires { AreDistinct (declared_by names.now counters.now) }
+    ensures { IfOk result (λ t. (t.resources ≡ names.now.resources) × (t.events ≡ names.now.events)) }
+{
+    let resources = NameTable::new(alloc, names.resources.as_slice())?;
+    let events = NameTable::new(alloc, names.events.as_slice())?;
+    Ok(Listed { resources, events })
+}
+
+fn timer_tables<'a>(
+    alloc: Global,
+    names: &'a Names,
+    counters: &'a [Name],
+) -> Result<Timers<'a>, AllocError>
+    requires { AreDistinct (declared_by names.now counters.now) }
+    ensures { IfOk result (λ t. (t.counters ≡ counters.now) × (t.alarms ≡ names.now.alarms)) }
+{
+    let counters = NameTable::new(alloc, counters)?;
+    let alarms = NameTable::new(alloc, names.alarms.as_slice())?;
+    Ok(Timers { counters, alarms })
+}
+
+fn joined<'a>(owners: Owners<'a>, listed: Listed<'a>, timers: Timers<'a>) -> Declared<'a>
+    ensures { result ≡ record {
+      modes = owners.entry.modes;
+      tasks = owners.entry.tasks;
+      routines = owners.entry.routines;
+      resources = listed.entry.resources;
+      events = listed.entry.events;
+      counters = timers.entry.counters;
+      alarms = timers.entry.alarms;
+    } }
+{
+    let Owners {
+        modes,
+        tasks,
+        routines,
+    } = owners;
+    let Listed { resources, events } = listed;
+    let Timers { counters, alarms } = timers;
+    Declared {
+        modes,
+        tasks,
+        routines,
+        resources,
+        events,
+        counters,
+        alarms,
     }
 }
 

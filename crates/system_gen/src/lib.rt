@@ -13,7 +13,6 @@ mod objects;
 mod program_checks;
 mod programs;
 mod references;
-mod tables;
 #[cfg(test)]
 mod tests;
 

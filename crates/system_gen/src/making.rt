@@ -1,11 +1,12 @@
 //! OIL: standard objects; OSEK/VDX OS: system generation. From an OIL file and its programs to a system.
 
-ghost use Rattle.std.specs.Prelude.{◌≡◌, ◌<◌, IfOk, IfErr, OnOk, Ok, None, length, map};
+ghost use Rattle.std.specs.Prelude.{◌≡◌, ◌<◌, IfOk, IfErr, OnOk, IsTrue, Ok, None, length, map};
 ghost use Rattle.std.specs.Option.{option_map};
+ghost use Rattle.oil_reader.specs.Checked.{is_checked};
 ghost use Rattle.system_gen.specs.declared.fault.GenFault.TheVariants.{Limit};
 ghost use Rattle.system_gen.specs.Checks.{IsFoundOrMemory, beyond_limit};
 ghost use Rattle.system_gen.specs.ObjectNames.{AreNamesOf, order_of, names_of};
-ghost use Rattle.system_gen.specs.DeclaredNames.{declared_in, counter_names};
+ghost use Rattle.system_gen.specs.DeclaredNames.{AreDistinct, declared_in, counter_names};
 ghost use Rattle.system_gen.specs.Generated.{
   AreObjectsOf,
   known_of,
@@ -20,15 +21,15 @@ ghost use Rattle.system_gen.specs.Faults.{
   declaration_fault,
   program_fault,
   value_fault,
-  IsRefusal,
 };
 ghost use Rattle.system_gen.specs.Order.{ArePlaces};
 ghost use Rattle.system_gen.specs.Masks.{all_masks};
 ghost use Rattle.system_gen.specs.Passes.{Passes};
+ghost use Rattle.system_gen.specs.Typed.{are_typed};
 
 use crate::checks::{check_activations, check_alarms, check_counters, check_internal_resources};
 use crate::declared::Declared;
-use crate::fault::{GenFault, ObjectKind};
+use crate::fault::GenFault;
 use crate::limits::beyond_limit;
 use crate::masks::masks;
 use crate::object_names::{counter_names_of, names_of};
@@ -68,7 +69,7 @@ pub fn generate(
 ) -> Result<System, GenFault>
     ensures made { IfOk result (λ s. s ≡ generated file programs.items) }
     ensures sound { OnOk result (generation_fault file programs.items ≡ None) }
-    ensures fault { IfErr result (IsRefusal file programs.items) }
+    ensures fault { IfErr result (IsFoundOrMemory (generation_fault file programs.items)) }
     ensures passed { OnOk result (Passes file programs.items) }
     ensures names { IfOk result (λ s. AreNamesOf file s.names) }
     ensures masks { IfOk result (λ s. all_masks file.events ≡ Ok s.events) }
@@ -77,12 +78,28 @@ pub fn generate(
     ensures hooks { IfOk result (λ s. s.hooks ≡ file.os.hooks) }
     ensures scheduler { IfOk result (λ s. s.use_res_scheduler ≡ file.os.use_res_scheduler) }
 {
+    stays_checked(&file);
     let parts = parts_of(alloc, &file, programs.as_slice())?;
     match System::new(parts) {
         Some(system) => Ok(system),
-        // What passed the checks is proper, so this arm is never taken. That isn't proved.
-        None => Err(GenFault::Limit(ObjectKind::Task)),
+        // What passed the checks is proper, so there is always a system.
+        None => unreachable!(),
     }
+}
+
+/// All of a file is as its reader has checked it, by its type.
+fn stays_checked(file: &OilFile)
+    ensures { IsTrue (is_checked file.now) }
+{
+    file.cpu();
+    file.os();
+    file.app_modes();
+    file.tasks();
+    file.routines();
+    file.resources();
+    file.events();
+    file.counters();
+    file.alarms();
 }
 
 /// The parts of the system.
@@ -90,8 +107,10 @@ pub fn generate(
 fn parts_of(alloc: Global, file: &OilFile, programs: &[NamedProgram]) -> Result<Parts, GenFault>
     ensures made { IfOk result (λ s. s ≡ generated file.now programs.now) }
     ensures sound { OnOk result (generation_fault file.now programs.now ≡ None) }
+    ensures typed { OnOk result (IsTrue (are_typed programs.now)) }
     ensures fault { IfErr result (IsFoundOrMemory (generation_fault file.now programs.now)) }
 {
+    stays_checked(file);
     let order = order_of(alloc, file.tasks())?;
     let names = names_of(alloc, file, order.as_slice())?;
     let counters = counter_names_of(alloc, file.counters())?;
@@ -129,13 +148,35 @@ fn resolve<'a>(
     requires order { order.now ≡ order_of file.now.tasks }
     requires names { names.now ≡ names_of file.now }
     requires counters { counters.now ≡ counter_names file.now.counters }
+    requires distinct { AreDistinct (declared_in file.now) }
     ensures made { IfOk result (λ r. AreObjectsOf (known_of file.now) file.now programs.now r.0) }
     ensures masks { IfOk result (λ r. r.1.items ≡ masks_of file.now.events) }
     ensures sound { OnOk result (generation_fault file.now programs.now ≡ None) }
+    ensures typed { OnOk result (IsTrue (are_typed programs.now)) }
     ensures fault { IfErr result (IsFoundOrMemory (generation_fault file.now programs.now)) }
 {
-    let declared = Declared::new(names, counters);
-    let masks = checked(alloc, &declared, file, programs)?;
+    let declared = Declared::new(alloc, names, counters)?;
+    resolve_by(alloc, &declared, file, programs, order)
+}
+
+/// The same, by what is declared.
+fn resolve_by(
+    alloc: Global,
+    declared: &Declared,
+    file: &OilFile,
+    programs: &[NamedProgram],
+    order: &[usize],
+) -> Result<(Objects, Vec<u32>), GenFault>
+    requires places { ArePlaces (length file.now.tasks) order.now }
+    requires order { order.now ≡ order_of file.now.tasks }
+    requires declared { declared.now ≡ declared_in file.now }
+    ensures made { IfOk result (λ r. AreObjectsOf (known_of file.now) file.now programs.now r.0) }
+    ensures masks { IfOk result (λ r. r.1.items ≡ masks_of file.now.events) }
+    ensures sound { OnOk result (generation_fault file.now programs.now ≡ None) }
+    ensures typed { OnOk result (IsTrue (are_typed programs.now)) }
+    ensures fault { IfErr result (IsFoundOrMemory (generation_fault file.now programs.now)) }
+{
+    let masks = checked(alloc, declared, file, programs)?;
     let objects = {
         let resolver = Resolver::new(declared, masks.as_slice());
         objects_of(alloc, &resolver, file, programs, order)?
@@ -175,6 +216,7 @@ fn checked(
 ) -> Result<Vec<u32>, GenFault>
     requires { declared.now ≡ declared_in file.now }
     ensures sound { OnOk result (generation_fault file.now programs.now ≡ None) }
+    ensures typed { OnOk result (IsTrue (are_typed programs.now)) }
     ensures limits { OnOk result (beyond_limit file.now ≡ None) }
     ensures fault { IfErr result (IsFoundOrMemory (generation_fault file.now programs.now)) }
     ensures masks { IfOk result (λ masks. masks.items ≡ masks_of file.now.events) }
@@ -192,6 +234,7 @@ fn check_declarations(
 ) -> Result<(), GenFault>
     requires { declared.now ≡ declared_in file.now }
     ensures passed { OnOk result (declaration_fault file.now programs.now ≡ None) }
+    ensures typed { OnOk result (IsTrue (are_typed programs.now)) }
     ensures limits { OnOk result (beyond_limit file.now ≡ None) }
     ensures refused { IfErr result (IsFoundOrMemory (declaration_fault file.now programs.now)) }
 {

@@ -20,7 +20,7 @@ use osek_base::{Action, Alarm, AlarmStart, ModeId, Name, Program, ResourceNumber
 use std::alloc::{AllocError, Global};
 use task_asm::{NamedProgram, ProgramKind};
 
-impl<'a, 'm> Resolver<'a, 'm> {
+impl<'d, 'a, 'm> Resolver<'d, 'a, 'm> {
     pub(crate) fn task(
         &self,
         alloc: Global,

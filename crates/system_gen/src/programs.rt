@@ -25,25 +25,25 @@ use task_asm::{NamedInstr, NamedLine, NamedService};
 /// Turns names into numbers and masks, once the checks have passed: there are no more objects than allowed. Events
 /// have these masks, in the order of declaration. A name that isn't declared, which the checks exclude, gives 0.
 #[derive(Drop)]
-pub(crate) struct Resolver<'a, 'm> {
-    declared: Declared<'a>,
+pub(crate) struct Resolver<'d, 'a, 'm> {
+    declared: &'d Declared<'a>,
     masks: &'m [u32],
 }
 
-impl<'a, 'm> Model for Resolver<'a, 'm> {
+impl<'d, 'a, 'm> Model for Resolver<'d, 'a, 'm> {
     ghost use Rattle.system_gen.specs.Generated.{Known, IsWithinLimits};
 
     ghost Value = { Known };
 
-    ghost view = { λ r. record { declared = r.declared; masks = r.masks.now } };
+    ghost view = { λ r. record { declared = r.declared.now; masks = r.masks.now } };
 
-    ghost invariant = { λ r. IsWithinLimits r.declared };
+    ghost invariant = { λ r. IsWithinLimits r.declared.now };
 }
 
-impl<'a, 'm> Resolver<'a, 'm> {
-    pub(crate) fn new(declared: Declared<'a>, masks: &'m [u32]) -> Self
-        requires { IsWithinLimits declared }
-        ensures { result ≡ known declared.entry masks.now }
+impl<'d, 'a, 'm> Resolver<'d, 'a, 'm> {
+    pub(crate) fn new(declared: &'d Declared<'a>, masks: &'m [u32]) -> Self
+        requires { IsWithinLimits declared.now }
+        ensures { result ≡ known declared.now masks.now }
     {
         Resolver { declared, masks }
     }
@@ -53,7 +53,7 @@ impl<'a, 'm> Resolver<'a, 'm> {
         ensures value { result.now ≡ self.now.declared }
         ensures limits { IsWithinLimits result.now }
     {
-        &self.declared
+        self.declared
     }
 
     pub(crate) fn program(&self, alloc: Global, lines: &[NamedLine]) -> Result<Program, AllocError>
@@ -157,7 +157,8 @@ impl<'a, 'm> Resolver<'a, 'm> {
     pub(crate) fn mask(&self, name: &Name) -> u32
         ensures { result ≡ mask_of self.now name.now }
     {
-        let number = self.declared.events.number(name);
+        let declared = self.declared();
+        let number = declared.events.number(name);
         match self.masks.get(number) {
             Some(mask) => *mask,
             None => 0,

@@ -1,6 +1,6 @@
 //! OIL: references between objects; the modelled processor: operands. Each name must stand for a declared object.
 
-ghost use Rattle.std.specs.Prelude.{◌≡◌, OnOk, IfErr, None};
+ghost use Rattle.std.specs.Prelude.{◌≡◌, OnOk, IfErr, None, IsTrue};
 ghost use Rattle.system_gen.specs.Checks.{IsFoundOrMemory};
 ghost use Rattle.system_gen.specs.References.{
   first_of,
@@ -19,13 +19,22 @@ ghost use Rattle.system_gen.specs.References.{
   program_reference,
   reference_fault,
 };
+ghost use Rattle.std.specs.List.{list_all};
+ghost use Rattle.osek_base.specs.Proper.{is_register, is_word};
+ghost use Rattle.system_gen.specs.Typed.{
+  is_typed_plain,
+  is_typed_service,
+  is_typed_control,
+  is_typed,
+  are_typed,
+};
 
 use crate::checks::is_internal;
 use crate::declared::{Declared, is_res_scheduler};
 use crate::fault::GenFault;
-use crate::tables::NameTable;
+use name_tables::NameTable;
 use oil_reader::{ActionObject, AlarmObject, AlarmStartObject, OilFile, TaskObject};
-use osek_base::Name;
+use osek_base::{Control, Name, Plain, Register};
 use task_asm::{NamedInstr, NamedLine, NamedProgram, NamedService, ProgramKind};
 
 /// Looks each name up: those of the tasks, of the alarms, and of the programs.
@@ -36,6 +45,7 @@ pub(crate) fn check_references(
 ) -> Result<(), GenFault>
     ensures passed { OnOk result (reference_fault file.now declared.now programs.now ≡ None) }
     ensures refused { IfErr result (IsFoundOrMemory (reference_fault file.now declared.now programs.now)) }
+    ensures typed { OnOk result (IsTrue (are_typed programs.now)) }
 {
     check_tasks(declared, file.tasks())?;
     check_alarms(declared, file.alarms())?;
@@ -112,6 +122,7 @@ fn check_programs(
 ) -> Result<(), GenFault>
     ensures passed { OnOk result (first_of (program_reference file.now declared.now) programs.now ≡ None) }
     ensures refused { IfErr result (IsFoundOrMemory (first_of (program_reference file.now declared.now) programs.now)) }
+    ensures typed { OnOk result (IsTrue (are_typed programs.now)) }
 {
     for program in programs {
         check_program(declared, file, program)?;
@@ -127,6 +138,7 @@ fn check_program(
 ) -> Result<(), GenFault>
     ensures passed { OnOk result (program_reference file.now declared.now program.now ≡ None) }
     ensures refused { IfErr result (IsFoundOrMemory (program_reference file.now declared.now program.now)) }
+    ensures typed { OnOk result (IsTrue (list_all is_typed program.now.instructions)) }
 {
     check_owner(declared, program.kind, &program.name)?;
     check_lines(declared, file, program.lines.as_slice())
@@ -145,6 +157,7 @@ fn check_owner(declared: &Declared, kind: ProgramKind, name: &Name) -> Result<()
 fn check_lines(declared: &Declared, file: &OilFile, lines: &[NamedLine]) -> Result<(), GenFault>
     ensures passed { OnOk result (first_of (instruction_reference file.now declared.now) lines.now ≡ None) }
     ensures refused { IfErr result (IsFoundOrMemory (first_of (instruction_reference file.now declared.now) lines.now)) }
+    ensures typed { OnOk result (IsTrue (list_all is_typed lines.now)) }
 {
     for line in lines {
         check_instruction(declared, file, line.instr())?;
@@ -159,11 +172,64 @@ fn check_instruction(
 ) -> Result<(), GenFault>
     ensures passed { OnOk result (instruction_reference file.now declared.now instr.now ≡ None) }
     ensures refused { IfErr result (IsFoundOrMemory (instruction_reference file.now declared.now instr.now)) }
+    ensures typed { OnOk result (IsTrue (is_typed instr.now)) }
 {
     match instr {
         NamedInstr::Service(service) => check_service(declared, file, service),
-        NamedInstr::Plain(_) | NamedInstr::Control(_) => Ok(()),
+        NamedInstr::Plain(plain) => {
+            plain_is_typed(plain);
+            Ok(())
+        }
+        NamedInstr::Control(control) => {
+            control_is_typed(control);
+            Ok(())
+        }
     }
+}
+
+/// A plain instruction names no object, and its registers exist.
+fn plain_is_typed(plain: &Plain)
+    ensures { IsTrue (is_typed_plain plain.now) }
+{
+    match *plain {
+        Plain::Nop | Plain::Jmp(_) => {}
+        Plain::Li(d, number) => {
+            exists(d);
+            fits(number);
+        }
+        Plain::Mov(a, b) | Plain::Ld(a, b) | Plain::St(a, b) | Plain::JumpIf(_, a, b, _) => {
+            exists(a);
+            exists(b);
+        }
+        Plain::Compute(_, d, a, b) => {
+            exists(d);
+            exists(a);
+            exists(b);
+        }
+    }
+}
+
+fn control_is_typed(control: &Control)
+    ensures { IsTrue (is_typed_control control.now) }
+{
+    match *control {
+        Control::ShutdownOs(number) => fits(number),
+        _ => {}
+    }
+}
+
+/// A number has 32 bits by its type.
+fn fits(number: u32)
+    ensures { IsTrue (is_word number) }
+{
+    prove!(number <= u32::MAX);
+}
+
+/// A register exists by its type.
+fn exists(register: Register)
+    ensures { IsTrue (is_register register) }
+{
+    prove!(register.number() < Register::LIMIT);
 }
 
 fn check_service(
@@ -173,6 +239,7 @@ fn check_service(
 ) -> Result<(), GenFault>
     ensures passed { OnOk result (service_reference file.now declared.now service.now ≡ None) }
     ensures refused { IfErr result (IsFoundOrMemory (service_reference file.now declared.now service.now)) }
+    ensures typed { OnOk result (IsTrue (is_typed_service service.now)) }
 {
     match service {
         NamedService::ActivateTask(task)
@@ -189,9 +256,12 @@ fn check_service(
             &declared.events,
             events.names(),
         ),
-        NamedService::SetRelAlarm(alarm, _, _)
-        | NamedService::SetAbsAlarm(alarm, _, _)
-        | NamedService::CancelAlarm(alarm)
+        NamedService::SetRelAlarm(alarm, a, b) | NamedService::SetAbsAlarm(alarm, a, b) => {
+            exists(*a);
+            exists(*b);
+            check_operand(&declared.alarms, alarm)
+        }
+        NamedService::CancelAlarm(alarm)
         | NamedService::GetAlarm(alarm)
         | NamedService::GetAlarmBase(alarm) => check_operand(&declared.alarms, alarm),
         NamedService::TerminateTask | NamedService::Schedule | NamedService::GetTaskId => Ok(()),

@@ -1,6 +1,7 @@
 //! The modelled processor and OSEK/VDX OS: system services. Programs whose operands are names.
 
-ghost use Rattle.std.specs.Prelude.{◌≡◌, ◌∷◌, ◌++◌, [], IfOk};
+ghost use Rattle.std.specs.Prelude.{◌≡◌, ◌∷◌, ◌++◌, [], IfOk, IsTrue, not};
+ghost use Rattle.osek_base.specs.Lists.{is_empty};
 
 use osek_base::{Control, Name, Plain, Register};
 use std::alloc::{AllocError, Global};
@@ -13,17 +14,21 @@ pub struct EventNames {
 }
 
 impl Model for EventNames {
-    ghost use Rattle.std.specs.Prelude.{List, ℕ};
+    ghost use Rattle.std.specs.Prelude.{List, ℕ, IsTrue, not};
+    ghost use Rattle.osek_base.specs.Lists.{is_empty};
 
     ghost Value = { List (List ℕ) };
 
     ghost view = { λ e. e.names.items };
+
+    ghost invariant = { λ e. IsTrue (not (is_empty e.names.items)) };
 }
 
 impl EventNames {
     /// The names in the order in which they stand.
     pub fn names(&self) -> &[Name]
-        ensures { result.now ≡ self.now }
+        ensures value { result.now ≡ self.now }
+        ensures some { IsTrue (not (is_empty result.now)) }
     {
         self.names.as_slice()
     }

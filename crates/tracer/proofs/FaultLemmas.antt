@@ -14,7 +14,8 @@ use Rattle.osek_base.specs.System.{System}
 use Rattle.kernel.specs.declared.kernel.BootFault.{BootFault}
 use Rattle.tracer.specs.ArrivalText.{IsArrivalList, IsFirstFault}
 use Rattle.tracer.specs.RunFaults.{of_oil, of_asm, of_gen, of_irq, of_boot}
-use Rattle.system_gen.specs.Faults.{IsRefusal}
+use Rattle.system_gen.specs.Checks.{IsFoundOrMemory}
+use Rattle.system_gen.specs.Faults.{generation_fault}
 use Rattle.tracer.specs.WholeRuns.{RefusesSystem, RefusesStart}
 use Rattle.tracer.specs.declared.arrivals.IrqFault.{IrqFault}
 
@@ -38,18 +39,28 @@ told_of_programs oil asm file (AsmFault.Twice place) m h = (file, m, h)
 told_of_programs oil asm file (AsmFault.TooLong place) m h = (file, m, h)
 
 pub told_of_system : (oil asm : List ℕ) (file : Configuration) (programs : List Program) (fault : GenFault) → Means oil file
-    → IsProgramText asm programs → IsRefusal file programs fault → RefusesSystem oil asm (of_gen fault)
+    → IsProgramText asm programs → IsFoundOrMemory (generation_fault file programs) fault → RefusesSystem oil asm (of_gen fault)
 told_of_system oil asm file programs GenFault.Memory m p h = tt
-told_of_system oil asm file programs (GenFault.UnknownName name) m p h = (file, (programs, m, p, h))
-told_of_system oil asm file programs (GenFault.Limit kind) m p h = (file, (programs, m, p, h))
-told_of_system oil asm file programs (GenFault.ExtendedActivation name) m p h = (file, (programs, m, p, h))
-told_of_system oil asm file programs (GenFault.TwoInternal name) m p h = (file, (programs, m, p, h))
-told_of_system oil asm file programs (GenFault.NoProgram name) m p h = (file, (programs, m, p, h))
-told_of_system oil asm file programs (GenFault.LastNotJump name) m p h = (file, (programs, m, p, h))
-told_of_system oil asm file programs (GenFault.RetiInTask name) m p h = (file, (programs, m, p, h))
-told_of_system oil asm file programs (GenFault.Mask name) m p h = (file, (programs, m, p, h))
-told_of_system oil asm file programs (GenFault.Counter name) m p h = (file, (programs, m, p, h))
-told_of_system oil asm file programs (GenFault.Alarm name) m p h = (file, (programs, m, p, h))
+told_of_system oil asm file programs (GenFault.UnknownName name) m p (inl e) = absurd (cc e)
+told_of_system oil asm file programs (GenFault.UnknownName name) m p (inr h) = (file, (programs, m, p, h))
+told_of_system oil asm file programs (GenFault.Limit kind) m p (inl e) = absurd (cc e)
+told_of_system oil asm file programs (GenFault.Limit kind) m p (inr h) = (file, (programs, m, p, h))
+told_of_system oil asm file programs (GenFault.ExtendedActivation name) m p (inl e) = absurd (cc e)
+told_of_system oil asm file programs (GenFault.ExtendedActivation name) m p (inr h) = (file, (programs, m, p, h))
+told_of_system oil asm file programs (GenFault.TwoInternal name) m p (inl e) = absurd (cc e)
+told_of_system oil asm file programs (GenFault.TwoInternal name) m p (inr h) = (file, (programs, m, p, h))
+told_of_system oil asm file programs (GenFault.NoProgram name) m p (inl e) = absurd (cc e)
+told_of_system oil asm file programs (GenFault.NoProgram name) m p (inr h) = (file, (programs, m, p, h))
+told_of_system oil asm file programs (GenFault.LastNotJump name) m p (inl e) = absurd (cc e)
+told_of_system oil asm file programs (GenFault.LastNotJump name) m p (inr h) = (file, (programs, m, p, h))
+told_of_system oil asm file programs (GenFault.RetiInTask name) m p (inl e) = absurd (cc e)
+told_of_system oil asm file programs (GenFault.RetiInTask name) m p (inr h) = (file, (programs, m, p, h))
+told_of_system oil asm file programs (GenFault.Mask name) m p (inl e) = absurd (cc e)
+told_of_system oil asm file programs (GenFault.Mask name) m p (inr h) = (file, (programs, m, p, h))
+told_of_system oil asm file programs (GenFault.Counter name) m p (inl e) = absurd (cc e)
+told_of_system oil asm file programs (GenFault.Counter name) m p (inr h) = (file, (programs, m, p, h))
+told_of_system oil asm file programs (GenFault.Alarm name) m p (inl e) = absurd (cc e)
+told_of_system oil asm file programs (GenFault.Alarm name) m p (inr h) = (file, (programs, m, p, h))
 
 pub told_of_arrivals : (S : System) (irqs mode : List ℕ) (fault : IrqFault) → (fault ≡ IrqFault.Memory) ⊎ IsFirstFault S.names irqs fault
     → RefusesStart S irqs mode (of_irq fault)

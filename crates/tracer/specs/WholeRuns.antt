@@ -8,7 +8,7 @@ use Rattle.task_asm.specs.Meaning.{HasFault as HasAsmFault, IsProgramText}
 use Rattle.task_asm.specs.declared.fault.AsmFault.{AsmFault}
 use Rattle.system_gen.specs.declared.fault.GenFault.{GenFault}
 use Rattle.system_gen.specs.Generated.{generated}
-use Rattle.system_gen.specs.Faults.{generation_fault, IsRefusal}
+use Rattle.system_gen.specs.Faults.{generation_fault}
 use Rattle.osek_base.specs.declared.arrivals.Arrival.{Arrival}
 use Rattle.osek_base.specs.Names.{number_of}
 use Rattle.osek_base.specs.System.{System}
@@ -63,7 +63,7 @@ RefusesSystem oil asm (RunFault.Asm AsmFault.Memory) = ⊥
 RefusesSystem oil asm (RunFault.Asm fault) = (file : Configuration) × Means oil file × HasAsmFault asm fault
 RefusesSystem oil asm (RunFault.Gen GenFault.Memory) = ⊥
 RefusesSystem oil asm (RunFault.Gen fault) =
-    (file : Configuration) × ((programs : List Program) × Means oil file × IsProgramText asm programs × IsRefusal file programs fault)
+    (file : Configuration) × ((programs : List Program) × Means oil file × IsProgramText asm programs × (generation_fault file programs ≡ Some fault))
 RefusesSystem oil asm RunFault.Memory = Unit {0}
 RefusesSystem oil asm _ = ⊥
 

@@ -1,0 +1,7 @@
+use Rattle.std.proofs.Common.{◌≡◌, ◌∙◌, ap, sym}
+use Rattle.osek_base.specs.Names.{is_named}
+use Rattle.name_tables.proofs.Lookups.{named}
+use Rattle.name_tables.proofs.table.NameTable.has.Goals as goal
+
+pub returns : goal.returns
+returns c = c.contains.ensures ∙ named c.as_str.result.now c.self.inside.names.keys ∙ cc
