@@ -11,6 +11,7 @@ use Rattle.osek_base.specs.Reschedule.{Recorded}
 use Rattle.osek_base.specs.Alarm.{is_due_at}
 use Rattle.osek_base.specs.Tick.{Step, tick, executed}
 use Rattle.osek_base.specs.ArrivalList.{are_in_order}
+use Rattle.osek_base.specs.Laws.{StartsSingly, Excludes, BlocksOnce}
 use Rattle.osek_base.specs.Trace.{Run as RunSoFar, arriving, run, with_earlier, starting_tasks, starting_alarms, all_activated}
 use Rattle.machine.specs.Windows.{word}
 use Rattle.services.specs.declared.objects.Execution.{Execution}
@@ -42,6 +43,13 @@ step_at S mode arrivals t = next_step S arrivals (run S mode arrivals t)
 
 abbrev pub record_at : System → ℕ → List Arrival → ℕ → List TraceEvent
 record_at S mode arrivals t = (step_at S mode arrivals t).events
+
+-- what holds up to every tick: of one task no job but the oldest is begun; a resource that a job may take and is refused
+-- is held by that job itself; and each time that a job becomes ready, it has at most one blocker
+pub record IsLawful (r : Run) : Type 0 where
+  pub single_start : (n : ℕ) → StartsSingly r.system r.mode r.arrivals n
+  pub exclusion : (n : ℕ) → Excludes r.system r.mode r.arrivals n
+  pub single_blocking : (n : ℕ) → BlocksOnce r.system r.mode r.arrivals n
 
 -- each arrival is of a routine of the system
 abbrev pub AreKnown : System → List Arrival → Type 0

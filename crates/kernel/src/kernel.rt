@@ -1,10 +1,10 @@
 //! OSEK/VDX OS: system start-up; application modes. The kernel: boot, and ticks.
 
-ghost use Rattle.std.specs.Prelude.{◌≡◌, ◌<◌, ◌≤◌, ◌+◌, ◌↔◌, false, Some, None, IfOk, length};
+ghost use Rattle.std.specs.Prelude.{◌≡◌, ◌<◌, ◌≤◌, ◌+◌, ◌↔◌, [], false, Some, None, IfOk, length};
 ghost use Rattle.osek_base.specs.Names.{number_of};
 ghost use Rattle.osek_base.specs.Reschedule.{hooked};
 ghost use Rattle.kernel.specs.declared.kernel.BootFault.{BootFault};
-ghost use Rattle.kernel.specs.Run.{AreKnown, IsStarted, is_over, record_at, run_of};
+ghost use Rattle.kernel.specs.Run.{AreKnown, IsLawful, IsStarted, is_over, record_at, run_of};
 
 use crate::dispatch::reschedule;
 use crate::execution::from_execution;
@@ -97,6 +97,18 @@ fn startup_record(system: &System) -> TickRecord
     record_of_boot
 }
 
+/// Puts in the records that stand before a tick's own: those of boot in tick 0, else none.
+fn put_first(opening: &mut TickRecord, tick: u32, record_of_tick: &mut TickRecord)
+    requires { 1 ≤ tick → length opening.old ≤ 0 }
+    ensures value { record_of_tick.new ≡ opening.old }
+    ensures after { opening.new ≡ [] }
+{
+    record_of_tick.clear();
+    if tick == 0 {
+        mem::swap(record_of_tick, opening);
+    }
+}
+
 impl<'s> Kernel<'s> {
     /// Boots a system in the application mode of that name.
     pub fn boot(
@@ -107,6 +119,7 @@ impl<'s> Kernel<'s> {
     ) -> Result<Self, BootFault>
         requires { AreKnown system.now arrivals }
         ensures booted { IfOk result (λ k. (k.system ≡ system.now) × (k.arrivals ≡ arrivals) × (k.ticks ≡ 0) × (number_of mode.now system.now.names.modes ≡ Some k.mode)) }
+        ensures lawful { IfOk result IsLawful }
         ensures unknown { (result ≡ Err BootFault.UnknownMode) ↔ (number_of mode.now system.now.names.modes ≡ None) }
     {
         let Some(mode) = system.names().mode(mode) else {
@@ -148,22 +161,32 @@ impl<'s> Kernel<'s> {
         ensures records { result ≡ record_at self.old.system self.old.mode self.old.arrivals self.old.ticks }
         ensures next { self.new ≡ record self.old { ticks = self.old.ticks + 1 } }
     {
-        let mut record_of_tick = mem::replace(&mut self.opening, TickRecord::new());
+        let mut record_of_tick = TickRecord::new();
+        self.tick_into(&mut record_of_tick);
+        record_of_tick
+    }
+
+    /// Does one tick, and leaves its records in place of those of an earlier one. That spares making a list a tick.
+    pub fn tick_into(&mut self, record_of_tick: &mut TickRecord)
+        requires { is_over self.old ≡ false }
+        ensures records { record_of_tick.new ≡ record_at self.old.system self.old.mode self.old.arrivals self.old.ticks }
+        ensures next { self.new ≡ record self.old { ticks = self.old.ticks + 1 } }
+    {
+        put_first(&mut self.opening, self.ticks, record_of_tick);
         self.arrived = before_execution(
             &mut self.core,
             self.system,
             self.arrivals.list(),
             self.arrived,
             self.ticks,
-            &mut record_of_tick,
+            record_of_tick,
         );
         from_execution(
             &mut self.core,
             &mut self.windows,
             self.system,
-            &mut record_of_tick,
+            record_of_tick,
         );
         self.ticks += 1;
-        record_of_tick
     }
 }

@@ -7,6 +7,9 @@ use Rattle.kernel.specs.Run.{AreAhead}
 use Rattle.kernel.proofs.ArrivalLemmas.{all_left}
 use Rattle.kernel.proofs.ExecutionLemmas.{words_equal}
 use Rattle.kernel.proofs.TickLemmas.{state_begun, records_begun}
+use Rattle.run_laws.proofs.SingleTick.{starts_singly}
+use Rattle.run_laws.proofs.Excluding.{excludes}
+use Rattle.run_laws.proofs.Blocking.{blocks_once}
 use Rattle.kernel.proofs.kernel.Kernel.boot.Goals as goal
 
 pub invariant_of-result : goal.invariant_of-result
@@ -34,4 +37,13 @@ invariant_of-result c =
           (s.state no_words) c.startup_record-opening.ensures.value (c.reschedule.ensures.events no_words);
       few = omega (arith, c.reschedule.ensures.few, c.startup_record-opening.ensures.few);
       none_later = λ later. absurd (omega (arith, later));
+    }
+
+pub returns-clause-lawful : goal.returns-clause-lawful
+returns-clause-lawful c =
+    let S = c.args.system.now in
+    record {
+      single_start = λ n. starts_singly S c.in-Some.mode c.args.arrivals n c.names.ensures.proper;
+      exclusion = λ n. excludes S c.in-Some.mode c.args.arrivals n c.names.ensures.proper;
+      single_blocking = λ n. blocks_once S c.in-Some.mode c.args.arrivals n c.names.ensures.proper;
     }

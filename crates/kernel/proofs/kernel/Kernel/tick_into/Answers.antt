@@ -8,7 +8,7 @@ use Rattle.services.specs.Objects.{state_of}
 use Rattle.kernel.specs.Run.{Run, AreLeft, is_over, record_at}
 use Rattle.kernel.proofs.RunLemmas.{IsGoing, going, unwritten_more}
 use Rattle.kernel.proofs.TickLemmas.{state_more, records_more}
-use Rattle.kernel.proofs.kernel.Kernel.tick.Goals as goal
+use Rattle.kernel.proofs.kernel.Kernel.tick_into.Goals as goal
 
 pub invariant_of-self : goal.invariant_of-self
 invariant_of-self c =
@@ -19,8 +19,8 @@ invariant_of-self c =
     let f = c.from_execution in
     let on : IsGoing S k.mode k.arrivals k.ticks = going S k.mode k.arrivals k.ticks (ap is_over c.self.view_is ∙ c.requires) in
     let before = λ (w : _). b.ensures.state w ∙ ap (λ (xs : List Arrival). (before_execution S (arriving xs k.ticks) (state_of w (record k.core { tick = k.ticks }))).state) c.list.ensures.value in
-    let none : c.replace-record_of_tick.new.dest ≡ [] = c.replace-record_of_tick.ensures.after ∙ c.new.ensures in
-    let size : length c.replace-record_of_tick.new.dest ≡ 0 = ap (λ (r : List TraceEvent). length r) none in
+    let none : c.put_first.new.opening ≡ [] = c.put_first.ensures.after in
+    let size : length c.put_first.new.opening ≡ 0 = ap (λ (r : List TraceEvent). length r) none in
     record {
       fit = f.ensures.fit;
       known = v.known;
@@ -50,8 +50,8 @@ returns-clause-records c =
     let w = word k.windows in
     let s = state_of w (record k.core { tick = k.ticks }) in
     let before = b.ensures.state w ∙ ap (λ (xs : List Arrival). (before_execution S (arriving xs k.ticks) s).state) c.list.ensures.value in
-    let some = b.ensures.events w ∙ ap (λ (xs : List Arrival). c.replace-record_of_tick.result ++ (before_execution S (arriving xs k.ticks) s).events) c.list.ensures.value in
+    let some = b.ensures.events w ∙ ap (λ (xs : List Arrival). c.put_first.new.record_of_tick ++ (before_execution S (arriving xs k.ticks) s).events) c.list.ensures.value in
     records_more S k.mode k.arrivals k.ticks w k.core b.new.core v.state before
-    c.replace-record_of_tick.result b.new.record_of_tick f.new.record_of_tick
-    (c.replace-record_of_tick.ensures.value ∙ v.unwritten) some f.ensures.events
+    c.put_first.new.record_of_tick b.new.record_of_tick f.new.record_of_tick
+    (c.put_first.ensures.value ∙ v.unwritten) some f.ensures.events
     ∙ ap (λ (r : Run). record_at r.system r.mode r.arrivals r.ticks) c.self.view_is

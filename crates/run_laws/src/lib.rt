@@ -1,0 +1,8 @@
+//! Laws of whole runs: what holds of the state of every run of a proper system.
+//!
+//! Each function is empty. Its clause is the law, which speaks of the definitions alone.
+#![tactic(auto)]
+
+mod runs;
+
+pub use runs::{blocks_once, excludes, starts_singly, stays_good};

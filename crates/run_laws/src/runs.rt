@@ -1,0 +1,25 @@
+//! The laws, one function each.
+
+ghost use Rattle.osek_base.specs.Laws.{StaysGood};
+ghost use Rattle.run_laws.specs.Runs.{AlwaysBlocksOnce, AlwaysExcludes, AlwaysStartsSingly};
+
+/// Of one task no job but the oldest is begun, in every state of every run of a proper system.
+pub fn starts_singly()
+    ensures { AlwaysStartsSingly }
+{}
+
+/// Every state of every run of a proper system is good, and has its shape.
+pub fn stays_good()
+    ensures { StaysGood }
+{}
+
+/// A `GetResource` by a job that may take the resource is answered E_OS_ACCESS only where that job itself holds it, in every
+/// run of a proper system.
+pub fn excludes()
+    ensures { AlwaysExcludes }
+{}
+
+/// Each time that a job becomes ready, it has at most one blocker, in every run of a proper system.
+pub fn blocks_once()
+    ensures { AlwaysBlocksOnce }
+{}
