@@ -1,16 +1,7 @@
 //! `osek_run`: runs a system that an OIL file and programs describe, and prints its trace.
 #![tactic(auto)]
 
-mod answering;
-#[cfg(test)]
-mod check_tests;
-mod host_files;
-mod request;
-#[cfg(test)]
-mod tests;
-
-use answering::{REFUSED, REFUSED_LINE, command};
-use host_files::HostFiles;
+use command_line::{HostFiles, REFUSED, REFUSED_LINE, command};
 use std::env;
 use std::io::{self, BufWriter, ErrorKind, Write};
 use std::process::ExitCode;

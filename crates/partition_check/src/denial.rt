@@ -1,9 +1,11 @@
 //! Partitions, no part of the standards. The rules, and what breaks one of them.
 
 ghost use Rattle.std.specs.Prelude.{◌≡◌};
+ghost use Rattle.osek_base.specs.Names.{HasOwner, owner_name};
 ghost use Rattle.partition_check.specs.Partition.{rule_number};
 
-use osek_base::Owner;
+use osek_base::{Name, Names, Owner, System};
+use std::fmt;
 use std::marker::Model;
 
 /// A rule under which the upper part of a system is separable from the lower one.
@@ -60,4 +62,53 @@ impl Model for Denial {
     ghost view = { λ d. record { rule = d.rule; subject = d.subject; place = d.place } };
 
     ghost inverse = { λ d. record { rule = d.rule; subject = d.subject; place = d.place } };
+}
+
+impl Denial {
+    /// The denial with its subject's name, as the system has it.
+    pub fn named(&self, system: &System) -> NamedDenial
+        requires { HasOwner system.now.names self.now.subject }
+        ensures rule { result.rule ≡ self.now.rule }
+        ensures subject { result.subject ≡ owner_name system.now.names self.now.subject }
+        ensures place { result.place ≡ self.now.place }
+    {
+        NamedDenial {
+            rule: self.rule,
+            subject: name_of(system.names(), self.subject),
+            place: self.place,
+        }
+    }
+}
+
+/// The name of a task or routine.
+fn name_of(names: &Names, owner: Owner) -> Name
+    requires { HasOwner names.now owner }
+    ensures { result ≡ owner_name names.now owner }
+{
+    let name = match owner {
+        Owner::Task(task) => names.tasks[task.number() as usize].as_str(),
+        Owner::Routine(routine) => names.routines[routine.number() as usize].as_str(),
+    };
+    Name::new(name).unwrap()
+}
+
+/// A denial with the name of its subject, as it is printed.
+#[derive(Debug, Drop)]
+pub struct NamedDenial {
+    pub rule: Rule,
+    /// The name of a task or of a routine.
+    pub subject: Name,
+    /// The place of an instruction, 0 to 1,023, for the rules on programs.
+    pub place: Option<u16>,
+}
+
+impl fmt::Display for NamedDenial {
+    fn fmt<W: fmt::Write>(&self, f: &mut fmt::Formatter<W>) -> fmt::Result {
+        let rule = self.rule.number();
+        let subject = self.subject.as_str();
+        match self.place {
+            None => write!(f, "rule {rule}, {subject}"),
+            Some(place) => write!(f, "rule {rule}, {subject}, {place}"),
+        }
+    }
 }

@@ -8,4 +8,4 @@ mod programs;
 mod tasks;
 
 pub use check::check_partition;
-pub use denial::{Denial, Rule};
+pub use denial::{Denial, NamedDenial, Rule};

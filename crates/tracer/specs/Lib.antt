@@ -1,5 +1,7 @@
 pub mod Sinks
 pub mod Lines
+pub mod Shown
 pub mod ArrivalText
 pub mod RunFaults
 pub mod WholeRuns
+pub mod UpperRuns

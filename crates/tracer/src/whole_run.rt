@@ -1,20 +1,25 @@
 //! Whole runs, no part of the standards: from the three texts to the trace.
 
-ghost use Rattle.std.specs.Prelude.{◌≡◌, ◌≢◌, ◌≤◌, ℕ, List, true, false, IfOk, IfErr, OnOk, OnErr};
+ghost use Rattle.std.specs.Prelude.{◌≡◌, ◌≢◌, ◌≤◌, ◌+◌, ℕ, List, true, false, IfOk, IfErr, OnOk, OnErr};
 ghost use Rattle.std.specs.Io.KnownBytes.{Appends};
-ghost use Rattle.osek_base.specs.Text.{line, text};
+ghost use Rattle.osek_base.specs.Text.{line};
 ghost use Rattle.osek_base.specs.Trace.{run};
+ghost use Rattle.kernel.specs.Run.{is_over, record_at};
 ghost use Rattle.tracer.specs.Lines.{ended, tick_text};
+ghost use Rattle.tracer.specs.Shown.{records_shown, text_shown};
 ghost use Rattle.tracer.specs.Sinks.{AppendsSome};
+ghost use Rattle.tracer.specs.UpperRuns.{IsShown};
 ghost use Rattle.tracer.specs.WholeRuns.{IsSystemOf, IsBegun, IsTrace, RefusesSystem, RefusesStart, IsFirstRefusal};
 
 use crate::arrivals::{IrqFault, read_arrivals};
 use crate::line::line_text;
 use crate::sink::{Sink, SinkFault, write_all};
+use crate::view::upper_view;
 use arrayvec::ArrayString;
 use kernel::{BootFault, Kernel};
 use oil_reader::{OilFault, read_oil};
 use osek_base::{Names, System, TickRecord, TraceEvent};
+use partition_check::NamedDenial;
 use std::alloc::Global;
 use system_gen::{GenFault, generate};
 use task_asm::{AsmFault, assemble};
@@ -32,6 +37,9 @@ pub enum RunFault {
     /// The OIL file and the programs make no system.
     #[error("gen: {0}")]
     Gen(GenFault),
+    /// The upper part of the system isn't separable at the priority of a view.
+    #[error("denied: {0}")]
+    Denied(NamedDenial),
     /// The arrival list is refused.
     #[error("irq: {0}")]
     Irq(IrqFault),
@@ -159,33 +167,49 @@ fn write_tick<S: Sink>(
     Ok(())
 }
 
-/// Writes the ticks of a run that has just begun, as many as asked for, or up to a shutdown.
+/// Does a tick, and leaves its records that are written: all, or those of the view at a priority.
+fn tick_shown(kernel: &mut Kernel<'_>, system: &System, view: Option<u8>, records: &mut TickRecord)
+    requires { is_over kernel.old ≡ false }
+    ensures records { records.new ≡ records_shown system.now view (record_at kernel.old.system kernel.old.mode kernel.old.arrivals kernel.old.ticks) }
+    ensures next { kernel.new ≡ record kernel.old { ticks = kernel.old.ticks + 1 } }
+{
+    kernel.tick_into(records);
+    if let Some(p) = view {
+        *records = upper_view(system, p, records);
+    }
+}
+
+/// Writes the ticks of a run that has just begun, as many as asked for, or up to a shutdown: all records, or those of the
+/// view at a priority.
 fn write_ticks<S: Sink>(
     kernel: &mut Kernel<'_>,
-    names: &Names,
+    system: &System,
+    view: Option<u8>,
     ticks: u32,
     out: &mut S,
 ) -> Result<(), SinkFault>
     requires begun { kernel.old.ticks ≡ 0 }
     requires ticks { ticks ≤ 1000000 }
     requires fresh { S.has_failed out.old ≡ false }
-    ensures written { OnOk result (Appends (S.taken out.old) (S.taken out.new) (text names.now (run kernel.old.system kernel.old.mode kernel.old.arrivals ticks))) }
-    ensures beginning { OnErr result (AppendsSome (S.taken out.old) (S.taken out.new) (text names.now (run kernel.old.system kernel.old.mode kernel.old.arrivals ticks))) }
+    ensures written { OnOk result (Appends (S.taken out.old) (S.taken out.new) (text_shown system.now view (run kernel.old.system kernel.old.mode kernel.old.arrivals ticks))) }
+    ensures beginning { OnErr result (AppendsSome (S.taken out.old) (S.taken out.new) (text_shown system.now view (run kernel.old.system kernel.old.mode kernel.old.arrivals ticks))) }
     ensures still { OnOk result (S.has_failed out.new ≡ false) }
     ensures failed { OnErr result (S.has_failed out.new ≡ true) }
 {
+    let names = system.names();
+    let mut records = TickRecord::new();
     'ticks: for tick in 0..ticks {
         if kernel.is_over() {
             break;
         }
-        let records = kernel.tick();
+        tick_shown(kernel, system, view, &mut records);
         write_tick(names, tick, &records, out)?;
     }
     Ok(())
 }
 
 /// The system of an OIL text and a program text, or the first fault of these.
-fn system_of(alloc: Global, oil: &[u8], asm: &[u8]) -> Result<System, RunFault>
+pub(crate) fn system_of(alloc: Global, oil: &[u8], asm: &[u8]) -> Result<System, RunFault>
     ensures made { IfOk result (IsSystemOf oil.now asm.now) }
     ensures refusal { IfErr result (RefusesSystem oil.now asm.now) }
 {
@@ -206,6 +230,31 @@ fn begin<'s>(
 {
     let arrivals = read_arrivals(alloc, irqs, system)?;
     Ok(Kernel::boot(alloc, system, mode, arrivals)?)
+}
+
+/// Boots a system in a mode with the arrivals of a list, runs it for some ticks, and writes its trace, or the view at a
+/// priority.
+pub(crate) fn write_run<S: Sink>(
+    alloc: Global,
+    system: &System,
+    view: Option<u8>,
+    irqs: &[u8],
+    mode: &str,
+    ticks: u32,
+    out: &mut S,
+) -> Result<(), RunFault>
+    requires ticks { ticks ≤ 1000000 }
+    requires fresh { S.has_failed out.old ≡ false }
+    ensures written { OnOk result ((bytes : List ℕ) × IsShown system.now view irqs.now mode.now ticks bytes × Appends (S.taken out.old) (S.taken out.new) bytes) }
+    ensures still { OnOk result (S.has_failed out.new ≡ false) }
+    ensures beginning { IfErr result (λ fault. fault ≡ RunFault.Write → (bytes : List ℕ) × IsShown system.now view irqs.now mode.now ticks bytes × AppendsSome (S.taken out.old) (S.taken out.new) bytes) }
+    ensures failed { IfErr result (λ fault. fault ≡ RunFault.Write → S.has_failed out.new ≡ true) }
+    ensures unwritten { IfErr result (λ fault. fault ≢ RunFault.Write → out.new ≡ out.old) }
+    ensures refusal { IfErr result (λ fault. fault ≢ RunFault.Write → RefusesStart system.now irqs.now mode.now fault) }
+{
+    let mut kernel = begin(alloc, system, irqs, mode)?;
+    write_ticks(&mut kernel, system, view, ticks, out)?;
+    Ok(())
 }
 
 /// Runs a system for some ticks, at most 1,000,000, and writes its trace. The OIL text is read, then the programs, the
@@ -231,7 +280,5 @@ pub fn run<S: Sink>(
     ensures refusal { IfErr result (λ fault. fault ≢ RunFault.Write → IsFirstRefusal oil.now asm.now irqs.now mode.now fault) }
 {
     let system = system_of(alloc, oil, asm)?;
-    let mut kernel = begin(alloc, &system, irqs, mode)?;
-    write_ticks(&mut kernel, system.names(), ticks, out)?;
-    Ok(())
+    write_run(alloc, &system, None, irqs, mode, ticks, out)
 }

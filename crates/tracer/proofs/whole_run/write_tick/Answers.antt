@@ -36,7 +36,7 @@ stopped_at a b c names t xs i x h e p q =
 
 pub returns-in_err-write_record-clause-beginning : goal.returns-in_err-write_record-clause-beginning
 returns-in_err-write_record-clause-beginning g c =
-    let entries = c.entries-entry-items.ensures in
+    let entries = c.entries-entry-items.ensures.value in
     on_err c.from_residual.result _
     (stopped_at _ _ _ c.args.names.now c.args.tick c.args.records.now c.records.entry-index c.entry-item.result
     (rw (← entries) c.records-test.true) (rw (← entries) c.entry-item.is)

@@ -1,21 +1,19 @@
 //! Answers to command lines: what is printed, and the exit status.
 
-ghost use Rattle.osek_base.specs.Names.{HasOwner};
-
 use crate::host_files::{FileFault, Files};
-use crate::request::{Request, read_line};
+use crate::request::{Request, RunLine, read_line};
 use clap::Error as LineError;
 use clap::error::ErrorKind;
 use oil_reader::read_oil;
 use osek_base::System;
-use partition_check::{Denial, check_partition};
+use partition_check::{NamedDenial, check_partition};
 use std::alloc::Global;
 use std::convert::AsStr;
-use std::io::{self, Write};
+use std::io::Write;
 use system_gen::{class_of, generate};
 use task_asm::assemble;
 use thiserror::Error;
-use tracer::{RunFault, StdSink, run};
+use tracer::{RunFault, StdSink, run, run_upper};
 
 /// Exit status: the line is answered, also one that asks for help.
 pub const DONE: u8 = 0;
@@ -84,11 +82,11 @@ fn write_class<O: Write>(
     oil: &[u8],
     asm: &[u8],
     out: &mut O,
-) -> Result<(), RunFault> {
+) -> Result<u8, RunFault> {
     let system = read_system(alloc, oil, asm)?;
     let class = class_of(&system);
     match writeln!(out, "{}", class.name()) {
-        Ok(()) => Ok(()),
+        Ok(()) => Ok(DONE),
         Err(_) => Err(RunFault::Write),
     }
 }
@@ -102,25 +100,56 @@ fn write_check<O: Write>(
     out: &mut O,
 ) -> Result<u8, RunFault> {
     let system = read_system(alloc, oil, asm)?;
-    let (written, status) = match check_partition(&system, priority) {
-        Ok(()) => (writeln!(out, "accepted"), DONE),
-        Err(denial) => (write_denial(&system, &denial, out), DENIED),
-    };
-    match written {
-        Ok(()) => Ok(status),
-        Err(_) => Err(RunFault::Write),
+    match check_partition(&system, priority) {
+        Ok(()) => match writeln!(out, "accepted") {
+            Ok(()) => Ok(DONE),
+            Err(_) => Err(RunFault::Write),
+        },
+        Err(denial) => write_denial(&denial.named(&system), out),
     }
 }
 
 /// Writes a denial: the rule, its subject by name, and a place where the rule is on programs.
-fn write_denial<O: Write>(system: &System, denial: &Denial, out: &mut O) -> io::Result<()>
-    requires { HasOwner system.now.names denial.now.subject }
-{
-    let rule = denial.rule.number();
-    let name = system.names().of(denial.subject);
-    match denial.place {
-        None => writeln!(out, "denied: rule {rule}, {name}"),
-        Some(place) => writeln!(out, "denied: rule {rule}, {name}, {place}"),
+fn write_denial<O: Write>(denial: &NamedDenial, out: &mut O) -> Result<u8, RunFault> {
+    match writeln!(out, "denied: {denial}") {
+        Ok(()) => Ok(DENIED),
+        Err(_) => Err(RunFault::Write),
+    }
+}
+
+/// Writes the trace of a run.
+fn write_trace<'a, F: Files, O: Write>(
+    alloc: Global,
+    line: RunLine<'a>,
+    files: &mut F,
+    out: &mut O,
+) -> Result<u8, Failure<'a>> {
+    let oil = read_file(alloc, files, line.oil)?;
+    let asm = read_file(alloc, files, line.asm)?;
+    let irq = read_file(alloc, files, line.irq)?;
+    let ticks = line.ticks.min(MOST_TICKS);
+    let mut sink = StdSink::new(&mut *out);
+    run(alloc, &oil, &asm, &irq, line.mode, ticks, &mut sink)?;
+    Ok(DONE)
+}
+
+/// Writes the view of a run at a priority, or the first denial.
+fn write_upper<'a, F: Files, O: Write>(
+    alloc: Global,
+    line: RunLine<'a>,
+    p: u8,
+    files: &mut F,
+    out: &mut O,
+) -> Result<u8, Failure<'a>> {
+    let oil = read_file(alloc, files, line.oil)?;
+    let asm = read_file(alloc, files, line.asm)?;
+    let irq = read_file(alloc, files, line.irq)?;
+    let ticks = line.ticks.min(MOST_TICKS);
+    let mut sink = StdSink::new(&mut *out);
+    match run_upper(alloc, &oil, &asm, &irq, line.mode, ticks, p, &mut sink) {
+        Ok(()) => Ok(DONE),
+        Err(RunFault::Denied(denial)) => Ok(write_denial(&denial, out)?),
+        Err(fault) => Err(Failure::Run(fault)),
     }
 }
 
@@ -131,40 +160,20 @@ fn answer<'a, F: Files, O: Write>(
     files: &mut F,
     out: &mut O,
 ) -> Result<u8, Failure<'a>> {
-    let mut status = DONE;
-    match request {
-        Request::Trace {
-            oil,
-            asm,
-            irq,
-            mode,
-            ticks,
-        } => {
-            let oil = read_file(alloc, files, oil)?;
-            let asm = read_file(alloc, files, asm)?;
-            let irq = read_file(alloc, files, irq)?;
-            let mut sink = StdSink::new(&mut *out);
-            run(
-                alloc,
-                &oil,
-                &asm,
-                &irq,
-                mode,
-                ticks.min(MOST_TICKS),
-                &mut sink,
-            )?;
-        }
+    let status = match request {
+        Request::Trace(line) => write_trace(alloc, line, files, out)?,
+        Request::Upper(line, p) => write_upper(alloc, line, p, files, out)?,
         Request::Check { oil, asm, priority } => {
             let oil = read_file(alloc, files, oil)?;
             let asm = read_file(alloc, files, asm)?;
-            status = write_check(alloc, &oil, &asm, priority, out)?;
+            write_check(alloc, &oil, &asm, priority, out)?
         }
         Request::Class { oil, asm } => {
             let oil = read_file(alloc, files, oil)?;
             let asm = read_file(alloc, files, asm)?;
-            write_class(alloc, &oil, &asm, out)?;
+            write_class(alloc, &oil, &asm, out)?
         }
-    }
+    };
     match out.flush() {
         Ok(()) => Ok(status),
         Err(_) => Err(Failure::Run(RunFault::Write)),

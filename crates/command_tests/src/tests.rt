@@ -1,7 +1,6 @@
 //! Command lines with files in memory: what is printed on both streams, and the exit status.
 
-use crate::answering::command;
-use crate::host_files::{FileFault, Files};
+use command_line::{FileFault, Files, command};
 use std::alloc::Global;
 use std::io::{self, ErrorKind, Write};
 use std::test::Fail;
@@ -252,7 +251,7 @@ fn refused_inputs(rt: HostRuntime) {
 
 #[test]
 fn refused_lines(rt: HostRuntime) {
-    let cases: [&[&str]; 9] = [
+    let cases: [&[&str]; 10] = [
         &["osek_run"],
         &[
             "osek_run",
@@ -262,7 +261,17 @@ fn refused_lines(rt: HostRuntime) {
             "none.irq",
             "M",
             "3",
+        ],
+        &[
+            "osek_run",
+            "upper",
+            "one_task.oil",
+            "one_task.asm",
+            "none.irq",
+            "M",
+            "3",
             "1",
+            "--alone",
         ],
         &[
             "osek_run",

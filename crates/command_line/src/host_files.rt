@@ -14,7 +14,7 @@ pub enum FileFault {
 }
 
 impl From<AllocError> for FileFault {
-    ghost use Rattle.osek_run.specs.declared.host_files.FileFault.TheVariants.{Memory};
+    ghost use Rattle.command_line.specs.declared.host_files.FileFault.TheVariants.{Memory};
     ghost use Rattle.std.specs.Prelude.{◌≡◌};
 
     ghost from_gives = { λ _ fault. fault ≡ Memory };

@@ -1,7 +1,6 @@
 //! Verdicts of the partition check on the command line, over files in memory.
 
-use crate::answering::command;
-use crate::host_files::{FileFault, Files};
+use command_line::{FileFault, Files, command};
 use std::alloc::Global;
 use std::test::Fail;
 

@@ -1,0 +1,9 @@
+//! The command line of `osek_run`, no part of the standards: what a line asks for, and the answer to it.
+#![tactic(auto)]
+
+mod answering;
+mod host_files;
+mod request;
+
+pub use answering::{DENIED, DONE, REFUSED, REFUSED_LINE, WRITE_FAILED, command};
+pub use host_files::{FileFault, Files, HostFiles};

@@ -1,0 +1,52 @@
+//! Partitions, no part of the standards. From the three texts to the view at a priority.
+
+ghost use Rattle.std.specs.Prelude.{◌≡◌, ◌≢◌, ◌≤◌, ℕ, List, true, false, IfErr, OnOk};
+ghost use Rattle.std.specs.Io.KnownBytes.{Appends};
+ghost use Rattle.osek_base.specs.Separable.{Separable};
+ghost use Rattle.tracer.specs.Sinks.{AppendsSome};
+ghost use Rattle.tracer.specs.UpperRuns.{IsView, RefusesPartition, IsFirstViewRefusal};
+ghost use Rattle.tracer.specs.declared.whole_run.RunFault.{RunFault};
+
+use crate::sink::Sink;
+use crate::whole_run::{RunFault, system_of, write_run};
+use osek_base::System;
+use partition_check::check_partition;
+use std::alloc::Global;
+
+/// Checks that the upper part of a system at p is separable. A refusal is the first denial, with its subject's name.
+fn check_upper(system: &System, p: u8) -> Result<(), RunFault>
+    ensures accepts { OnOk result (Separable system.now p) }
+    ensures denies { IfErr result (RefusesPartition system.now p) }
+{
+    match check_partition(system, p) {
+        Ok(()) => Ok(()),
+        Err(denial) => Err(RunFault::Denied(denial.named(system))),
+    }
+}
+
+/// Runs a system for some ticks, at most 1,000,000, and writes the view at p, 0 to 31: the trace as far as it is of tasks of
+/// priority p or more, of routines, and of alarms that act on such tasks. All is as in `run`, but that the partition at p is
+/// checked before the arrival list is read: where it is denied, the answer is the first denial, and nothing is written.
+pub fn run_upper<S: Sink>(
+    alloc: Global,
+    oil: &[u8],
+    asm: &[u8],
+    irqs: &[u8],
+    mode: &str,
+    ticks: u32,
+    p: u8,
+    out: &mut S,
+) -> Result<(), RunFault>
+    requires ticks { ticks ≤ 1000000 }
+    requires fresh { S.has_failed out.old ≡ false }
+    ensures written { OnOk result ((bytes : List ℕ) × IsView oil.now asm.now irqs.now mode.now ticks p bytes × Appends (S.taken out.old) (S.taken out.new) bytes) }
+    ensures still { OnOk result (S.has_failed out.new ≡ false) }
+    ensures beginning { IfErr result (λ fault. fault ≡ RunFault.Write → (bytes : List ℕ) × IsView oil.now asm.now irqs.now mode.now ticks p bytes × AppendsSome (S.taken out.old) (S.taken out.new) bytes) }
+    ensures failed { IfErr result (λ fault. fault ≡ RunFault.Write → S.has_failed out.new ≡ true) }
+    ensures unwritten { IfErr result (λ fault. fault ≢ RunFault.Write → out.new ≡ out.old) }
+    ensures refusal { IfErr result (λ fault. fault ≢ RunFault.Write → IsFirstViewRefusal oil.now asm.now irqs.now mode.now p fault) }
+{
+    let system = system_of(alloc, oil, asm)?;
+    check_upper(&system, p)?;
+    write_run(alloc, &system, Some(p), irqs, mode, ticks, out)
+}
