@@ -5,6 +5,3 @@ mod alarms;
 mod slot;
 
 pub use alarms::Alarms;
-
-#[cfg(test)]
-mod tests;

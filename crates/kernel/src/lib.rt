@@ -5,7 +5,5 @@ mod dispatch;
 mod execution;
 mod kernel;
 mod phases;
-#[cfg(test)]
-mod tests;
 
 pub use kernel::{BootFault, Kernel};

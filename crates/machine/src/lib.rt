@@ -8,6 +8,3 @@ mod windows;
 pub use cpu::{Cpu, Saved};
 pub use execution::exec_plain;
 pub use windows::Windows;
-
-#[cfg(test)]
-mod tests;

@@ -7,15 +7,11 @@
 mod checks;
 mod fault;
 mod file;
-#[cfg(test)]
-mod hostile_tests;
 mod ident;
 mod objects;
 mod reading;
 mod syntax;
 mod table;
-#[cfg(test)]
-mod tests;
 mod tokens;
 
 pub use fault::OilFault;

@@ -4,6 +4,3 @@
 mod held;
 
 pub use held::Held;
-
-#[cfg(test)]
-mod tests;

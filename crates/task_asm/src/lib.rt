@@ -9,8 +9,6 @@ mod labels;
 mod mnemonic;
 mod operands;
 mod program;
-#[cfg(test)]
-mod tests;
 mod text;
 mod tokens;
 

@@ -1,6 +1,6 @@
 //! Whole runs of small systems, record by record.
 
-use crate::Kernel;
+use kernel::Kernel;
 use osek_base::{
     Arrivals, Hooks, Instr, ModeId, Name, Names, Outcome, Owner, Parts, Place, Plain, Program,
     Register, Results, Schedule, Service, Status, System, Task, TaskId, TickRecord, TraceEvent,

@@ -2,25 +2,32 @@
 
 ghost use Rattle.std.specs.Prelude.{◌≡◌};
 
-use super::Held;
 use osek_base::{
     Hooks, Instr, Name, Names, Parts, Place, Plain, Program, Property, ResId, ResourceNumber,
     Schedule, Service, System, Task, TaskId,
 };
+use resources::Held;
 use std::alloc::{AllocError, Global};
 use std::test::Fail;
 
-/// A task of that priority that lists some resources, and ends.
-fn task(alloc: Global, priority: u8, listed: &[ResourceNumber]) -> Result<Task, AllocError> {
+/// A program that ends.
+fn ending(alloc: Global) -> Result<Program, AllocError> {
     let mut program = Program::new(alloc);
     program.push(Instr::Service(Service::TerminateTask))?;
     program.push(Instr::Plain(Plain::Jmp(Place::new(1))))?;
+    Ok(program)
+}
+
+/// A task of that priority that lists some resources, and ends.
+fn task(alloc: Global, priority: u8, listed: &[ResourceNumber]) -> Result<Task, AllocError> {
+    let resources = Vec::from_slice(alloc, listed)?;
+    let program = ending(alloc)?;
     Ok(Task {
         priority,
         schedule: Schedule::Full,
         activation: 1,
         autostart: Vec::new(alloc),
-        resources: Vec::from_slice(alloc, listed)?,
+        resources,
         events: Vec::new(alloc),
         program,
     })

@@ -1,7 +1,6 @@
 //! Texts that are no files, damaged files, and large texts.
 
-use crate::fault::OilFault;
-use crate::reading::read_oil;
+use oil_reader::{OilFault, read_oil};
 use std::alloc::{AllocError, Global};
 use std::test::Fail;
 
@@ -31,11 +30,27 @@ fn fault_of_one(byte: u8) -> OilFault {
     }
 }
 
-/// Whether the text is a file, or has a fault within it that has a number.
+/// The place of a fault that is no want of memory.
+fn fault_place(fault: OilFault) -> Option<usize> {
+    match fault {
+        OilFault::Token(place)
+        | OilFault::Syntax(place)
+        | OilFault::UnknownAttribute(place)
+        | OilFault::Missing(place)
+        | OilFault::Twice(place)
+        | OilFault::Range(place) => Some(place),
+        OilFault::Memory => None,
+    }
+}
+
+/// Whether the text is a file, or has a fault within it.
 fn is_answered(alloc: Global, text: &[u8]) -> bool {
     match read_oil(alloc, text) {
         Ok(_) => true,
-        Err(fault) => fault.number() >= 1 && fault.place() <= text.len(),
+        Err(fault) => match fault_place(fault) {
+            Some(place) => place <= text.len(),
+            None => false,
+        },
     }
 }
 

@@ -2,7 +2,7 @@
 
 ghost use Rattle.std.specs.Prelude.{◌≡◌, ◌<◌};
 
-use super::{Cpu, Windows, exec_plain};
+use machine::{Cpu, Windows, exec_plain};
 use osek_base::{
     Comparison, Effect, IsrId, Operation, Owner, Place, Plain, Register, Results, Service, Status,
     TaskId,
@@ -17,13 +17,18 @@ fn r(number: u8) -> Register
 }
 
 /// Executes an instruction of task 0, unless the place is the last.
-#[tactic(auto, using(crate::proofs::ExecutionLemmas::has_next))]
+#[tactic(auto, using(machine::proofs::ExecutionLemmas::has_next))]
 fn step(cpu: &mut Cpu, windows: &mut Windows, instruction: Plain) -> Option<Effect> {
     if cpu.place().number() >= Place::LIMIT - 1 {
         return None;
     }
     let owner = Owner::Task(TaskId::new(0));
     Some(exec_plain(cpu, windows, owner, &instruction))
+}
+
+/// A word of the window of that task.
+fn word_of_task(windows: &Windows, task: u8, index: u8) -> u32 {
+    windows.word(Owner::Task(TaskId::new(task % 32)), index % 64)
 }
 
 #[test]
@@ -44,8 +49,8 @@ fn sums_and_indices_wrap(rt: HostRuntime) -> Result<(), Fail> {
     ] {
         assert_eq!(rt; step(&mut cpu, &mut windows, instruction), Some(shown));
     }
-    assert_eq!(rt; windows.word(Owner::Task(TaskId::new(0)), 63), 7);
-    assert_eq!(rt; windows.word(Owner::Task(TaskId::new(1)), 0), 0);
+    assert_eq!(rt; word_of_task(&windows, 0, 63), 7);
+    assert_eq!(rt; word_of_task(&windows, 1, 0), 0);
     assert_eq!(rt; windows.word(Owner::Routine(IsrId::new(0)), 0), 0);
     Ok(())
 }

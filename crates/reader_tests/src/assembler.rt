@@ -1,11 +1,11 @@
 //! What no clause says: worked programs, a table of faults, and printed texts.
 
-use crate::{AsmFault, NamedInstr, NamedService, ProgramKind, assemble, instr_text};
 use arrayvec::ArrayString;
 use osek_base::{Instr, Names, Plain, Register, Service};
 use std::alloc::{AllocError, Global};
 use std::process::Abort;
 use std::test::Fail;
+use task_asm::{AsmFault, NamedInstr, NamedService, ProgramKind, assemble, instr_text};
 
 fn is_jump_to(instr: &NamedInstr, place: u16) -> bool {
     match instr {

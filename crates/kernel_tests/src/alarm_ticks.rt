@@ -1,9 +1,9 @@
 //! Alarms of a small system, tick by tick.
 
-ghost use Rattle.std.specs.Prelude.{◌≡◌, length, IfOk};
+ghost use Rattle.std.specs.Prelude.{◌<◌, length};
 ghost use Rattle.alarms.specs.Alarms.{IsTableOf};
 
-use super::Alarms;
+use alarms::Alarms;
 use arrayvec::ArrayVec;
 use osek_base::{
     Action, Alarm, AlarmId, AlarmStart, Counter, CounterId, Hooks, Instr, ModeId, Name, Names,
@@ -106,57 +106,92 @@ fn pass(alarms: &mut Alarms, system: &System, ticks: u32) -> bool
     any
 }
 
+/// SetRelAlarm for the first alarm.
+fn set_rel(alarms: &mut Alarms, system: &System, increment: u32, cycle: u32) -> Status
+    requires table { IsTableOf system.now alarms.old }
+    requires first { 0 < length system.now.alarms }
+    ensures { IsTableOf system.now alarms.new }
+{
+    alarms.set_rel(system, AlarmId::new(0), increment, cycle)
+}
+
+/// SetAbsAlarm for the first alarm.
+fn set_abs(alarms: &mut Alarms, system: &System, start: u32, cycle: u32) -> Status
+    requires table { IsTableOf system.now alarms.old }
+    requires first { 0 < length system.now.alarms }
+    ensures { IsTableOf system.now alarms.new }
+{
+    alarms.set_abs(system, AlarmId::new(0), start, cycle)
+}
+
+/// CancelAlarm for the first alarm.
+fn cancel(alarms: &mut Alarms, system: &System) -> Status
+    requires table { IsTableOf system.now alarms.old }
+    requires first { 0 < length system.now.alarms }
+    ensures { IsTableOf system.now alarms.new }
+{
+    alarms.cancel(AlarmId::new(0))
+}
+
+/// GetAlarm for the first alarm.
+fn remaining(alarms: &Alarms, system: &System) -> Option<u32>
+    requires table { IsTableOf system.now alarms.now }
+    requires first { 0 < length system.now.alarms }
+{
+    alarms.remaining(system, AlarmId::new(0))
+}
+
+/// The system with that counter.
+fn system_on(alloc: Global, counter: Counter) -> Result<System, Fail> {
+    Ok(System::new(parts(alloc, counter)?).ok_or("improper")?)
+}
+
 #[test]
 fn an_absolute_start_at_the_present_value_waits_a_whole_round(rt: HostRuntime) -> Result<(), Fail> {
-    let system = System::new(parts(rt.alloc(), counter(7, 1, 1))?).ok_or("improper")?;
-    let alarm = AlarmId::new(0);
+    let system = system_on(rt.alloc(), counter(7, 1, 1))?;
     assert_eq!(rt; system.alarm_count(), 1);
     let mut alarms = Alarms::new(&system);
     pass(&mut alarms, &system, 2);
-    assert_eq!(rt; alarms.set_abs(&system, alarm, 8, 0), Status::Value);
+    assert_eq!(rt; set_abs(&mut alarms, &system, 8, 0), Status::Value);
     pass(&mut alarms, &system, 1);
-    assert_eq!(rt; alarms.set_abs(&system, alarm, 3, 0), Status::Ok);
+    assert_eq!(rt; set_abs(&mut alarms, &system, 3, 0), Status::Ok);
     pass(&mut alarms, &system, 1);
-    assert_eq!(rt; alarms.remaining(&system, alarm), Some(7));
+    assert_eq!(rt; remaining(&alarms, &system), Some(7));
     assert_eq!(rt; pass(&mut alarms, &system, 6), false);
     assert_eq!(rt; pass(&mut alarms, &system, 1), true);
     assert_eq!(rt; alarms.tick(), 11);
-    assert_eq!(rt; alarms.remaining(&system, alarm), None);
+    assert_eq!(rt; remaining(&alarms, &system), None);
     Ok(())
 }
 
 #[test]
 fn bad_values_and_an_alarm_in_use_are_refused(rt: HostRuntime) -> Result<(), Fail> {
-    let system = System::new(parts(rt.alloc(), counter(7, 2, 1))?).ok_or("improper")?;
-    let alarm = AlarmId::new(0);
+    let system = system_on(rt.alloc(), counter(7, 2, 1))?;
     assert_eq!(rt; system.alarm_count(), 1);
     let mut alarms = Alarms::new(&system);
-    assert_eq!(rt; alarms.set_rel(&system, alarm, 0, 0), Status::Value);
-    assert_eq!(rt; alarms.set_rel(&system, alarm, 5, 1), Status::Value);
-    assert_eq!(rt; alarms.set_rel(&system, alarm, 5, 0), Status::Ok);
-    assert_eq!(rt; alarms.set_rel(&system, alarm, 5, 0), Status::State);
-    assert_eq!(rt; alarms.cancel(alarm), Status::Ok);
-    assert_eq!(rt; alarms.cancel(alarm), Status::NoFunc);
+    assert_eq!(rt; set_rel(&mut alarms, &system, 0, 0), Status::Value);
+    assert_eq!(rt; set_rel(&mut alarms, &system, 5, 1), Status::Value);
+    assert_eq!(rt; set_rel(&mut alarms, &system, 5, 0), Status::Ok);
+    assert_eq!(rt; set_rel(&mut alarms, &system, 5, 0), Status::State);
+    assert_eq!(rt; cancel(&mut alarms, &system), Status::Ok);
+    assert_eq!(rt; cancel(&mut alarms, &system), Status::NoFunc);
     Ok(())
 }
 
 #[test]
 fn a_round_of_two_to_the_31_counts(rt: HostRuntime) -> Result<(), Fail> {
-    let parts = parts(rt.alloc(), counter(2147483647, 1, 1000000))?;
-    let system = System::new(parts).ok_or("improper")?;
-    let alarm = AlarmId::new(0);
+    let system = system_on(rt.alloc(), counter(2147483647, 1, 1000000))?;
     assert_eq!(rt; system.alarm_count(), 1);
     let mut alarms = Alarms::new(&system);
-    assert_eq!(rt; alarms.set_abs(&system, alarm, 0, 0), Status::Ok);
+    assert_eq!(rt; set_abs(&mut alarms, &system, 0, 0), Status::Ok);
     pass(&mut alarms, &system, 1);
-    assert_eq!(rt; alarms.remaining(&system, alarm), Some(2147483648));
+    assert_eq!(rt; remaining(&alarms, &system), Some(2147483648));
     Ok(())
 }
 
 #[test]
 fn a_cyclic_alarm_starts_by_itself(rt: HostRuntime) -> Result<(), Fail> {
-    let system = System::new(parts(rt.alloc(), counter(7, 1, 1))?).ok_or("improper")?;
-    let alarm = AlarmId::new(0);
+    let system = system_on(rt.alloc(), counter(7, 1, 1))?;
     assert_eq!(rt; system.alarm_count(), 1);
     let mut alarms = Alarms::new(&system);
     alarms.start(&system, ModeId::new(0));
@@ -164,12 +199,12 @@ fn a_cyclic_alarm_starts_by_itself(rt: HostRuntime) -> Result<(), Fail> {
     assert_eq!(rt; pass(&mut alarms, &system, 1), true);
     assert_eq!(rt; pass(&mut alarms, &system, 2), false);
     assert_eq!(rt; pass(&mut alarms, &system, 1), true);
-    assert_eq!(rt; alarms.remaining(&system, alarm), Some(3));
+    assert_eq!(rt; remaining(&alarms, &system), Some(3));
     let mut due = ArrayVec::new();
     pass(&mut alarms, &system, 2);
     assert_eq!(rt; alarms.tick(), 7);
     alarms.advance(&system, &mut due);
     assert_eq!(rt; due.len(), 1);
-    assert_eq!(rt; due[0], alarm);
+    assert_eq!(rt; due[0], AlarmId::new(0));
     Ok(())
 }
