@@ -138,6 +138,7 @@ fn write_upper<'a, F: Files, O: Write>(
     alloc: Global,
     line: RunLine<'a>,
     p: u8,
+    alone: bool,
     files: &mut F,
     out: &mut O,
 ) -> Result<u8, Failure<'a>> {
@@ -146,7 +147,9 @@ fn write_upper<'a, F: Files, O: Write>(
     let irq = read_file(alloc, files, line.irq)?;
     let ticks = line.ticks.min(MOST_TICKS);
     let mut sink = StdSink::new(&mut *out);
-    match run_upper(alloc, &oil, &asm, &irq, line.mode, ticks, p, &mut sink) {
+    match run_upper(
+        alloc, &oil, &asm, &irq, line.mode, ticks, p, alone, &mut sink,
+    ) {
         Ok(()) => Ok(DONE),
         Err(RunFault::Denied(denial)) => Ok(write_denial(&denial, out)?),
         Err(fault) => Err(Failure::Run(fault)),
@@ -162,7 +165,11 @@ fn answer<'a, F: Files, O: Write>(
 ) -> Result<u8, Failure<'a>> {
     let status = match request {
         Request::Trace(line) => write_trace(alloc, line, files, out)?,
-        Request::Upper(line, p) => write_upper(alloc, line, p, files, out)?,
+        Request::Upper {
+            line,
+            priority,
+            alone,
+        } => write_upper(alloc, line, priority, alone, files, out)?,
         Request::Check { oil, asm, priority } => {
             let oil = read_file(alloc, files, oil)?;
             let asm = read_file(alloc, files, asm)?;

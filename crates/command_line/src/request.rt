@@ -20,8 +20,12 @@ pub struct RunLine<'a> {
 pub enum Request<'a> {
     /// The trace of a run.
     Trace(RunLine<'a>),
-    /// The view of a run at a priority, 0 to 31.
-    Upper(RunLine<'a>, u8),
+    /// The view of a run at a priority, 0 to 31: of the system, or of its upper part by itself.
+    Upper {
+        line: RunLine<'a>,
+        priority: u8,
+        alone: bool,
+    },
     /// Whether the part of a system from a priority upward, 0 to 31, is separable from what is below.
     Check {
         oil: &'a str,
@@ -47,6 +51,13 @@ fn priority<'a>(alloc: Global) -> Arg<'a> {
     word(alloc, "P").value_parser(value_parser!(u8).range(0..=31))
 }
 
+fn alone<'a>(alloc: Global) -> Arg<'a> {
+    Arg::new(alloc, "alone")
+        .long("alone")
+        .action(ArgAction::SetTrue)
+        .help("Runs that part by itself")
+}
+
 fn trace_line<'a>(alloc: Global) -> Result<Command<'a>, AllocError> {
     Command::new(alloc, "trace")
         .about("Prints the trace of a system")
@@ -65,7 +76,8 @@ fn upper_line<'a>(alloc: Global) -> Result<Command<'a>, AllocError> {
         .arg(word(alloc, "IRQ"))?
         .arg(word(alloc, "MODE"))?
         .arg(ticks(alloc))?
-        .arg(priority(alloc))
+        .arg(priority(alloc))?
+        .arg(alone(alloc))
 }
 
 fn check_line<'a>(alloc: Global) -> Result<Command<'a>, AllocError> {
@@ -117,7 +129,11 @@ pub fn read_line<'a, S: AsStr>(alloc: Global, words: &'a [S]) -> Result<Request<
     let mut line = lines(alloc)?;
     let matches = line.try_get_matches_from_mut(words)?;
     match matches.subcommand() {
-        Some(("upper", found)) => Ok(Request::Upper(run_line(found), priority_of(found))),
+        Some(("upper", found)) => Ok(Request::Upper {
+            line: run_line(found),
+            priority: priority_of(found),
+            alone: found.get_flag("alone"),
+        }),
         Some(("check", found)) => Ok(Request::Check {
             oil: text(found, "OIL"),
             asm: text(found, "ASM"),

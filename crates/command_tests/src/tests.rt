@@ -251,7 +251,7 @@ fn refused_inputs(rt: HostRuntime) {
 
 #[test]
 fn refused_lines(rt: HostRuntime) {
-    let cases: [&[&str]; 10] = [
+    let cases: [&[&str]; 9] = [
         &["osek_run"],
         &[
             "osek_run",
@@ -261,17 +261,6 @@ fn refused_lines(rt: HostRuntime) {
             "none.irq",
             "M",
             "3",
-        ],
-        &[
-            "osek_run",
-            "upper",
-            "one_task.oil",
-            "one_task.asm",
-            "none.irq",
-            "M",
-            "3",
-            "1",
-            "--alone",
         ],
         &[
             "osek_run",

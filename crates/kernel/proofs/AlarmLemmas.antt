@@ -1,5 +1,5 @@
 -- Due alarms act in turn; at the first tick none is due.
-use Rattle.std.proofs.Common.{◌≡◌, ℕ, zero, suc, ◌+◌, ◌/◌, ◌<◌, ◌≤◌, Bool, true, false, not, ◌&&◌, cond, List, [], ◌∷◌, ◌++◌, map, take, drop, get_or, length, refl, sym, ◌∙◌, ap, ap₂, arith, append_assoc}
+use Rattle.std.proofs.Common.{◌≡◌, ℕ, zero, suc, ◌+◌, ◌/◌, ◌<◌, ◌≤◌, Bool, true, false, not, ◌&&◌, cond, List, [], ◌∷◌, ◌++◌, map, take, drop, get_or, length, refl, sym, ◌∙◌, ap, ap₂, subst, arith, append_assoc}
 use Rattle.std.specs.Prelude.{Option, None, slice_index_or}
 use Rattle.std.specs.List.{filter}
 use Rattle.std.proofs.Math.Seq.{drop-cons, take-length}
@@ -10,6 +10,7 @@ use Rattle.std.proofs.lemmas.List.Elements.{filter-append}
 use Rattle.std.proofs.Math.Numerals.{add-one}
 use Rattle.std.proofs.Math.Nat.{zero-div}
 use Rattle.osek_base.specs.declared.task.Action.{Action}
+use Rattle.osek_base.specs.declared.status.Status.{Status}
 use Rattle.osek_base.specs.declared.trace_event.Source.{Source}
 use Rattle.osek_base.specs.declared.trace_event.TraceEvent.{TraceEvent}
 use Rattle.osek_base.specs.declared.instr.Instr.{Instr}
@@ -17,42 +18,63 @@ use Rattle.osek_base.specs.Lists.{below}
 use Rattle.osek_base.specs.System.{System, alarm, counter_of}
 use Rattle.osek_base.specs.State.{State, Expiry, Words}
 use Rattle.osek_base.specs.Alarm.{count, expiry, is_due, is_due_at, due_alarms, alarms_advanced, renewed}
-use Rattle.osek_base.specs.Reschedule.{Recorded}
-use Rattle.osek_base.specs.Service.{Caller, NobodyCalls, unmasked_service}
-use Rattle.osek_base.specs.Tick.{alarm_acts, alarm_reply, alarms_act, action_call, error_record, alarm_phase, silent}
-use Rattle.services.specs.Objects.{Objects, state_of, no_words, unmasked}
+use Rattle.osek_base.specs.Tick.{action_call, error_record}
+use Rattle.osek_base.specs.Proper.{IsProper, is_proper_action}
+use Rattle.osek_base.proofs.PlaceLemmas.{and_split}
+use Rattle.run_laws.proofs.Known.{proper_alarm_at}
+use Rattle.run_laws.proofs.SingleTick.{true_lt}
+use Rattle.kept_state.specs.Kept.{Kept}
+use Rattle.kept_state.specs.Moves.{KeptRecorded}
+use Rattle.kept_state.specs.KeptService.{ByNobody, bare, unmasked_in}
+use Rattle.kept_state.specs.KeptTick.{alarm_reply_in, alarm_acts_in, alarms_act_in, alarm_phase_in, silent_in}
+use Rattle.kept_state.proofs.Words.{with_words, reply_with, unmasked_words}
+use Rattle.services.specs.Objects.{Objects, kept_of, kept_in}
 use Rattle.kernel.specs.Run.{AreAhead}
 
--- an action's service answers the same whoever calls
-nobody_calls : (S : System) (c : Caller) (s : State) (action : Action)
-    → unmasked_service S NobodyCalls s (action_call action) ≡ unmasked_service S c s (action_call action)
-unfolding unmasked_service
-nobody_calls S c s (Action.ActivateTask t) = refl
-nobody_calls S c s (Action.SetEvent t m) = refl
+-- the task on which an alarm acts exists
+abbrev pub acting_task : Action → ℕ
+acting_task (Action.ActivateTask t) = t
+acting_task (Action.SetEvent t m) = t
+
+task_known : (S : System) (action : Action) → is_proper_action S action ≡ true → acting_task action < length S.tasks
+task_known S (Action.ActivateTask t) h = true_lt t (length S.tasks) h
+task_known S (Action.SetEvent t m) h = true_lt t (length S.tasks) (and_split _ _ (and_split _ _ h).0).0
+
+pub acts_task : (S : System) (a : ℕ) (action : Action) → IsProper S → a < length S.alarms → (alarm S a).action ≡ action
+    → acting_task action < length S.tasks
+acts_task S a action proper inside is =
+    task_known S action (subst (λ v. is_proper_action S v ≡ true) is (and_split _ _ (and_split _ _ (proper_alarm_at S a proper inside)).0).1)
 
 -- an alarm acts by the service of its action
-pub acts_by : (S : System) (a : ℕ) (w : Words) (o : Objects) (action : Action) → (alarm S a).action ≡ action
-    → alarm_acts S a (state_of w o) ≡ alarm_reply S a (unmasked S w o (action_call action))
-acts_by S a w o action is =
-    ap (λ v. alarm_reply S a (unmasked_service S NobodyCalls (state_of w o) (action_call v))) is
-    ∙ ap (alarm_reply S a) (nobody_calls S _ (state_of w o) action)
+module _ (S : System) (a : ℕ) (w : Words) (o : Objects) (action : Action) (is : (alarm S a).action ≡ action) where
+  acts_by : alarm_acts_in S a (kept_of w o) ≡ alarm_reply_in S a (reply_with w (unmasked_in S ByNobody (kept_in o) (action_call action)))
+  acts_by =
+      ap (λ v. alarm_reply_in S a (unmasked_in S ByNobody (kept_of w o) (action_call v))) is
+      ∙ ap (alarm_reply_in S a) (unmasked_words S w ByNobody (kept_in o) (action_call action))
 
-pub records_by : (S : System) (a : ℕ) (w : Words) (o : Objects) (action : Action) → (alarm S a).action ≡ action
-    → (alarm_acts S a (state_of w o)).events
-    ≡ error_record S (Source.Alarm a) (Instr.Service (action_call action)) (unmasked S w o (action_call action)).status
-records_by S a w o action is =
-    ap (λ (r : Recorded). r.events) (acts_by S a w o action is)
-    ∙ ap (λ v. error_record S (Source.Alarm a) (Instr.Service (action_call v)) (unmasked S w o (action_call action)).status) is
+  pub state_by : (n : Objects) → kept_in n ≡ (unmasked_in S ByNobody (kept_in o) (action_call action)).state
+      → kept_of w n ≡ (alarm_acts_in S a (kept_of w o)).state
+  state_by n after = ap (with_words w) after ∙ sym (ap (λ (r : KeptRecorded). r.state) acts_by)
+
+  pub events_by : (status : Status) (earlier records : List TraceEvent)
+      → status ≡ (unmasked_in S ByNobody (kept_in o) (action_call action)).status
+      → records ≡ earlier ++ error_record S (Source.Alarm a) (Instr.Service (action_call action)) status
+      → records ≡ earlier ++ (alarm_acts_in S a (kept_of w o)).events
+  events_by status earlier records answered told =
+      told
+      ∙ ap (λ s. earlier ++ error_record S (Source.Alarm a) (Instr.Service (action_call action)) s) answered
+      ∙ ap (λ v. earlier ++ error_record S (Source.Alarm a) (Instr.Service (action_call v)) (unmasked_in S ByNobody (kept_in o) (action_call action)).status) (sym is)
+      ∙ sym (ap (λ (r : KeptRecorded). earlier ++ r.events) acts_by)
 
 -- the alarms from the i-th on complete what all are to do
 pub record AreActing (S : System) (due : List ℕ) (i : ℕ) (before now : Objects) (earlier records : List TraceEvent) : Type 0 where
-  pub state : (w : Words) → (alarms_act S (drop i due) (state_of w now)).state ≡ (alarms_act S due (state_of w before)).state
-  pub events : (w : Words) → records ++ (alarms_act S (drop i due) (state_of w now)).events ≡ earlier ++ (alarms_act S due (state_of w before)).events
+  pub state : (w : Words) → (alarms_act_in S (drop i due) (kept_of w now)).state ≡ (alarms_act_in S due (kept_of w before)).state
+  pub events : (w : Words) → records ++ (alarms_act_in S (drop i due) (kept_of w now)).events ≡ earlier ++ (alarms_act_in S due (kept_of w before)).events
 
 pub acting_more : (S : System) (due : List ℕ) (i a : ℕ) (before old new : Objects) (earlier records after : List TraceEvent)
     → AreActing S due i before old earlier records → i < length due → get_or due i 0 ≡ a
-    → ((w : Words) → state_of w new ≡ (alarm_acts S a (state_of w old)).state)
-    → ((w : Words) → after ≡ records ++ (alarm_acts S a (state_of w old)).events)
+    → ((w : Words) → kept_of w new ≡ (alarm_acts_in S a (kept_of w old)).state)
+    → ((w : Words) → after ≡ records ++ (alarm_acts_in S a (kept_of w old)).events)
     → AreActing S due (i + 1) before new earlier after
 acting_more S due i a before old new earlier records after acting low found state events =
     let rest : List ℕ = drop (i + 1) due in
@@ -60,55 +82,41 @@ acting_more S due i a before old new earlier records after acting low found stat
     drop-cons due i 0 low ∙ ap (λ v. v ∷ drop (suc i) due) found ∙ ap (λ k. a ∷ drop k due) (sym (add-one i)) in
     record {
       state = λ w.
-          ap (λ s. (alarms_act S rest s).state) (state w)
-          ∙ ap (λ v. (alarms_act S v (state_of w old)).state) (sym here) ∙ acting.state w;
+          ap (λ s. (alarms_act_in S rest s).state) (state w)
+          ∙ ap (λ v. (alarms_act_in S v (kept_of w old)).state) (sym here) ∙ acting.state w;
       events = λ w.
-          ap (λ s. after ++ (alarms_act S rest s).events) (state w)
-          ∙ ap (λ v. v ++ (alarms_act S rest (alarm_acts S a (state_of w old)).state).events) (events w)
+          ap (λ s. after ++ (alarms_act_in S rest s).events) (state w)
+          ∙ ap (λ v. v ++ (alarms_act_in S rest (alarm_acts_in S a (kept_of w old)).state).events) (events w)
           ∙ append_assoc records _ _
-          ∙ ap (λ v. records ++ (alarms_act S v (state_of w old)).events) (sym here) ∙ acting.events w;
+          ∙ ap (λ v. records ++ (alarms_act_in S v (kept_of w old)).events) (sym here) ∙ acting.events w;
     }
-
--- all alarms have acted
-pub record HaveActed (S : System) (due : List ℕ) (before now : Objects) (earlier records : List TraceEvent) : Type 0 where
-  pub state : (w : Words) → state_of w now ≡ (alarms_act S due (state_of w before)).state
-  pub events : (w : Words) → records ≡ earlier ++ (alarms_act S due (state_of w before)).events
-
-pub acting_all : (S : System) (due : List ℕ) (i : ℕ) (before now : Objects) (earlier records : List TraceEvent)
-    → AreActing S due i before now earlier records → length due ≤ i → HaveActed S due before now earlier records
-acting_all S due i before now earlier records acting end =
-    let none : drop i due ≡ [] = drop_of_length-le due end in
-    record {
-      state = λ w. ap (λ v. (alarms_act S v (state_of w now)).state) (sym none) ∙ acting.state w;
-      events = λ w.
-          sym (append-nil records) ∙ ap (λ v. records ++ (alarms_act S v (state_of w now)).events) (sym none)
-          ∙ acting.events w;
-    }
-
--- the phase: those that are due act, once they have expired
-pub phase_is : (S : System) (w : Words) (o : Objects)
-    → alarm_phase S (state_of w o)
-    ≡ alarms_act S (due_alarms S (state_of no_words o)) (state_of w (record o { alarms = alarms_advanced S (state_of no_words o) }))
-unfolding alarm_phase
-phase_is S w o = refl
 
 -- all alarms of the phase have acted
 pub record IsDone (S : System) (before now : Objects) (earlier records : List TraceEvent) : Type 0 where
-  pub state : (w : Words) → state_of w now ≡ (alarm_phase S (state_of w before)).state
-  pub events : (w : Words) → records ≡ earlier ++ (alarm_phase S (state_of w before)).events
+  pub state : (w : Words) → kept_of w now ≡ (alarm_phase_in S (kept_of w before)).state
+  pub events : (w : Words) → records ≡ earlier ++ (alarm_phase_in S (kept_of w before)).events
+
+-- the phase: those that are due act, once they have expired
+phase_is : (S : System) (w : Words) (o : Objects)
+    → alarm_phase_in S (kept_of w o)
+    ≡ alarms_act_in S (due_alarms S (bare (kept_in o))) (kept_of w (record o { alarms = alarms_advanced S (bare (kept_in o)) }))
+unfolding alarm_phase_in
+phase_is S w o = refl
 
 pub acted_phase : (S : System) (due : List ℕ) (i : ℕ) (before advanced now : Objects) (earlier records : List TraceEvent)
     → AreActing S due i advanced now earlier records → length due ≤ i
-    → due ≡ due_alarms S (state_of no_words before)
-    → advanced ≡ record before { alarms = alarms_advanced S (state_of no_words before) }
+    → due ≡ due_alarms S (bare (kept_in before))
+    → advanced ≡ record before { alarms = alarms_advanced S (bare (kept_in before)) }
     → IsDone S before now earlier records
 acted_phase S due i before advanced now earlier records acting end due_is advanced_is =
-    let h : HaveActed S due advanced now earlier records = acting_all S due i advanced now earlier records acting end in
-    let same : (w : Words) → alarms_act S due (state_of w advanced) ≡ alarm_phase S (state_of w before) = λ w.
-    ap₂ (λ (v : List ℕ) (o : Objects). alarms_act S v (state_of w o)) due_is advanced_is ∙ sym (phase_is S w before) in
+    let none : drop i due ≡ [] = drop_of_length-le due end in
+    let same : (w : Words) → alarms_act_in S due (kept_of w advanced) ≡ alarm_phase_in S (kept_of w before) = λ w.
+    ap₂ (λ (v : List ℕ) (o : Objects). alarms_act_in S v (kept_of w o)) due_is advanced_is ∙ sym (phase_is S w before) in
     record {
-      state = λ w. h.state w ∙ ap (λ (r : Recorded). r.state) (same w);
-      events = λ w. h.events w ∙ ap (λ (r : Recorded). earlier ++ r.events) (same w);
+      state = λ w. ap (λ v. (alarms_act_in S v (kept_of w now)).state) (sym none) ∙ acting.state w ∙ ap (λ (r : KeptRecorded). r.state) (same w);
+      events = λ w.
+          sym (append-nil records) ∙ ap (λ v. records ++ (alarms_act_in S v (kept_of w now)).events) (sym none)
+          ∙ acting.events w ∙ ap (λ (r : KeptRecorded). earlier ++ r.events) (same w);
     }
 
 -- ---- the first tick
@@ -156,8 +164,9 @@ module _ (S : System) (s : State) (first : s.tick ≡ 0) (size : length s.alarms
       ∙ ap (λ n. map (λ i. slice_index_or s.alarms i None) (below n)) (sym size)
       ∙ map_read s.alarms (length s.alarms) (omega arith) ∙ take-length s.alarms
 
-  -- at the first tick nothing is due
-  pub first_alarm_phase : alarm_phase S s ≡ silent s
-  unfolding alarm_phase
-  first_alarm_phase =
-      ap₂ (λ (due : List ℕ) (alarms : List (Option Expiry)). alarms_act S due (record s { alarms = alarms })) nothing_due nothing_advanced
+-- at the first tick nothing is due
+pub first_alarm_phase : (S : System) (o : Kept) → o.tick ≡ 0 → length o.alarms ≡ length S.alarms → AreAhead o.alarms → alarm_phase_in S o ≡ silent_in o
+unfolding alarm_phase_in
+first_alarm_phase S o first size ahead =
+    ap₂ (λ (due : List ℕ) (alarms : List (Option Expiry)). alarms_act_in S due (record o { alarms = alarms }))
+    (nothing_due S (bare o) first size ahead) (nothing_advanced S (bare o) first size ahead)

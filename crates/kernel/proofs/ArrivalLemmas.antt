@@ -9,7 +9,7 @@ use Rattle.osek_base.specs.declared.arrivals.Arrival.{Arrival}
 use Rattle.osek_base.specs.ArrivalList.{are_in_order, is_arrival_list}
 use Rattle.osek_base.specs.Tick.{flagged}
 use Rattle.osek_base.specs.Trace.{arriving}
-use Rattle.services.proofs.SoundLemmas.{and_split}
+use Rattle.osek_base.proofs.PlaceLemmas.{and_split}
 use Rattle.kernel.specs.Run.{AreLeft}
 
 -- a list in order: its first tick, and its rest

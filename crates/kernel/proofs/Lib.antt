@@ -1,9 +1,9 @@
 pub mod PlaceLemmas
-pub mod PhaseLemmas
 pub mod ArrivalLemmas
-pub mod AlarmLemmas
-pub mod RoutineLemmas
+pub mod PhaseLemmas
 pub mod ExecutionLemmas
 pub mod RunLemmas
+pub mod AlarmLemmas
 pub mod StartLemmas
 pub mod TickLemmas
+pub mod LawLemmas

@@ -1,18 +1,7 @@
 -- What the phases of a tick leave.
-use Rattle.std.proofs.Common.{◌≡◌, ℕ, zero, suc, ◌<◌, ◌≤◌, Bool, true, false, List, [], ◌∷◌, ◌++◌, length, cond, refl, arith, replicate, slice_index}
+use Rattle.std.proofs.Common.{ℕ, zero, suc, ◌<◌, ◌≤◌, Bool, true, false, List, [], ◌∷◌, ◌++◌, length, cond, arith, slice_index}
 use Rattle.std.specs.List.{filter, AllByRecursion}
-use Rattle.std.specs.Option.{option_map}
 use Rattle.osek_base.specs.Lists.{below}
-use Rattle.osek_base.specs.System.{System}
-use Rattle.osek_base.specs.State.{State, may_dispatch}
-use Rattle.osek_base.specs.Choice.{choice}
-use Rattle.osek_base.specs.Reschedule.{reschedule, id_of, jobs_entered}
-
--- the state after a reschedule
-pub reschedule_on : (S : System) (s : State) → may_dispatch s ≡ true
-    → (reschedule S s).state ≡ record s { running = option_map id_of (choice S s.jobs); jobs = jobs_entered S (choice S s.jobs) s.jobs }
-unfolding reschedule
-reschedule_on S s may = rw may refl
 
 -- numbers below a limit
 below_all : (n m : ℕ) → n ≤ m → AllByRecursion (λ k. k < m) (below n)
@@ -40,8 +29,3 @@ at_all m (x ∷ xs) (suc i) within all = at_all m xs i (omega arith) all.1
 -- one of the numbers below a limit that pass a test
 pub filtered_below : (test : ℕ → Bool) (n i : ℕ) → i < length (filter test (below n)) → slice_index (filter test (below n)) i < n
 filtered_below test n i within = at_all n (filter test (below n)) i within (filter_all test n (below n) (below_all n n (omega arith)))
-
-pub zero_at : (n t : ℕ) → slice_index (replicate n 0) t ≤ 0
-zero_at zero t = omega arith
-zero_at (suc n) zero = omega arith
-zero_at (suc n) (suc t) = zero_at n t

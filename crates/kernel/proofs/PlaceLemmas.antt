@@ -1,22 +1,27 @@
 -- What an instruction at a place needs, and where it leads.
-use Rattle.std.proofs.Common.{◌≡◌, ℕ, ◌+◌, ◌<◌, Bool, true, false, length, cond, sym, ◌∙◌, ap, refl, arith}
+use Rattle.std.proofs.Common.{◌≡◌, ℕ, ◌+◌, ◌<◌, ◌≤◌, ◌⊎◌, inl, inr, Bool, true, false, length, cond, sym, ◌∙◌, ap, refl, arith}
 use Rattle.std.specs.Prelude.{Some, None}
-use Rattle.std.proofs.lemmas.Bool.{ltb-true}
+use Rattle.std.proofs.lemmas.Bool.{ltb-true, cases_lt}
+use Rattle.std.proofs.lemmas.List.{get_or_past}
 use Rattle.osek_base.specs.declared.ids.Owner.{Owner}
 use Rattle.osek_base.specs.declared.instr.Instr.{Instr}
 use Rattle.osek_base.specs.declared.instr.Plain.{Plain}
 use Rattle.osek_base.specs.declared.instr.Control.{Control}
 use Rattle.osek_base.specs.declared.instr.Service.{Service}
 use Rattle.osek_base.specs.System.{System, program, instruction_at}
-use Rattle.osek_base.specs.Instruction.{Context, plain, value, holds}
+use Rattle.osek_base.specs.Instruction.{Context, plain, next}
 use Rattle.osek_base.specs.Proper.{is_proper_service, is_proper_instruction, is_end_instruction}
 use Rattle.osek_base.specs.declared.status.Status.{Status}
 use Rattle.osek_base.specs.declared.trace_event.Results.{Results}
 use Rattle.osek_base.specs.Tick.{at_values, answered}
 use Rattle.machine.specs.Execution.{HasNext}
-use Rattle.services.specs.Objects.{IsKnown}
-use Rattle.services.proofs.SoundLemmas.{and_split}
-use Rattle.osek_base.proofs.PlaceLemmas.{KnownPlace, is_routine}
+use Rattle.services.specs.Calls.{IsKnown}
+use Rattle.osek_base.proofs.PlaceLemmas.{KnownPlace, and_split, is_routine, known_place}
+use Rattle.osek_base.specs.Separable.{IsOwner}
+use Rattle.osek_base.specs.System.{Task, Routine, no_task, no_routine}
+use Rattle.osek_base.specs.Proper.{IsProper}
+use Rattle.run_laws.proofs.Formed.{IsPlaced}
+use Rattle.run_laws.proofs.FormedTick.{next_placed, plain_placed, answered_placed}
 use Rattle.kernel.specs.Run.{ends_routine}
 
 module _ (S : System) (owner : Owner) (x : Context) (k : KnownPlace S owner x.place) where
@@ -38,26 +43,19 @@ module _ (S : System) (owner : Owner) (x : Context) (k : KnownPlace S owner x.pl
   has_next (Plain.St a b) e = omega (arith, follows _ e refl, k.short)
   has_next (Plain.JumpIf t a b to) e = omega (arith, follows _ e refl, k.short)
 
-  either_place : (b : Bool) (to : ℕ) → to < length (program S owner) → x.place + 1 < length (program S owner)
-      → cond b to (x.place + 1) < length (program S owner)
-  either_place true to there next = there
-  either_place false to there next = next
-
   -- a plain instruction leads to a place of the program
-  pub plain_place : (p : Plain) (words : ℕ → ℕ) → instruction_at S owner x.place ≡ Instr.Plain p
-      → (plain p x words).context.place < length (program S owner)
-  plain_place (Plain.Jmp to) words e = ltb-true _ _ (proper_one _ e)
-  plain_place Plain.Nop words e = follows _ e refl
-  plain_place (Plain.Li d n) words e = follows _ e refl
-  plain_place (Plain.Mov d a) words e = follows _ e refl
-  plain_place (Plain.Compute o d a b) words e = follows _ e refl
-  plain_place (Plain.Ld d a) words e = follows _ e refl
-  plain_place (Plain.St a b) words e = follows _ e refl
-  plain_place (Plain.JumpIf t a b to) words e =
-      either_place (holds t (value x a) (value x b)) to (ltb-true _ _ (and_split _ _ (proper_one _ e)).1) (follows _ e refl)
+  pub plain_stays : (proper : IsProper S) (p : Plain) (words : ℕ → ℕ) → instruction_at S owner x.place ≡ Instr.Plain p → IsPlaced S owner x
+      → IsPlaced S owner (plain p x words).context
+  plain_stays proper p words e placed =
+      plain_placed S proper owner (is_routine owner) x p words placed (proper_one (Instr.Plain p) e) (follows (Instr.Plain p) e)
+
+  pub service_stays : (proper : IsProper S) (call : Service ℕ) (status : Status) (found : Results)
+      → instruction_at S owner x.place ≡ Instr.Service call → IsPlaced S owner x → IsPlaced S owner (answered status found x)
+  service_stays proper call status found e placed =
+      answered_placed S proper owner status found x placed (follows (Instr.Service call) e refl)
 
   -- behind a service there is an instruction, and the operands of the service exist
-  pub service_next : (call : Service ℕ) → instruction_at S owner x.place ≡ Instr.Service call → x.place + 1 < length (program S owner)
+  service_next : (call : Service ℕ) → instruction_at S owner x.place ≡ Instr.Service call → x.place + 1 < length (program S owner)
   service_next call e = follows _ e refl
 
   pub service_short : (call : Service ℕ) → instruction_at S owner x.place ≡ Instr.Service call → x.place + 1 < 1024
@@ -73,6 +71,14 @@ module _ (S : System) (owner : Owner) (x : Context) (k : KnownPlace S owner x.pl
   control_next Control.SuspendOsInterrupts e h = follows _ e refl
   control_next Control.ResumeOsInterrupts e h = follows _ e refl
   control_next (Control.ShutdownOs n) e h = follows _ e refl
+
+  pub control_stays : (proper : IsProper S) (control : Control) → instruction_at S owner x.place ≡ Instr.Control control → IsPlaced S owner x
+      → IsPlaced S owner (cond (ends_routine control) x (next x))
+  control_stays proper control e placed = go (ends_routine control) refl
+    where
+      go : (b : Bool) → ends_routine control ≡ b → IsPlaced S owner (cond b x (next x))
+      go true h = placed
+      go false h = next_placed S proper owner x (next x) placed (control_next control e h) refl refl
 
   known_call : (call : Service ℕ) → is_proper_service S call ≡ true → IsKnown S (at_values x call)
   known_call (Service.ActivateTask None) h = tt
@@ -106,8 +112,22 @@ module _ (S : System) (owner : Owner) (x : Context) (k : KnownPlace S owner x.pl
   pub service_known : (call : Service ℕ) → instruction_at S owner x.place ≡ Instr.Service call → IsKnown S (at_values x call)
   service_known call e = known_call call (proper_one _ e)
 
--- behind an answer the next instruction follows
-pub answered_place : (status : Status) (found : Results) (x : Context) → (answered status found x).place ≡ x.place + 1
-answered_place answer Results.Nothing x = refl
-answered_place answer (Results.One a) x = refl
-answered_place answer (Results.Three a b c) x = refl
+-- who is at a place of a program is of the system
+pub placed_owner : (S : System) (owner : Owner) (x : Context) → IsPlaced S owner x → IsOwner S owner
+placed_owner S (Owner.Task t) x placed = go (cases_lt t (length S.tasks))
+  where
+    go : (t < length S.tasks) ⊎ (length S.tasks ≤ t) → IsOwner S (Owner.Task t)
+    go (inl inside) = inside
+    go (inr past) =
+        let none : length (program S (Owner.Task t)) ≡ 0 = ap (λ (a : Task). length a.program) (get_or_past S.tasks t no_task past) in
+        absurd (let low = placed.place in omega arith)
+placed_owner S (Owner.Routine i) x placed = go (cases_lt i (length S.routines))
+  where
+    go : (i < length S.routines) ⊎ (length S.routines ≤ i) → IsOwner S (Owner.Routine i)
+    go (inl inside) = inside
+    go (inr past) =
+        let none : length (program S (Owner.Routine i)) ≡ 0 = ap (λ (a : Routine). length a.program) (get_or_past S.routines i no_routine past) in
+        absurd (let low = placed.place in omega arith)
+
+pub placed_known : (S : System) (owner : Owner) (x : Context) → IsProper S → IsPlaced S owner x → KnownPlace S owner x.place
+placed_known S owner x proper placed = known_place S owner x.place proper (placed_owner S owner x placed) placed.place

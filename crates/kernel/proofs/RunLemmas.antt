@@ -67,7 +67,7 @@ unfolding boot
 tick_boot S mode =
     tick_reschedule S _ ∙ tick_all_activated S (starting_tasks S mode) (record (still S) { alarms = starting_alarms S mode })
 
-tick_zero : (S : System) (mode : ℕ) (arrivals : List Arrival) → (run S mode arrivals 0).state.tick ≡ 0
+pub tick_zero : (S : System) (mode : ℕ) (arrivals : List Arrival) → (run S mode arrivals 0).state.tick ≡ 0
 unfolding run
 tick_zero S mode arrivals = tick_boot S mode
 

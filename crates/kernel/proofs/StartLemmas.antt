@@ -1,6 +1,6 @@
 -- Boot: the tasks of the mode are activated in turn, and no alarm of the mode is due at count 0.
-use Rattle.std.proofs.Common.{◌≡◌, ℕ, ◌+◌, ◌<◌, ◌≤◌, Bool, true, false, nat_le, cond, List, [], ◌∷◌, ◌++◌, map, length, refl, sym, ◌∙◌, ap, arith}
-use Rattle.std.specs.Prelude.{Option, Some, None, ◌==◌, slice_index}
+use Rattle.std.proofs.Common.{◌≡◌, ℕ, ◌+◌, ◌<◌, ◌≤◌, Bool, true, false, cond, List, [], ◌∷◌, ◌++◌, map, length, refl, sym, ◌∙◌, ap, arith}
+use Rattle.std.specs.Prelude.{Option, Some, None, ◌==◌}
 use Rattle.std.specs.List.{filter, list_all}
 use Rattle.std.proofs.Math.Numerals.{add-one}
 use Rattle.std.proofs.lemmas.Bool.{leb-true}
@@ -8,18 +8,22 @@ use Rattle.std.proofs.lemmas.List.{append-nil}
 use Rattle.std.proofs.lemmas.List.Elements.{filter-append}
 use Rattle.osek_base.specs.declared.instr.Service.{Service}
 use Rattle.osek_base.specs.declared.task.Counter.{Counter}
+use Rattle.osek_base.specs.declared.trace_event.TraceEvent.{TraceEvent}
 use Rattle.osek_base.specs.Lists.{below, is_in}
 use Rattle.osek_base.specs.System.{System, Alarm, AlarmStart, no_task, counter, activation_of, starts_in, start_in}
-use Rattle.osek_base.specs.State.{Job, State, Words, jobs_of}
-use Rattle.osek_base.specs.Activation.{is_full, activated, new_job}
+use Rattle.osek_base.specs.State.{State, still}
+use Rattle.osek_base.specs.Activation.{activated}
+use Rattle.osek_base.specs.Reschedule.{hooked, reschedule}
 use Rattle.osek_base.specs.Alarm.{is_due_at}
-use Rattle.osek_base.specs.Service.{unmasked_service}
 use Rattle.osek_base.specs.Proper.{IsProper, is_proper_task, is_proper_alarm, is_proper_start}
-use Rattle.osek_base.specs.Trace.{all_activated, starting_alarms, first_expiry}
-use Rattle.services.specs.Objects.{Objects, state_of, no_words, unmasked}
-use Rattle.services.proofs.SoundLemmas.{and_split}
-use Rattle.osek_base.proofs.PlaceLemmas.{all_at}
-use Rattle.kernel.specs.Run.{AreAhead, objects_begun}
+use Rattle.osek_base.specs.Trace.{all_activated, starting_alarms, starting_tasks, first_expiry, boot, run}
+use Rattle.osek_base.specs.declared.arrivals.Arrival.{Arrival}
+use Rattle.osek_base.proofs.PlaceLemmas.{all_at, and_split}
+use Rattle.kept_state.specs.Kept.{Kept, Slot}
+use Rattle.kept_state.specs.Moves.{activated_in, changed_at, rescheduled}
+use Rattle.kept_state.specs.KeptService.{ByNobody, is_full_in, unmasked_in}
+use Rattle.kept_state.specs.KeptTick.{all_activated_in, begun_in, boot_in}
+use Rattle.kernel.specs.Run.{AreAhead}
 
 -- ---- alarms
 
@@ -48,6 +52,25 @@ ahead_all S mode (a ∷ rest) h =
 pub starting_ahead : (S : System) (mode : ℕ) → IsProper S → AreAhead (starting_alarms S mode)
 starting_ahead S mode h = ahead_all S mode S.alarms (and_split _ _ h.objects).1
 
+-- the alarms before the first tick are those that start with the mode
+alarms_activated : (S : System) (ts : List ℕ) (s : State) → (all_activated S ts s).alarms ≡ s.alarms
+unfolding activated
+alarms_activated S [] s = refl
+alarms_activated S (t ∷ ts) s = alarms_activated S ts (activated S t s)
+
+alarms_rescheduled : (S : System) (s : State) → (reschedule S s).state.alarms ≡ s.alarms
+unfolding reschedule
+alarms_rescheduled S s = refl
+
+alarms_boot : (S : System) (mode : ℕ) → (boot S mode).state.alarms ≡ starting_alarms S mode
+unfolding boot
+alarms_boot S mode =
+    alarms_rescheduled S _ ∙ alarms_activated S (starting_tasks S mode) (record (still S) { alarms = starting_alarms S mode })
+
+pub alarms_begun : (S : System) (mode : ℕ) (arrivals : List Arrival) → (run S mode arrivals 0).state.alarms ≡ starting_alarms S mode
+unfolding run
+alarms_begun S mode arrivals = alarms_boot S mode
+
 -- ---- tasks
 
 tasks_proper : (S : System) → IsProper S → list_all (is_proper_task S) S.tasks ≡ true
@@ -64,43 +87,18 @@ some_activation S t h low =
     let activation = (and_split _ _ (and_split _ _ (and_split _ _ (and_split _ _ proper).0).0).0).0 in
     leb-true _ _ (and_split _ _ (and_split _ _ activation).0).0
 
--- a task without a job isn't full
-not_full : (S : System) (t : ℕ) (s : State) → IsProper S → t < length S.tasks → jobs_of t s.jobs ≡ [] → is_full S s t ≡ false
-not_full S t s h low none =
-    let some : 1 ≤ activation_of S t = some_activation S t h low in
-    ap (λ (v : List Job). nat_le (activation_of S t) (length v)) none ∙ grind (arith, some)
+-- ActivateTask of a task without a job
+serves : (S : System) (t : ℕ) (o : Kept) → IsProper S → t < length S.tasks → (o.slots t).count ≡ 0
+    → (unmasked_in S ByNobody o (Service.ActivateTask (Some t))).state ≡ activated_in S t o
+unfolding unmasked_in
+serves S t o proper low none =
+    let some : 1 ≤ activation_of S t = some_activation S t proper low in
+    let fits : is_full_in S o t ≡ false = grind (arith, some, none) in
+    rw fits refl
 
--- ActivateTask of a task that isn't full
-serves : (S : System) (t : ℕ) (w : Words) (o : Objects) → is_full S (state_of w o) t ≡ false
-    → (unmasked S w o (Service.ActivateTask (Some t))).state ≡ activated S t (state_of w o)
-unfolding unmasked_service activated
-serves S t w o fits = rw fits refl
-
-jobs_activated : (S : System) (t : ℕ) (s : State)
-    → (activated S t s).jobs ≡ s.jobs ++ new_job (record { task = t; serial = slice_index s.made t }) ∷ []
-unfolding activated
-jobs_activated S t s = refl
-
-alarms_activated : (S : System) (t : ℕ) (s : State) → (activated S t s).alarms ≡ s.alarms
-unfolding activated
-alarms_activated S t s = refl
-
-activated_last : (S : System) (ts : List ℕ) (t : ℕ) (s : State) → all_activated S (ts ++ t ∷ []) s ≡ activated S t (all_activated S ts s)
-activated_last S [] t s = refl
-activated_last S (u ∷ ts) t s = activated_last S ts t (activated S u s)
-
--- the tasks of the mode below n are activated, and none from n on has a job
-pub record AreStarting (S : System) (mode n : ℕ) (o : Objects) : Type 0 where
-  pub alarms : o.alarms ≡ starting_alarms S mode
-  pub none : (t : ℕ) → n ≤ t → jobs_of t o.jobs ≡ []
-  pub state : (w : Words) → state_of w o ≡ all_activated S (filter (starts_in S mode) (below n)) (state_of w (objects_begun S mode))
-
-pub starting_none : (S : System) (mode : ℕ) (o : Objects) → o ≡ objects_begun S mode → AreStarting S mode 0 o
-starting_none S mode o is = record {
-  alarms = ap (λ (v : Objects). v.alarms) is;
-  none = λ t low. ap (λ (v : Objects). jobs_of t v.jobs) is;
-  state = λ w. ap (state_of w) is;
-}
+activated_last : (S : System) (ts : List ℕ) (t : ℕ) (o : Kept) → all_activated_in S (ts ++ t ∷ []) o ≡ activated_in S t (all_activated_in S ts o)
+activated_last S [] t o = refl
+activated_last S (u ∷ ts) t o = activated_last S ts t (activated_in S u o)
 
 below_more : (S : System) (mode n : ℕ) (b : Bool) → starts_in S mode n ≡ b
     → filter (starts_in S mode) (below (n + 1)) ≡ filter (starts_in S mode) (below n) ++ cond b (n ∷ []) []
@@ -109,47 +107,49 @@ below_more S mode n true e =
 below_more S mode n false e =
     ap (λ k. filter (starts_in S mode) (below k)) (add-one n) ∙ filter-append (starts_in S mode) (below n) (n ∷ []) ∙ rw e refl
 
+-- the tasks of the mode below n are activated, and none from n on has a job
+pub record AreStarting (S : System) (mode n : ℕ) (o : Kept) : Type 0 where
+  pub none : (t : ℕ) → n ≤ t → (o.slots t).count ≡ 0
+  pub kept : o ≡ all_activated_in S (filter (starts_in S mode) (below n)) (begun_in S mode)
+
+pub starting_none : (S : System) (mode : ℕ) (o : Kept) → o ≡ begun_in S mode → AreStarting S mode 0 o
+starting_none S mode o is = record {
+  none = λ t low. ap (λ (v : Kept). (v.slots t).count) is;
+  kept = is;
+}
+
+others : (o : Kept) (n t : ℕ) (slot : Slot) → n + 1 ≤ t → changed_at o.slots n slot t ≡ o.slots t
+others o n t slot higher = let other : (n == t) ≡ false = grind (arith, higher) in rw other refl
+
 -- one task more, that starts, or that doesn't
-pub starting_more : (S : System) (mode n : ℕ) (o after : Objects) → AreStarting S mode n o → IsProper S → n < length S.tasks
+pub starting_more : (S : System) (mode n : ℕ) (o after : Kept) → AreStarting S mode n o → IsProper S → n < length S.tasks
     → starts_in S mode n ≡ true
-    → ((w : Words) → state_of w after ≡ (unmasked S w o (Service.ActivateTask (Some n))).state)
+    → after ≡ (unmasked_in S ByNobody o (Service.ActivateTask (Some n))).state
     → AreStarting S mode (n + 1) after
 starting_more S mode n o after h proper low starts served =
-    let one : (w : Words) → state_of w after ≡ activated S n (state_of w o) = λ w.
-    served w ∙ serves S n w o (not_full S n (state_of w o) proper low (h.none n (omega arith))) in
-    let jobs : after.jobs ≡ o.jobs ++ new_job (record { task = n; serial = slice_index o.made n }) ∷ [] =
-    ap (λ (s : State). s.jobs) (one no_words) ∙ jobs_activated S n (state_of no_words o) in
+    let one : after ≡ activated_in S n o = served ∙ serves S n o proper low (h.none n (omega arith)) in
     record {
-      alarms = ap (λ (s : State). s.alarms) (one no_words) ∙ alarms_activated S n (state_of no_words o) ∙ h.alarms;
       none = λ t higher.
-          let other : (n == t) ≡ false = grind (arith, higher) in
-          ap (jobs_of t) jobs
-          ∙ filter-append (λ (j : Job). j.id.task == t) o.jobs _
-          ∙ rw (h.none t (omega arith), other) refl;
-      state = λ w.
-          one w ∙ ap (activated S n) (h.state w)
-          ∙ sym (activated_last S (filter (starts_in S mode) (below n)) n (state_of w (objects_begun S mode)))
-          ∙ ap (λ v. all_activated S v (state_of w (objects_begun S mode))) (sym (below_more S mode n true starts));
+          ap (λ (v : Kept). (v.slots t).count) one ∙ ap (λ (a : Slot). a.count) (others o n t _ higher) ∙ h.none t (omega arith);
+      kept =
+          one ∙ ap (activated_in S n) h.kept
+          ∙ sym (activated_last S (filter (starts_in S mode) (below n)) n (begun_in S mode))
+          ∙ ap (λ v. all_activated_in S v (begun_in S mode)) (sym (below_more S mode n true starts));
     }
 
-pub starting_same : (S : System) (mode n : ℕ) (o : Objects) → AreStarting S mode n o → starts_in S mode n ≡ false
+pub starting_same : (S : System) (mode n : ℕ) (o : Kept) → AreStarting S mode n o → starts_in S mode n ≡ false
     → AreStarting S mode (n + 1) o
 starting_same S mode n o h starts = record {
-  alarms = h.alarms;
   none = λ t low. h.none t (omega arith);
-  state = λ w.
-      h.state w
-      ∙ ap (λ v. all_activated S v (state_of w (objects_begun S mode)))
+  kept =
+      h.kept
+      ∙ ap (λ v. all_activated_in S v (begun_in S mode))
       (sym (below_more S mode n false starts ∙ append-nil (filter (starts_in S mode) (below n))));
 }
 
--- there are 32 tasks at most
-pub tasks_limit : (S : System) → IsProper S → length S.tasks ≤ 32
-tasks_limit S h =
-    let a = and_split _ _ h.limits in
-    let b = and_split _ _ a.0 in
-    let c = and_split _ _ b.0 in
-    let d = and_split _ _ c.0 in
-    let e = and_split _ _ d.0 in
-    let f = and_split _ _ e.0 in
-    leb-true _ _ (and_split _ _ f.0).0
+pub boot_is : (S : System) (mode : ℕ)
+    → boot_in S mode
+    ≡ (let started = rescheduled S (all_activated_in S (starting_tasks S mode) (begun_in S mode)) in
+    record { events = hooked S.hooks.startup TraceEvent.Startup ++ started.events; state = started.state })
+unfolding boot_in
+boot_is S mode = refl

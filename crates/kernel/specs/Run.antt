@@ -1,22 +1,26 @@
 -- OSEK/VDX OS: system start-up. A run of a system, as far as it has come.
-use Rattle.std.specs.Prelude.{ℕ, ◌≡◌, ◌<◌, ◌≤◌, ◌+◌, ◌*◌, ◌-◌, Bool, true, false, not, ◌||◌, nat_le, List, drop, Option, length}
+use Rattle.std.specs.Prelude.{ℕ, ◌≡◌, ◌<◌, ◌≤◌, ◌-◌, Bool, true, false, not, ◌||◌, nat_le, if◌then◌else◌, List, drop, Option, length}
 use Rattle.std.specs.List.{All, list_all}
 use Rattle.osek_base.specs.declared.arrivals.Arrival.{Arrival}
 use Rattle.osek_base.specs.declared.trace_event.TraceEvent.{TraceEvent}
 use Rattle.osek_base.specs.declared.instr.Instr.{Instr}
 use Rattle.osek_base.specs.declared.instr.Control.{Control}
 use Rattle.osek_base.specs.System.{System, instruction_at}
+use Rattle.osek_base.specs.Instruction.{Context, next}
 use Rattle.osek_base.specs.State.{Expiry, Words}
-use Rattle.osek_base.specs.Reschedule.{Recorded}
 use Rattle.osek_base.specs.Alarm.{is_due_at}
-use Rattle.osek_base.specs.Tick.{Step, tick, executed}
+use Rattle.osek_base.specs.Tick.{Step, tick}
 use Rattle.osek_base.specs.ArrivalList.{are_in_order}
 use Rattle.osek_base.specs.Laws.{StartsSingly, Excludes, BlocksOnce}
-use Rattle.osek_base.specs.Trace.{Run as RunSoFar, arriving, run, with_earlier, starting_tasks, starting_alarms, all_activated}
+use Rattle.osek_base.specs.Proper.{IsProper}
+use Rattle.osek_base.specs.Trace.{Run as RunSoFar, arriving, run, with_earlier}
+use Rattle.kept_state.specs.Kept.{kept}
+use Rattle.kept_state.specs.Moves.{KeptRecorded}
+use Rattle.kept_state.specs.KeptTick.{boot_in, executed_in}
 use Rattle.machine.specs.Windows.{word}
-use Rattle.services.specs.declared.objects.Execution.{Execution}
-use Rattle.services.specs.Execution.{owner_of}
-use Rattle.services.specs.Objects.{Objects, Fit, AreCounted, caller, state_of, still_objects}
+use Rattle.services.specs.declared.caller.Execution.{Execution}
+use Rattle.services.specs.Objects.{Objects, kept_of, kept_in}
+use Rattle.services.specs.Calls.{caller_as}
 
 -- the system, the mode, all arrivals, and the ticks done
 pub record Run : Type 0 where
@@ -65,44 +69,47 @@ pub record AreLeft (arrivals : List Arrival) (cursor tick : ℕ) : Type 0 where
 abbrev pub AreAhead : List (Option Expiry) → Type 0
 AreAhead alarms = list_all (λ e. not (is_due_at 0 e)) alarms ≡ true
 
--- what a kernel keeps after so many ticks. The objects have the number of the last tick, and the state that of the next
+-- the objects at a tick: their own number is that of the last one
+abbrev pub at_tick : Objects → ℕ → Objects
+at_tick o t = record o { tick = t }
+
+-- what a kernel keeps after so many ticks: what is kept of the state of the run, with the number of the next tick
 pub record IsKept (S : System) (mode : ℕ) (arrivals : List Arrival) (ticks cursor : ℕ) (o : Objects) (words : List ℕ) (opening : List TraceEvent) : Type 0 where
-  pub fit : Fit S o
+  pub system : o.system ≡ S
+  pub proper : IsProper S
   pub known : AreKnown S arrivals
   pub left : AreLeft arrivals cursor ticks
-  pub counted : AreCounted o (65 * ticks + 32) ticks
   pub tick : o.tick ≡ ticks - 1
   pub limit : ticks ≤ 1000000
-  pub state : (run S mode arrivals ticks).state ≡ state_of (word words) (record o { tick = ticks })
+  pub kept : kept_of (word words) (at_tick o ticks) ≡ kept S (run S mode arrivals ticks).state
   pub ahead : ticks ≡ 0 → AreAhead o.alarms
   -- the records of boot stand in tick 0 alone
   pub unwritten : opening ≡ (run S mode arrivals ticks).unwritten
   pub few : length opening ≤ 3
   pub none_later : 1 ≤ ticks → length opening ≤ 0
 
--- the objects before the tasks of the mode are activated
-abbrev pub objects_begun : System → ℕ → Objects
-objects_begun S mode = record (still_objects S) { alarms = starting_alarms S mode }
-
--- what the objects keep at boot
-pub record IsStarted (S : System) (mode : ℕ) (o : Objects) : Type 0 where
-  pub fit : Fit S o
-  pub counted : AreCounted o 32 0
-  pub tick : o.tick ≡ 0
-  pub ahead : AreAhead o.alarms
-  pub state : (w : Words) → state_of w o ≡ all_activated S (starting_tasks S mode) (state_of w (objects_begun S mode))
-
--- the instruction at the place of who executes, and what an instruction of theirs comes to
+-- the instruction at the place of who executes, and what it comes to
 abbrev pub next_of : System → Execution → Instr
-next_of S e = instruction_at S (owner_of e.executor) e.cpu.place
+next_of S e = instruction_at S e.owner e.cpu.place
 
 abbrev pub IsNext : System → Execution → Instr → Type 0
 IsNext S e i = next_of S e ≡ i
 
-abbrev pub executed_by : System → Execution → Instr → Words → Objects → Recorded
-executed_by S e i w o = executed S (owner_of e.executor) (caller o) e.cpu i (state_of w o)
+abbrev pub executed_by : System → Execution → Instr → Words → Objects → KeptRecorded
+executed_by S e i w o = executed_in S e.owner (caller_as e.owner) e.cpu i (kept_of w o)
 
 -- whether a routine ends, so that nothing follows
 abbrev pub ends_routine : Control → Bool
 ends_routine Control.ReturnFromInterrupt = true
 ends_routine _ = false
+
+-- the registers and the place after a service without a status
+abbrev pub control_context : Control → Context → Context
+control_context control x = if ends_routine control then x else next x
+
+-- what boot leaves: what is kept of the state before the first tick, and the records that stand in it
+pub record IsStarted (S : System) (mode : ℕ) (o : Objects) (opening : List TraceEvent) : Type 0 where
+  pub system : o.system ≡ S
+  pub kept : kept_in o ≡ (boot_in S mode).state
+  pub events : opening ≡ (boot_in S mode).events
+  pub few : length opening ≤ 3

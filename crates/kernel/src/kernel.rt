@@ -1,60 +1,46 @@
 //! OSEK/VDX OS: system start-up; application modes. The kernel: boot, and ticks.
 
-ghost use Rattle.std.specs.Prelude.{◌≡◌, ◌<◌, ◌≤◌, ◌+◌, ◌↔◌, [], false, Some, None, IfOk, length};
+ghost use Rattle.std.specs.Prelude.{◌≡◌, ◌<◌, ◌≤◌, ◌+◌, ◌++◌, ◌↔◌, [], false, Some, None, IfOk, length};
 ghost use Rattle.osek_base.specs.Names.{number_of};
-ghost use Rattle.osek_base.specs.Reschedule.{hooked};
-ghost use Rattle.kernel.specs.declared.kernel.BootFault.{BootFault};
-ghost use Rattle.kernel.specs.Run.{AreKnown, IsLawful, IsStarted, is_over, record_at, run_of};
+ghost use Rattle.osek_base.specs.Proper.{IsProper};
+ghost use Rattle.services.specs.Levels.{level_lists};
+ghost use Rattle.osek_base.specs.State.{Words};
+ghost use Rattle.kept_state.specs.Kept.{kept};
+ghost use Rattle.kept_state.specs.KeptTick.{last_phase_in};
+ghost use Rattle.kept_state.specs.Moves.{rescheduled};
+ghost use Rattle.services.specs.Objects.{by_level, kept_in, kept_of};
+ghost use Rattle.kernel.specs.declared.boot.BootFault.{BootFault};
+ghost use Rattle.kernel.specs.Run.{AreKnown, IsLawful, is_over, record_at, run_of};
 
-use crate::dispatch::reschedule;
-use crate::execution::from_execution;
-use crate::phases::before_execution;
+use crate::alarm_phase::alarm_phase;
+use crate::arrival_phase::arrival_phase;
+use crate::boot::{BootFault, booted};
+use crate::execute_phase::execute_phase;
 use machine::Windows;
-use osek_base::{Arrivals, ModeId, Owner, System, TaskId, TickRecord, TraceEvent};
-use services::{Core, activate};
-use std::alloc::{AllocError, Global};
+use osek_base::{Arrivals, ModeId, Owner, System, TickRecord};
+use ready_queues::ReadyQueues;
+use services::Core;
+use std::alloc::Global;
 use std::marker::Model;
 use std::mem;
-use thiserror::Error;
 
 /// How many ticks a run has at most.
 const TICKS: u32 = 1_000_000;
 
-/// Why a system isn't booted.
-#[derive(Clone, Copy, Debug, PartialEq, Eq, Error)]
-pub enum BootFault {
-    /// The system has no application mode of that name.
-    #[error("fault 1")]
-    UnknownMode,
-    /// A growth was refused.
-    #[error("memory")]
-    Memory,
-}
-
-impl From<AllocError> for BootFault {
-    ghost use Rattle.kernel.specs.declared.kernel.BootFault.TheVariants.{Memory};
-
-    ghost from_gives = { λ _ r. r ≡ Memory };
-
-    fn from(_: AllocError) -> Self {
-        BootFault::Memory
-    }
-}
-
-/// A kernel that runs a system from boot in a mode, with the interrupts of a list of arrivals.
+/// A kernel that runs a system from boot in a mode, with the interrupts of a list of arrivals, over ready queues of any kind.
 #[derive(Drop)]
-pub struct Kernel<'s> {
+pub struct Kernel<'s, Q: ReadyQueues> {
     system: &'s System,
     mode: ModeId,
     arrivals: Arrivals,
     arrived: usize,
     ticks: u32,
-    core: Core,
+    core: Core<'s, Q>,
     windows: Windows,
     opening: TickRecord,
 }
 
-impl<'s> Model for Kernel<'s> {
+impl<'s, Q: ReadyQueues> Model for Kernel<'s, Q> {
     ghost use Rattle.kernel.specs.Run.{Run, IsKept};
 
     ghost Value = { Run };
@@ -69,34 +55,6 @@ impl<'s> Model for Kernel<'s> {
     ghost invariant = { λ k. IsKept k.system.now k.mode k.arrivals k.ticks k.arrived k.core k.windows k.opening };
 }
 
-/// The objects of a system that is booted in a mode: its tasks of the mode are activated by number, its alarms of the mode
-/// are set.
-fn started(alloc: Global, system: &System, mode: ModeId) -> Result<Core, AllocError>
-    ensures { IfOk result (λ o. IsStarted system.now mode o) }
-{
-    let mut core = Core::new(alloc, system)?;
-    core.start_alarms(system, mode);
-    for number in 0..system.task_count() {
-        let task = TaskId::new(number as u8);
-        if system.starts_in(mode, task) {
-            let _status = activate(&mut core, system, task);
-        }
-    }
-    Ok(core)
-}
-
-/// Records the start-up, where StartupHook is on.
-fn startup_record(system: &System) -> TickRecord
-    ensures value { result ≡ hooked system.now.hooks.startup TraceEvent.Startup }
-    ensures few { length result ≤ 1 }
-{
-    let mut record_of_boot = TickRecord::new();
-    if system.hooks().startup {
-        record_of_boot.push(TraceEvent::Startup);
-    }
-    record_of_boot
-}
-
 /// Puts in the records that stand before a tick's own: those of boot in tick 0, else none.
 fn put_first(opening: &mut TickRecord, tick: u32, record_of_tick: &mut TickRecord)
     requires { 1 ≤ tick → length opening.old ≤ 0 }
@@ -109,7 +67,15 @@ fn put_first(opening: &mut TickRecord, tick: u32, record_of_tick: &mut TickRecor
     }
 }
 
-impl<'s> Kernel<'s> {
+/// The application mode of a name.
+fn mode_of(system: &System, name: &str) -> Option<ModeId>
+    ensures value { result ≡ number_of name.now system.now.names.modes }
+    ensures proper { IsProper system.now }
+{
+    system.names().mode(name)
+}
+
+impl<'s, Q: ReadyQueues> Kernel<'s, Q> {
     /// Boots a system in the application mode of that name.
     pub fn boot(
         alloc: Global,
@@ -122,12 +88,11 @@ impl<'s> Kernel<'s> {
         ensures lawful { IfOk result IsLawful }
         ensures unknown { (result ≡ Err BootFault.UnknownMode) ↔ (number_of mode.now system.now.names.modes ≡ None) }
     {
-        let Some(mode) = system.names().mode(mode) else {
+        let Some(mode) = mode_of(system, mode) else {
             return Err(BootFault::UnknownMode);
         };
-        let mut core = started(alloc, system, mode)?;
-        let mut opening = startup_record(system);
-        reschedule(&mut core, system, &mut opening);
+        let mut opening = TickRecord::new();
+        let core = booted(alloc, system, mode, &mut opening)?;
         Ok(Kernel {
             system,
             mode,
@@ -155,11 +120,19 @@ impl<'s> Kernel<'s> {
         self.windows.word(owner, index as u8)
     }
 
+    /// The ready queues: for each level the tasks that are ready and don't run, oldest first.
+    pub fn queues(&self) -> &Q
+        ensures { by_level (level_lists (Q.queues result.now)) ≡ (kept self.now.system (run_of self.now).state).queues }
+    {
+        self.core.queues()
+    }
+
     /// Does one tick, and answers its records. It takes no memory and never fails.
     pub fn tick(&mut self) -> TickRecord
         requires { is_over self.old ≡ false }
         ensures records { result ≡ record_at self.old.system self.old.mode self.old.arrivals self.old.ticks }
         ensures next { self.new ≡ record self.old { ticks = self.old.ticks + 1 } }
+        ensures lawful { IsLawful self.new }
     {
         let mut record_of_tick = TickRecord::new();
         self.tick_into(&mut record_of_tick);
@@ -171,22 +144,47 @@ impl<'s> Kernel<'s> {
         requires { is_over self.old ≡ false }
         ensures records { record_of_tick.new ≡ record_at self.old.system self.old.mode self.old.arrivals self.old.ticks }
         ensures next { self.new ≡ record self.old { ticks = self.old.ticks + 1 } }
+        ensures lawful { IsLawful self.new }
     {
         put_first(&mut self.opening, self.ticks, record_of_tick);
-        self.arrived = before_execution(
+        alarm_phase(&mut self.core, self.system, self.ticks, record_of_tick);
+        self.arrived = arrival_phase(
             &mut self.core,
-            self.system,
             self.arrivals.list(),
             self.arrived,
             self.ticks,
-            record_of_tick,
         );
-        from_execution(
+        self.core.reschedule(record_of_tick);
+        self.core.start_routine();
+        execute_phase(
             &mut self.core,
             &mut self.windows,
             self.system,
             record_of_tick,
         );
+        last_phase(&mut self.core, record_of_tick);
         self.ticks += 1;
     }
+}
+
+/// The task that is to run becomes the running one, which is left out after ShutdownOS.
+fn last_phase<Q: ReadyQueues>(core: &mut Core<'_, Q>, record_of_tick: &mut TickRecord)
+    requires { length record_of_tick.old + 2 ≤ 72 }
+    ensures system { core.new.system ≡ core.old.system }
+    ensures kept { (w : Words) → kept_of w core.new ≡ (last_phase_in core.old.system (kept_of w core.old)).state }
+    ensures events { (w : Words) → record_of_tick.new ≡ record_of_tick.old ++ (last_phase_in core.old.system (kept_of w core.old)).events }
+{
+    if !core.is_over() {
+        dispatch_again(core, record_of_tick);
+    }
+}
+
+/// After an instruction the task that is to run becomes the running one.
+fn dispatch_again<Q: ReadyQueues>(core: &mut Core<'_, Q>, record_of_tick: &mut TickRecord)
+    requires { length record_of_tick.old + 2 ≤ 72 }
+    ensures system { core.new.system ≡ core.old.system }
+    ensures kept { kept_in core.new ≡ (rescheduled core.old.system (kept_in core.old)).state }
+    ensures events { record_of_tick.new ≡ record_of_tick.old ++ (rescheduled core.old.system (kept_in core.old)).events }
+{
+    core.reschedule(record_of_tick);
 }

@@ -1,9 +1,11 @@
-//! OSEK/VDX OS: a kernel on one plain list of jobs. It is booted in an application mode, and then runs tick by tick.
+//! OSEK/VDX OS: a kernel over ready queues by level. It is booted in an application mode, and then runs tick by tick.
 #![tactic(auto)]
 
-mod dispatch;
-mod execution;
+mod alarm_phase;
+mod arrival_phase;
+mod boot;
+mod execute_phase;
 mod kernel;
-mod phases;
 
-pub use kernel::{BootFault, Kernel};
+pub use boot::BootFault;
+pub use kernel::Kernel;

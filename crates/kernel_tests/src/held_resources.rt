@@ -4,7 +4,7 @@ ghost use Rattle.std.specs.Prelude.{◌≡◌};
 
 use osek_base::{
     Hooks, Instr, Name, Names, Parts, Place, Plain, Program, Property, ResId, ResourceNumber,
-    Schedule, Service, System, Task, TaskId,
+    Schedule, Service, Status, System, Task, TaskId,
 };
 use resources::Held;
 use std::alloc::{AllocError, Global};
@@ -91,11 +91,11 @@ fn nested_resources_are_released_in_turn(rt: HostRuntime) -> Result<(), Fail> {
     assert_eq!(rt; held.dynamic(&system, task, false), 2);
     held.get(s);
     assert_eq!(rt; held.dynamic(&system, task, false), 3);
-    assert!(rt; held.is_last(s) && !held.is_last(r));
-    held.release_last();
+    assert_eq!(rt; held.release(r), Status::NoFunc);
+    assert_eq!(rt; held.release(s), Status::Ok);
     assert_eq!(rt; held.dynamic(&system, task, false), 2);
     assert!(rt; held.holds(r) && !held.holds(s) && !held.holds_none());
-    held.release_last();
+    assert_eq!(rt; held.release(r), Status::Ok);
     assert_eq!(rt; held.dynamic(&system, task, false), 1);
     assert!(rt; held.holds_none());
     Ok(())

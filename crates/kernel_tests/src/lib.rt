@@ -4,6 +4,8 @@
 #[cfg(test)]
 mod alarm_ticks;
 #[cfg(test)]
+mod counting_queues;
+#[cfg(test)]
 mod held_resources;
 #[cfg(test)]
 mod processor;

@@ -80,13 +80,13 @@ fn a_product_wraps_and_a_jump_is_taken(rt: HostRuntime) -> Result<(), Fail> {
 }
 
 #[test]
-fn an_answer_is_saved_and_loaded(rt: HostRuntime) -> Result<(), Fail> {
+fn a_copy_keeps_an_answer(rt: HostRuntime) -> Result<(), Fail> {
     let mut cpu = Cpu::new();
     cpu.answer(Status::SysDisabled, Results::Three(7, 1, 2));
-    let saved = cpu.save();
+    let kept = cpu;
     cpu.jump(Place::new(9));
     cpu.set(r(3), 5);
-    cpu.load(&saved);
+    cpu = kept;
     assert_eq!(rt; cpu.place().number(), 1);
     assert_eq!(rt; cpu.value(r(0)), 32);
     assert_eq!(rt; cpu.value(r(3)), 2);

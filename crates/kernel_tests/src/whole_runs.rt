@@ -1,10 +1,12 @@
 //! Whole runs of small systems, record by record.
 
+use crate::counting_queues::CountingQueues;
 use kernel::Kernel;
 use osek_base::{
     Arrivals, Hooks, Instr, ModeId, Name, Names, Outcome, Owner, Parts, Place, Plain, Program,
     Register, Results, Schedule, Service, Status, System, Task, TaskId, TickRecord, TraceEvent,
 };
+use ready_queues::{LevelQueues, ListQueues, ReadyQueues};
 use std::alloc::{AllocError, Global};
 use std::test::Fail;
 
@@ -36,6 +38,8 @@ fn program(alloc: Global, instrs: &[Line]) -> Result<Program, AllocError> {
     }
     Ok(program)
 }
+
+const TERM: Service<Register> = Service::TerminateTask;
 
 #[derive(Clone, Copy)]
 struct Line {
@@ -123,14 +127,30 @@ fn is_record(record_of_tick: &TickRecord, events: &[TraceEvent]) -> bool {
 }
 
 /// Whether the next tick has these records.
-fn ticks_as(kernel: &mut Kernel, events: &[TraceEvent]) -> bool {
+fn ticks_as<Q: ReadyQueues>(kernel: &mut Kernel<'_, Q>, events: &[TraceEvent]) -> bool {
     !kernel.is_over() && is_record(&kernel.tick(), events)
 }
 
 /// A kernel of a system in the mode M, without interrupts.
-fn booted<'s>(alloc: Global, system: &'s System) -> Result<Kernel<'s>, Fail> {
+fn booted<'s, Q: ReadyQueues>(alloc: Global, system: &'s System) -> Result<Kernel<'s, Q>, Fail> {
     let arrivals = Arrivals::new(Vec::new(alloc)).ok_or("arrivals")?;
     Ok(Kernel::boot(alloc, system, "M", arrivals)?)
+}
+
+/// Whether the ticks of a run have these records, in turn.
+fn runs_as<Q: ReadyQueues>(kernel: &mut Kernel<'_, Q>, ticks: &[&[TraceEvent]]) -> bool {
+    let mut all = true;
+    for events in ticks {
+        all = all && ticks_as(kernel, events);
+    }
+    all
+}
+
+/// Whether the run of a system has these records over both kinds of queues.
+fn runs_over_both(alloc: Global, system: &System, ticks: &[&[TraceEvent]]) -> Result<bool, Fail> {
+    let mut over_lists = booted::<ListQueues>(alloc, system)?;
+    let mut over_levels = booted::<LevelQueues>(alloc, system)?;
+    Ok(runs_as(&mut over_lists, ticks) && runs_as(&mut over_levels, ticks))
 }
 
 fn pre(task: u8) -> TraceEvent {
@@ -144,39 +164,63 @@ fn post(task: u8) -> TraceEvent {
 #[test]
 fn one_task_that_terminates(rt: HostRuntime) -> Result<(), Fail> {
     let alloc = rt.alloc();
-    let term = Service::TerminateTask;
     let mut tasks = Vec::new(alloc);
-    tasks.push(task(alloc, 1, true, &[service(term)])?)?;
+    tasks.push(task(alloc, 1, true, &[service(TERM)])?)?;
     let system = system(alloc, NO_HOOKS, &["A"], tasks)?;
-    let mut kernel = booted(alloc, &system)?;
-    assert!(rt; ticks_as(&mut kernel, &[done(0, 0, term)]));
-    assert!(rt; ticks_as(&mut kernel, &[TraceEvent::Idle]));
-    assert!(rt; ticks_as(&mut kernel, &[TraceEvent::Idle]));
+    let ticks: [&[TraceEvent]; 3] = [
+        &[done(0, 0, TERM)],
+        &[TraceEvent::Idle],
+        &[TraceEvent::Idle],
+    ];
+    assert!(rt; runs_over_both(alloc, &system, &ticks)?);
     Ok(())
+}
+
+fn activate(task: u8) -> Service<Register> {
+    Service::ActivateTask(Some(TaskId::new(task % 32)))
+}
+
+/// A activates B of its own priority and the higher C, which preempts it.
+fn preemption(alloc: Global) -> Result<System, Fail> {
+    let mut tasks = Vec::new(alloc);
+    tasks.push(task(alloc, 2, false, &[service(TERM)])?)?;
+    let lines = [service(activate(2)), service(activate(0)), service(TERM)];
+    tasks.push(task(alloc, 1, true, &lines)?)?;
+    tasks.push(task(alloc, 1, false, &[service(TERM)])?)?;
+    system(alloc, SWITCH_HOOKS, &["C", "A", "B"], tasks)
 }
 
 #[test]
 fn a_preempted_job_is_the_oldest(rt: HostRuntime) -> Result<(), Fail> {
-    let alloc = rt.alloc();
     let (c, a, b) = (0, 1, 2);
-    let act_b = Service::ActivateTask(Some(TaskId::new(2)));
-    let act_c = Service::ActivateTask(Some(TaskId::new(0)));
-    let term = Service::TerminateTask;
-    let mut tasks = Vec::new(alloc);
-    tasks.push(task(alloc, 2, false, &[service(term)])?)?;
-    tasks.push(task(
-        alloc,
-        1,
-        true,
-        &[service(act_b), service(act_c), service(term)],
-    )?)?;
-    tasks.push(task(alloc, 1, false, &[service(term)])?)?;
-    let system = system(alloc, SWITCH_HOOKS, &["C", "A", "B"], tasks)?;
-    let mut kernel = booted(alloc, &system)?;
-    assert!(rt; ticks_as(&mut kernel, &[pre(a), done(a, 0, act_b)]));
-    assert!(rt; ticks_as(&mut kernel, &[done(a, 1, act_c), post(a), pre(c)]));
-    assert!(rt; ticks_as(&mut kernel, &[done(c, 0, term), post(c), pre(a)]));
-    assert!(rt; ticks_as(&mut kernel, &[done(a, 2, term), post(a), pre(b)]));
-    assert!(rt; ticks_as(&mut kernel, &[done(b, 0, term), post(b)]));
+    let system = preemption(rt.alloc())?;
+    let ticks: [&[TraceEvent]; 5] = [
+        &[pre(a), done(a, 0, activate(b))],
+        &[done(a, 1, activate(c)), post(a), pre(c)],
+        &[done(c, 0, TERM), post(c), pre(a)],
+        &[done(a, 2, TERM), post(a), pre(b)],
+        &[done(b, 0, TERM), post(b)],
+    ];
+    assert!(rt; runs_over_both(rt.alloc(), &system, &ticks)?);
+    Ok(())
+}
+
+/// How often in so many ticks the ready queues were asked to put a task newest, to put one oldest,
+/// and to take one.
+fn calls_in(alloc: Global, system: &System, ticks: u32) -> Result<[u32; 3], Fail> {
+    let mut kernel = booted::<CountingQueues>(alloc, system)?;
+    for _tick in 0..ticks {
+        if !kernel.is_over() {
+            let _records = kernel.tick();
+        }
+    }
+    Ok(kernel.queues().calls())
+}
+
+/// A, B and C are activated, C preempts A, and A, C, A and B become the running task.
+#[test]
+fn a_preemption_goes_through_the_queues(rt: HostRuntime) -> Result<(), Fail> {
+    let system = preemption(rt.alloc())?;
+    assert_eq!(rt; calls_in(rt.alloc(), &system, 5)?, [3, 1, 4]);
     Ok(())
 }

@@ -9,7 +9,7 @@ use osek_base::{Place, Register, Results, Service, Status};
 use std::marker::Model;
 
 /// The eight registers of 32 bits and the place in the program. Contracts see both as one context.
-#[derive(Drop)]
+#[derive(Clone, Copy, Debug)]
 pub struct Cpu {
     registers: [u32; 8],
     place: Place,
@@ -21,33 +21,8 @@ impl Model for Cpu {
     ghost Value = { Context };
 
     ghost view = { λ c. record { registers = c.registers; place = c.place } };
-}
 
-/// The registers and the place that were saved of a job. Contracts see them as one context.
-#[derive(Drop)]
-pub struct Saved {
-    registers: [u32; 8],
-    place: Place,
-}
-
-impl Model for Saved {
-    ghost use Rattle.osek_base.specs.Instruction.{Context};
-
-    ghost Value = { Context };
-
-    ghost view = { λ s. record { registers = s.registers; place = s.place } };
-}
-
-impl Saved {
-    /// What a job has that hasn't begun: the registers and the place are 0.
-    pub fn fresh() -> Self
-        ensures { result ≡ fresh_context }
-    {
-        Saved {
-            registers: [0; 8],
-            place: Place::new(0),
-        }
-    }
+    ghost inverse = { λ x. record { registers = x.registers; place = x.place } };
 }
 
 impl Cpu {
@@ -142,24 +117,6 @@ impl Cpu {
             Service::GetAlarm(alarm) => Service::GetAlarm(alarm),
             Service::GetAlarmBase(alarm) => Service::GetAlarmBase(alarm),
         }
-    }
-
-    /// A copy of the registers and the place.
-    pub fn save(&self) -> Saved
-        ensures { result ≡ self.now }
-    {
-        Saved {
-            registers: self.registers,
-            place: self.place,
-        }
-    }
-
-    /// Takes saved registers and their place.
-    pub fn load(&mut self, saved: &Saved)
-        ensures { self.new ≡ saved.now }
-    {
-        self.registers = saved.registers;
-        self.place = saved.place;
     }
 }
 

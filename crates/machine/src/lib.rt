@@ -5,6 +5,6 @@ mod cpu;
 mod execution;
 mod windows;
 
-pub use cpu::{Cpu, Saved};
+pub use cpu::Cpu;
 pub use execution::exec_plain;
 pub use windows::Windows;

@@ -8,24 +8,29 @@ use Rattle.osek_base.specs.Service.{may_take}
 use Rattle.osek_base.specs.Tick.{Step}
 use Rattle.osek_base.specs.Trace.{Arrival, boot, run}
 use Rattle.osek_base.specs.Separable.{Separable}
-use Rattle.osek_base.specs.Agree.{Agree, upper_core}
+use Rattle.osek_base.specs.Agree.{Agree, upper_core, upper_part}
 use Rattle.osek_base.specs.View.{view}
 use Rattle.osek_base.specs.Blocker.{executing_job, is_ready_from, blockers}
 use Rattle.osek_base.specs.GoodState.{IsGood, IsShaped}
 use Rattle.osek_base.specs.Proper.{IsProper}
 
+-- two systems have one view at p: in each mode, under the same arrivals, after every number of ticks
+abbrev pub HaveOneView : System → System → ℕ → Type 0
+HaveOneView S T p =
+    (mode : ℕ) (arrivals : List Arrival) (n : ℕ) → mode < mode_count S
+    → view S p (run S mode arrivals n) ≡ view T p (run T mode arrivals n)
+
 -- isolation: whatever proper and separable system agrees with S from p upward has the same view, under the same arrivals
 abbrev pub IsIsolated : System → ℕ → Type 0
-IsIsolated S p =
-    (B : System) → IsProper B → Separable B p → Agree S B p
-    → (mode : ℕ) (arrivals : List Arrival) (n : ℕ) → mode < mode_count S
-    → view S p (run S mode arrivals n) ≡ view B p (run B mode arrivals n)
+IsIsolated S p = (B : System) → IsProper B → Separable B p → Agree S B p → HaveOneView S B p
 
--- the view of a separable system is that of its upper part by itself, which says isolation of one system alone
+-- the view of a system is that of its upper part run by itself
 abbrev pub IsItsUpperPart : System → ℕ → Type 0
-IsItsUpperPart S p =
-    (mode : ℕ) (arrivals : List Arrival) (n : ℕ) → mode < mode_count S
-    → view S p (run S mode arrivals n) ≡ view (upper_core S p) p (run (upper_core S p) mode arrivals n)
+IsItsUpperPart S p = HaveOneView S (upper_part S p) p
+
+-- the view of a system is that of its upper core, which says isolation of one system alone
+abbrev pub HasTheViewOfItsCore : System → ℕ → Type 0
+HasTheViewOfItsCore S p = HaveOneView S (upper_core S p) p
 
 -- exclusion: a GetResource by a job that may take the resource is answered E_OS_ACCESS only where that job itself holds it
 abbrev pub Excludes : System → ℕ → List Arrival → ℕ → Type 0

@@ -211,12 +211,15 @@ from_execution S s = and_then (execute_phase S s) (last_phase S)
 
 unfoldable pub tick : System → List ℕ → State → Step
 tick S arrived s =
-    let ready = before_execution S arrived s in
-    let done = from_execution S ready.state in
-    let last = done.state in
+    let acted = alarm_phase S s in
+    let flagged = arrival_phase arrived acted.state in
+    let dispatched = reschedule S flagged in
+    let ready = start_phase S dispatched.state in
+    let executed = execute_phase S ready in
+    let last = last_phase S executed.state in
     record {
       number = s.tick;
-      events = ready.events ++ done.events;
-      executing = ready.state;
-      after = record last { tick = last.tick + 1 };
+      events = (acted.events ++ dispatched.events) ++ (executed.events ++ last.events);
+      executing = ready;
+      after = record last.state { tick = last.state.tick + 1 };
     }

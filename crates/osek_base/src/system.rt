@@ -68,6 +68,14 @@ impl System {
         &self.parts.names
     }
 
+    /// The parts of the system.
+    pub fn parts(&self) -> &Parts
+        ensures value { result.now ≡ self.now }
+        ensures proper { IsProper self.now }
+    {
+        &self.parts
+    }
+
     /// How many tasks there are.
     pub fn task_count(&self) -> usize
         ensures value { result ≡ length self.now.tasks }

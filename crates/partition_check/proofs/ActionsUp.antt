@@ -10,7 +10,7 @@ use Rattle.osek_base.specs.Service.{JobCalls, RoutineCalls, NobodyCalls, service
 use Rattle.osek_base.specs.Tick.{action_call}
 use Rattle.osek_base.specs.Upper.{is_upper_task, action_task}
 use Rattle.osek_base.specs.Agree.{renumbered_service, upper_core}
-use Rattle.osek_base.proofs.UpperState.{up, up_job, is_upper_job}
+use Rattle.partition_check.proofs.UpperState.{up, up_job, is_upper_job}
 use Rattle.partition_check.proofs.Shared.{IsCounterpart, IsLow, IsLayeredJob, IsLayered, IsUpperCall, IsSameReply}
 use Rattle.partition_check.proofs.PriorityUp.{later_tasks}
 use Rattle.partition_check.proofs.ServiceUp.{service_up, unmasked_up}

@@ -14,7 +14,7 @@ use Rattle.osek_base.specs.Tick.{action_call, error_record, alarm_acts, alarms_a
 use Rattle.osek_base.specs.Upper.{is_upper_alarm, action_task}
 use Rattle.osek_base.specs.Agree.{rank, upper_core}
 use Rattle.osek_base.specs.Proper.{IsProper}
-use Rattle.osek_base.proofs.UpperState.{up}
+use Rattle.partition_check.proofs.UpperState.{up}
 use Rattle.partition_check.proofs.Renumbering.{renumbered_kept}
 use Rattle.partition_check.proofs.Dispatch.{lines_append, lines_none}
 use Rattle.partition_check.proofs.AlarmPhase.{due_alarms_up, alarms_advanced_up, advanced_layered, acts_on_known, error_records, error_hidden}

@@ -18,7 +18,7 @@ use Rattle.osek_base.specs.Text.{instruction_text, listed, mask_text}
 use Rattle.osek_base.specs.Upper.{is_upper_task, is_upper_alarm, action_task}
 use Rattle.osek_base.specs.Agree.{rank, upper_alarms, upper_core}
 use Rattle.osek_base.specs.Proper.{IsProper, is_proper_alarm, is_proper_action}
-use Rattle.osek_base.proofs.UpperState.{up}
+use Rattle.partition_check.proofs.UpperState.{up}
 use Rattle.partition_check.proofs.Ranks.{at_map, below_at, length_below}
 use Rattle.partition_check.proofs.Renumbering.{map_ranked, filter_ranked, renumbered_kept}
 use Rattle.partition_check.proofs.Falling.{and_split, all_at, map_kept}

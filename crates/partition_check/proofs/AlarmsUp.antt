@@ -8,7 +8,7 @@ use Rattle.osek_base.specs.State.{Expiry, State}
 use Rattle.osek_base.specs.Alarm.{expiry, with_alarm}
 use Rattle.osek_base.specs.Upper.{is_upper_alarm}
 use Rattle.osek_base.specs.Agree.{rank, kept, upper_alarms}
-use Rattle.osek_base.proofs.UpperState.{up}
+use Rattle.partition_check.proofs.UpperState.{up}
 use Rattle.partition_check.proofs.Shared.{IsCounterpart}
 use Rattle.partition_check.proofs.ListsUp.{true≢false, filter_append, map_same, all_pass, all_weaken}
 

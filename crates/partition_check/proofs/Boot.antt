@@ -14,7 +14,7 @@ use Rattle.osek_base.specs.Reschedule.{hooked, reschedule}
 use Rattle.osek_base.specs.Trace.{boot, all_activated, starting_tasks, starting_alarms, first_expiry}
 use Rattle.osek_base.specs.Upper.{is_upper_task, is_upper_alarm, is_upper_owner}
 use Rattle.osek_base.specs.Agree.{recounted, upper_alarms, upper_routine, upper_core}
-use Rattle.osek_base.proofs.UpperState.{up, upper_count, up_word}
+use Rattle.partition_check.proofs.UpperState.{up, upper_count, up_word}
 use Rattle.partition_check.proofs.Falling.{kept_short, kept_same, map_kept, map_twice}
 use Rattle.partition_check.proofs.CoreFacts.{lt_true, lt_false}
 use Rattle.partition_check.proofs.PriorityUp.{first_tasks}

@@ -26,7 +26,7 @@ module _ (S : System) (p : ℕ) (separable : Separable S p) where
   listed_below : (t r : ℕ) → t < length S.tasks → is_upper_task S p t ≡ false → lists_resource S t r ≡ true → declared_ceiling S r < p
   listed_below t r inside low listed = separable.resources t r (inside, low) (in_Contains r (task S t).resources listed)
 
-  listed_low : (t r : ℕ) → t < length S.tasks → is_upper_task S p t ≡ false → lists_resource S t r ≡ true → is_upper_declared S p r ≡ false
+  pub listed_low : (t r : ℕ) → t < length S.tasks → is_upper_task S p t ≡ false → lists_resource S t r ≡ true → is_upper_declared S p r ≡ false
   listed_low t r inside low listed = below_false p (declared_ceiling S r) (listed_below t r inside low listed)
 
   internal_found : (t c : ℕ) → t < length S.tasks → is_upper_task S p t ≡ false → (o : Option ℕ)
@@ -51,7 +51,7 @@ low S p proper separable = record { listed = listed_low S p separable; internal 
 
 -- ---- routines
 
-routine_program : (S : System) (p : ℕ) (all : List Routine) (i : ℕ)
+pub routine_program : (S : System) (p : ℕ) (all : List Routine) (i : ℕ)
     → (slice_index_or (map (upper_routine S p) all) i no_routine).program ≡ map (renumbered S p) (slice_index_or all i no_routine).program
 routine_program S p [] i = refl
 routine_program S p (a ∷ all) zero = refl
@@ -63,7 +63,7 @@ recounted_length : (i : ℕ) (all : List Alarm) → length (recounted i all) ≡
 recounted_length i [] = refl
 recounted_length i (a ∷ all) = ap suc (recounted_length (suc i) all)
 
-get_map : {X Y : Type 0} (f : X → Y) (xs : List X) (i : ℕ) (x : X) → slice_get xs i ≡ Some x → slice_get (map f xs) i ≡ Some (f x)
+pub get_map : {X Y : Type 0} (f : X → Y) (xs : List X) (i : ℕ) (x : X) → slice_get xs i ≡ Some x → slice_get (map f xs) i ≡ Some (f x)
 get_map f [] i x h = absurd (grind arith)
 get_map f (y ∷ xs) zero x h = ap (option_map f) h
 get_map f (y ∷ xs) (suc i) x h = get_map f xs i x h
@@ -79,7 +79,7 @@ recounted_at i (a ∷ all) (suc j) x h =
     recounted_at (suc i) all j x h ∙ ap (λ n. record x { counter = n }) (omega arith)
 
 module _ (S : System) (p : ℕ) where
-  alarm_place : (a : ℕ) → a < length S.alarms → is_upper_alarm S p a ≡ true
+  pub alarm_place : (a : ℕ) → a < length S.alarms → is_upper_alarm S p a ≡ true
       → slice_get (upper_alarms S p) (rank (is_upper_alarm S p) a) ≡ Some a
   alarm_place a inside high = kept_at (is_upper_alarm S p) (length S.alarms) a inside high
 

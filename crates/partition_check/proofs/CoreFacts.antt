@@ -13,7 +13,7 @@ use Rattle.osek_base.specs.Ceiling.{declared_ceiling, top_priority, ceiling, int
 use Rattle.osek_base.specs.Agree.{kept, rank, is_upper_declared, renumbered_resource, upper_task, upper_tasks, upper_resources, upper_core, resource}
 use Rattle.osek_base.specs.Upper.{is_upper_task}
 use Rattle.osek_base.specs.Proper.{IsProper, is_proper_task, are_falling, are_proper_resources}
-use Rattle.osek_base.proofs.UpperState.{upper_count}
+use Rattle.partition_check.proofs.UpperState.{upper_count}
 use Rattle.partition_check.proofs.Ranks.{clash, rank_same, rank_within, kept_at, below_at, at_map, IsFirstly, first_kept, first_split}
 use Rattle.partition_check.proofs.Falling.{and_split, all_at, greatest_first, ceiling_kept, top_kept, kept_short, kept_same, map_kept, map_below, falling_pair, ceiling_covers, each_in, in_Contains, find_renumbered}
 use Rattle.partition_check.proofs.Shared.{is_visible}
@@ -38,13 +38,13 @@ not_true true h = absurd (h refl)
 not_true false h = refl
 
 -- in a list of numbers that pass, under their new numbers
-in_rank : (test : ℕ → Bool) (r : ℕ) (ns : List ℕ) → test r ≡ true → AllByRecursion (λ n. test n ≡ true) ns
+pub in_rank : (test : ℕ → Bool) (r : ℕ) (ns : List ℕ) → test r ≡ true → AllByRecursion (λ n. test n ≡ true) ns
     → is_in (rank test r) (map (rank test) ns) ≡ is_in r ns
 in_rank test r [] pass all = refl
 in_rank test r (n ∷ ns) pass all = ap₂ (λ a b. a || b) (rank_same test n r all.0 pass) (in_rank test r ns pass all.1)
 
 module _ (S : System) (p : ℕ) (proper : IsProper S) where
-  falling : are_falling 31 S.tasks ≡ true
+  pub falling : are_falling 31 S.tasks ≡ true
   falling = (and_split _ _ (and_split _ _ (and_split _ _ (and_split _ _ (and_split _ _ proper.objects).0).0).0).0).0
 
   pub each_task : list_all (is_proper_task S) S.tasks ≡ true
@@ -117,7 +117,7 @@ module _ (S : System) (p : ℕ) (proper : IsProper S) where
       at_map (name_at S.names.resources) (upper_resources S p) (rank (is_upper_declared S p) r) r []
       (kept_at (is_upper_declared S p) (length S.resources) r h pass)
 
-  internal_same : (r : ℕ) → r < length S.resources → is_upper_declared S p r ≡ true
+  pub internal_same : (r : ℕ) → r < length S.resources → is_upper_declared S p r ≡ true
       → is_internal (upper_core S p) (rank (is_upper_declared S p) r) ≡ is_internal S r
   internal_same r h pass =
       ap is_internal_property (at_map (resource S) (upper_resources S p) (rank (is_upper_declared S p) r) r Property.Standard
@@ -145,7 +145,7 @@ module _ (S : System) (p : ℕ) (proper : IsProper S) where
     unlisted t r pass more inside =
         not_true (lists_resource S t r) (λ h. clash (sym pass ∙ listed_low t r inside (split t inside ∙ lt_false t (upper_count S p) more) h))
 
-    declared_same : (r : ℕ) → is_upper_declared S p r ≡ true
+    pub declared_same : (r : ℕ) → is_upper_declared S p r ≡ true
         → declared_ceiling (upper_core S p) (rank (is_upper_declared S p) r) ≡ declared_ceiling S r
     declared_same r pass =
         let new : ℕ = rank (is_upper_declared S p) r in

@@ -17,7 +17,7 @@ use Rattle.osek_base.specs.Agree.{upper_core}
 use Rattle.osek_base.specs.Text.{line}
 use Rattle.osek_base.specs.View.{view_records, shown}
 use Rattle.osek_base.proofs.ForemostLemmas.{keep}
-use Rattle.osek_base.proofs.UpperState.{up_job, is_upper_id, is_upper_job, is_ready_job, SameUnder, Fits}
+use Rattle.partition_check.proofs.UpperState.{up_job, is_upper_id, is_upper_job, is_ready_job, SameUnder, Fits}
 use Rattle.partition_check.proofs.Ranks.{clash, append_none}
 use Rattle.partition_check.proofs.Falling.{and_split}
 use Rattle.partition_check.proofs.PriorityUp.{first_tasks, dynamic_up, dynamic_high, dynamic_low}

@@ -10,7 +10,7 @@ use Rattle.osek_base.specs.Choice.{choice}
 use Rattle.osek_base.specs.Reschedule.{reschedule, entered, jobs_entered, id_of, switched, switch_records}
 use Rattle.osek_base.specs.Agree.{upper_core}
 use Rattle.osek_base.proofs.ForemostLemmas.{keep, best_in, foremost-best}
-use Rattle.osek_base.proofs.UpperState.{up, is_upper_id, is_ready_job, reschedule_up}
+use Rattle.partition_check.proofs.UpperState.{up, is_upper_id, is_ready_job, reschedule_up}
 use Rattle.partition_check.proofs.Ranks.{clash}
 use Rattle.partition_check.proofs.Falling.{and_split}
 use Rattle.partition_check.proofs.Dispatch.{fits, switch_lines, lines_none}

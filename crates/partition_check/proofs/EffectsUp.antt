@@ -13,7 +13,7 @@ use Rattle.osek_base.specs.Alarm.{count, next_count, with_alarm}
 use Rattle.osek_base.specs.Service.{Caller, JobCalls, RoutineCalls, NobodyCalls, with_caller, caller_ended, is_outranked, given_up, gets, releases, waiting_for, meets, is_met, released_by, with_events, event_set, events_cleared, event_awaited, effect, changed}
 use Rattle.osek_base.specs.Upper.{is_upper_task, is_upper_alarm}
 use Rattle.osek_base.specs.Agree.{rank, renumbered_resource, renumbered_service, upper_core}
-use Rattle.osek_base.proofs.UpperState.{up, up_job, up_jobs, upper_count}
+use Rattle.partition_check.proofs.UpperState.{up, up_job, up_jobs, upper_count}
 use Rattle.partition_check.proofs.Shared.{IsCounterpart, IsLow, IsLayered, IsUpperCaller, IsUpperCall, up_caller}
 use Rattle.partition_check.proofs.ListsUp.{map_append, take_set}
 use Rattle.partition_check.proofs.PriorityUp.{first_tasks}

@@ -22,8 +22,8 @@ use Rattle.osek_base.specs.Agree.{renumbered, upper_core}
 use Rattle.osek_base.specs.Proper.{IsProper}
 use Rattle.osek_base.specs.Separable.{Separable}
 use Rattle.osek_base.proofs.ForemostLemmas.{keep}
-use Rattle.osek_base.proofs.UpperState.{up, up_job, up_jobs, is_upper_id, is_upper_job, upper_count}
-use Rattle.osek_base.proofs.UpperWords.{up_words, lower_write}
+use Rattle.partition_check.proofs.UpperState.{up, up_job, up_jobs, is_upper_id, is_upper_job, upper_count}
+use Rattle.partition_check.proofs.UpperWords.{up_words, lower_write}
 use Rattle.partition_check.proofs.Falling.{and_split}
 use Rattle.partition_check.proofs.Ranks.{clash}
 use Rattle.partition_check.proofs.PriorityUp.{first_tasks}

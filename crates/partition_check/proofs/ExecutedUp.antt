@@ -21,8 +21,8 @@ use Rattle.osek_base.specs.Tick.{at_values, answered, with_context, job_moved, m
 use Rattle.osek_base.specs.Upper.{is_upper_owner, service_names}
 use Rattle.osek_base.specs.Separable.{names_lower, names_upper, names_scheduler, asks_task_id}
 use Rattle.osek_base.specs.Agree.{renumbered, renumbered_service, upper_core}
-use Rattle.osek_base.proofs.UpperState.{up, up_word, is_upper_id}
-use Rattle.osek_base.proofs.UpperWords.{up_words, upper_write}
+use Rattle.partition_check.proofs.UpperState.{up, up_word, is_upper_id}
+use Rattle.partition_check.proofs.UpperWords.{up_words, upper_write}
 use Rattle.partition_check.proofs.JobsUp.{with_job_up}
 use Rattle.partition_check.proofs.ResultsUp.{IsTold}
 use Rattle.partition_check.proofs.ServiceUp.{service_up}

@@ -4,10 +4,10 @@ use Rattle.osek_base.specs.System.{System}
 use Rattle.osek_base.specs.Agree.{upper_core}
 use Rattle.osek_base.specs.Proper.{IsProper}
 use Rattle.osek_base.specs.Separable.{Separable}
-use Rattle.osek_base.specs.Laws.{IsIsolated, IsItsUpperPart}
-use Rattle.osek_base.proofs.UpperState.{up}
-use Rattle.osek_base.proofs.RunLemmas.{views_equal}
-use Rattle.osek_base.proofs.IsolationLemmas.{isolated_by_parts}
+use Rattle.osek_base.specs.Laws.{IsIsolated, HasTheViewOfItsCore}
+use Rattle.partition_check.proofs.UpperState.{up}
+use Rattle.partition_check.proofs.RunLemmas.{views_equal}
+use Rattle.partition_check.proofs.IsolationLemmas.{isolated_by_parts}
 use Rattle.partition_check.proofs.Core.{counterpart, low}
 use Rattle.partition_check.proofs.Dispatch.{lines_none}
 use Rattle.partition_check.proofs.Boot.{boot_alike}
@@ -15,8 +15,8 @@ use Rattle.partition_check.proofs.TickUp.{tick_alike, tick_sight}
 use Rattle.partition_check.proofs.Shared.{IsLayered, SameLines}
 
 -- the view of a separable system is that of its upper core
-pub its_upper_part : (S : System) (p : ℕ) → IsProper S → Separable S p → IsItsUpperPart S p
-its_upper_part S p proper separable mode arrivals n inside =
+pub its_core : (S : System) (p : ℕ) → IsProper S → Separable S p → HasTheViewOfItsCore S p
+its_core S p proper separable mode arrivals n inside =
     let both = counterpart S p proper separable in
     let below = low S p proper separable in
     let booted = boot_alike S p both below mode in
@@ -28,4 +28,4 @@ its_upper_part S p proper separable mode arrivals n inside =
 
 -- systems that agree from p upward have the same view
 pub isolated : (S : System) (p : ℕ) → IsProper S → Separable S p → IsIsolated S p
-isolated = isolated_by_parts its_upper_part
+isolated = isolated_by_parts its_core

@@ -8,7 +8,7 @@ use Rattle.osek_base.specs.System.{System}
 use Rattle.osek_base.specs.State.{Job, JobId, waits, same_id, jobs_of, jobs_but, job_of, with_job}
 use Rattle.osek_base.specs.Activation.{woken, new_job}
 use Rattle.osek_base.specs.Upper.{is_upper_task}
-use Rattle.osek_base.proofs.UpperState.{up_job, up_jobs, is_upper_id, is_upper_job}
+use Rattle.partition_check.proofs.UpperState.{up_job, up_jobs, is_upper_id, is_upper_job}
 use Rattle.partition_check.proofs.ListsUp.{true≢false, filter_append, filter_swap, filter_weaker, filter_none, find_weaker, filter_map_is, find_map_is, any_map_is, map_append, length_map, filter_after_map, map_swap, filter_unseen}
 
 -- ---- ids

@@ -14,7 +14,7 @@ use Rattle.osek_base.specs.Alarm.{with_alarm}
 use Rattle.osek_base.specs.Service.{Caller, JobCalls, RoutineCalls, NobodyCalls, with_caller, caller_ended, is_outranked, given_up, gets, releases, waiting_for, meets, is_met, released_by, with_events, events_cleared, event_awaited, effect, changed, reply_to, service, unmasked_service}
 use Rattle.osek_base.specs.Upper.{service_names}
 use Rattle.osek_base.specs.Separable.{names_upper, names_scheduler}
-use Rattle.osek_base.proofs.UpperState.{is_upper_id, is_upper_job}
+use Rattle.partition_check.proofs.UpperState.{is_upper_id, is_upper_job}
 use Rattle.partition_check.proofs.Shared.{IsCounterpart, IsLayeredJob, IsLayered, IsKnownObject, IsUpperCaller, IsLowerCaller, IsUpperCall, IsLowerCall, is_visible}
 use Rattle.partition_check.proofs.ListsUp.{true≢false, all_append, all_filter, all_map}
 use Rattle.partition_check.proofs.JobsUp.{same_id_upper}

@@ -3,8 +3,12 @@ mod Firsts
 mod PlaceLemmas
 mod Breaches
 mod Rules
-mod Ranks
+pub mod Ranks
 mod Falling
+mod RunLemmas
+mod UpperState
+mod UpperPhases
+mod UpperWords
 mod CoreFacts
 mod Core
 mod ListsUp
@@ -30,4 +34,11 @@ mod ProgramFacts
 mod ExecutedUp
 mod ExecuteUp
 mod TickUp
-pub mod Isolated
+mod IsolationLemmas
+mod Isolated
+mod Picked
+mod PartInstrs
+mod PartTasks
+pub mod PartProper
+pub mod Whole
+pub mod PartAgrees

@@ -10,7 +10,7 @@ use Rattle.osek_base.specs.State.{Job}
 use Rattle.osek_base.specs.Priority.{static_priority, dynamic_priority}
 use Rattle.osek_base.specs.Upper.{is_upper_task}
 use Rattle.osek_base.specs.Agree.{renumbered_resource, upper_core}
-use Rattle.osek_base.proofs.UpperState.{up_job, is_upper_job, upper_count}
+use Rattle.partition_check.proofs.UpperState.{up_job, is_upper_job, upper_count}
 use Rattle.partition_check.proofs.Shared.{IsCounterpart, IsLow, IsLayeredJob, is_visible}
 
 -- an upper task is one of the first

@@ -37,7 +37,7 @@ each_instruction P all place nop each = go (at_program all place)
     go (inl e) = each (instruction_in all place) e
     go (inr e) = subst P (sym e) nop
 
-all_get : {X : Type 0} (test : X → Bool) (xs : List X) (i : ℕ) (x : X) → list_all test xs ≡ true → slice_get xs i ≡ Some x → test x ≡ true
+pub all_get : {X : Type 0} (test : X → Bool) (xs : List X) (i : ℕ) (x : X) → list_all test xs ≡ true → slice_get xs i ≡ Some x → test x ≡ true
 all_get test [] i x all h = absurd (grind arith)
 all_get test (y ∷ xs) zero x all h =
     let same : y ≡ x = grind arith in
@@ -79,7 +79,7 @@ proper_known S (Service.GetAlarm (Some a)) h = true_lt a (length S.alarms) h
 proper_known S (Service.GetAlarmBase None) h = tt
 proper_known S (Service.GetAlarmBase (Some a)) h = true_lt a (length S.alarms) h
 
-instruction_known : (S : System) (in_routine : Bool) (size : ℕ) (x : Instr) → is_proper_instruction S in_routine size x ≡ true → IsKnownObject S (named_object x)
+pub instruction_known : (S : System) (in_routine : Bool) (size : ℕ) (x : Instr) → is_proper_instruction S in_routine size x ≡ true → IsKnownObject S (named_object x)
 instruction_known S in_routine size (Instr.Plain x) h = tt
 instruction_known S in_routine size (Instr.Service call) h = proper_known S call h
 instruction_known S in_routine size (Instr.Control x) h = tt
@@ -97,7 +97,7 @@ pub record IsLowerInstr (S : System) (p : ℕ) (what : Instr) : Type 0 where
   pub no_control : (x : Control) → what ≡ Instr.Control x → ⊥
 
 module _ (S : System) (p : ℕ) (proper : IsProper S) (separable : Separable S p) where
-  each_routine : list_all (is_proper_routine S) S.routines ≡ true
+  pub each_routine : list_all (is_proper_routine S) S.routines ≡ true
   each_routine = (and_split _ _ (and_split _ _ (and_split _ _ (and_split _ _ proper.objects).0).0).0).1
 
   task_program : (t place : ℕ) (x : Instr) → t < length S.tasks → slice_get (program S (Owner.Task t)) place ≡ Some x

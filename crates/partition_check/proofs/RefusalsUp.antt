@@ -16,7 +16,7 @@ use Rattle.osek_base.specs.Service.{Caller, JobCalls, RoutineCalls, NobodyCalls,
 use Rattle.osek_base.specs.Upper.{TheResource, is_upper_task, is_upper_resource, is_upper_alarm}
 use Rattle.osek_base.specs.Separable.{is_scheduler_object}
 use Rattle.osek_base.specs.Agree.{rank, renumbered_resource, renumbered_service, is_upper_declared, upper_core}
-use Rattle.osek_base.proofs.UpperState.{up, up_job, up_jobs, is_upper_job, upper_count}
+use Rattle.partition_check.proofs.UpperState.{up, up_job, up_jobs, is_upper_job, upper_count}
 use Rattle.partition_check.proofs.Shared.{IsCounterpart, IsLow, IsLayeredJob, IsLayered, IsUpperCaller, IsUpperCall, is_visible, up_caller}
 use Rattle.partition_check.proofs.ListsUp.{true≢false, false≢true, any_map_is, any_weaker}
 use Rattle.partition_check.proofs.PriorityUp.{first_tasks, static_up, dynamic_up, dynamic_low, held_visible, held_unseen}

@@ -14,7 +14,7 @@ use Rattle.osek_base.specs.Service.{Caller, JobCalls, RoutineCalls, NobodyCalls,
 use Rattle.osek_base.specs.Upper.{is_upper_task, is_upper_alarm}
 use Rattle.osek_base.specs.Separable.{asks_task_id}
 use Rattle.osek_base.specs.Agree.{renumbered_service, upper_core}
-use Rattle.osek_base.proofs.UpperState.{up, is_upper_id, upper_count}
+use Rattle.partition_check.proofs.UpperState.{up, is_upper_id, upper_count}
 use Rattle.osek_base.proofs.ForemostLemmas.{keep}
 use Rattle.partition_check.proofs.Shared.{IsCounterpart, IsUpperCaller, IsUpperCall}
 use Rattle.partition_check.proofs.ListsUp.{true≢false}

@@ -13,7 +13,7 @@ use Rattle.osek_base.specs.Alarm.{expiry, with_alarm}
 use Rattle.osek_base.specs.Service.{Caller, JobCalls, RoutineCalls, NobodyCalls, with_caller, is_outranked, given_up, gets, releases, waiting_for, meets, is_met, released_by, with_events, event_set, effect, changed, reply_to, service, unmasked_service}
 use Rattle.osek_base.specs.Upper.{is_upper_task, is_upper_alarm}
 use Rattle.osek_base.specs.Agree.{upper_alarms}
-use Rattle.osek_base.proofs.UpperState.{up, up_jobs, is_upper_id, is_upper_job, upper_count}
+use Rattle.partition_check.proofs.UpperState.{up, up_jobs, is_upper_id, is_upper_job, upper_count}
 use Rattle.partition_check.proofs.Shared.{IsCounterpart, IsLayered, IsLowerCaller, IsLowerCall}
 use Rattle.partition_check.proofs.ListsUp.{all_pass, all_weaken}
 use Rattle.partition_check.proofs.PriorityUp.{later_tasks}

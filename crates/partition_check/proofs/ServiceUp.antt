@@ -7,7 +7,7 @@ use Rattle.osek_base.specs.System.{System}
 use Rattle.osek_base.specs.State.{State, interrupts_off}
 use Rattle.osek_base.specs.Service.{Caller, answer, with_objects_of, first_refusal, refusals, reply_to, service, unmasked_service}
 use Rattle.osek_base.specs.Agree.{renumbered_service, upper_core}
-use Rattle.osek_base.proofs.UpperState.{up}
+use Rattle.partition_check.proofs.UpperState.{up}
 use Rattle.partition_check.proofs.Shared.{IsCounterpart, IsLow, IsLayered, IsUpperCaller, IsUpperCall, IsSameReply, up_caller}
 use Rattle.partition_check.proofs.RefusalsUp.{refusals_up}
 use Rattle.partition_check.proofs.ResultsUp.{IsTold, results_told_up}

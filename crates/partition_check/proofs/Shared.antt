@@ -17,7 +17,7 @@ use Rattle.osek_base.specs.Upper.{Object, TheTask, TheResource, TheAlarm, is_upp
 use Rattle.osek_base.specs.Separable.{names_scheduler, names_upper, names_lower, asks_task_id}
 use Rattle.osek_base.specs.Agree.{rank, is_upper_declared, renumbered, renumbered_resource, upper_task, upper_alarms, upper_core}
 use Rattle.osek_base.specs.View.{view_records}
-use Rattle.osek_base.proofs.UpperState.{up, up_job, is_upper_id, is_upper_job, upper_count}
+use Rattle.partition_check.proofs.UpperState.{up, up_job, is_upper_id, is_upper_job, upper_count}
 
 -- ---- resources as seen from above
 

@@ -15,8 +15,8 @@ use Rattle.osek_base.specs.Upper.{is_upper_task, is_upper_owner, upper_owners}
 use Rattle.osek_base.specs.Agree.{upper_routine, upper_core}
 use Rattle.osek_base.specs.Proper.{IsProper}
 use Rattle.osek_base.specs.Separable.{Separable}
-use Rattle.osek_base.proofs.UpperState.{up, upper_count}
-use Rattle.osek_base.proofs.UpperPhases.{start_up}
+use Rattle.partition_check.proofs.UpperState.{up, upper_count}
+use Rattle.partition_check.proofs.UpperPhases.{start_up}
 use Rattle.partition_check.proofs.ListsUp.{all_pass}
 use Rattle.partition_check.proofs.Falling.{kept_short, kept_same}
 use Rattle.partition_check.proofs.CoreFacts.{lt_false}

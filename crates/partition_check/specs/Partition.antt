@@ -1,5 +1,5 @@
 -- Partitions, no part of the standards. What the check answers, rule by rule.
-use Rattle.std.specs.Prelude.{ℕ, ◌<◌, Bool, not, List, map, drop, Option, Some, None, Ok, Err, length}
+use Rattle.std.specs.Prelude.{ℕ, Bool, not, List, map, drop, Option, Some, None, Ok, Err, length}
 use Rattle.std.specs.List.{filter, flat_map, enumerate_from}
 use Rattle.std.specs.declared.result.Result.{Result}
 use Rattle.osek_base.specs.declared.ids.Owner.{Owner}
@@ -92,13 +92,3 @@ object_of (object.Alarm a) = TheAlarm a
 
 abbrev pub found : Option code.Object → Option Object
 found o = option_map object_of o
-
--- what is named exists
-abbrev pub Exists : System → Object → Type 0
-Exists S (TheTask t) = t < length S.tasks
-Exists S (TheResource r) = Unit {0}
-Exists S (TheAlarm a) = a < length S.alarms
-
-abbrev pub NamesKnown : System → Option Object → Type 0
-NamesKnown S None = Unit {0}
-NamesKnown S (Some o) = Exists S o

@@ -1,7 +1,7 @@
 //! Partitions, no part of the standards. The check of the seven rules.
 
 ghost use Rattle.std.specs.Prelude.{◌≡◌, ◌↔◌, IsOk, OnOk, IfErr, IfSome};
-ghost use Rattle.osek_base.specs.Laws.{IsIsolated};
+ghost use Rattle.osek_base.specs.Laws.{IsIsolated, IsItsUpperPart};
 ghost use Rattle.osek_base.specs.Names.{HasOwner};
 ghost use Rattle.osek_base.specs.Separable.{Separable, IsOwner, first_denial};
 ghost use Rattle.partition_check.specs.Partition.{told, denied};
@@ -17,12 +17,13 @@ use osek_base::System;
 ///
 /// Where the answer is Ok, whatever stands below can neither delay nor disturb the upper part: every proper system that is
 /// separable at p and agrees with this one from p upward has the same view at p, in every mode, under every arrival list and
-/// for every number of ticks.
+/// for every number of ticks. So has its upper part run by itself.
 pub fn check_partition(system: &System, p: u8) -> Result<(), Denial>
     ensures denies { denied result ≡ first_denial system.now p }
     ensures accepts { IsOk result ↔ Separable system.now p }
     ensures subject { IfErr result (λ d. HasOwner system.now.names d.subject) }
     ensures isolated { OnOk result (IsIsolated system.now p) }
+    ensures by_itself { OnOk result (IsItsUpperPart system.now p) }
 {
     system.names();
     match first_denial(system, p) {

@@ -66,16 +66,14 @@ impl Model for Denial {
 
 impl Denial {
     /// The denial with its subject's name, as the system has it.
-    pub fn named(&self, system: &System) -> NamedDenial
-        requires { HasOwner system.now.names self.now.subject }
-        ensures rule { result.rule ≡ self.now.rule }
-        ensures subject { result.subject ≡ owner_name system.now.names self.now.subject }
-        ensures place { result.place ≡ self.now.place }
+    pub fn named(self, system: &System) -> NamedDenial
+        requires { HasOwner system.now.names self.subject }
+        ensures denial { result.denial ≡ self }
+        ensures name { result.name ≡ owner_name system.now.names self.subject }
     {
         NamedDenial {
-            rule: self.rule,
-            subject: name_of(system.names(), self.subject),
-            place: self.place,
+            denial: self,
+            name: name_of(system.names(), self.subject),
         }
     }
 }
@@ -92,23 +90,21 @@ fn name_of(names: &Names, owner: Owner) -> Name
     Name::new(name).unwrap()
 }
 
-/// A denial with the name of its subject, as it is printed.
+/// A denial with the name of its subject. A task and a routine may have one name: the denial tells which of them it is.
 #[derive(Debug, Drop)]
 pub struct NamedDenial {
-    pub rule: Rule,
-    /// The name of a task or of a routine.
-    pub subject: Name,
-    /// The place of an instruction, 0 to 1,023, for the rules on programs.
-    pub place: Option<u16>,
+    pub denial: Denial,
+    pub name: Name,
 }
 
 impl fmt::Display for NamedDenial {
     fn fmt<W: fmt::Write>(&self, f: &mut fmt::Formatter<W>) -> fmt::Result {
-        let rule = self.rule.number();
-        let subject = self.subject.as_str();
-        match self.place {
-            None => write!(f, "rule {rule}, {subject}"),
-            Some(place) => write!(f, "rule {rule}, {subject}, {place}"),
+        let denial = self.denial;
+        let rule = denial.rule.number();
+        let name = self.name.as_str();
+        match denial.place {
+            None => write!(f, "rule {rule}, {name}"),
+            Some(place) => write!(f, "rule {rule}, {name}, {place}"),
         }
     }
 }

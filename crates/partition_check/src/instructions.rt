@@ -1,13 +1,13 @@
 //! Partitions, no part of the standards. What an instruction names, and which rules forbid it.
 
-ghost use Rattle.std.specs.Prelude.{◌≡◌, ◌<◌, length};
-ghost use Rattle.osek_base.specs.System.{alarm as alarm_at};
-ghost use Rattle.osek_base.specs.Upper.{TheTask, TheResource, TheAlarm, action_task, is_upper_task, is_upper_object, named_task, named_resource, named_alarm, service_names, named_object};
+ghost use Rattle.std.specs.Prelude.{◌≡◌};
+ghost use Rattle.osek_base.specs.Upper.{is_upper_object, named_task, named_resource, named_alarm, service_names, named_object};
 ghost use Rattle.osek_base.specs.Separable.{is_scheduler_object, names_scheduler, names_upper, names_lower, is_reserved, asks_task_id};
-ghost use Rattle.partition_check.specs.Partition.{Exists, NamesKnown, forbids, object_of, found};
+ghost use Rattle.partition_check.specs.Partition.{forbids, object_of, found};
 
 use crate::denial::Rule;
-use osek_base::{Action, AlarmId, Control, Instr, Register, ResId, Service, System, TaskId};
+use crate::upper::{is_upper_alarm, is_upper_resource, is_upper_task};
+use osek_base::{AlarmId, Control, Instr, Register, ResId, Service, System, TaskId};
 
 /// What an operand names.
 #[derive(Clone, Copy, Debug, PartialEq, Eq)]
@@ -29,35 +29,13 @@ impl Object {
 
     /// Whether it is upper at p: a task of priority p or more, a resource of such a ceiling, an alarm of such a task.
     fn is_upper(&self, system: &System, p: u8) -> bool
-        requires { Exists system.now (object_of self.now) }
         ensures { result ≡ is_upper_object system.now p (object_of self.now) }
     {
         match self {
             Object::Task(task) => is_upper_task(system, p, *task),
-            Object::Resource(resource) => system.ceiling(*resource) >= p,
-            Object::Alarm(alarm) => is_upper_task(system, p, action_task(system, *alarm)),
+            Object::Resource(resource) => is_upper_resource(system, p, *resource),
+            Object::Alarm(alarm) => is_upper_alarm(system, p, *alarm),
         }
-    }
-}
-
-/// Whether a task has priority p or more.
-pub(crate) fn is_upper_task(system: &System, p: u8, task: TaskId) -> bool
-    requires { task < length system.now.tasks }
-    ensures { result ≡ is_upper_task system.now p task }
-{
-    system.priority_of(task) >= p
-}
-
-/// The task on which an alarm acts.
-fn action_task(system: &System, alarm: AlarmId) -> TaskId
-    requires { alarm < length system.now.alarms }
-    ensures is { result ≡ action_task (alarm_at system.now alarm).action }
-    ensures known { result < length system.now.tasks }
-{
-    system.names();
-    match system.action_of(alarm) {
-        Action::ActivateTask(task) => task,
-        Action::SetEvent(task, _) => task,
     }
 }
 
@@ -131,7 +109,6 @@ fn names_scheduler(instr: &Instr) -> bool
 
 /// Whether it names an upper object other than RES_SCHEDULER.
 fn names_upper(system: &System, p: u8, instr: &Instr) -> bool
-    requires { NamesKnown system.now (named_object instr.now) }
     ensures { result ≡ names_upper system.now p instr.now }
 {
     match named_object(instr) {
@@ -142,7 +119,6 @@ fn names_upper(system: &System, p: u8, instr: &Instr) -> bool
 
 /// Whether it names a lower object other than RES_SCHEDULER.
 fn names_lower(system: &System, p: u8, instr: &Instr) -> bool
-    requires { NamesKnown system.now (named_object instr.now) }
     ensures { result ≡ names_lower system.now p instr.now }
 {
     match named_object(instr) {
@@ -179,7 +155,6 @@ fn asks_task_id(instr: &Instr) -> bool
 
 /// Whether a rule on programs forbids an instruction to its subjects.
 pub(crate) fn forbids(system: &System, p: u8, rule: Rule, instr: &Instr) -> bool
-    requires { NamesKnown system.now (named_object instr.now) }
     ensures { result ≡ forbids system.now p rule instr.now }
 {
     match rule {

@@ -6,6 +6,8 @@ mod denial;
 mod instructions;
 mod programs;
 mod tasks;
+mod upper;
 
 pub use check::check_partition;
 pub use denial::{Denial, NamedDenial, Rule};
+pub use upper::{is_upper_alarm, is_upper_resource, is_upper_task};

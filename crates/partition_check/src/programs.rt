@@ -7,7 +7,8 @@ ghost use Rattle.osek_base.specs.Separable.{IsOwner};
 ghost use Rattle.partition_check.specs.Partition.{rule_number, forbids, lower_from, upper_from, routines_from, first_place, first_broken, denial_of, told};
 
 use crate::denial::{Denial, Rule};
-use crate::instructions::{forbids, is_upper_task};
+use crate::instructions::forbids;
+use crate::upper::is_upper_task;
 use osek_base::{IsrId, Owner, Place, System, TaskId};
 
 /// Whether a rule forbids the instruction at a place.

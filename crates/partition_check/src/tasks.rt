@@ -9,7 +9,7 @@ ghost use Rattle.osek_base.specs.Separable.{IsOwner, is_full_schedule, lists_upp
 ghost use Rattle.partition_check.specs.Partition.{rule_number, denial_of, told, is_not_full, lower_from, first_breaking};
 
 use crate::denial::{Denial, Rule};
-use crate::instructions::is_upper_task;
+use crate::upper::is_upper_task;
 use osek_base::{Owner, ResId, ResourceNumber, Schedule, System, TaskId};
 
 /// Whether one of some resources has a ceiling of p or more.

@@ -1,12 +1,13 @@
 //! The resources of one job.
 
-ghost use Rattle.std.specs.Prelude.{◌≡◌, ◌<◌, [], ◌∷◌, ◌++◌, IsFalse, length, map};
+ghost use Rattle.osek_base.specs.declared.status.Status.{Status};
+ghost use Rattle.std.specs.Prelude.{if◌then◌else◌, ◌≡◌, ◌<◌, [], ◌∷◌, ◌++◌, IsFalse, length, map};
 ghost use Rattle.osek_base.specs.Lists.{is_empty, greatest, same_resource, without_last};
 ghost use Rattle.osek_base.specs.Ceiling.{ceiling};
 ghost use Rattle.resources.specs.Held.{is_held, is_last, IsLow, number_of, priority_with};
 
 use arrayvec::ArrayVec;
-use osek_base::{ResId, ResourceNumber, System, TaskId};
+use osek_base::{ResId, ResourceNumber, Status, System, TaskId};
 use std::marker::Model;
 
 /// What one job holds: at most the 32 declared resources and RES_SCHEDULER, each once. Contracts see the list in the
@@ -53,6 +54,19 @@ impl Held {
         ensures { self.new ≡ without_last self.old }
     {
         self.resources.pop();
+    }
+
+    /// ReleaseResource: the resource that was got last isn't held any more. E_OS_NOFUNC where it is another one or isn't
+    /// held; then nothing changes.
+    pub fn release(&mut self, resource: ResId) -> Status
+        ensures status { result ≡ (if is_last resource self.old then Status.Ok else Status.NoFunc) }
+        ensures held { self.new ≡ (if is_last resource self.old then without_last self.old else self.old) }
+    {
+        if !self.is_last(resource) {
+            return Status::NoFunc;
+        }
+        self.release_last();
+        Status::Ok
     }
 
     /// The dynamic priority of a job of the task that holds this: the greatest of the task's priority, the ceilings of

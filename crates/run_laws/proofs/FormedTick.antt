@@ -42,11 +42,11 @@ active_unmasked : (S : System) (s : State) (c : Caller) (call : Service ℕ) →
 unfolding unmasked_service
 active_unmasked S s c call = refl
 
-pending_service : (S : System) (s : State) (c : Caller) (call : Service ℕ) → (service S c s call).state.pending ≡ s.pending
+pub pending_service : (S : System) (s : State) (c : Caller) (call : Service ℕ) → (service S c s call).state.pending ≡ s.pending
 unfolding service
 pending_service S s c call = refl
 
-active_service : (S : System) (s : State) (c : Caller) (call : Service ℕ) → (service S c s call).state.active ≡ s.active
+pub active_service : (S : System) (s : State) (c : Caller) (call : Service ℕ) → (service S c s call).state.active ≡ s.active
 unfolding service
 active_service S s c call = refl
 
@@ -65,7 +65,7 @@ results_place (Results.Three a b c) x = refl
 
 module _ (S : System) (proper : IsProper S) where
   -- the instruction behind one that doesn't end a program
-  next_placed : (owner : Owner) (x y : Context) → IsPlaced S owner x → x.place + 1 < length (program S owner) → length y.registers ≡ length x.registers
+  pub next_placed : (owner : Owner) (x y : Context) → IsPlaced S owner x → x.place + 1 < length (program S owner) → length y.registers ≡ length x.registers
       → y.place ≡ x.place + 1 → IsPlaced S owner y
   next_placed owner x y placed inside registers place =
       record { registers = registers ∙ placed.registers; place = subst (λ n. n < length (program S owner)) (sym place) inside }
@@ -77,7 +77,7 @@ module _ (S : System) (proper : IsProper S) where
   cond_below true m n k f g = f
   cond_below false m n k f g = g
 
-  plain_placed : (owner : Owner) (in_routine : Bool) (x : Context) (p : Plain) (words : ℕ → ℕ) → IsPlaced S owner x
+  pub plain_placed : (owner : Owner) (in_routine : Bool) (x : Context) (p : Plain) (words : ℕ → ℕ) → IsPlaced S owner x
       → is_proper_instruction S in_routine (length (program S owner)) (Instr.Plain p) ≡ true
       → (is_end_instruction (Instr.Plain p) ≡ false → x.place + 1 < length (program S owner)) → IsPlaced S owner (plain p x words).context
   plain_placed owner in_routine x Plain.Nop words placed operands inside = next_placed owner x (next x) placed (inside refl) refl refl
@@ -94,7 +94,7 @@ module _ (S : System) (proper : IsProper S) where
         (true_lt to (length (program S owner)) (and_split (is_register a && is_register b) _ operands).1) (inside refl);
   }
 
-  answered_placed : (owner : Owner) (status : Status) (found : Results) (x : Context) → IsPlaced S owner x → x.place + 1 < length (program S owner)
+  pub answered_placed : (owner : Owner) (status : Status) (found : Results) (x : Context) → IsPlaced S owner x → x.place + 1 < length (program S owner)
       → IsPlaced S owner (answered status found x)
   answered_placed owner status found x placed inside =
       next_placed owner x (answered status found x) placed inside
@@ -102,7 +102,7 @@ module _ (S : System) (proper : IsProper S) where
 
   -- ---- phases 1 to 4
 
-  acts_form : (s : State) (call : Service ℕ) → ActivatesKnown S call → HasForm S s → HasForm S (unmasked_service S NobodyCalls s call).state
+  pub acts_form : (s : State) (call : Service ℕ) → ActivatesKnown S call → HasForm S s → HasForm S (unmasked_service S NobodyCalls s call).state
   acts_form s call known form = record {
     formed = unmasked_formed S proper s NobodyCalls call tt known form.formed;
     pending = ap length (pending_unmasked S s NobodyCalls call) ∙ form.pending;
@@ -118,7 +118,7 @@ module _ (S : System) (proper : IsProper S) where
   length_below zero = refl
   length_below (suc n) = let rest = length_below n in omega (arith, length-append (below n) (n ∷ []))
 
-  advanced_form : (s : State) → HasForm S s → HasForm S (record s { alarms = alarms_advanced S s })
+  pub advanced_form : (s : State) → HasForm S s → HasForm S (record s { alarms = alarms_advanced S s })
   advanced_form s form = record {
     formed = record {
       masks = form.formed.masks;
@@ -153,7 +153,7 @@ module _ (S : System) (proper : IsProper S) where
   entered_formed (Some c) jobs all limited =
       change_formed S proper c.id (entered S) jobs (λ k. refl) (λ k e h. record { task = h.task; context = h.context }) all limited
 
-  reschedule_form : (s : State) → HasForm S s → HasForm S (reschedule S s).state
+  pub reschedule_form : (s : State) → HasForm S s → HasForm S (reschedule S s).state
   unfolding reschedule
   reschedule_form s form = go (may_dispatch s)
     where
@@ -181,7 +181,7 @@ module _ (S : System) (proper : IsProper S) where
         record { routine = inside; context = record { registers = refl; place = some_program S (Owner.Routine i) proper inside } },
       )
 
-  start_form : (s : State) → HasForm S s → HasForm S (start_phase S s)
+  pub start_form : (s : State) → HasForm S s → HasForm S (start_phase S s)
   unfolding start_phase
   start_form s form = go (may_dispatch s)
     where
@@ -199,7 +199,7 @@ module _ (S : System) (proper : IsProper S) where
         active = form.active;
       }
 
-  before_form : (arrived : List ℕ) (s : State) → HasForm S s → HasForm S (before_execution S arrived s).state
+  pub before_form : (arrived : List ℕ) (s : State) → HasForm S s → HasForm S (before_execution S arrived s).state
   before_form arrived s form =
       start_form (reschedule S (arrival_phase arrived (alarm_phase S s).state)).state
       (reschedule_form (arrival_phase arrived (alarm_phase S s).state) (arrival_form arrived (alarm_phase S s).state (alarm_phase_form s form)))

@@ -4,7 +4,7 @@ use Rattle.std.specs.Prelude.{Option, Some, None, ◌==◌, slice_index}
 use Rattle.std.specs.List.{AllByRecursion}
 use Rattle.std.proofs.lemmas.List.{get_or-set_same, get_or-set_other}
 use Rattle.osek_base.specs.System.{System, is_extended}
-use Rattle.osek_base.specs.State.{Job, JobId, State, same_id, waits, jobs_but, with_job}
+use Rattle.osek_base.specs.State.{Job, JobId, State, fresh_context, same_id, waits, jobs_but, with_job}
 use Rattle.osek_base.specs.Activation.{activated, new_job}
 use Rattle.run_laws.proofs.Lists.{Pairs, clash, all_weaker, all_both, all_kept, all_append, all_map, pairs_both, pairs_of_all, pairs_kept, pairs_map, pairs_append}
 use Rattle.run_laws.proofs.Foremost.{AreApart, equal, same_ids}
@@ -13,6 +13,7 @@ use Rattle.run_laws.proofs.Foremost.{AreApart, equal, same_ids}
 pub record IsSoundJob (S : System) (made : List ℕ) (j : Job) : Type 0 where
   pub given : j.id.serial < slice_index made j.id.task
   pub idle : j.begun ≡ false → (j.held ≡ []) × (j.taken ≡ false)
+  pub fresh : j.begun ≡ false → j.context ≡ fresh_context
   pub extended : waits j ≡ true → is_extended S j.id.task ≡ true
 
 -- of two jobs of one task, the later isn't begun, and the task is basic
@@ -169,12 +170,12 @@ module _ (S : System) where
       within = subst (λ n. t < n) (sym single.known) inside
 
       kept : (j : Job) → IsSoundJob S s.made j → IsSoundJob S more j
-      kept j h = record { given = bump s.made t j.id.task j.id.serial within h.given; idle = h.idle; extended = h.extended }
+      kept j h = record { given = bump s.made t j.id.task j.id.serial within h.given; idle = h.idle; fresh = h.fresh; extended = h.extended }
 
       fresh : IsSoundJob S more new
       fresh =
           let here : slice_index more t ≡ slice_index s.made t + 1 = get_or-set_same s.made t (slice_index s.made t + 1) 0 within in
-          record { given = omega arith; idle = λ e. (refl, refl); extended = λ e. clash (sym e) }
+          record { given = omega arith; idle = λ e. (refl, refl); fresh = λ e. refl; extended = λ e. clash (sym e) }
 
       go : (o : Option JobId) → HasRunner s.made s.jobs o → HasRunner more (s.jobs ++ new ∷ []) o
       go None h = tt

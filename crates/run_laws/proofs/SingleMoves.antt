@@ -45,7 +45,7 @@ module _ (S : System) where
         known = single.known;
         each = all_append (IsSoundJob S s.made) stay (map woken moved) (all_kept (IsSoundJob S s.made) (λ x. not (same_id x.id j.id)) s.jobs single.each)
             (all_map (IsSoundJob S s.made) (IsSoundJob S s.made) woken moved
-            (λ x h. record { given = h.given; idle = h.idle; extended = λ e. clash (sym e) })
+            (λ x h. record { given = h.given; idle = h.idle; fresh = h.fresh; extended = λ e. clash (sym e) })
             (all_kept (IsSoundJob S s.made) (λ x. same_id x.id j.id) s.jobs single.each));
         pairs = pairs_append (IsSoundPair S) stay (map woken moved) (pairs_kept (IsSoundPair S) (λ x. not (same_id x.id j.id)) s.jobs single.pairs)
             (pairs_map (IsSoundPair S) (IsSoundPair S) woken moved
@@ -127,7 +127,7 @@ module _ (S : System) where
       go false e = clash (sym (foremost_too is_ready (dynamic_priority S) jobs c x best (ap not e) no_better) ∙ worse)
 
   entered_sound : (made : List ℕ) (j : Job) (b : Bool) → IsSoundJob S made j → IsSoundJob S made (cond b (entered S j) j)
-  entered_sound made j true h = record { given = h.given; idle = λ e. clash e; extended = h.extended }
+  entered_sound made j true h = record { given = h.given; idle = λ e. clash e; fresh = λ e. clash e; extended = h.extended }
   entered_sound made j false h = h
 
   entered_pair : (x y : Job) (a b : Bool) → IsSoundPair S x y → (b ≡ true → x.id.task ≡ y.id.task → ⊥)

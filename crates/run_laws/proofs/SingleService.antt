@@ -30,7 +30,7 @@ module _ (S : System) (s : State) (single : IsSingle S s) where
       (all_any (IsFitChange S s.made j.id given_up) s.jobs (λ k. record {
         id = refl;
         begun = refl;
-        sound = λ e h. record { given = h.given; idle = λ b. ((h.idle b).0, refl); extended = h.extended };
+        sound = λ e h. record { given = h.given; idle = λ b. ((h.idle b).0, refl); fresh = h.fresh; extended = h.extended };
       })) single
   given_up_single (RoutineCalls a) = single
   given_up_single NobodyCalls = single
@@ -41,7 +41,7 @@ module _ (S : System) (s : State) (single : IsSingle S s) where
       (all_any (IsFitChange S s.made j.id releases) s.jobs (λ k. record {
         id = refl;
         begun = refl;
-        sound = λ e h. record { given = h.given; idle = λ b. (ap without_last (h.idle b).0, (h.idle b).1); extended = h.extended };
+        sound = λ e h. record { given = h.given; idle = λ b. (ap without_last (h.idle b).0, (h.idle b).1); fresh = h.fresh; extended = h.extended };
       })) single
   releases_single (RoutineCalls a) = single
   releases_single NobodyCalls = single
@@ -56,7 +56,7 @@ module _ (S : System) (s : State) (single : IsSingle S s) where
       (all_weaker (λ k. same_id k.id j.id ≡ true → k.begun ≡ true) (IsFitChange S s.made j.id (gets r)) s.jobs (λ k begun. record {
         id = refl;
         begun = refl;
-        sound = λ e h. record { given = h.given; idle = λ b. clash (sym (begun e) ∙ b); extended = h.extended };
+        sound = λ e h. record { given = h.given; idle = λ b. clash (sym (begun e) ∙ b); fresh = h.fresh; extended = h.extended };
       }) (runner_begun j.id calls.runs)) single
   gets_single (RoutineCalls a) r calls = single
   gets_single NobodyCalls r calls = single
@@ -70,6 +70,7 @@ module _ (S : System) (s : State) (single : IsSingle S s) where
         sound = λ e h. record {
           given = h.given;
           idle = λ b. ((h.idle b).0, refl);
+          fresh = h.fresh;
           extended = λ w. ap (λ (n : JobId). is_extended S n.task) (same_ids k.id j.id e) ∙ extended;
         };
       })) single

@@ -13,7 +13,7 @@ use Rattle.osek_base.specs.declared.instr.Instr.{Instr}
 use Rattle.osek_base.specs.Lists.{below}
 use Rattle.osek_base.specs.System.{System, Task, Routine, no_task, no_routine, alarm, program, starts_in, instruction_in, instruction_at}
 use Rattle.osek_base.specs.Instruction.{Context, plain, next}
-use Rattle.osek_base.specs.State.{Job, State, still, jobs_of}
+use Rattle.osek_base.specs.State.{Job, State, still, same_id, jobs_of}
 use Rattle.osek_base.specs.Alarm.{is_due, due_alarms, alarms_advanced}
 use Rattle.osek_base.specs.Activation.{activated, new_job}
 use Rattle.osek_base.specs.Reschedule.{reschedule}
@@ -24,13 +24,13 @@ use Rattle.osek_base.specs.Trace.{Run, boot, all_activated, starting_tasks, star
 use Rattle.osek_base.specs.Separable.{IsOwner}
 use Rattle.osek_base.specs.Proper.{IsProper, is_proper_service, is_proper_instruction, is_proper_action}
 use Rattle.osek_base.proofs.PlaceLemmas.{and_split, is_routine, known_place}
-use Rattle.run_laws.proofs.Lists.{Pairs, all_weaker, all_both, all_any, all_kept, all_filter, all_append, pairs_kept, pairs_append}
+use Rattle.run_laws.proofs.Lists.{Pairs, clash, all_weaker, all_both, all_any, all_kept, all_filter, all_append, pairs_kept, pairs_append}
 use Rattle.osek_base.specs.Laws.{StartsSingly}
 use Rattle.run_laws.proofs.Foremost.{equal}
 use Rattle.run_laws.proofs.Known.{IsCaller, ActivatesKnown, executor_calls, proper_alarm_at, all_below}
 use Rattle.run_laws.proofs.Single.{IsSoundPair, AreSingle, IsSingle, IsFitChange, change_single, activated_single}
 use Rattle.run_laws.proofs.SingleMoves.{reschedule_single}
-use Rattle.run_laws.proofs.SingleService.{service_single, unmasked_single}
+use Rattle.run_laws.proofs.SingleService.{runner_begun, service_single, unmasked_single}
 
 pub true_lt : (a b : ℕ) → nat_lt a b ≡ true → a < b
 true_lt a b h = grind (arith, h)
@@ -89,6 +89,11 @@ alarm_known S a proper inside = action_known S (alarm S a).action (and_split _ _
 
 -- ---- a tick
 
+-- the calling job runs
+abbrev pub CallerRuns : State → Caller → Type 0
+CallerRuns s (JobCalls j) = s.running ≡ Some j.id
+CallerRuns s _ = Unit {0}
+
 module _ (S : System) (proper : IsProper S) where
   alarms_single : (due : List ℕ) → AllByRecursion (λ a. a < length S.alarms) due → (s : State) → IsSingle S s → IsSingle S (alarms_act S due s).state
   alarms_single [] all s single = single
@@ -106,27 +111,42 @@ module _ (S : System) (proper : IsProper S) where
   unfolding start_phase
   start_single s single = single
 
-  with_context_single : (c : Caller) (x : Context) (s : State) → IsSingle S s → IsSingle S (with_context c x s)
-  with_context_single (JobCalls j) x s single =
+  with_context_single : (c : Caller) (x : Context) (s : State) → CallerRuns s c → IsSingle S s → IsSingle S (with_context c x s)
+  with_context_single (JobCalls j) x s runs single =
       change_single S j.id (job_moved x) s.made s.running s.jobs
-      (all_any (IsFitChange S s.made j.id (job_moved x)) s.jobs (λ k. record {
+      (all_weaker (λ k. same_id k.id j.id ≡ true → k.begun ≡ true) (IsFitChange S s.made j.id (job_moved x)) s.jobs (λ k begun. record {
         id = refl;
         begun = refl;
-        sound = λ e h. record { given = h.given; idle = h.idle; extended = h.extended };
-      })) single
-  with_context_single (RoutineCalls a) x s single = single
-  with_context_single NobodyCalls x s single = single
+        sound = λ e h. record { given = h.given; idle = h.idle; fresh = λ b. clash (sym (begun e) ∙ b); extended = h.extended };
+      }) (runner_begun S s single j.id runs)) single
+  with_context_single (RoutineCalls a) x s runs single = single
+  with_context_single NobodyCalls x s runs single = single
 
-  controlled_single : (control : Control) (s : State) → IsSingle S s → IsSingle S (controlled control s)
+  caller_runs : (c : Caller) (s : State) → IsCaller s c → CallerRuns s c
+  caller_runs (JobCalls j) s calls = calls.runs
+  caller_runs (RoutineCalls a) s calls = tt
+  caller_runs NobodyCalls s calls = tt
+
+  pub service_runs : (c : Caller) (s : State) (call : Service ℕ) → IsCaller s c → CallerRuns (service S c s call).state c
+  unfolding service
+  service_runs (JobCalls j) s call calls = calls.runs
+  service_runs (RoutineCalls a) s call calls = tt
+  service_runs NobodyCalls s call calls = tt
+
+  controlled_runs : (control : Control) (c : Caller) (s : State) → IsCaller s c → CallerRuns (controlled control s) c
+  controlled_runs Control.DisableAllInterrupts c s calls = caller_runs c s calls
+  controlled_runs _ c s calls = caller_runs c s calls
+
+  pub controlled_single : (control : Control) (s : State) → IsSingle S s → IsSingle S (controlled control s)
   controlled_single Control.DisableAllInterrupts s single = single
   controlled_single _ s single = single
 
   executed_single : (who : Owner) (c : Caller) (x : Context) (what : Instr) (s : State) → IsCaller s c → IsKnownInstr S what → IsSingle S s
       → IsSingle S (executed S who c x what s).state
-  executed_single who c x (Instr.Plain p) s calls known single = with_context_single c (plain p x (s.words who)).context s single
+  executed_single who c x (Instr.Plain p) s calls known single = with_context_single c (plain p x (s.words who)).context s (caller_runs c s calls) single
   executed_single who c x (Instr.Service call) s calls known single =
-      with_context_single c (answered (service S c s (at_values x call)).status (service S c s (at_values x call)).results x) (service S c s (at_values x call)).state (service_single S s single c (at_values x call) proper calls (at_known S x call known))
-  executed_single who c x (Instr.Control control) s calls known single = with_context_single c (next x) (controlled control s) (controlled_single control s single)
+      with_context_single c (answered (service S c s (at_values x call)).status (service S c s (at_values x call)).results x) (service S c s (at_values x call)).state (service_runs c s (at_values x call) calls) (service_single S s single c (at_values x call) proper calls (at_known S x call known))
+  executed_single who c x (Instr.Control control) s calls known single = with_context_single c (next x) (controlled control s) (controlled_runs control c s calls) (controlled_single control s single)
 
   caller_single : (c : Caller) (s : State) → IsCaller s c → IsSingle S s → IsSingle S (caller_executes S c s).state
   caller_single (JobCalls j) s calls single = executed_single (Owner.Task j.id.task) (JobCalls j) j.context _ s calls (any_instr_known S (Owner.Task j.id.task) j.context.place proper) single

@@ -1,6 +1,7 @@
-pub mod JobLemmas
-pub mod ChoiceLemmas
-pub mod SoundLemmas
-pub mod FitLemmas
-pub mod ReleaseLemmas
-pub mod ServiceLemmas
+pub mod LevelLemmas
+pub mod BoundLemmas
+pub mod HeldLemmas
+pub mod RoutineLemmas
+pub mod StandsLemmas
+pub mod CallerLemmas
+pub mod AlarmLemmas

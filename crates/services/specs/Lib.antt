@@ -1,2 +1,3 @@
 pub mod Objects
-pub mod Execution
+pub mod Calls
+pub mod Levels

@@ -1,148 +1,218 @@
-//! OSEK/VDX OS: system services. Who calls: the active routine, or else the running job.
+//! OSEK/VDX OS: system services. Who calls: the active routine, or else the running task.
 
-ghost use Rattle.std.specs.Prelude.{◌≡◌, ◌<◌, IfSome, length};
-ghost use Rattle.std.specs.Option.{option_map, option_copied};
-ghost use Rattle.osek_base.specs.State.{Words};
-ghost use Rattle.osek_base.specs.Activation.{ended};
-ghost use Rattle.osek_base.specs.Reschedule.{id_of};
-ghost use Rattle.osek_base.specs.Service.{by_routine, holds_any, is_own_task, is_basic_caller, caller_may_take, is_above_ceiling, got_last, is_outranked, running_task};
-ghost use Rattle.services.specs.Objects.{AreSound, caller, calling_job, calling_id, task_of};
+ghost use Rattle.std.specs.Prelude.{◌≡◌, ◌<◌, MatchOption, IfSome, is_some, length};
+ghost use Rattle.osek_base.specs.Instruction.{Context};
+ghost use Rattle.run_laws.proofs.Formed.{IsPlaced};
+ghost use Rattle.kept_state.specs.KeptService.{ByNobody, by_routine_in, caller_in, holds_any_in, is_above_ceiling_in, is_basic_in, is_outranked_in, is_own_in, may_take_in, got_last_in, running_number, with_caller_in, caller_ended_in, slot_given_up};
+ghost use Rattle.kept_state.specs.KeptTick.{with_context_in};
+ghost use Rattle.services.specs.Objects.{kept_in, AreFit};
+ghost use Rattle.services.specs.Calls.{calling_task, caller_as, Executes, MayGoOn};
 
-use crate::job::{Job, JobId};
-use crate::jobs;
-use crate::objects::Core;
-use osek_base::{ResId, System, TaskId};
+use crate::objects::Objects;
+use machine::Cpu;
+use osek_base::{Owner, ResId, TaskId};
+use ready_queues::ReadyQueues;
 
 /// What GetTaskID answers where no task is running.
 const INVALID_TASK: u32 = u32::MAX;
 
-impl Core {
+/// The task or routine that executes, with its registers and place.
+#[derive(Clone, Copy)]
+pub struct Execution {
+    pub owner: Owner,
+    pub cpu: Cpu,
+}
+
+impl<'s, Q: ReadyQueues> Objects<'s, Q> {
     /// Whether a routine calls.
-    pub(crate) fn by_routine(&self) -> bool
-        ensures { result ≡ by_routine (caller self.now) }
+    pub fn by_routine(&self) -> bool
+        ensures { result ≡ by_routine_in (caller_in (kept_in self.now)) }
     {
-        self.is_routine_active()
+        self.active.is_some()
     }
 
-    /// The job that calls, if no routine does.
-    pub(crate) fn calling_job(&self) -> Option<&Job>
-        ensures { option_copied result ≡ calling_job (caller self.now) }
+    /// The task that calls, if no routine does.
+    pub fn calling_task(&self) -> Option<TaskId>
+        requires { AreFit self.now }
+        ensures value { result ≡ calling_task (caller_in (kept_in self.now)) }
+        ensures known { IfSome result (λ t. t < length self.now.system.tasks) }
     {
-        if self.is_routine_active() {
-            None
-        } else {
-            self.running_job()
+        if self.active.is_some() || self.gone {
+            return None;
         }
-    }
-
-    /// The id of the job that calls, if no routine does.
-    pub(crate) fn calling_id(&self) -> Option<JobId>
-        ensures { result ≡ calling_id self.now }
-    {
-        match self.calling_job() {
+        match &self.running {
             None => None,
-            Some(job) => Some(job.id()),
-        }
-    }
-
-    /// The task of the job that calls, if no routine does.
-    pub(crate) fn calling_task(&self, system: &System) -> Option<TaskId>
-        requires { AreSound system.now self.now.jobs }
-        ensures value { result ≡ option_map task_of (calling_job (caller self.now)) }
-        ensures known { IfSome result (λ t. t < length system.now.tasks) }
-    {
-        match self.calling_job() {
-            None => None,
-            Some(job) => Some(job.task()),
+            Some(task) => Some(*task),
         }
     }
 
     /// Whether the caller holds a resource, the internal one aside.
-    pub(crate) fn holds_any(&self) -> bool
-        ensures { result ≡ holds_any (caller self.now) }
+    pub fn holds_any(&self) -> bool
+        requires { AreFit self.now }
+        ensures { result ≡ holds_any_in (kept_in self.now) (caller_in (kept_in self.now)) }
     {
-        match self.calling_job() {
+        match self.calling_task() {
             None => false,
-            Some(job) => !job.holds_none(),
+            Some(task) => {
+                let slot = &self.slots[task.number() as usize];
+                !slot.holds_none()
+            }
         }
     }
 
     /// Whether the caller is a job of the task.
-    pub(crate) fn is_own_task(&self, task: TaskId) -> bool
-        ensures { result ≡ is_own_task (caller self.now) task }
+    pub fn is_own_task(&self, task: TaskId) -> bool
+        requires { AreFit self.now }
+        ensures { result ≡ is_own_in (caller_in (kept_in self.now)) task }
     {
-        match self.calling_job() {
+        match self.calling_task() {
             None => false,
-            Some(job) => job.task().number() == task.number(),
+            Some(own) => own.number() == task.number(),
         }
     }
 
     /// Whether the caller is a job of a basic task.
-    pub(crate) fn is_basic_caller(&self, system: &System) -> bool
-        ensures { result ≡ is_basic_caller system.now (caller self.now) }
+    pub fn is_basic_caller(&self) -> bool
+        requires { AreFit self.now }
+        ensures { result ≡ is_basic_in self.now.system (caller_in (kept_in self.now)) }
     {
-        match self.calling_job() {
+        match self.calling_task() {
             None => false,
-            Some(job) => !system.is_extended(job.task()),
+            Some(task) => !self.system.is_extended(task),
         }
     }
 
     /// Whether the caller is a job whose task may take a resource.
-    pub(crate) fn may_take(&self, system: &System, resource: &ResId) -> bool
-        requires { AreSound system.now self.now.jobs }
-        ensures { result ≡ caller_may_take system.now (caller self.now) resource.now }
+    pub fn may_take(&self, resource: &ResId) -> bool
+        requires { AreFit self.now }
+        ensures { result ≡ may_take_in self.now.system (caller_in (kept_in self.now)) resource.now }
     {
-        match self.calling_task(system) {
+        match self.calling_task() {
             None => false,
             Some(task) => match resource {
-                ResId::Declared(number) => system.lists(task, *number),
+                ResId::Declared(number) => self.system.lists(task, *number),
                 ResId::Scheduler => true,
             },
         }
     }
 
     /// Whether a resource's ceiling is below the caller's static priority.
-    pub(crate) fn is_above_ceiling(&self, system: &System, resource: &ResId) -> bool
-        requires { AreSound system.now self.now.jobs }
-        ensures { result ≡ is_above_ceiling system.now (caller self.now) resource.now }
+    pub fn is_above_ceiling(&self, resource: &ResId) -> bool
+        requires { AreFit self.now }
+        ensures { result ≡ is_above_ceiling_in self.now.system (caller_in (kept_in self.now)) resource.now }
     {
-        match self.calling_task(system) {
+        match self.calling_task() {
             None => false,
-            Some(task) => system.ceiling(*resource) < system.priority_of(task),
+            Some(task) => self.system.ceiling(*resource) < self.system.priority_of(task),
         }
     }
 
     /// Whether a resource is the last that the caller got and still holds.
-    pub(crate) fn got_last(&self, resource: &ResId) -> bool
-        ensures { result ≡ got_last (caller self.now) resource.now }
+    pub fn got_last(&self, resource: &ResId) -> bool
+        requires { AreFit self.now }
+        ensures { result ≡ got_last_in (kept_in self.now) (caller_in (kept_in self.now)) resource.now }
     {
-        match self.calling_job() {
+        match self.calling_task() {
             None => false,
-            Some(job) => job.got_last(resource),
+            Some(task) => {
+                let slot = &self.slots[task.number() as usize];
+                slot.got_last(resource)
+            }
         }
     }
 
-    /// Whether a job other than the caller's is ready above the caller's static priority.
-    pub(crate) fn is_outranked(&self, system: &System) -> bool
-        requires { AreSound system.now self.now.jobs }
-        ensures { result ≡ is_outranked system.now (caller self.now) self.now.jobs }
+    /// Whether a task is ready above the caller's static priority.
+    pub fn is_outranked(&self) -> bool
+        requires { AreFit self.now }
+        ensures { result ≡ is_outranked_in self.now.system (kept_in self.now) (caller_in (kept_in self.now)) }
     {
-        match self.calling_task(system) {
+        match self.calling_task() {
             None => false,
-            Some(task) => match &self.calling_id() {
+            Some(task) => match self.highest() {
                 None => false,
-                Some(id) => jobs::any_above(self.jobs(), system, id, system.priority_of(task)),
+                Some(level) => self.system.priority_of(task) < level,
             },
         }
     }
 
     /// The running task's number, as GetTaskID answers it.
-    pub(crate) fn running_task(&self) -> u32
-        ensures { result ≡ running_task self.now.running }
+    pub fn running_task(&self) -> u32
+        ensures { result ≡ running_number self.now.running }
     {
-        match &self.running() {
+        match &self.running {
             None => INVALID_TASK,
-            Some(id) => id.task().number() as u32,
+            Some(task) => task.number() as u32,
+        }
+    }
+
+    /// The calling job ends.
+    pub fn end_caller(&mut self)
+        requires { AreFit self.old }
+        ensures system { self.new.system ≡ self.old.system }
+        ensures kept { kept_in self.new ≡ caller_ended_in (caller_in (kept_in self.old)) (kept_in self.old) }
+    {
+        if let Some(task) = self.calling_task() {
+            let slot = &mut self.slots[task.number() as usize];
+            slot.end();
+            self.gone = true;
+        }
+    }
+
+    /// The calling job gives up its internal resource.
+    pub fn give_up(&mut self)
+        requires { AreFit self.old }
+        ensures system { self.new.system ≡ self.old.system }
+        ensures kept { kept_in self.new ≡ with_caller_in (caller_in (kept_in self.old)) slot_given_up (kept_in self.old) }
+    {
+        if let Some(task) = self.calling_task() {
+            let slot = &mut self.slots[task.number() as usize];
+            slot.give_up();
+        }
+    }
+
+    /// Who executes, with registers and place: the active routine, else the running task.
+    pub fn execution(&self) -> Option<Execution>
+        requires { AreFit self.now }
+        ensures value { MatchOption result (caller_in (kept_in self.now) ≡ ByNobody) (λ e. Executes (kept_in self.now) e.owner e.cpu) }
+        ensures placed { IfSome result (λ e. IsPlaced self.now.system e.owner e.cpu) }
+    {
+        if let Some(active) = &self.active {
+            return Some(Execution {
+                owner: Owner::Routine(active.routine),
+                cpu: active.cpu,
+            });
+        }
+        match self.calling_task() {
+            None => None,
+            Some(task) => {
+                let slot = &self.slots[task.number() as usize];
+                Some(Execution {
+                    owner: Owner::Task(task),
+                    cpu: slot.cpu(),
+                })
+            }
+        }
+    }
+
+    /// Gives who executed other registers and another place, where it is still there.
+    pub fn go_on(&mut self, owner: Owner, cpu: Cpu)
+        requires fit { AreFit self.old }
+        requires who { MayGoOn self.old owner }
+        ensures system { self.new.system ≡ self.old.system }
+        ensures kept { kept_in self.new ≡ with_context_in (caller_as owner) cpu (kept_in self.old) }
+    {
+        match owner {
+            Owner::Task(task) => {
+                if !self.gone {
+                    let slot = &mut self.slots[task.number() as usize];
+                    slot.go_on(cpu);
+                }
+            }
+            Owner::Routine(_) => {
+                if let Some(active) = &mut self.active {
+                    active.go_on(cpu);
+                }
+            }
         }
     }
 }

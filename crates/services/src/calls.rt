@@ -1,114 +1,114 @@
 //! OSEK/VDX OS: specification of operating system services. The service table, row by row.
 
-ghost use Rattle.std.specs.Prelude.{◌≡◌, ◌<◌, ◌-◌, ◌^◌, Some, length};
-ghost use Rattle.osek_base.specs.State.{Words};
-ghost use Rattle.osek_base.specs.declared.instr.Service.{Service};
+ghost use Rattle.std.specs.Prelude.{◌≡◌, ◌<◌, ◌+◌, ◌^◌, Some, None, length};
 ghost use Rattle.osek_base.specs.declared.status.Status.{Status};
 ghost use Rattle.osek_base.specs.declared.trace_event.Results.{Results};
-ghost use Rattle.services.specs.Objects.{Fit, AreMadeBelow, Keeps, IsKnown, IsOnAlarm, unmasked, reply, state_of};
+ghost use Rattle.services.specs.Objects.{kept_in, AreFit};
+ghost use Rattle.services.specs.Calls.{call_in, unmasked, IsKnown, IsKnownCall, IsOnAlarm};
 
-use crate::objects::Core;
-use crate::requests::get_alarm_base;
-use osek_base::{Outcome, Results, Service, Status, System, TaskId};
+use crate::objects::Objects;
+use osek_base::{Control, Results, Service, Status};
+use ready_queues::ReadyQueues;
 
-/// What a service answers: its status, and at most three results, which come with E_OK alone.
+/// A call of a system service, with the values of its registers: one with a status, or one without.
+#[derive(Clone, Copy, Debug, PartialEq, Eq)]
+pub enum Call {
+    Service(Service<u32>),
+    Control(Control),
+}
+
+/// What a service answers: its status, None for a service without one, and at most three results, which come with E_OK
+/// alone.
 #[derive(Clone, Copy, Debug, PartialEq, Eq)]
 pub struct Answer {
-    pub status: Status,
+    pub status: Option<Status>,
     pub results: Results,
 }
 
 impl Answer {
-    /// What the trace tells of the answer.
-    pub fn outcome(&self) -> Outcome
-        ensures { result ≡ Outcome.Answer self.now.status self.now.results }
+    /// A service without a status answers nothing.
+    pub(crate) fn silent() -> Self
+        ensures { result ≡ record { status = None; results = Results.Nothing } }
     {
-        Outcome::Answer(self.status, self.results)
+        Answer {
+            status: None,
+            results: Results::Nothing,
+        }
     }
 
     /// A status without results.
     pub(crate) fn plain(status: Status) -> Self
-        ensures { result ≡ record { status = status; results = Results.Nothing } }
+        ensures { result ≡ record { status = Some status; results = Results.Nothing } }
     {
         Answer {
-            status,
+            status: Some(status),
             results: Results::Nothing,
+        }
+    }
+
+    /// E_OK with results.
+    pub(crate) fn of(results: Results) -> Self
+        ensures { result ≡ record { status = Some Status.Ok; results = results } }
+    {
+        Answer {
+            status: Some(Status::Ok),
+            results,
         }
     }
 
     /// E_OK with one result.
     pub(crate) fn one(value: u32) -> Self
-        ensures { result ≡ record { status = Status.Ok; results = Results.One value } }
+        ensures { result ≡ record { status = Some Status.Ok; results = Results.One value } }
     {
-        Answer {
-            status: Status::Ok,
-            results: Results::One(value),
+        Answer::of(Results::One(value))
+    }
+}
+
+impl<'s, Q: ReadyQueues> Objects<'s, Q> {
+    /// A service with a status is refused with 32 while interrupts are off.
+    #[tactic(auto, unfolding(kept_state::specs::KeptService::service_in, kept_state::specs::KeptService::unmasked_in))]
+    pub fn call(&mut self, call: &Call) -> Answer
+        requires fit { AreFit self.old }
+        requires known { IsKnownCall self.old.system call.now }
+        requires all { self.old.suspended_all + 1 < 2 ^ 32 }
+        requires os { self.old.suspended_os + 1 < 2 ^ 32 }
+        ensures system { self.new.system ≡ self.old.system }
+        ensures status { result.status ≡ (call_in self.old.system (kept_in self.old) call.now).status }
+        ensures results { result.results ≡ (call_in self.old.system (kept_in self.old) call.now).results }
+        ensures kept { kept_in self.new ≡ (call_in self.old.system (kept_in self.old) call.now).state }
+    {
+        match call {
+            Call::Control(control) => {
+                self.control(control);
+                Answer::silent()
+            }
+            Call::Service(service) => {
+                if self.interrupts_off() {
+                    return Answer::plain(Status::SysDisabled);
+                }
+                self.serve(service)
+            }
         }
     }
-}
 
-/// A service is called by the active routine, or else by the running job. While interrupts are off the status is 32, and
-/// nothing changes.
-#[tactic(auto, unfolding(osek_base::specs::Service::service, osek_base::specs::Service::unmasked_service))]
-pub fn call(core: &mut Core, system: &System, service: &Service<u32>) -> Answer
-    requires fit { Fit system.now core.old }
-    requires known { IsKnown system.now service.now }
-    requires made { AreMadeBelow (2 ^ 32 - 1) core.old }
-    ensures keeps { Keeps system.now core.old core.new }
-    ensures status { (w : Words) → result.status ≡ (reply system.now w core.old service.now).status }
-    ensures results { (w : Words) → result.results ≡ (reply system.now w core.old service.now).results }
-    ensures state { (w : Words) → state_of w core.new ≡ (reply system.now w core.old service.now).state }
-{
-    if core.interrupts_off() {
-        return Answer::plain(Status::SysDisabled);
-    }
-    core.serve(system, service)
-}
-
-/// ActivateTask by an alarm, or at boot: a new job of a task, or E_OS_LIMIT where it has as many as its ACTIVATION allows.
-pub fn activate(core: &mut Core, system: &System, task: TaskId) -> Status
-    requires fit { Fit system.now core.old }
-    requires task { task < length system.now.tasks }
-    requires made { AreMadeBelow (2 ^ 32 - 1) core.old }
-    ensures keeps { Keeps system.now core.old core.new }
-    ensures status { (w : Words) → result ≡ (unmasked system.now w core.old (Service.ActivateTask (Some task))).status }
-    ensures state { (w : Words) → state_of w core.new ≡ (unmasked system.now w core.old (Service.ActivateTask (Some task))).state }
-{
-    core.activate(system, task)
-}
-
-/// SetEvent by an alarm: a task's events gain a mask, and a job that waits for one of them is released as the newest.
-/// E_OS_ACCESS where the task is basic, E_OS_STATE where it is suspended.
-pub fn set_event(core: &mut Core, system: &System, task: TaskId, mask: u32) -> Status
-    requires fit { Fit system.now core.old }
-    requires task { task < length system.now.tasks }
-    ensures keeps { Keeps system.now core.old core.new }
-    ensures status { (w : Words) → result ≡ (unmasked system.now w core.old (Service.SetEvent (Some task) mask)).status }
-    ensures state { (w : Words) → state_of w core.new ≡ (unmasked system.now w core.old (Service.SetEvent (Some task) mask)).state }
-{
-    core.set_event(system, task, mask)
-}
-
-impl Core {
-    /// A service, interrupts being off aside.
-    #[tactic(auto, unfolding(osek_base::specs::Service::unmasked_service))]
-    fn serve(&mut self, system: &System, service: &Service<u32>) -> Answer
-        requires fit { Fit system.now self.old }
-        requires known { IsKnown system.now service.now }
-        requires made { AreMadeBelow (2 ^ 32 - 1) self.old }
-        ensures keeps { Keeps system.now self.old self.new }
-        ensures status { (w : Words) → result.status ≡ (unmasked system.now w self.old service.now).status }
-        ensures results { (w : Words) → result.results ≡ (unmasked system.now w self.old service.now).results }
-        ensures state { (w : Words) → state_of w self.new ≡ (unmasked system.now w self.old service.now).state }
+    /// A service with a status, interrupts being off aside.
+    #[tactic(auto, unfolding(kept_state::specs::KeptService::unmasked_in))]
+    fn serve(&mut self, service: &Service<u32>) -> Answer
+        requires fit { AreFit self.old }
+        requires known { IsKnown self.old.system service.now }
+        ensures system { self.new.system ≡ self.old.system }
+        ensures status { result.status ≡ Some (unmasked self.old service.now).status }
+        ensures results { result.results ≡ (unmasked self.old service.now).results }
+        ensures kept { kept_in self.new ≡ (unmasked self.old service.now).state }
     {
         match *service {
             Service::ActivateTask(task) => match task {
                 None => Answer::plain(Status::Id),
-                Some(task) => Answer::plain(self.activate(system, task)),
+                Some(task) => Answer::plain(self.activate(task)),
             },
             Service::TerminateTask => Answer::plain(self.terminate()),
-            Service::ChainTask(task) => Answer::plain(self.chain(system, task)),
-            Service::Schedule => Answer::plain(self.schedule(system)),
+            Service::ChainTask(task) => Answer::plain(self.chain(task)),
+            Service::Schedule => Answer::plain(self.schedule()),
             Service::GetTaskId => Answer::one(self.running_task()),
             Service::GetTaskState(task) => match task {
                 None => Answer::plain(Status::Id),
@@ -116,59 +116,56 @@ impl Core {
             },
             Service::GetResource(resource) => match &resource {
                 None => Answer::plain(Status::Id),
-                Some(resource) => Answer::plain(self.get_resource(system, resource)),
+                Some(resource) => Answer::plain(self.get_resource(resource)),
             },
             Service::ReleaseResource(resource) => match &resource {
                 None => Answer::plain(Status::Id),
-                Some(resource) => Answer::plain(self.release_resource(system, resource)),
+                Some(resource) => Answer::plain(self.release_resource(resource)),
             },
             Service::SetEvent(task, mask) => match task {
                 None => Answer::plain(Status::Id),
-                Some(task) => Answer::plain(self.set_event(system, task, mask)),
+                Some(task) => Answer::plain(self.set_event(task, mask)),
             },
-            Service::ClearEvent(mask) => Answer::plain(self.clear_event(system, mask)),
+            Service::ClearEvent(mask) => Answer::plain(self.clear_event(mask)),
             Service::GetEvent(task) => match task {
                 None => Answer::plain(Status::Id),
-                Some(task) => self.get_event(system, task),
+                Some(task) => self.get_event(task),
             },
-            Service::WaitEvent(mask) => Answer::plain(self.wait_event(system, mask)),
-            _ => self.serve_alarm(system, service),
+            Service::WaitEvent(mask) => Answer::plain(self.wait_event(mask)),
+            _ => self.serve_alarm(service),
         }
     }
 
     /// A service on alarms.
-    #[tactic(auto, unfolding(osek_base::specs::Service::unmasked_service))]
-    fn serve_alarm(&mut self, system: &System, service: &Service<u32>) -> Answer
-        requires fit { Fit system.now self.old }
-        requires known { IsKnown system.now service.now }
+    #[tactic(auto, unfolding(kept_state::specs::KeptService::unmasked_in))]
+    fn serve_alarm(&mut self, service: &Service<u32>) -> Answer
+        requires known { IsKnown self.old.system service.now }
         requires alarm { IsOnAlarm service.now }
-        ensures keeps { Keeps system.now self.old self.new }
-        ensures status { (w : Words) → result.status ≡ (unmasked system.now w self.old service.now).status }
-        ensures results { (w : Words) → result.results ≡ (unmasked system.now w self.old service.now).results }
-        ensures state { (w : Words) → state_of w self.new ≡ (unmasked system.now w self.old service.now).state }
+        ensures system { self.new.system ≡ self.old.system }
+        ensures status { result.status ≡ Some (unmasked self.old service.now).status }
+        ensures results { result.results ≡ (unmasked self.old service.now).results }
+        ensures kept { kept_in self.new ≡ (unmasked self.old service.now).state }
     {
         match *service {
             Service::SetRelAlarm(alarm, increment, cycle) => match alarm {
                 None => Answer::plain(Status::Id),
-                Some(alarm) => {
-                    Answer::plain(self.set_rel_alarm(system, alarm, increment, cycle))
-                }
+                Some(alarm) => Answer::plain(self.set_rel_alarm(alarm, increment, cycle)),
             },
             Service::SetAbsAlarm(alarm, start, cycle) => match alarm {
                 None => Answer::plain(Status::Id),
-                Some(alarm) => Answer::plain(self.set_abs_alarm(system, alarm, start, cycle)),
+                Some(alarm) => Answer::plain(self.set_abs_alarm(alarm, start, cycle)),
             },
             Service::CancelAlarm(alarm) => match alarm {
                 None => Answer::plain(Status::Id),
-                Some(alarm) => Answer::plain(self.cancel_alarm(system, alarm)),
+                Some(alarm) => Answer::plain(self.cancel_alarm(alarm)),
             },
             Service::GetAlarm(alarm) => match alarm {
                 None => Answer::plain(Status::Id),
-                Some(alarm) => self.get_alarm(system, alarm),
+                Some(alarm) => self.get_alarm(alarm),
             },
             Service::GetAlarmBase(alarm) => match alarm {
                 None => Answer::plain(Status::Id),
-                Some(alarm) => get_alarm_base(system, alarm),
+                Some(alarm) => self.get_alarm_base(alarm),
             },
             _ => unreachable!(),
         }

@@ -1,14 +1,20 @@
-//! OSEK/VDX OS: system services. The jobs, alarms, events and interrupts of a running system, and the services on them.
+//! OSEK/VDX OS: system services, over a ready list by level. The tasks, interrupts, alarms and events of a running system,
+//! and the services on them, by the chapters of the standard.
 #![tactic(auto)]
 
+mod alarm_services;
 mod caller;
 mod calls;
-mod job;
-mod jobs;
+mod dispatch;
+mod event_services;
+mod interrupts;
 mod objects;
-mod requests;
-mod tasks;
+mod os_core;
+mod ready_list;
+mod resource_services;
+mod slot;
+mod task_services;
 
-pub use calls::{Answer, activate, call, set_event};
-pub use job::{Job, JobId};
-pub use objects::{Active, Core, Execution, Executor};
+pub use caller::Execution;
+pub use calls::{Answer, Call};
+pub use os_core::Core;

@@ -11,7 +11,7 @@ use Rattle.system_gen.specs.declared.fault.GenFault.{GenFault}
 use Rattle.osek_base.specs.declared.arrivals.Arrival.{Arrival}
 use Rattle.osek_base.specs.Names.{number_of}
 use Rattle.osek_base.specs.System.{System}
-use Rattle.kernel.specs.declared.kernel.BootFault.{BootFault}
+use Rattle.kernel.specs.declared.boot.BootFault.{BootFault}
 use Rattle.tracer.specs.ArrivalText.{IsArrivalList, IsFirstFault}
 use Rattle.tracer.specs.RunFaults.{of_oil, of_asm, of_gen, of_irq, of_boot}
 use Rattle.system_gen.specs.Checks.{IsFoundOrMemory}

@@ -5,3 +5,6 @@ pub mod StepLemmas
 pub mod RunTextLemmas
 pub mod FaultLemmas
 pub mod TraceLemmas
+pub mod ArrivalLemmas
+pub mod AloneLemmas
+pub mod OneArrivalList

@@ -2,7 +2,7 @@
 use Rattle.oil_reader.specs.declared.fault.OilFault.{OilFault}
 use Rattle.task_asm.specs.declared.fault.AsmFault.{AsmFault}
 use Rattle.system_gen.specs.declared.fault.GenFault.{GenFault}
-use Rattle.kernel.specs.declared.kernel.BootFault.{BootFault}
+use Rattle.kernel.specs.declared.boot.BootFault.{BootFault}
 use Rattle.tracer.specs.declared.arrivals.IrqFault.{IrqFault}
 use Rattle.tracer.specs.declared.whole_run.RunFault.{RunFault}
 

@@ -1,17 +1,16 @@
 -- The view of a run that is asked for, and which refusal is the first. Partitions, no part of the standards.
-use Rattle.std.specs.Prelude.{◌≡◌, ◌⊎◌, ℕ, List, Some}
+use Rattle.std.specs.Prelude.{◌≡◌, ◌⊎◌, ℕ, List, Option, Some}
 use Rattle.osek_base.specs.declared.arrivals.Arrival.{Arrival}
 use Rattle.osek_base.specs.Names.{number_of, owner_name}
 use Rattle.osek_base.specs.System.{System}
-use Rattle.osek_base.specs.Separable.{Separable, Denial, first_denial}
+use Rattle.osek_base.specs.Separable.{Separable, first_denial}
 use Rattle.osek_base.specs.Trace.{run}
-use Rattle.partition_check.specs.Partition.{rule_number}
+use Rattle.partition_check.specs.Partition.{denial_of}
 use Rattle.partition_check.specs.declared.denial.NamedDenial.{NamedDenial}
 use Rattle.tracer.specs.ArrivalText.{IsArrivalList}
 use Rattle.tracer.specs.Shown.{text_shown, view_text}
 use Rattle.tracer.specs.WholeRuns.{IsSystemOf, RefusesSystem, RefusesStart}
 use Rattle.tracer.specs.declared.whole_run.RunFault.{RunFault}
-use Rattle.std.specs.Prelude.{Option}
 
 -- ---- what is written
 
@@ -36,13 +35,10 @@ pub record IsView (oil asm irqs mode : List ℕ) (ticks p : ℕ) (bytes : List �
 
 -- ---- the first refusal
 
--- the system's first denial at p: its rule, the name of its subject, and its place
+-- the system's first denial at p, with the name of its subject
 pub record IsFirstDenial (S : System) (p : ℕ) (told : NamedDenial) : Type 0 where
-  pub denial : Denial
-  pub first : first_denial S p ≡ Some denial
-  pub rule : rule_number told.rule ≡ denial.rule
-  pub subject : told.subject ≡ owner_name S.names denial.subject
-  pub place : told.place ≡ denial.place
+  pub first : first_denial S p ≡ Some (denial_of told.denial)
+  pub name : told.name ≡ owner_name S.names told.denial.subject
 
 -- of the partition at p
 abbrev pub RefusesPartition : System → ℕ → RunFault → Type 0

@@ -14,7 +14,7 @@ use Rattle.osek_base.specs.Names.{number_of}
 use Rattle.osek_base.specs.System.{System}
 use Rattle.osek_base.specs.Text.{text}
 use Rattle.osek_base.specs.Trace.{run}
-use Rattle.kernel.specs.declared.kernel.BootFault.{BootFault}
+use Rattle.kernel.specs.declared.boot.BootFault.{BootFault}
 use Rattle.kernel.specs.Run.{Run}
 use Rattle.tracer.specs.ArrivalText.{IsArrivalList, IsFirstFault}
 use Rattle.tracer.specs.declared.whole_run.RunFault.{RunFault}

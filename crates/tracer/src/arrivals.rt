@@ -2,7 +2,9 @@
 
 ghost use Rattle.std.specs.Prelude.{◌≡◌, ◌+◌, true, ◌<◌, ◌≤◌, ◌⊎◌, ℕ, List, IsTrue, IsSome, IfOk, IfErr, IfSome, IfNone, OnOk, [], ◌∷◌, ◌++◌, length, min, take, slice_index};
 ghost use Rattle.std.specs.List.{All, list_all};
-ghost use Rattle.osek_base.specs.Names.{number_of};
+ghost use Rattle.osek_base.specs.Names.{Names, number_of};
+ghost use Rattle.osek_base.specs.declared.arrivals.Arrival.{Arrival};
+ghost use Rattle.tracer.specs.declared.arrivals.IrqFault.{IrqFault};
 ghost use Rattle.osek_base.specs.Proper.{IsProper};
 ghost use Rattle.osek_base.specs.Words.{is_digit, is_letter, is_word_byte, number_from};
 ghost use Rattle.tracer.specs.ArrivalText.{
@@ -252,3 +254,11 @@ pub fn read_arrivals(alloc: Global, text: &[u8], system: &System) -> Result<Arri
     }
     Ok(Arrivals::new(list).unwrap())
 }
+
+/// A law of the definitions: a text is one arrival list, or has one first fault, and never both. Want of memory is no fault
+/// of a text.
+pub fn one_meaning()
+    ensures lists { (names : Names) (text : List ℕ) (all other : List Arrival) → IsArrivalList names text all → IsArrivalList names text other → all ≡ other }
+    ensures faults { (names : Names) (text : List ℕ) (e f : IrqFault) → IsFirstFault names text e → IsFirstFault names text f → e ≡ f }
+    ensures apart { (names : Names) (text : List ℕ) (all : List Arrival) (e : IrqFault) → IsArrivalList names text all → IsFirstFault names text e → ⊥ }
+{}

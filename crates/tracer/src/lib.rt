@@ -10,7 +10,7 @@ mod upper_run;
 mod view;
 mod whole_run;
 
-pub use arrivals::{IrqFault, read_arrivals};
+pub use arrivals::{IrqFault, one_meaning, read_arrivals};
 pub use line::{LineText, line_text};
 pub use sink::{Sink, SinkFault, StdSink};
 pub use upper_run::run_upper;

@@ -1,10 +1,11 @@
 //! Partitions, no part of the standards. From the three texts to the view at a priority.
 
-ghost use Rattle.std.specs.Prelude.{◌≡◌, ◌≢◌, ◌≤◌, ℕ, List, true, false, IfErr, OnOk};
+ghost use Rattle.std.specs.Prelude.{◌≡◌, ◌≢◌, ◌≤◌, ℕ, List, Some, true, false, IfErr, OnOk};
 ghost use Rattle.std.specs.Io.KnownBytes.{Appends};
 ghost use Rattle.osek_base.specs.Separable.{Separable};
 ghost use Rattle.tracer.specs.Sinks.{AppendsSome};
-ghost use Rattle.tracer.specs.UpperRuns.{IsView, RefusesPartition, IsFirstViewRefusal};
+ghost use Rattle.tracer.specs.UpperRuns.{IsShown, IsView, RefusesPartition, IsFirstViewRefusal};
+ghost use Rattle.tracer.specs.WholeRuns.{RefusesStart};
 ghost use Rattle.tracer.specs.declared.whole_run.RunFault.{RunFault};
 
 use crate::sink::Sink;
@@ -12,6 +13,7 @@ use crate::whole_run::{RunFault, system_of, write_run};
 use osek_base::System;
 use partition_check::check_partition;
 use std::alloc::Global;
+use upper_only::upper_only;
 
 /// Checks that the upper part of a system at p is separable. A refusal is the first denial, with its subject's name.
 fn check_upper(system: &System, p: u8) -> Result<(), RunFault>
@@ -24,9 +26,63 @@ fn check_upper(system: &System, p: u8) -> Result<(), RunFault>
     }
 }
 
+/// Writes the view at p of a run of the upper part of a system by itself, which is that of the system.
+fn write_alone<S: Sink>(
+    alloc: Global,
+    system: &System,
+    p: u8,
+    irqs: &[u8],
+    mode: &str,
+    ticks: u32,
+    out: &mut S,
+) -> Result<(), RunFault>
+    requires separable { Separable system.now p }
+    requires ticks { ticks ≤ 1000000 }
+    requires fresh { S.has_failed out.old ≡ false }
+    ensures written { OnOk result ((bytes : List ℕ) × IsShown system.now (Some p) irqs.now mode.now ticks bytes × Appends (S.taken out.old) (S.taken out.new) bytes) }
+    ensures still { OnOk result (S.has_failed out.new ≡ false) }
+    ensures beginning { IfErr result (λ fault. fault ≡ RunFault.Write → (bytes : List ℕ) × IsShown system.now (Some p) irqs.now mode.now ticks bytes × AppendsSome (S.taken out.old) (S.taken out.new) bytes) }
+    ensures failed { IfErr result (λ fault. fault ≡ RunFault.Write → S.has_failed out.new ≡ true) }
+    ensures unwritten { IfErr result (λ fault. fault ≢ RunFault.Write → out.new ≡ out.old) }
+    ensures refusal { IfErr result (λ fault. fault ≢ RunFault.Write → RefusesStart system.now irqs.now mode.now fault) }
+{
+    let part = upper_only(alloc, system, p)?;
+    write_run(alloc, &part, Some(p), irqs, mode, ticks, out)
+}
+
+/// Writes the view at p of a run of a system, or of its upper part by itself.
+fn write_view<S: Sink>(
+    alloc: Global,
+    system: &System,
+    p: u8,
+    alone: bool,
+    irqs: &[u8],
+    mode: &str,
+    ticks: u32,
+    out: &mut S,
+) -> Result<(), RunFault>
+    requires separable { Separable system.now p }
+    requires ticks { ticks ≤ 1000000 }
+    requires fresh { S.has_failed out.old ≡ false }
+    ensures written { OnOk result ((bytes : List ℕ) × IsShown system.now (Some p) irqs.now mode.now ticks bytes × Appends (S.taken out.old) (S.taken out.new) bytes) }
+    ensures still { OnOk result (S.has_failed out.new ≡ false) }
+    ensures beginning { IfErr result (λ fault. fault ≡ RunFault.Write → (bytes : List ℕ) × IsShown system.now (Some p) irqs.now mode.now ticks bytes × AppendsSome (S.taken out.old) (S.taken out.new) bytes) }
+    ensures failed { IfErr result (λ fault. fault ≡ RunFault.Write → S.has_failed out.new ≡ true) }
+    ensures unwritten { IfErr result (λ fault. fault ≢ RunFault.Write → out.new ≡ out.old) }
+    ensures refusal { IfErr result (λ fault. fault ≢ RunFault.Write → RefusesStart system.now irqs.now mode.now fault) }
+{
+    if alone {
+        write_alone(alloc, system, p, irqs, mode, ticks, out)
+    } else {
+        write_run(alloc, system, Some(p), irqs, mode, ticks, out)
+    }
+}
+
 /// Runs a system for some ticks, at most 1,000,000, and writes the view at p, 0 to 31: the trace as far as it is of tasks of
 /// priority p or more, of routines, and of alarms that act on such tasks. All is as in `run`, but that the partition at p is
 /// checked before the arrival list is read: where it is denied, the answer is the first denial, and nothing is written.
+///
+/// With `alone` it is the upper part of the system that is run, by itself. What is written is the same.
 pub fn run_upper<S: Sink>(
     alloc: Global,
     oil: &[u8],
@@ -35,6 +91,7 @@ pub fn run_upper<S: Sink>(
     mode: &str,
     ticks: u32,
     p: u8,
+    alone: bool,
     out: &mut S,
 ) -> Result<(), RunFault>
     requires ticks { ticks ≤ 1000000 }
@@ -48,5 +105,5 @@ pub fn run_upper<S: Sink>(
 {
     let system = system_of(alloc, oil, asm)?;
     check_upper(&system, p)?;
-    write_run(alloc, &system, Some(p), irqs, mode, ticks, out)
+    write_view(alloc, &system, p, alone, irqs, mode, ticks, out)
 }

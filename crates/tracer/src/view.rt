@@ -1,35 +1,11 @@
 //! Partitions, no part of the standards. The view of a tick at a priority.
 
 ghost use Rattle.std.specs.Prelude.{◌≡◌};
-ghost use Rattle.osek_base.specs.System.{alarm as alarm_at};
-ghost use Rattle.osek_base.specs.Upper.{action_task, is_upper_task, is_upper_owner};
+ghost use Rattle.osek_base.specs.Upper.{is_upper_owner};
 ghost use Rattle.osek_base.specs.View.{is_upper_source, shown, view_records};
 
-use osek_base::{Action, AlarmId, Owner, Source, System, TaskId, TickRecord, TraceEvent};
-
-/// Whether a task has priority p or more.
-fn is_upper_task(system: &System, p: u8, task: TaskId) -> bool
-    ensures { result ≡ is_upper_task system.now p task }
-{
-    if (task.number() as usize) < system.task_count() {
-        p <= system.priority_of(task)
-    } else {
-        p == 0
-    }
-}
-
-/// The task on which an alarm acts.
-fn action_task(system: &System, alarm: AlarmId) -> TaskId
-    ensures { result ≡ action_task (alarm_at system.now alarm).action }
-{
-    if (alarm.number() as usize) >= system.alarm_count() {
-        return TaskId::new(0);
-    }
-    match system.action_of(alarm) {
-        Action::ActivateTask(task) => task,
-        Action::SetEvent(task, _) => task,
-    }
-}
+use osek_base::{Owner, Source, System, TickRecord, TraceEvent};
+use partition_check::{is_upper_alarm, is_upper_task};
 
 /// Whether a task is upper; routines are.
 fn is_upper_owner(system: &System, p: u8, owner: Owner) -> bool
@@ -47,7 +23,7 @@ fn is_upper_source(system: &System, p: u8, source: Source) -> bool
 {
     match source {
         Source::Owner(owner) => is_upper_owner(system, p, owner),
-        Source::Alarm(alarm) => is_upper_task(system, p, action_task(system, alarm)),
+        Source::Alarm(alarm) => is_upper_alarm(system, p, alarm),
     }
 }
 

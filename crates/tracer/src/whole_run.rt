@@ -20,7 +20,8 @@ use kernel::{BootFault, Kernel};
 use oil_reader::{OilFault, read_oil};
 use osek_base::{Names, System, TickRecord, TraceEvent};
 use partition_check::NamedDenial;
-use std::alloc::Global;
+use ready_queues::LevelQueues;
+use std::alloc::{AllocError, Global};
 use system_gen::{GenFault, generate};
 use task_asm::{AsmFault, assemble};
 use thiserror::Error;
@@ -61,6 +62,16 @@ impl From<SinkFault> for RunFault {
 
     fn from(_fault: SinkFault) -> RunFault {
         RunFault::Write
+    }
+}
+
+impl From<AllocError> for RunFault {
+    ghost use Rattle.tracer.specs.declared.whole_run.RunFault.TheVariants.{Memory};
+
+    ghost from_gives = { λ _ e. e ≡ Memory };
+
+    fn from(_error: AllocError) -> RunFault {
+        RunFault::Memory
     }
 }
 
@@ -168,7 +179,12 @@ fn write_tick<S: Sink>(
 }
 
 /// Does a tick, and leaves its records that are written: all, or those of the view at a priority.
-fn tick_shown(kernel: &mut Kernel<'_>, system: &System, view: Option<u8>, records: &mut TickRecord)
+fn tick_shown(
+    kernel: &mut Kernel<'_, LevelQueues>,
+    system: &System,
+    view: Option<u8>,
+    records: &mut TickRecord,
+)
     requires { is_over kernel.old ≡ false }
     ensures records { records.new ≡ records_shown system.now view (record_at kernel.old.system kernel.old.mode kernel.old.arrivals kernel.old.ticks) }
     ensures next { kernel.new ≡ record kernel.old { ticks = kernel.old.ticks + 1 } }
@@ -182,7 +198,7 @@ fn tick_shown(kernel: &mut Kernel<'_>, system: &System, view: Option<u8>, record
 /// Writes the ticks of a run that has just begun, as many as asked for, or up to a shutdown: all records, or those of the
 /// view at a priority.
 fn write_ticks<S: Sink>(
-    kernel: &mut Kernel<'_>,
+    kernel: &mut Kernel<'_, LevelQueues>,
     system: &System,
     view: Option<u8>,
     ticks: u32,
@@ -224,7 +240,7 @@ fn begin<'s>(
     system: &'s System,
     irqs: &[u8],
     mode: &str,
-) -> Result<Kernel<'s>, RunFault>
+) -> Result<Kernel<'s, LevelQueues>, RunFault>
     ensures begun { IfOk result (IsBegun system.now irqs.now mode.now) }
     ensures refusal { IfErr result (RefusesStart system.now irqs.now mode.now) }
 {

@@ -5,6 +5,7 @@ use Rattle.osek_base.specs.Separable.{first_denial}
 use Rattle.partition_check.specs.Partition.{told}
 use Rattle.partition_check.proofs.Breaches.{separable_where_none, none_where_separable}
 use Rattle.partition_check.proofs.Isolated.{isolated}
+use Rattle.partition_check.proofs.PartAgrees.{its_upper_part}
 use Rattle.partition_check.proofs.check.check_partition.Goals as goal
 
 pub returns-in-None-clause-accepts : goal.returns-in-None-clause-accepts
@@ -23,3 +24,8 @@ pub returns-in-None-clause-isolated : goal.returns-in-None-clause-isolated
 returns-in-None-clause-isolated c =
     let S = c.args.system.now in
     isolated S c.args.p c.names.ensures.proper (separable_where_none S c.args.p (sym c.first_denial.ensures.first ∙ ap told c.in-None.is))
+
+pub returns-in-None-clause-by_itself : goal.returns-in-None-clause-by_itself
+returns-in-None-clause-by_itself c =
+    let S = c.args.system.now in
+    its_upper_part S c.args.p c.names.ensures.proper (separable_where_none S c.args.p (sym c.first_denial.ensures.first ∙ ap told c.in-None.is))

@@ -1,9 +1,9 @@
 use Rattle.std.proofs.Common.{◌≡◌, ◌≤◌, ◌*◌}
 use Rattle.osek_base.specs.System.{activation_of}
-use Rattle.services.specs.Objects.{sum_to}
+use Rattle.kept_state.specs.Standing.{sum_to}
 use Rattle.services.proofs.objects.room_for.Given as goal
 
--- the sum of the tasks so far
+-- the ACTIVATION values of the tasks so far, each of which fits a byte
 abbrev pub invariant-loop-number : goal.invariant-loop-number
 invariant-loop-number l = record {
   sum : l.room ≡ sum_to l.number (activation_of l.system);

@@ -1,16 +1,16 @@
-use Rattle.std.proofs.Common.{suc, Bool, false, ap, ◌<◌, ◌==◌, ◌&&◌, Option, Some, None, option_map, unwrap_or, bytes_eq, ◌≡◌, ℕ, ◌+◌, ◌-◌, ◌≤◌, List, [], ◌∷◌, ◌++◌, true, length, append-nil, refl, sym, arith, le-leb, lt-ltb}
+use Rattle.std.proofs.Common.{◌<◌, ◌==◌, ◌&&◌, ◌≡◌, ℕ, ◌+◌, ◌-◌, ◌≤◌, List, [], ◌∷◌, ◌++◌, true, length, append-nil, refl, sym, arith, le-leb, lt-ltb}
 use Rattle.std.proofs.lemmas.Bool.{eqb-true}
 use Rattle.std.specs.Bool.{IsTrue}
 use Rattle.osek_base.specs.declared.arrivals.Arrival.{Arrival}
 use Rattle.osek_base.specs.ArrivalList.{are_in_order, is_arrival_list}
 use Rattle.osek_base.specs.Names.{Names}
 use Rattle.tracer.specs.ArrivalText.{lines_of, AreRead}
-use Rattle.std.specs.List.{All, AllByRecursion}
+use Rattle.std.specs.List.{All}
 use Rattle.std.proofs.lemmas.List.Elements.{All-from_recursion}
-use Rattle.osek_base.specs.Names.{number_of}
 use Rattle.osek_base.specs.System.{System}
 use Rattle.osek_base.specs.Proper.{IsProper}
 use Rattle.tracer.proofs.TextLemmas.{both_left, both_right}
+use Rattle.tracer.proofs.ArrivalLemmas.{routines_known}
 use Rattle.tracer.proofs.arrivals.read_arrivals.Goals as goal
 
 nothing_left : (names : Names) (number before : ℕ) (rest : List ℕ) → length rest ≡ 0 → AreRead names number before (lines_of rest) []
@@ -55,27 +55,6 @@ returns-clause-read c =
     let same : c.unwrap.result ≡ c.lines.list.items = rw (c.unwrap.ensures) at c.new.ensures.value in
     rw (same, ← c.names-names.ensures.value, ← append-nil c.lines.list.items) all
 
-next_below : (found : Option ℕ) (n size : ℕ) → ((m : ℕ) → found ≡ Some m → m < size) → option_map suc found ≡ Some n → n < suc size
-next_below None n size f e = absurd cc
-next_below (Some m) n size f e =
-    let same : suc m ≡ n = ap (λ o. unwrap_or o 0) e in
-    omega (arith, same, f m refl)
-
-number_below : (name : List ℕ) (names : List (List ℕ)) (n : ℕ) → number_of name names ≡ Some n → n < length names
-number_below name [] n e = absurd cc
-number_below name (first ∷ names) n e =
-    let go : (t : Bool) → bytes_eq first name ≡ t → n < length (first ∷ names) =
-    elim [
-      | true ↦ λ h.
-          let here : Some 0 ≡ Some n = rw h at e in
-          let same : 0 ≡ n = ap (λ o. unwrap_or o 1) here in
-          omega (arith, same)
-      | false ↦ λ h.
-          let later : option_map suc (number_of name names) ≡ Some n = rw h at e in
-          next_below (number_of name names) n (length names) (number_below name names) later
-    ] in
-    go (bytes_eq first name) refl
-
 named_routines : (S : System) → IsProper S → length S.names.routines ≡ length S.routines
 named_routines S p =
     let N = S.names in
@@ -88,13 +67,6 @@ named_routines S p =
     (both_right tasks routines
     (both_left (tasks && routines) resources
     (both_left (tasks && routines && resources) events (both_left (tasks && routines && resources && events) alarms p.named))))
-
-routines_known : (names : Names) (number before : ℕ) (lines : List (List ℕ)) (arrivals : List Arrival)
-    → AreRead names number before lines arrivals → AllByRecursion (λ a. a.routine < length names.routines) arrivals
-routines_known names number before lines [] h = tt
-routines_known names number before [] (a ∷ arrivals) h = absurd h
-routines_known names number before (line ∷ lines) (a ∷ arrivals) h =
-    (number_below h.0.name names.routines a.routine h.0.known, routines_known names (number + 1) a.tick lines arrivals h.1)
 
 all_known : (S : System) (names : Names) (text : List ℕ) (arrivals : List Arrival) → IsProper S → names ≡ S.names
     → AreRead names 1 0 (lines_of text) (arrivals ++ []) → All (λ a. a.routine < length S.routines) arrivals

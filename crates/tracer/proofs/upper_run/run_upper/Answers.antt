@@ -37,18 +37,18 @@ returns-in_err-check_upper-clause-refusal g c =
 
 pub returns-clause-written : goal.returns-clause-written
 returns-clause-written g c =
-    on_ok_map c.write_run.result _ _
+    on_ok_map c.write_view.result _ _
     (λ h. (h.0, view_of _ _ _ _ _ _ _ _ c.in_ok-system.ensures.made c.in_ok-check_upper.ensures.accepts h.1, h.2))
-    c.write_run.ensures.written
+    c.write_view.ensures.written
 
 pub returns-clause-beginning : goal.returns-clause-beginning
 returns-clause-beginning g c =
-    if_err_map c.write_run.result _ _
+    if_err_map c.write_view.result _ _
     (λ fault h same. let k = h same in (k.0, view_of _ _ _ _ _ _ _ _ c.in_ok-system.ensures.made c.in_ok-check_upper.ensures.accepts k.1, k.2))
-    c.write_run.ensures.beginning
+    c.write_view.ensures.beginning
 
 pub returns-clause-refusal : goal.returns-clause-refusal
 returns-clause-refusal g c =
-    if_err_map c.write_run.result _ _
+    if_err_map c.write_view.result _ _
     (λ fault h other. inr (c.in_ok-system.system, c.in_ok-system.ensures.made, inr (c.in_ok-check_upper.ensures.accepts, h other)))
-    c.write_run.ensures.refusal
+    c.write_view.ensures.refusal

@@ -1,0 +1,16 @@
+pub mod Parts
+pub mod JobMoves
+pub mod Releases
+pub mod Choose
+pub mod Rescheduled
+pub mod Settled
+pub mod Tests
+pub mod Served
+pub mod Ticked
+pub mod Runner
+pub mod Fitting
+pub mod Serving
+pub mod Standing
+pub mod InRuns
+pub mod Nesting
+pub mod Words

@@ -1,0 +1,5 @@
+pub mod Kept
+pub mod Moves
+pub mod KeptService
+pub mod KeptTick
+pub mod Standing

@@ -1,0 +1,27 @@
+use Rattle.std.proofs.Common.{◌++◌, sym, ◌∙◌, ap}
+use Rattle.machine.specs.Windows.{word}
+use Rattle.kept_state.specs.Moves.{KeptRecorded}
+use Rattle.kernel.proofs.ExecutionLemmas.{execute_phase-some, execute_phase-none}
+use Rattle.kernel.proofs.execute_phase.execute_phase.Goals as goal
+
+pub returns-in-None-clause-kept : goal.returns-in-None-clause-kept
+returns-in-None-clause-kept g c =
+    let w = word c.args.windows.now in
+    sym (ap (λ (r : KeptRecorded). r.state) (execute_phase-none c.args.system.now w c.args.core.now c.in-None.ensures.value))
+
+pub returns-in-None-clause-events : goal.returns-in-None-clause-events
+returns-in-None-clause-events g c =
+    let w = word c.args.windows.now in
+    c.push.ensures ∙ ap (λ (r : KeptRecorded). c.args.record_of_tick.now ++ r.events) (sym (execute_phase-none c.args.system.now w c.args.core.now c.in-None.ensures.value))
+
+pub returns-in-Some-clause-kept : goal.returns-in-Some-clause-kept
+returns-in-Some-clause-kept g c =
+    let w = word c.args.windows.now in
+    c.execute.ensures.kept
+    ∙ ap (λ (r : KeptRecorded). r.state) (sym (execute_phase-some c.args.system.now w c.args.core.now c.in-Some.execution c.in-Some.ensures.value))
+
+pub returns-in-Some-clause-events : goal.returns-in-Some-clause-events
+returns-in-Some-clause-events g c =
+    let w = word c.args.windows.now in
+    c.execute.ensures.events
+    ∙ ap (λ (r : KeptRecorded). c.args.record_of_tick.now ++ r.events) (sym (execute_phase-some c.args.system.now w c.args.core.now c.in-Some.execution c.in-Some.ensures.value))

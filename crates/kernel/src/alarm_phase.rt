@@ -1,0 +1,110 @@
+//! OSEK/VDX OS: alarms; error handling, ErrorHook. The first phase of a tick: counters advance, and due alarms act.
+
+ghost use Rattle.std.specs.Prelude.{◌≡◌, ◌<◌, ◌≤◌, ◌+◌, ◌++◌, ◌-◌, false, length};
+ghost use Rattle.osek_base.specs.Proper.{IsProper};
+ghost use Rattle.osek_base.specs.State.{Words};
+ghost use Rattle.osek_base.specs.Tick.{error_record};
+ghost use Rattle.kept_state.specs.KeptTick.{alarm_acts_in, alarm_phase_in};
+ghost use Rattle.kept_state.specs.Standing.{runner_waits};
+ghost use Rattle.services.specs.Objects.{kept_in, kept_of};
+ghost use Rattle.kernel.specs.Run.{AreAhead, at_tick};
+
+use arrayvec::ArrayVec;
+use osek_base::{Action, AlarmId, Instr, Service, Source, Status, System, TickRecord, TraceEvent};
+use ready_queues::ReadyQueues;
+use services::Core;
+
+/// Counters advance, and the due alarms act in declaration order. In the first tick the counters stand, and none is due.
+pub fn alarm_phase<Q: ReadyQueues>(
+    core: &mut Core<'_, Q>,
+    system: &System,
+    tick: u32,
+    record_of_tick: &mut TickRecord,
+)
+    requires proper { IsProper system.now }
+    requires system { core.old.system ≡ system.now }
+    requires tick { core.old.tick ≡ tick - 1 }
+    requires limit { tick < 1000000 }
+    requires size { length core.old.alarms ≡ length system.now.alarms }
+    requires ahead { tick ≡ 0 → AreAhead core.old.alarms }
+    requires ready { runner_waits (kept_in core.old) ≡ false }
+    requires room { length record_of_tick.old ≤ 3 }
+    requires room_later { 1 ≤ tick → length record_of_tick.old ≤ 0 }
+    ensures system { core.new.system ≡ core.old.system }
+    ensures kept { (w : Words) → kept_of w core.new ≡ (alarm_phase_in system.now (kept_of w (at_tick core.old tick))).state }
+    ensures events { (w : Words) → record_of_tick.new ≡ record_of_tick.old ++ (alarm_phase_in system.now (kept_of w (at_tick core.old tick))).events }
+    ensures few { length record_of_tick.new ≤ 64 }
+{
+    if 0 < tick {
+        advance(core, system, record_of_tick);
+    }
+}
+
+/// The next tick begins: counters advance, and the due alarms act in declaration order.
+fn advance<Q: ReadyQueues>(core: &mut Core<'_, Q>, system: &System, record_of_tick: &mut TickRecord)
+    requires proper { IsProper system.now }
+    requires system { core.old.system ≡ system.now }
+    requires last { core.old.tick < 999999 }
+    requires ready { runner_waits (kept_in core.old) ≡ false }
+    requires room { length record_of_tick.old ≤ 0 }
+    ensures system { core.new.system ≡ core.old.system }
+    ensures kept { (w : Words) → kept_of w core.new ≡ (alarm_phase_in system.now (kept_of w (at_tick core.old (core.old.tick + 1)))).state }
+    ensures events { (w : Words) → record_of_tick.new ≡ record_of_tick.old ++ (alarm_phase_in system.now (kept_of w (at_tick core.old (core.old.tick + 1)))).events }
+    ensures few { length record_of_tick.new ≤ 64 }
+{
+    let mut due: ArrayVec<AlarmId, 64> = ArrayVec::new();
+    core.advance(&mut due);
+    for number in 0..due.len() {
+        alarm_acts(core, system, due[number], record_of_tick);
+    }
+}
+
+/// An alarm acts: it activates a task, or sets events. A refusal is an error record of the alarm, and changes nothing.
+fn alarm_acts<Q: ReadyQueues>(
+    core: &mut Core<'_, Q>,
+    system: &System,
+    alarm: AlarmId,
+    record_of_tick: &mut TickRecord,
+)
+    requires proper { IsProper system.now }
+    requires system { core.old.system ≡ system.now }
+    requires alarm { alarm < length system.now.alarms }
+    requires ready { runner_waits (kept_in core.old) ≡ false }
+    requires room { length record_of_tick.old < 72 }
+    ensures system { core.new.system ≡ core.old.system }
+    ensures ready { runner_waits (kept_in core.new) ≡ false }
+    ensures kept { (w : Words) → kept_of w core.new ≡ (alarm_acts_in system.now alarm (kept_of w core.old)).state }
+    ensures events { (w : Words) → record_of_tick.new ≡ record_of_tick.old ++ (alarm_acts_in system.now alarm (kept_of w core.old)).events }
+    ensures few { length record_of_tick.new ≤ length record_of_tick.old + 1 }
+{
+    let source = Source::Alarm(alarm);
+    match system.action_of(alarm) {
+        Action::ActivateTask(task) => {
+            let status = core.activate(task);
+            let instr = Instr::Service(Service::ActivateTask(Some(task)));
+            record_error(system, source, instr, status, record_of_tick);
+        }
+        Action::SetEvent(task, mask) => {
+            let status = core.set_event(task, mask);
+            let instr = Instr::Service(Service::SetEvent(Some(task), mask));
+            record_error(system, source, instr, status, record_of_tick);
+        }
+    }
+}
+
+/// Records a status other than E_OK, where ErrorHook is on.
+pub fn record_error(
+    system: &System,
+    source: Source,
+    instr: Instr,
+    status: Status,
+    record_of_tick: &mut TickRecord,
+)
+    requires { length record_of_tick.old < 72 }
+    ensures events { record_of_tick.new ≡ record_of_tick.old ++ error_record system.now source instr status }
+    ensures few { length record_of_tick.new ≤ length record_of_tick.old + 1 }
+{
+    if status != Status::Ok && system.hooks().error {
+        record_of_tick.push(TraceEvent::Error(source, instr, status));
+    }
+}

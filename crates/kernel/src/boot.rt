@@ -1,0 +1,86 @@
+//! OSEK/VDX OS: system start-up; application modes. What stands before the first tick.
+
+ghost use Rattle.std.specs.Prelude.{◌≡◌, ◌≤◌, [], IfOk, length};
+ghost use Rattle.osek_base.specs.Proper.{IsProper};
+ghost use Rattle.osek_base.specs.Reschedule.{hooked};
+ghost use Rattle.osek_base.specs.Trace.{starting_tasks};
+ghost use Rattle.kept_state.specs.KeptTick.{all_activated_in, begun_in};
+ghost use Rattle.services.specs.Objects.{kept_in};
+ghost use Rattle.kernel.specs.Run.{IsStarted};
+
+use osek_base::{ModeId, System, TaskId, TickRecord, TraceEvent};
+use ready_queues::ReadyQueues;
+use services::Core;
+use std::alloc::{AllocError, Global};
+use thiserror::Error;
+
+/// Why a system isn't booted.
+#[derive(Clone, Copy, Debug, PartialEq, Eq, Error)]
+pub enum BootFault {
+    /// The system has no application mode of that name.
+    #[error("fault 1")]
+    UnknownMode,
+    /// A growth was refused.
+    #[error("memory")]
+    Memory,
+}
+
+impl From<AllocError> for BootFault {
+    ghost use Rattle.kernel.specs.declared.boot.BootFault.TheVariants.{Memory};
+
+    ghost from_gives = { λ _ r. r ≡ Memory };
+
+    fn from(_: AllocError) -> Self {
+        BootFault::Memory
+    }
+}
+
+/// The core of a system that is booted in a mode: its tasks of the mode are activated by number, its alarms of the mode are
+/// set, and the task that is to run was dispatched, which `opening` tells.
+pub fn booted<'s, Q: ReadyQueues>(
+    alloc: Global,
+    system: &'s System,
+    mode: ModeId,
+    opening: &mut TickRecord,
+) -> Result<Core<'s, Q>, AllocError>
+    requires proper { IsProper system.now }
+    requires opening { opening.old ≡ [] }
+    ensures core { IfOk result (λ c. IsStarted system.now mode c opening.new) }
+{
+    let mut core = started(alloc, system, mode)?;
+    record_startup(system, opening);
+    core.reschedule(opening);
+    Ok(core)
+}
+
+/// The core of a system whose tasks of a mode are activated by number, and its alarms of the mode set.
+fn started<'s, Q: ReadyQueues>(
+    alloc: Global,
+    system: &'s System,
+    mode: ModeId,
+) -> Result<Core<'s, Q>, AllocError>
+    requires { IsProper system.now }
+    ensures system { IfOk result (λ c. c.system ≡ system.now) }
+    ensures kept { IfOk result (λ c. kept_in c ≡ all_activated_in system.now (starting_tasks system.now mode) (begun_in system.now mode)) }
+{
+    let mut core = Core::new(alloc, system)?;
+    core.start_alarms(mode);
+    for number in 0..system.task_count() {
+        let task = TaskId::new(number as u8);
+        if system.starts_in(mode, task) {
+            let _status = core.activate(task);
+        }
+    }
+    Ok(core)
+}
+
+/// Records the start-up, where StartupHook is on.
+fn record_startup(system: &System, opening: &mut TickRecord)
+    requires { opening.old ≡ [] }
+    ensures value { opening.new ≡ hooked system.now.hooks.startup TraceEvent.Startup }
+    ensures few { length opening.new ≤ 1 }
+{
+    if system.hooks().startup {
+        opening.push(TraceEvent::Startup);
+    }
+}

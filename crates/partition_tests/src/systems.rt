@@ -1,0 +1,159 @@
+//! Systems with a task U of priority 5 and a task L of priority 1, programs for them, and a view.
+
+/// L starts with the mode, and an alarm activates U.
+pub const PLAIN: &str = "OIL_VERSION = \"2.5\";
+CPU c {
+  OS o { STATUS = EXTENDED; STARTUPHOOK = FALSE; ERRORHOOK = FALSE;
+    SHUTDOWNHOOK = FALSE; PRETASKHOOK = FALSE; POSTTASKHOOK = FALSE; };
+  APPMODE M {};
+  TASK U { PRIORITY = 5; SCHEDULE = FULL; ACTIVATION = 1; AUTOSTART = FALSE; };
+  TASK L { PRIORITY = 1; SCHEDULE = FULL; ACTIVATION = 1;
+    AUTOSTART = TRUE { APPMODE = M; }; };
+  COUNTER C { MAXALLOWEDVALUE = 7; TICKSPERBASE = 1; MINCYCLE = 1; };
+  ALARM AL { COUNTER = C; ACTION = ACTIVATETASK { TASK = U; };
+    AUTOSTART = TRUE { ALARMTIME = 2; CYCLETIME = 3; APPMODE = M; }; };
+};
+";
+
+/// The same, and L is not preemptable.
+pub const NON: &str = "OIL_VERSION = \"2.5\";
+CPU c {
+  OS o { STATUS = EXTENDED; STARTUPHOOK = FALSE; ERRORHOOK = FALSE;
+    SHUTDOWNHOOK = FALSE; PRETASKHOOK = FALSE; POSTTASKHOOK = FALSE; };
+  APPMODE M {};
+  TASK U { PRIORITY = 5; SCHEDULE = FULL; ACTIVATION = 1; AUTOSTART = FALSE; };
+  TASK L { PRIORITY = 1; SCHEDULE = NON; ACTIVATION = 1;
+    AUTOSTART = TRUE { APPMODE = M; }; };
+  COUNTER C { MAXALLOWEDVALUE = 7; TICKSPERBASE = 1; MINCYCLE = 1; };
+  ALARM AL { COUNTER = C; ACTION = ACTIVATETASK { TASK = U; };
+    AUTOSTART = TRUE { ALARMTIME = 2; CYCLETIME = 3; APPMODE = M; }; };
+};
+";
+
+/// The same as the first with a routine.
+pub const ROUTINE: &str = "OIL_VERSION = \"2.5\";
+CPU c {
+  OS o { STATUS = EXTENDED; STARTUPHOOK = FALSE; ERRORHOOK = FALSE;
+    SHUTDOWNHOOK = FALSE; PRETASKHOOK = FALSE; POSTTASKHOOK = FALSE; };
+  APPMODE M {};
+  TASK U { PRIORITY = 5; SCHEDULE = FULL; ACTIVATION = 1; AUTOSTART = FALSE; };
+  TASK L { PRIORITY = 1; SCHEDULE = FULL; ACTIVATION = 1;
+    AUTOSTART = TRUE { APPMODE = M; }; };
+  ISR I { CATEGORY = 2; };
+  COUNTER C { MAXALLOWEDVALUE = 7; TICKSPERBASE = 1; MINCYCLE = 1; };
+  ALARM AL { COUNTER = C; ACTION = ACTIVATETASK { TASK = U; };
+    AUTOSTART = TRUE { ALARMTIME = 2; CYCLETIME = 3; APPMODE = M; }; };
+};
+";
+
+/// A routine, and L is not preemptable.
+pub const NON_AND_ROUTINE: &str = "OIL_VERSION = \"2.5\";
+CPU c {
+  OS o { STATUS = EXTENDED; STARTUPHOOK = FALSE; ERRORHOOK = FALSE;
+    SHUTDOWNHOOK = FALSE; PRETASKHOOK = FALSE; POSTTASKHOOK = FALSE; };
+  APPMODE M {};
+  TASK U { PRIORITY = 5; SCHEDULE = FULL; ACTIVATION = 1; AUTOSTART = FALSE; };
+  TASK L { PRIORITY = 1; SCHEDULE = NON; ACTIVATION = 1;
+    AUTOSTART = TRUE { APPMODE = M; }; };
+  ISR I { CATEGORY = 2; };
+  COUNTER C { MAXALLOWEDVALUE = 7; TICKSPERBASE = 1; MINCYCLE = 1; };
+  ALARM AL { COUNTER = C; ACTION = ACTIVATETASK { TASK = U; };
+    AUTOSTART = TRUE { ALARMTIME = 2; CYCLETIME = 3; APPMODE = M; }; };
+};
+";
+
+/// Both tasks list an internal resource.
+pub const SHARED_INTERNAL: &str = "OIL_VERSION = \"2.5\";
+CPU c {
+  OS o { STATUS = EXTENDED; STARTUPHOOK = FALSE; ERRORHOOK = FALSE;
+    SHUTDOWNHOOK = FALSE; PRETASKHOOK = FALSE; POSTTASKHOOK = FALSE; };
+  APPMODE M {};
+  TASK U { PRIORITY = 5; SCHEDULE = FULL; ACTIVATION = 1; AUTOSTART = FALSE; RESOURCE = I; };
+  TASK L { PRIORITY = 1; SCHEDULE = FULL; ACTIVATION = 1;
+    AUTOSTART = TRUE { APPMODE = M; }; RESOURCE = I; };
+  RESOURCE I { RESOURCEPROPERTY = INTERNAL; };
+  COUNTER C { MAXALLOWEDVALUE = 7; TICKSPERBASE = 1; MINCYCLE = 1; };
+  ALARM AL { COUNTER = C; ACTION = ACTIVATETASK { TASK = U; };
+    AUTOSTART = TRUE { ALARMTIME = 2; CYCLETIME = 3; APPMODE = M; }; };
+};
+";
+
+/// Both tasks start with the mode.
+pub const BOTH_START: &str = "OIL_VERSION = \"2.5\";
+CPU c {
+  OS o { STATUS = EXTENDED; STARTUPHOOK = FALSE; ERRORHOOK = FALSE;
+    SHUTDOWNHOOK = FALSE; PRETASKHOOK = FALSE; POSTTASKHOOK = FALSE; };
+  APPMODE M {};
+  TASK U { PRIORITY = 5; SCHEDULE = FULL; ACTIVATION = 1;
+    AUTOSTART = TRUE { APPMODE = M; }; };
+  TASK L { PRIORITY = 1; SCHEDULE = FULL; ACTIVATION = 1;
+    AUTOSTART = TRUE { APPMODE = M; }; };
+};
+";
+
+/// Lower objects stand before upper ones, so those have other numbers by themselves.
+pub const LOWER_FIRST: &str = "OIL_VERSION = \"2.5\";
+CPU c {
+  OS o { STATUS = EXTENDED; STARTUPHOOK = FALSE; ERRORHOOK = FALSE;
+    SHUTDOWNHOOK = FALSE; PRETASKHOOK = FALSE; POSTTASKHOOK = FALSE; };
+  APPMODE M {};
+  TASK L { PRIORITY = 1; SCHEDULE = FULL; ACTIVATION = 1;
+    AUTOSTART = TRUE { APPMODE = M; }; RESOURCE = Log; };
+  TASK U { PRIORITY = 5; SCHEDULE = FULL; ACTIVATION = 1; AUTOSTART = FALSE; RESOURCE = Bus; };
+  ISR I { CATEGORY = 2; };
+  RESOURCE Log { RESOURCEPROPERTY = STANDARD; };
+  RESOURCE Bus { RESOURCEPROPERTY = STANDARD; };
+  COUNTER C { MAXALLOWEDVALUE = 7; TICKSPERBASE = 1; MINCYCLE = 1; };
+  ALARM Low { COUNTER = C; ACTION = ACTIVATETASK { TASK = L; }; AUTOSTART = FALSE; };
+  ALARM High { COUNTER = C; ACTION = ACTIVATETASK { TASK = U; };
+    AUTOSTART = TRUE { ALARMTIME = 2; CYCLETIME = 0; APPMODE = M; }; };
+};
+";
+
+pub const ENDS: &str = ".task U\nLI r1, 9\nTERM\nz: JMP z\n.task L\nTERM\nz: JMP z\n";
+
+pub const GOES_ROUND: &str =
+    ".task U\nLI r1, 9\nTERM\nz: JMP z\n.task L\nl: ACT L\nJMP l\nz: JMP z\n";
+
+pub const TAKES_SCHEDULER: &str =
+    ".task U\nLI r1, 9\nTERM\nz: JMP z\n.task L\nGETR RES_SCHEDULER\nTERM\nz: JMP z\n";
+
+pub const SUSPENDS: &str = ".task U\nLI r1, 9\nTERM\nz: JMP z\n.task L\nSOI\nTERM\nz: JMP z\n";
+
+pub const CANCELS: &str =
+    ".task U\nLI r1, 9\nTERM\nz: JMP z\n.task L\nNOP\nCANA AL\nTERM\nz: JMP z\n";
+
+pub const ACTIVATES_UP: &str =
+    ".task U\nLI r1, 9\nTERM\nz: JMP z\n.task L\nNOP\nACT U\nTERM\nz: JMP z\n";
+
+pub const ACTIVATES_DOWN: &str = ".task U\nACT L\nTERM\nz: JMP z\n.task L\nTERM\nz: JMP z\n";
+
+pub const ASKS_DOWN: &str = ".task U\nGTST L\nTERM\nz: JMP z\n.task L\nTERM\nz: JMP z\n";
+
+pub const ASKS_TASK: &str =
+    ".task U\nLI r1, 9\nTERM\nz: JMP z\n.task L\nTERM\nz: JMP z\n.isr I\nGTID\nRETI\n";
+
+/// For `LOWER_FIRST`.
+pub const BUS_AND_LOG: &str = ".task U
+GETR Bus
+RELR Bus
+GALM High
+TERM
+z: JMP z
+.task L
+l: GETR Log
+RELR Log
+JMP l
+.isr I
+RETI
+";
+
+/// The view of `PLAIN` at 5, in 7 ticks.
+pub const EVERY_THIRD_TICK: &str = "0 other
+1 other
+2 U 0 LI r1, 9 -> 9
+3 U 1 TERM = 0
+4 other
+5 U 0 LI r1, 9 -> 9
+6 U 1 TERM = 0
+";

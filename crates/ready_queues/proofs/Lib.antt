@@ -1,0 +1,9 @@
+pub mod Writes
+pub mod Tops
+pub mod QueueLaws
+pub mod LevelLists
+pub mod MoveLemmas
+pub mod ListMoves
+pub mod RingLemmas
+pub mod KeptLemmas
+pub mod WordLemmas

@@ -1,0 +1,37 @@
+use Rattle.std.proofs.Common.{◌≡◌, ◌+◌, ◌∙◌, ℕ, List, ◌∷◌, length, ap, arith}
+use Rattle.ready_queues.specs.Queues.{with_oldest}
+use Rattle.ready_queues.specs.Kept.{Levels, tasks_of}
+use Rattle.ready_queues.proofs.KeptLemmas.{room_seen, counted-put, tasks_at-write}
+use Rattle.ready_queues.proofs.WordLemmas.{marked-put}
+use Rattle.ready_queues.proofs.level_queues.LevelQueuesReadyQueues.put_oldest.Goals as goal
+
+pub put_oldest-requires : goal.put_oldest-requires
+put_oldest-requires c =
+    let s = c.self.inside in
+    room_seen s.levels.items s.count s.room c.self.invariant.0 c.args.level c.index_mut-tasks.result.now _
+    c.self.view_is c.requires.level
+    c.index_mut-tasks.ensures.value c.requires.room
+
+pub invariant_of-self : goal.invariant_of-self
+invariant_of-self c =
+    let s = c.self.inside in
+    let was = c.index_mut-tasks.result.now in
+    let now = c.put_oldest.new.self in
+    let longer : length (c.args.task ∷ was.items) ≡ length was.items + 1 = omega arith in (
+      counted-put s.levels.items s.count s.room c.self.invariant.0 c.args.level was now _ c.requires.level
+          c.index_mut-tasks.ensures.value
+          c.put_oldest.ensures longer,
+      marked-put s.levels.items s.count s.room c.self.invariant.0 s.occupied c.self.invariant.1
+          c.args.level was now _ _
+          c.requires.level c.put_oldest.ensures longer c.insert.ensures,
+    )
+
+pub returns-clause-tasks : goal.returns-clause-tasks
+returns-clause-tasks c =
+    let s = c.self.inside in
+    let was = c.index_mut-tasks.result.now in
+    let now = c.put_oldest.new.self in
+    tasks_at-write s.levels.items s.count s.room c.self.invariant.0 c.args.level was now
+    (λ (xs : List ℕ). c.args.task ∷ xs)
+    c.requires.level c.index_mut-tasks.ensures.value c.put_oldest.ensures
+    ∙ ap (λ (v : Levels). with_oldest c.args.level c.args.task (tasks_of v)) c.self.view_is

@@ -1,0 +1,104 @@
+-- No call changes which task runs, or which routine is active, unless it ends.
+use Rattle.std.proofs.Common.{◌≡◌, ℕ, Bool, true, false, cond, ◌∷◌, refl, sym, ◌∙◌, ap, subst}
+use Rattle.std.specs.Prelude.{Option, Some, None, slice_index, bit_or}
+use Rattle.osek_base.specs.declared.instr.Service.{Service}
+use Rattle.osek_base.specs.declared.instr.Control.{Control}
+use Rattle.osek_base.specs.declared.status.Status.{Status}
+use Rattle.osek_base.specs.System.{System}
+use Rattle.osek_base.specs.State.{Active, interrupts_off}
+use Rattle.osek_base.specs.Service.{first_refusal, is_met, meets}
+use Rattle.kept_state.specs.Kept.{Kept, Slot}
+use Rattle.kept_state.specs.Moves.{slot_changed, released_in}
+use Rattle.kept_state.specs.KeptService.{KeptCaller, ByTask, ByRoutine, ByNobody, bare, caller_in, service_in, effect_in, changed_in, refusals_in, with_caller_in, caller_ended_in, slot_given_up, slot_gets, slot_releases, slot_waiting, with_mask, events_cleared_in, event_awaited_in, is_outranked_in}
+use Rattle.kept_state.specs.KeptTick.{controlled_in}
+use Rattle.services.specs.declared.calls.Call.{Call}
+use Rattle.services.specs.Objects.{Objects, kept_in}
+use Rattle.services.specs.Calls.{IsSameActive, IsSameCaller, call_in}
+
+-- the same task runs, and the same routine is active
+record IsAlike (o k : Kept) : Type 0 where
+  running : k.running ≡ o.running
+  active : k.active ≡ o.active
+
+same : (o : Kept) → IsAlike o o
+same o = record { running = refl; active = refl }
+
+either : (b : Bool) (o x y : Kept) → IsAlike o x → IsAlike o y → IsAlike o (cond b x y)
+either true o x y h k = h
+either false o x y h k = k
+
+ended : (d : KeptCaller) (o : Kept) → IsAlike o (caller_ended_in d o)
+ended (ByTask t) o = record { running = refl; active = refl }
+ended ByRoutine o = same o
+ended ByNobody o = same o
+
+changed : (d : KeptCaller) (g : Slot → Slot) (o : Kept) → IsAlike o (with_caller_in d g o)
+changed (ByTask t) g o = record { running = refl; active = refl }
+changed ByRoutine g o = same o
+changed ByNobody g o = same o
+
+cleared : (d : KeptCaller) (m : ℕ) (o : Kept) → IsAlike o (events_cleared_in d m o)
+cleared (ByTask t) m o = record { running = refl; active = refl }
+cleared ByRoutine m o = same o
+cleared ByNobody m o = same o
+
+awaited : (d : KeptCaller) (m : ℕ) (o : Kept) → IsAlike o (event_awaited_in d m o)
+awaited (ByTask t) m o = either (meets m (slice_index o.masks t)) o o (slot_changed t (slot_waiting m) o) (same o) (record { running = refl; active = refl })
+awaited ByRoutine m o = same o
+awaited ByNobody m o = same o
+
+set : (S : System) (t v : ℕ) (o : Kept) → IsAlike o (cond (is_met v (o.slots t).waits_for) (released_in S t (with_mask t v o)) (with_mask t v o))
+set S t v o =
+    either (is_met v (o.slots t).waits_for) o (released_in S t (with_mask t v o)) (with_mask t v o)
+    (record { running = refl; active = refl }) (record { running = refl; active = refl })
+
+effect_alike : (S : System) (d : KeptCaller) (o : Kept) (call : Service ℕ) → IsAlike o (effect_in S d o call)
+effect_alike S d o (Service.ActivateTask (Some t)) = record { running = refl; active = refl }
+effect_alike S d o (Service.ActivateTask None) = record { running = refl; active = refl }
+effect_alike S d o Service.TerminateTask = ended d o
+effect_alike S d o (Service.ChainTask (Some t)) = let e = ended d o in record { running = e.running; active = e.active }
+effect_alike S d o (Service.ChainTask None) = record { running = refl; active = refl }
+effect_alike S d o Service.Schedule = either (is_outranked_in S o d) o (with_caller_in d slot_given_up o) o (changed d slot_given_up o) (same o)
+effect_alike S d o (Service.GetResource (Some r)) = changed d (slot_gets r) o
+effect_alike S d o (Service.GetResource None) = record { running = refl; active = refl }
+effect_alike S d o (Service.ReleaseResource (Some r)) = changed d slot_releases o
+effect_alike S d o (Service.ReleaseResource None) = record { running = refl; active = refl }
+effect_alike S d o (Service.SetEvent (Some t) m) = set S t (bit_or (slice_index o.masks t) m) o
+effect_alike S d o (Service.SetEvent None m) = record { running = refl; active = refl }
+effect_alike S d o (Service.ClearEvent m) = cleared d m o
+effect_alike S d o (Service.WaitEvent m) = awaited d m o
+effect_alike S d o call = record { running = refl; active = refl }
+
+service_alike : (S : System) (d : KeptCaller) (o : Kept) (call : Service ℕ) → IsAlike o (service_in S d o call).state
+unfolding service_in
+service_alike S d o call = go (first_refusal ((interrupts_off (bare o), Status.SysDisabled) ∷ refusals_in S d o call))
+  where
+    go : (r : Option Status) → IsAlike o (changed_in S d o call r)
+    go None = effect_alike S d o call
+    go (Some refusal) = same o
+
+same_active : (a : Option Active) → IsSameActive a a
+same_active None = tt
+same_active (Some b) = refl
+
+control_active : (o : Kept) (control : Control) → IsSameActive o.active (controlled_in control o).active
+control_active o Control.DisableAllInterrupts = same_active o.active
+control_active o Control.EnableAllInterrupts = same_active o.active
+control_active o Control.SuspendAllInterrupts = same_active o.active
+control_active o Control.ResumeAllInterrupts = same_active o.active
+control_active o Control.SuspendOsInterrupts = same_active o.active
+control_active o Control.ResumeOsInterrupts = same_active o.active
+control_active o (Control.ShutdownOs n) = same_active o.active
+control_active o Control.ReturnFromInterrupt = tt
+
+pub same_caller : (o n : Objects) (call : Call) → kept_in n ≡ (call_in o.system (kept_in o) call).state → IsSameCaller o n
+same_caller o n (Call.Service call) new =
+    let alike = service_alike o.system (caller_in (kept_in o)) (kept_in o) call in
+    record {
+      running = ap (λ (k : Kept). k.running) new ∙ alike.running;
+      active = subst (IsSameActive o.active) (sym (ap (λ (k : Kept). k.active) new ∙ alike.active)) (same_active o.active);
+    }
+same_caller o n (Call.Control control) new = record {
+  running = ap (λ (k : Kept). k.running) new;
+  active = subst (IsSameActive o.active) (sym (ap (λ (k : Kept). k.active) new)) (control_active (kept_in o) control);
+}

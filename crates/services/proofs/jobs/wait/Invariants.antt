@@ -1,9 +1,0 @@
-use Rattle.std.proofs.Common.{◌≡◌, ◌++◌, take, drop}
-use Rattle.osek_base.specs.State.{with_job}
-use Rattle.osek_base.specs.Service.{waiting_for}
-use Rattle.services.proofs.jobs.wait.Given as goal
-
--- the jobs so far are changed
-abbrev pub invariant-loop-job : goal.invariant-loop-job
-invariant-loop-job l =
-    l.jobs ≡ with_job l.id (waiting_for l.mask) (take l.job-index l.initial.jobs) ++ drop l.job-index l.initial.jobs

@@ -1,0 +1,47 @@
+use Rattle.std.proofs.Common.{rules, ◌≡◌, ◌∙◌, None, false, ap, length, replicate}
+use Rattle.std.proofs.lemmas.List.{length-replicate}
+use Rattle.kept_state.specs.Kept.{unbegun}
+use Rattle.services.specs.Objects.{by_task, no_words}
+use Rattle.services.proofs.BoundLemmas.{bounds_of}
+use Rattle.services.proofs.HeldLemmas.{no_slots}
+use Rattle.services.proofs.objects.Objects.new.Goals as goal
+
+pub invariant_of-result : goal.invariant_of-result
+invariant_of-result g c =
+    let made : c.in_ok-blocks.field-0.items ≡ replicate c.task_count-tasks.result (unbegun 0) = c.in_ok-blocks.ensures in
+    let flags : c.in_ok-vec.field-0.items ≡ replicate (length c.args.system.now.routines) false = search rules in
+    let events : c.in_ok-vec-2.field-0.items ≡ replicate (length c.args.system.now.tasks) 0 = search rules in
+    record {
+      bounds = bounds_of c.args.system.now c.task_count-tasks.ensures.proper;
+      slots = ap length made ∙ length-replicate c.task_count-tasks.result (unbegun 0) ∙ c.task_count-tasks.ensures.value;
+      masks = ap length events ∙ length-replicate (length c.args.system.now.tasks) 0;
+      pending = ap length flags ∙ length-replicate (length c.args.system.now.routines) false;
+      alarms = search rules;
+      room = c.in_ok-with_room.ensures.room ∙ c.room_for.ensures;
+    }
+
+pub returns-clause-kept : goal.returns-clause-kept
+returns-clause-kept g c =
+    let S = c.args.system.now in
+    let made : c.in_ok-blocks.field-0.items ≡ replicate c.task_count-tasks.result (unbegun 0) = c.in_ok-blocks.ensures in
+    let none = ap by_task made ∙ no_slots c.task_count-tasks.result in
+    let flags : c.in_ok-vec.field-0.items ≡ replicate (length S.routines) false = search rules in
+    let events : c.in_ok-vec-2.field-0.items ≡ replicate (length S.tasks) 0 = search rules in
+    let off : c.new.result.expiries ≡ replicate (length S.alarms) None = search rules in
+    let start : c.new.result.tick ≡ 0 = search rules in
+    λ i. record {
+      queues = c.in_ok-with_room.ensures.empty i;
+      slots = none i;
+      running = None;
+      gone = false;
+      active = None;
+      pending = flags i;
+      disabled = false;
+      suspended_all = 0;
+      suspended_os = 0;
+      alarms = off i;
+      words = no_words;
+      masks = events i;
+      tick = start i;
+      over = false;
+    }

@@ -1,0 +1,7 @@
+use Rattle.std.proofs.Common.{◌≡◌, replicate}
+use Rattle.kept_state.specs.Kept.{unbegun}
+use Rattle.services.proofs.objects.blocks.Given as goal
+
+-- a slot for each task so far
+abbrev pub invariant-loop-made : goal.invariant-loop-made
+invariant-loop-made l = l.slots.items ≡ replicate l._made (unbegun 0)

@@ -1,0 +1,16 @@
+use Rattle.services.proofs.StandsLemmas.{fit_where_stands, stands_set}
+use Rattle.services.proofs.os_core.Core.set_event.Goals as goal
+use Rattle.std.proofs.Common.{◌≡◌, ◌<◌, length, sym, subst, false}
+use Rattle.services.specs.Objects.{Objects, kept_in}
+use Rattle.kept_state.specs.KeptService.{ByNobody}
+use Rattle.kept_state.specs.Standing.{runner_waits}
+
+pub set_event-requires-clause-fit : goal.set_event-requires-clause-fit
+set_event-requires-clause-fit g c = fit_where_stands c.self.inside.objects c.self.invariant
+
+pub invariant_of-self : goal.invariant_of-self
+invariant_of-self g c =
+    stands_set c.self.inside.objects c.set_event.new.self c.set_event.ensures.system c.args.task c.args.mask c.self.invariant
+    (subst (λ (k : Objects). c.args.task < length k.system.tasks) (sym c.self.view_is) c.requires.task)
+    (subst (λ (k : Objects). runner_waits (kept_in k) ≡ false) (sym c.self.view_is) c.requires.ready)
+    (c.set_event.ensures.kept ByNobody)

@@ -1,0 +1,100 @@
+-- OSEK/VDX OS: specification of operating system services. Calls with a status and without, and who executes.
+use Rattle.std.specs.Prelude.{ℕ, ◌≡◌, ◌<◌, Option, Some, None, length}
+use Rattle.osek_base.specs.declared.ids.Owner.{Owner}
+use Rattle.osek_base.specs.declared.instr.Service.{Service}
+use Rattle.osek_base.specs.declared.status.Status.{Status}
+use Rattle.osek_base.specs.declared.trace_event.Results.{Results}
+use Rattle.osek_base.specs.System.{System}
+use Rattle.osek_base.specs.Instruction.{Context}
+use Rattle.osek_base.specs.State.{Active}
+use Rattle.kept_state.specs.Kept.{Kept}
+use Rattle.kept_state.specs.KeptService.{KeptCaller, ByTask, ByRoutine, KeptReply, caller_in, service_in, unmasked_in}
+use Rattle.kept_state.specs.KeptTick.{controlled_in}
+use Rattle.services.specs.declared.calls.Call.{Call}
+use Rattle.services.specs.Objects.{Objects, kept_in}
+
+-- an operand names a task or an alarm of the system, or is INVALID
+abbrev pub IsTaskOperand : System → Option ℕ → Type 0
+IsTaskOperand S None = Unit {0}
+IsTaskOperand S (Some t) = t < length S.tasks
+
+abbrev pub IsAlarmOperand : System → Option ℕ → Type 0
+IsAlarmOperand S None = Unit {0}
+IsAlarmOperand S (Some a) = a < length S.alarms
+
+-- the operands of a service exist
+abbrev pub IsKnown : System → Service ℕ → Type 0
+IsKnown S (Service.ActivateTask t) = IsTaskOperand S t
+IsKnown S (Service.ChainTask t) = IsTaskOperand S t
+IsKnown S (Service.GetTaskState t) = IsTaskOperand S t
+IsKnown S (Service.SetEvent t m) = IsTaskOperand S t
+IsKnown S (Service.GetEvent t) = IsTaskOperand S t
+IsKnown S (Service.SetRelAlarm a x y) = IsAlarmOperand S a
+IsKnown S (Service.SetAbsAlarm a x y) = IsAlarmOperand S a
+IsKnown S (Service.CancelAlarm a) = IsAlarmOperand S a
+IsKnown S (Service.GetAlarm a) = IsAlarmOperand S a
+IsKnown S (Service.GetAlarmBase a) = IsAlarmOperand S a
+IsKnown S _ = Unit {0}
+
+abbrev pub IsKnownCall : System → Call → Type 0
+IsKnownCall S (Call.Service s) = IsKnown S s
+IsKnownCall S (Call.Control c) = Unit {0}
+
+-- the service is one on alarms
+abbrev pub IsOnAlarm : Service ℕ → Type 0
+IsOnAlarm (Service.SetRelAlarm a x y) = Unit {0}
+IsOnAlarm (Service.SetAbsAlarm a x y) = Unit {0}
+IsOnAlarm (Service.CancelAlarm a) = Unit {0}
+IsOnAlarm (Service.GetAlarm a) = Unit {0}
+IsOnAlarm (Service.GetAlarmBase a) = Unit {0}
+IsOnAlarm _ = ⊥
+
+-- what a call answers, and what is kept after it. A service without a status answers nothing
+pub record CallReply : Type 0 where
+  pub status : Option Status
+  pub results : Results
+  pub state : Kept
+
+abbrev pub call_in : System → Kept → Call → CallReply
+call_in S o (Call.Service s) =
+    let r = service_in S (caller_in o) o s in record { status = Some r.status; results = r.results; state = r.state }
+call_in S o (Call.Control c) = record { status = None; results = Results.Nothing; state = controlled_in c o }
+
+-- what a service answers the caller, interrupts being off aside, and what is kept after it
+abbrev pub unmasked : Objects → Service ℕ → KeptReply
+unmasked o call = unmasked_in o.system (caller_in (kept_in o)) (kept_in o) call
+
+-- ---- who executes
+
+-- the task that calls, if no routine does
+abbrev pub calling_task : KeptCaller → Option ℕ
+calling_task (ByTask t) = Some t
+calling_task _ = None
+
+abbrev pub caller_as : Owner → KeptCaller
+caller_as (Owner.Task t) = ByTask t
+caller_as (Owner.Routine i) = ByRoutine
+
+-- the task or routine executes, with these registers and this place
+abbrev pub Executes : Kept → Owner → Context → Type 0
+Executes o (Owner.Task t) x = (caller_in o ≡ ByTask t) × ((o.slots t).context ≡ x)
+Executes o (Owner.Routine i) x = o.active ≡ Some (record { routine = i; context = x })
+
+-- an active routine is that one
+abbrev pub IsRoutineOrNone : Option Active → ℕ → Type 0
+IsRoutineOrNone None i = Unit {0}
+IsRoutineOrNone (Some a) i = a.routine ≡ i
+
+-- who executed runs still, unless its job or it has ended
+abbrev pub MayGoOn : Objects → Owner → Type 0
+MayGoOn o (Owner.Task t) = o.running ≡ Some t
+MayGoOn o (Owner.Routine i) = IsRoutineOrNone o.active i
+
+-- the running task stays, and so does the active routine, unless it ends
+abbrev pub IsSameActive : Option Active → Option Active → Type 0
+IsSameActive a None = Unit {0}
+IsSameActive a (Some b) = a ≡ Some b
+
+pub record IsSameCaller (o n : Objects) : Type 0 where
+  pub running : n.running ≡ o.running
+  pub active : IsSameActive o.active n.active

@@ -1,0 +1,87 @@
+//! OSEK/VDX OS: alarms. SetRelAlarm, SetAbsAlarm, CancelAlarm, GetAlarm and GetAlarmBase.
+
+ghost use Rattle.std.specs.Prelude.{◌≡◌, ◌<◌, ◌+◌, Some, length};
+ghost use Rattle.osek_base.specs.declared.instr.Service.{Service};
+ghost use Rattle.osek_base.specs.declared.status.Status.{Status};
+ghost use Rattle.osek_base.specs.declared.trace_event.Results.{Results};
+ghost use Rattle.osek_base.specs.System.{counter_of};
+ghost use Rattle.osek_base.specs.Alarm.{due_alarms, alarms_advanced};
+ghost use Rattle.kept_state.specs.KeptService.{bare};
+ghost use Rattle.services.specs.Objects.{kept_in, AreFit};
+ghost use Rattle.services.specs.Calls.{unmasked};
+
+use crate::calls::Answer;
+use crate::objects::Objects;
+use arrayvec::ArrayVec;
+use osek_base::{AlarmId, Results, Status};
+use ready_queues::ReadyQueues;
+
+impl<'s, Q: ReadyQueues> Objects<'s, Q> {
+    /// An alarm expires `increment` counts from now, and each `cycle` counts after that, 0 for once. E_OS_STATE where it is
+    /// on, E_OS_VALUE where a number is out of the counter's range.
+    #[tactic(auto, unfolding(kept_state::specs::KeptService::unmasked_in))]
+    pub fn set_rel_alarm(&mut self, alarm: AlarmId, increment: u32, cycle: u32) -> Status
+        requires alarm { alarm < length self.old.system.alarms }
+        ensures system { self.new.system ≡ self.old.system }
+        ensures status { result ≡ (unmasked self.old (Service.SetRelAlarm (Some alarm) increment cycle)).status }
+        ensures kept { kept_in self.new ≡ (unmasked self.old (Service.SetRelAlarm (Some alarm) increment cycle)).state }
+    {
+        self.alarms.set_rel(self.system, alarm, increment, cycle)
+    }
+
+    /// An alarm expires when its counter next has the value `start`, and each `cycle` counts after that, 0 for once.
+    /// E_OS_STATE where it is on, E_OS_VALUE where a number is out of the counter's range.
+    #[tactic(auto, unfolding(kept_state::specs::KeptService::unmasked_in))]
+    pub fn set_abs_alarm(&mut self, alarm: AlarmId, start: u32, cycle: u32) -> Status
+        requires alarm { alarm < length self.old.system.alarms }
+        ensures system { self.new.system ≡ self.old.system }
+        ensures status { result ≡ (unmasked self.old (Service.SetAbsAlarm (Some alarm) start cycle)).status }
+        ensures kept { kept_in self.new ≡ (unmasked self.old (Service.SetAbsAlarm (Some alarm) start cycle)).state }
+    {
+        self.alarms.set_abs(self.system, alarm, start, cycle)
+    }
+
+    /// An alarm goes off. E_OS_NOFUNC where it is off.
+    #[tactic(auto, unfolding(kept_state::specs::KeptService::unmasked_in))]
+    pub fn cancel_alarm(&mut self, alarm: AlarmId) -> Status
+        requires alarm { alarm < length self.old.system.alarms }
+        ensures system { self.new.system ≡ self.old.system }
+        ensures status { result ≡ (unmasked self.old (Service.CancelAlarm (Some alarm))).status }
+        ensures kept { kept_in self.new ≡ (unmasked self.old (Service.CancelAlarm (Some alarm))).state }
+    {
+        self.alarms.cancel(alarm)
+    }
+
+    /// How many counts an alarm has before it expires. E_OS_NOFUNC where it is off.
+    #[tactic(auto, unfolding(kept_state::specs::KeptService::unmasked_in))]
+    pub fn get_alarm(&self, alarm: AlarmId) -> Answer
+        requires alarm { alarm < length self.now.system.alarms }
+        ensures status { result.status ≡ Some (unmasked self.now (Service.GetAlarm (Some alarm))).status }
+        ensures results { result.results ≡ (unmasked self.now (Service.GetAlarm (Some alarm))).results }
+    {
+        match self.alarms.remaining(self.system, alarm) {
+            None => Answer::plain(Status::NoFunc),
+            Some(counts) => Answer::one(counts),
+        }
+    }
+
+    /// The MAXALLOWEDVALUE, TICKSPERBASE and MINCYCLE of an alarm's counter.
+    pub fn get_alarm_base(&self, alarm: AlarmId) -> Answer
+        requires { alarm < length self.now.system.alarms }
+        ensures status { result.status ≡ Some Status.Ok }
+        ensures results { result.results ≡ Results.Three (counter_of self.now.system alarm).max_allowed_value (counter_of self.now.system alarm).ticks_per_base (counter_of self.now.system alarm).min_cycle }
+    {
+        let base = self.system.counter_of(alarm);
+        Answer::of(Results::Three(base.max_allowed_value, base.ticks_per_base, base.min_cycle))
+    }
+
+    /// The next tick begins, and the alarms that are due in it expire. The content of `due` becomes these alarms, in
+    /// declaration order.
+    pub fn advance(&mut self, due: &mut ArrayVec<AlarmId, 64>)
+        requires { self.old.tick < 999999 }
+        ensures due { due.new.items ≡ due_alarms self.old.system (bare (record (kept_in self.old) { tick = self.old.tick + 1 })) }
+        ensures objects { self.new ≡ record self.old { tick = self.old.tick + 1; alarms = alarms_advanced self.old.system (bare (record (kept_in self.old) { tick = self.old.tick + 1 })) } }
+    {
+        self.alarms.advance(self.system, due);
+    }
+}

@@ -1,0 +1,234 @@
+//! OSEK/VDX OS: task management, scheduling policy; hook routines. Jobs are made, released and dispatched.
+
+ghost use Rattle.std.specs.Prelude.{◌≡◌, ◌<◌, ◌≤◌, ◌+◌, ◌++◌, [], Some, suc, false, length, ℕ};
+ghost use Rattle.osek_base.specs.System.{activation_of, priority_of};
+ghost use Rattle.osek_base.specs.Ceiling.{top_priority};
+ghost use Rattle.ready_queues.specs.Queues.{total};
+ghost use Rattle.kept_state.specs.Moves.{activated_in, released_in, contender, put_first, first, dynamic_in, highest, changed_at, slot_entered, nobody, stays, dispatched, rescheduled, left_in, entered_in};
+ghost use Rattle.kept_state.specs.Standing.{room_for};
+ghost use Rattle.services.specs.Objects.{by_level, by_task, kept_in, AreFit};
+
+use crate::objects::Objects;
+use osek_base::{System, TaskId, TickRecord, TraceEvent};
+use ready_queues::ReadyQueues;
+
+impl<'s, Q: ReadyQueues> Objects<'s, Q> {
+    /// A new job of a task is the newest of its level. The events of an extended task that had no job are cleared.
+    pub fn add(&mut self, task: TaskId)
+        requires task { task < length self.old.system.tasks }
+        requires count { (by_task self.old.slots task).count ≤ activation_of self.old.system task }
+        requires room { total (by_level self.old.queues) < room_for self.old.system }
+        ensures system { self.new.system ≡ self.old.system }
+        ensures kept { kept_in self.new ≡ activated_in self.old.system task (kept_in self.old) }
+    {
+        if self.system.is_extended(task) && self.is_suspended(task) {
+            self.put_events(task, 0);
+        }
+        let level = self.level_of(task);
+        self.ready.put_last(level, task);
+        let slot = &mut self.slots[task.number() as usize];
+        slot.add();
+    }
+
+    /// The job of a task that waits is released: it is the newest of its level.
+    pub fn release(&mut self, task: TaskId)
+        requires task { task < length self.old.system.tasks }
+        requires room { total (by_level self.old.queues) < room_for self.old.system }
+        ensures system { self.new.system ≡ self.old.system }
+        ensures kept { kept_in self.new ≡ released_in self.old.system task (kept_in self.old) }
+    {
+        let priority = self.level_of(task);
+        self.ready.put_last(priority, task);
+        let slot = &mut self.slots[task.number() as usize];
+        slot.wake();
+    }
+
+    /// The level of a task: its static priority.
+    fn level_of(&self, task: TaskId) -> u8
+        requires { task < length self.now.system.tasks }
+        ensures value { result ≡ priority_of self.now.system task }
+        ensures low { result < 64 }
+    {
+        self.system.priority_of(task)
+    }
+
+    /// The running task, if its job stands and doesn't wait.
+    fn contender(&self) -> Option<TaskId>
+        requires { AreFit self.now }
+        ensures { result ≡ contender (kept_in self.now) }
+    {
+        match &self.running {
+            None => None,
+            Some(task) => {
+                if self.gone {
+                    return None;
+                }
+                let slot = &self.slots[task.number() as usize];
+                if slot.waits() { None } else { Some(*task) }
+            }
+        }
+    }
+
+    /// The highest level that has a task.
+    pub fn highest(&self) -> Option<u8>
+        requires { AreFit self.now }
+        ensures { result ≡ highest (suc (top_priority self.now.system)) (by_level self.now.queues) }
+    {
+        self.ready.highest(self.system.top_priority())
+    }
+
+    /// The dynamic priority of a task's oldest job.
+    fn dynamic(&self, task: TaskId) -> u8
+        requires { task < length self.now.system.tasks }
+        ensures { result ≡ dynamic_in self.now.system task (by_task self.now.slots task) }
+    {
+        let slot = &self.slots[task.number() as usize];
+        slot.dynamic(self.system, task)
+    }
+
+    /// No task runs.
+    fn stop(&mut self, record_of_tick: &mut TickRecord)
+        requires { length record_of_tick.old < 72 }
+        ensures system { self.new.system ≡ self.old.system }
+        ensures kept { kept_in self.new ≡ (nobody self.old.system (kept_in self.old)).state }
+        ensures events { record_of_tick.new ≡ record_of_tick.old ++ (nobody self.old.system (kept_in self.old)).events }
+        ensures few { length record_of_tick.new ≤ length record_of_tick.old + 1 }
+    {
+        record_left(self.system, &self.running, record_of_tick);
+        self.running = None;
+        self.gone = false;
+    }
+
+    /// The running task runs on, and takes its internal resource.
+    fn stay(&mut self, task: TaskId)
+        requires { task < length self.old.system.tasks }
+        ensures system { self.new.system ≡ self.old.system }
+        ensures kept { kept_in self.new ≡ (stays self.old.system task (kept_in self.old)).state }
+    {
+        let system = self.system;
+        let slot = &mut self.slots[task.number() as usize];
+        slot.enter(system, task);
+    }
+
+    /// A task that left its queue runs.
+    fn enter(&mut self, task: TaskId)
+        requires { task < length self.old.system.tasks }
+        ensures system { self.new.system ≡ self.old.system }
+        ensures kept { kept_in self.new ≡ record (kept_in self.old) {
+          slots = changed_at (by_task self.old.slots) task (slot_entered self.old.system task (by_task self.old.slots task));
+          running = Some task;
+          gone = false;
+        } }
+    {
+        let system = self.system;
+        let slot = &mut self.slots[task.number() as usize];
+        slot.enter(system, task);
+        self.running = Some(task);
+        self.gone = false;
+    }
+
+    /// The first of the highest level leaves its queue and runs.
+    fn dispatch(&mut self, level: u8, record_of_tick: &mut TickRecord)
+        requires level { level ≤ top_priority self.old.system }
+        requires some { 0 < length (by_level self.old.queues level) }
+        requires none { (l : ℕ) → level < l → by_level self.old.queues l ≡ [] }
+        requires known { first (by_level self.old.queues level) < length self.old.system.tasks }
+        requires room { length record_of_tick.old + 2 ≤ 72 }
+        ensures system { self.new.system ≡ self.old.system }
+        ensures kept { kept_in self.new ≡ (dispatched self.old.system level (by_level self.old.queues) (kept_in self.old)).state }
+        ensures events { record_of_tick.new ≡ record_of_tick.old ++ (dispatched self.old.system level (by_level self.old.queues) (kept_in self.old)).events }
+        ensures few { length record_of_tick.new ≤ length record_of_tick.old + 2 }
+    {
+        record_left(self.system, &self.running, record_of_tick);
+        let task = self.ready.take_first(level);
+        record_entered(self.system, task, record_of_tick);
+        self.enter(task);
+    }
+
+    /// The running task goes before all others of its level, and the first of a higher level runs.
+    fn preempt(&mut self, task: TaskId, own: u8, level: u8, record_of_tick: &mut TickRecord)
+        requires own { own < level }
+        requires level { level ≤ top_priority self.old.system }
+        requires free { total (by_level self.old.queues) < room_for self.old.system }
+        requires some { 0 < length (by_level self.old.queues level) }
+        requires none { (l : ℕ) → level < l → by_level self.old.queues l ≡ [] }
+        requires known { first (by_level self.old.queues level) < length self.old.system.tasks }
+        requires room { length record_of_tick.old + 2 ≤ 72 }
+        ensures system { self.new.system ≡ self.old.system }
+        ensures kept { kept_in self.new ≡ (dispatched self.old.system level (put_first (by_level self.old.queues) own task) (kept_in self.old)).state }
+        ensures events { record_of_tick.new ≡ record_of_tick.old ++ (dispatched self.old.system level (put_first (by_level self.old.queues) own task) (kept_in self.old)).events }
+        ensures few { length record_of_tick.new ≤ length record_of_tick.old + 2 }
+    {
+        self.put_back(own, task);
+        self.dispatch(level, record_of_tick);
+    }
+
+    /// A preempted task goes before all others of its level.
+    fn put_back(&mut self, level: u8, task: TaskId)
+        requires level { level ≤ top_priority self.old.system }
+        requires room { total (by_level self.old.queues) < room_for self.old.system }
+        ensures others { self.new ≡ record self.old { queues = self.new.queues } }
+        ensures queues { by_level self.new.queues ≡ put_first (by_level self.old.queues) level task }
+    {
+        self.ready.put_first(level, task);
+    }
+
+    /// With no routine active and interrupts on, the task that is to run becomes the running one: the first of the highest
+    /// level, where that is above the running task's dynamic priority. Where the running job changes, there is a Post record
+    /// of the old one's task and a Pre record of the new one's.
+    #[tactic(auto, unfolding(kept_state::specs::Moves::rescheduled))]
+    pub fn reschedule(&mut self, record_of_tick: &mut TickRecord)
+        requires fit { AreFit self.old }
+        requires room { length record_of_tick.old + 2 ≤ 72 }
+        ensures system { self.new.system ≡ self.old.system }
+        ensures kept { kept_in self.new ≡ (rescheduled self.old.system (kept_in self.old)).state }
+        ensures events { record_of_tick.new ≡ record_of_tick.old ++ (rescheduled self.old.system (kept_in self.old)).events }
+        ensures few { length record_of_tick.new ≤ length record_of_tick.old + 2 }
+    {
+        if !self.may_dispatch() {
+            return;
+        }
+        let highest = self.highest();
+        match self.contender() {
+            None => match highest {
+                None => self.stop(record_of_tick),
+                Some(level) => self.dispatch(level, record_of_tick),
+            },
+            Some(task) => match highest {
+                None => self.stay(task),
+                Some(level) => {
+                    let own = self.dynamic(task);
+                    if level <= own {
+                        self.stay(task)
+                    } else {
+                        self.preempt(task, own, level, record_of_tick)
+                    }
+                }
+            },
+        }
+    }
+}
+
+/// Records that a task leaves running, where PostTaskHook is on.
+fn record_left(system: &System, task: &Option<TaskId>, record_of_tick: &mut TickRecord)
+    requires { length record_of_tick.old < 72 }
+    ensures events { record_of_tick.new ≡ record_of_tick.old ++ left_in system.now task.now }
+    ensures few { length record_of_tick.new ≤ length record_of_tick.old + 1 }
+{
+    if let Some(task) = task
+        && system.hooks().post_task
+    {
+        record_of_tick.push(TraceEvent::Post(*task));
+    }
+}
+
+/// Records that a task enters running, where PreTaskHook is on.
+fn record_entered(system: &System, task: TaskId, record_of_tick: &mut TickRecord)
+    requires { length record_of_tick.old < 72 }
+    ensures events { record_of_tick.new ≡ record_of_tick.old ++ entered_in system.now task }
+    ensures few { length record_of_tick.new ≤ length record_of_tick.old + 1 }
+{
+    if system.hooks().pre_task {
+        record_of_tick.push(TraceEvent::Pre(task));
+    }
+}

@@ -1,0 +1,153 @@
+//! OSEK/VDX OS: interrupt processing. Pending and active routines, and the services that turn interrupts off and on.
+
+ghost use Rattle.std.specs.Prelude.{◌≡◌, ◌<◌, ◌+◌, ◌^◌, IfSome, Some, true, false, slice_index_or, slice_set, length};
+ghost use Rattle.osek_base.specs.Lists.{below, foremost};
+ghost use Rattle.osek_base.specs.System.{routine};
+ghost use Rattle.osek_base.specs.State.{interrupts_off};
+ghost use Rattle.osek_base.specs.Tick.{moved, routine_choice};
+ghost use Rattle.kept_state.specs.KeptService.{bare};
+ghost use Rattle.kept_state.specs.KeptTick.{controlled_in, routine_started_in, start_phase_in};
+ghost use Rattle.kept_state.specs.Moves.{may_dispatch_in};
+ghost use Rattle.services.specs.Objects.{kept_in};
+
+use crate::objects::Objects;
+use machine::Cpu;
+use osek_base::{Control, IsrId, System};
+use ready_queues::ReadyQueues;
+use std::marker::Model;
+
+/// The active interrupt routine, with its registers and place.
+#[derive(Drop)]
+pub struct Active {
+    pub routine: IsrId,
+    pub cpu: Cpu,
+}
+
+impl Model for Active {
+    ghost use Rattle.osek_base.specs.State.{Active as Executing};
+
+    ghost Value = { Executing };
+
+    ghost view = { λ a. record { routine = a.routine; context = a.cpu } };
+}
+
+impl Active {
+    /// The routine gets other registers and another place.
+    pub fn go_on(&mut self, cpu: Cpu)
+        ensures { self.new ≡ moved cpu self.old }
+    {
+        self.cpu = cpu;
+    }
+}
+
+impl<'s, Q: ReadyQueues> Objects<'s, Q> {
+    /// Whether interrupts are off: the switch is set, or a nesting count is above 0.
+    pub fn interrupts_off(&self) -> bool
+        ensures { result ≡ interrupts_off (bare (kept_in self.now)) }
+    {
+        self.disabled || 0 < self.suspended_all || 0 < self.suspended_os
+    }
+
+    /// Whether no routine is active and interrupts are on.
+    pub fn may_dispatch(&self) -> bool
+        ensures { result ≡ may_dispatch_in (kept_in self.now) }
+    {
+        self.active.is_none() && !self.interrupts_off()
+    }
+
+    /// A service without a status. RETI, by which a routine ends, turns interrupts on.
+    pub fn control(&mut self, control: &Control)
+        requires all { self.old.suspended_all + 1 < 2 ^ 32 }
+        requires os { self.old.suspended_os + 1 < 2 ^ 32 }
+        ensures system { self.new.system ≡ self.old.system }
+        ensures kept { kept_in self.new ≡ controlled_in control.now (kept_in self.old) }
+    {
+        match control {
+            Control::DisableAllInterrupts => self.disabled = true,
+            Control::EnableAllInterrupts => self.disabled = false,
+            Control::SuspendAllInterrupts => self.suspended_all += 1,
+            Control::ResumeAllInterrupts => self.suspended_all = self
+                .suspended_all
+                .saturating_sub(1),
+            Control::SuspendOsInterrupts => self.suspended_os += 1,
+            Control::ResumeOsInterrupts => self.suspended_os = self.suspended_os.saturating_sub(1),
+            Control::ShutdownOs(_) => self.over = true,
+            Control::ReturnFromInterrupt => {
+                self.active = None;
+                self.disabled = false;
+                self.suspended_all = 0;
+                self.suspended_os = 0;
+            }
+        }
+    }
+
+    /// The interrupt of a routine arrives: its pending flag is set. One that is pending already is lost.
+    pub fn arrive(&mut self, routine: IsrId)
+        requires { routine < length self.old.system.routines }
+        ensures { self.new ≡ record self.old { pending = slice_set self.old.pending routine true } }
+    {
+        self.pending[routine.number() as usize] = true;
+    }
+
+    /// Where no routine is active and interrupts are on, the pending routine of greatest PRIORITY starts, of equals the
+    /// first declared: its registers and its place are 0, and its flag is cleared.
+    #[tactic(auto, unfolding(kept_state::specs::KeptTick::start_phase_in))]
+    pub fn start_routine(&mut self)
+        ensures system { self.new.system ≡ self.old.system }
+        ensures kept { kept_in self.new ≡ start_phase_in self.old.system (kept_in self.old) }
+    {
+        if self.may_dispatch()
+            && let Some(routine) = self.pending_routine()
+        {
+            self.start(routine);
+        }
+    }
+
+    /// Among the pending routines the first declared with the greatest priority.
+    fn pending_routine(&self) -> Option<IsrId>
+        ensures choice { result ≡ routine_choice self.now.system (bare (kept_in self.now)) }
+        ensures known { IfSome result (λ i. i < length self.now.system.routines) }
+    {
+        best_pending(self.system, &self.pending)
+    }
+
+    /// A routine is active with registers and place 0, and its flag is cleared.
+    fn start(&mut self, routine: IsrId)
+        requires { routine < length self.old.system.routines }
+        ensures system { self.new.system ≡ self.old.system }
+        ensures kept { kept_in self.new ≡ routine_started_in (Some routine) (kept_in self.old) }
+    {
+        self.active = Some(Active {
+            routine,
+            cpu: Cpu::new(),
+        });
+        self.pending[routine.number() as usize] = false;
+    }
+}
+
+/// Among the routines whose flags are set the first declared with the greatest priority.
+fn best_pending(system: &System, flags: &[bool]) -> Option<IsrId>
+    requires { length flags.now ≡ length system.now.routines }
+    ensures choice { result ≡ foremost (λ i. slice_index_or flags.now i false) (λ i. (routine system.now i).priority) (below (length system.now.routines)) }
+    ensures known { IfSome result (λ i. i < length system.now.routines) }
+{
+    let mut best = None;
+    let mut greatest = 0;
+    for number in (0..system.routine_count()).rev() {
+        let routine = IsrId::new(number as u8);
+        let priority = system.routine_priority(routine);
+        if is_set(flags, routine) && greatest <= priority {
+            best = Some(routine);
+            greatest = priority;
+        }
+    }
+    best
+}
+
+/// Whether a routine's flag is set.
+fn is_set(flags: &[bool], routine: IsrId) -> bool
+    requires { routine < length flags.now }
+    ensures { result ≡ slice_index_or flags.now routine false }
+{
+    flags[routine.number() as usize]
+}

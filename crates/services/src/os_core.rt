@@ -1,0 +1,172 @@
+//! OSEK/VDX OS: system services. The core of a kernel: the objects of a running system, which stand for a state of it.
+
+ghost use Rattle.std.specs.Prelude.{◌≡◌, ◌<◌, ◌≤◌, ◌+◌, ◌++◌, IfOk, IfSome, MatchOption, Some, false, true, slice_set, length};
+ghost use Rattle.osek_base.specs.declared.instr.Service.{Service};
+ghost use Rattle.osek_base.specs.State.{Words};
+ghost use Rattle.osek_base.specs.Alarm.{due_alarms, alarms_advanced};
+ghost use Rattle.osek_base.specs.Trace.{starting_alarms};
+ghost use Rattle.run_laws.proofs.Formed.{IsPlaced};
+ghost use Rattle.kept_state.specs.KeptService.{ByNobody, bare, caller_in, unmasked_in};
+ghost use Rattle.kept_state.specs.KeptTick.{start_phase_in, still_in, with_context_in};
+ghost use Rattle.kept_state.specs.Moves.{rescheduled};
+ghost use Rattle.kept_state.specs.Standing.{MayServe, runner_waits};
+ghost use Rattle.services.specs.Levels.{level_lists};
+ghost use Rattle.services.specs.Objects.{kept_in, kept_of};
+ghost use Rattle.services.specs.Calls.{IsKnownCall, Executes, MayGoOn, IsSameCaller, call_in, caller_as};
+
+use crate::caller::Execution;
+use crate::calls::{Answer, Call};
+use crate::objects::Objects;
+use arrayvec::ArrayVec;
+use machine::Cpu;
+use osek_base::{AlarmId, IsrId, ModeId, Owner, Status, System, TaskId, TickRecord};
+use ready_queues::ReadyQueues;
+use std::alloc::{AllocError, Global};
+use std::marker::Model;
+
+/// The tasks, interrupts, alarms and events of a running system, over ready queues of any kind. It stands for a good state
+/// of the definitions: one that has the same list of ready tasks by level, and the same in all else that is kept. Contracts
+/// see what is kept but the words of windows.
+#[derive(Drop)]
+pub struct Core<'s, Q: ReadyQueues> {
+    objects: Objects<'s, Q>,
+}
+
+impl<'s, Q: ReadyQueues> Model for Core<'s, Q> {
+    ghost use Rattle.services.specs.Objects.{Objects, Stands};
+
+    ghost Value = { Objects };
+
+    ghost view = { λ c. c.objects };
+
+    ghost invariant = { λ c. Stands c.objects };
+}
+
+impl<'s, Q: ReadyQueues> Core<'s, Q> {
+    /// No job, no routine, interrupts on, alarms off, masks 0, with room for as many jobs as the tasks may have.
+    pub fn new(alloc: Global, system: &'s System) -> Result<Self, AllocError>
+        ensures system { IfOk result (λ c. c.system ≡ system.now) }
+        ensures kept { IfOk result (λ c. kept_in c ≡ still_in system.now) }
+    {
+        Ok(Core {
+            objects: Objects::new(alloc, system)?,
+        })
+    }
+
+    /// Sets the alarms that start by themselves in a mode.
+    pub fn start_alarms(&mut self, mode: ModeId)
+        ensures { self.new ≡ record self.old { alarms = starting_alarms self.old.system mode } }
+    {
+        self.objects.start_alarms(mode);
+    }
+
+    /// The ready queues.
+    pub fn queues(&self) -> &Q
+        ensures { level_lists (Q.queues result.now) ≡ self.now.queues }
+    {
+        self.objects.ready.queues()
+    }
+
+    /// Whether the run is over, by ShutdownOS.
+    pub fn is_over(&self) -> bool
+        ensures { result ≡ self.now.over }
+    {
+        self.objects.over
+    }
+
+    /// ActivateTask by an alarm, or at boot: a new job of a task, or E_OS_LIMIT where it has as many as its ACTIVATION
+    /// allows.
+    pub fn activate(&mut self, task: TaskId) -> Status
+        requires { task < length self.old.system.tasks }
+        ensures system { self.new.system ≡ self.old.system }
+        ensures status { result ≡ (unmasked_in self.old.system ByNobody (kept_in self.old) (Service.ActivateTask (Some task))).status }
+        ensures kept { kept_in self.new ≡ (unmasked_in self.old.system ByNobody (kept_in self.old) (Service.ActivateTask (Some task))).state }
+    {
+        self.objects.activate(task)
+    }
+
+    /// SetEvent by an alarm: a task's events gain a mask, and a job that waits for one of them is released as the newest.
+    /// E_OS_ACCESS where the task is basic, E_OS_STATE where it is suspended.
+    pub fn set_event(&mut self, task: TaskId, mask: u32) -> Status
+        requires task { task < length self.old.system.tasks }
+        requires ready { runner_waits (kept_in self.old) ≡ false }
+        ensures system { self.new.system ≡ self.old.system }
+        ensures status { result ≡ (unmasked_in self.old.system ByNobody (kept_in self.old) (Service.SetEvent (Some task) mask)).status }
+        ensures kept { kept_in self.new ≡ (unmasked_in self.old.system ByNobody (kept_in self.old) (Service.SetEvent (Some task) mask)).state }
+    {
+        self.objects.set_event(task, mask)
+    }
+
+    /// A service is called by the active routine, or else by the running task. While interrupts are off, one with a status
+    /// is answered 32, and nothing changes.
+    pub fn call(&mut self, call: &Call) -> Answer
+        requires known { IsKnownCall self.old.system call.now }
+        requires serves { MayServe self.old.system (kept_in self.old) }
+        requires all { self.old.suspended_all < 1000000 }
+        requires os { self.old.suspended_os < 1000000 }
+        ensures system { self.new.system ≡ self.old.system }
+        ensures caller { IsSameCaller self.old self.new }
+        ensures status { result.status ≡ (call_in self.old.system (kept_in self.old) call.now).status }
+        ensures results { result.results ≡ (call_in self.old.system (kept_in self.old) call.now).results }
+        ensures kept { kept_in self.new ≡ (call_in self.old.system (kept_in self.old) call.now).state }
+    {
+        self.objects.call(call)
+    }
+
+    /// With no routine active and interrupts on, the task that is to run becomes the running one, with a Post record of the
+    /// old one and a Pre record of the new one where the running job changes.
+    pub fn reschedule(&mut self, record_of_tick: &mut TickRecord)
+        requires { length record_of_tick.old + 2 ≤ 72 }
+        ensures system { self.new.system ≡ self.old.system }
+        ensures kept { kept_in self.new ≡ (rescheduled self.old.system (kept_in self.old)).state }
+        ensures events { record_of_tick.new ≡ record_of_tick.old ++ (rescheduled self.old.system (kept_in self.old)).events }
+        ensures few { length record_of_tick.new ≤ length record_of_tick.old + 2 }
+    {
+        self.objects.reschedule(record_of_tick);
+    }
+
+    /// The next tick begins, and the alarms that are due in it expire. The content of `due` becomes these alarms, in
+    /// declaration order.
+    pub fn advance(&mut self, due: &mut ArrayVec<AlarmId, 64>)
+        requires { self.old.tick < 999999 }
+        ensures due { due.new.items ≡ due_alarms self.old.system (bare (record (kept_in self.old) { tick = self.old.tick + 1 })) }
+        ensures objects { self.new ≡ record self.old { tick = self.old.tick + 1; alarms = alarms_advanced self.old.system (bare (record (kept_in self.old) { tick = self.old.tick + 1 })) } }
+    {
+        self.objects.advance(due);
+    }
+
+    /// The interrupt of a routine arrives: its pending flag is set. One that is pending already is lost.
+    pub fn arrive(&mut self, routine: IsrId)
+        requires { routine < length self.old.system.routines }
+        ensures { self.new ≡ record self.old { pending = slice_set self.old.pending routine true } }
+    {
+        self.objects.arrive(routine);
+    }
+
+    /// Where no routine is active and interrupts are on, the pending routine of greatest PRIORITY starts, of equals the
+    /// first declared: its registers and its place are 0, and its flag is cleared.
+    pub fn start_routine(&mut self)
+        ensures system { self.new.system ≡ self.old.system }
+        ensures kept { kept_in self.new ≡ start_phase_in self.old.system (kept_in self.old) }
+    {
+        self.objects.start_routine();
+    }
+
+    /// Who executes, with registers and place: the active routine, else the running task.
+    pub fn execution(&self) -> Option<Execution>
+        ensures value { MatchOption result (caller_in (kept_in self.now) ≡ ByNobody) (λ e. Executes (kept_in self.now) e.owner e.cpu) }
+        ensures placed { IfSome result (λ e. IsPlaced self.now.system e.owner e.cpu) }
+    {
+        self.objects.execution()
+    }
+
+    /// Gives who executed other registers and another place, where it is still there.
+    pub fn go_on(&mut self, owner: Owner, cpu: Cpu)
+        requires who { MayGoOn self.old owner }
+        requires placed { IsPlaced self.old.system owner cpu }
+        ensures system { self.new.system ≡ self.old.system }
+        ensures kept { kept_in self.new ≡ with_context_in (caller_as owner) cpu (kept_in self.old) }
+    {
+        self.objects.go_on(owner, cpu);
+    }
+}

@@ -1,0 +1,89 @@
+//! OSEK/VDX OS: task management, scheduling policy. The ready tasks by level, as contracts of services see them.
+
+ghost use Rattle.std.specs.Prelude.{◌≡◌, ◌<◌, ◌≤◌, suc, [], IfOk, replicate, length, ℕ};
+ghost use Rattle.ready_queues.specs.Queues.{total};
+ghost use Rattle.kept_state.specs.Moves.{put_last, put_first, without_first, first, highest};
+ghost use Rattle.services.specs.Objects.{by_level};
+ghost use Rattle.services.specs.Levels.{level_lists};
+
+use osek_base::TaskId;
+use ready_queues::ReadyQueues;
+use std::alloc::{AllocError, Global};
+use std::marker::Model;
+
+/// Ready tasks by level. Contracts see the list of the levels, oldest task first, and how many tasks there is room for.
+#[derive(Drop)]
+pub struct ReadyList<Q: ReadyQueues> {
+    queues: Q,
+}
+
+impl<Q: ReadyQueues> Model for ReadyList<Q> {
+    ghost use Rattle.services.specs.Levels.{Levels, level_lists};
+
+    ghost Value = { Levels };
+
+    ghost view = { λ r. record { lists = level_lists (Q.queues r.queues); room = Q.room r.queues } };
+}
+
+impl<Q: ReadyQueues> ReadyList<Q> {
+    /// No task, and room for so many.
+    pub fn with_room(alloc: Global, count: usize) -> Result<Self, AllocError>
+        ensures empty { IfOk result (λ r. by_level r.lists ≡ (λ l. [])) }
+        ensures room { IfOk result (λ r. r.room ≡ count) }
+    {
+        Ok(ReadyList {
+            queues: Q::with_room(alloc, count)?,
+        })
+    }
+
+    /// The queues themselves.
+    pub fn queues(&self) -> &Q
+        ensures { level_lists (Q.queues result.now) ≡ self.now.lists }
+    {
+        &self.queues
+    }
+
+    /// Adds a task behind those of its level.
+    pub fn put_last(&mut self, level: u8, task: TaskId)
+        requires level { level < 64 }
+        requires room { total (by_level self.old.lists) < self.old.room }
+        ensures lists { by_level self.new.lists ≡ put_last (by_level self.old.lists) level task }
+        ensures room { self.new.room ≡ self.old.room }
+    {
+        self.queues.put_newest(level, task);
+    }
+
+    /// Adds a task before those of its level.
+    pub fn put_first(&mut self, level: u8, task: TaskId)
+        requires level { level < 64 }
+        requires room { total (by_level self.old.lists) < self.old.room }
+        ensures lists { by_level self.new.lists ≡ put_first (by_level self.old.lists) level task }
+        ensures room { self.new.room ≡ self.old.room }
+    {
+        self.queues.put_oldest(level, task);
+    }
+
+    /// The highest level that has a task, where none above `top` has.
+    pub fn highest(&self, top: u8) -> Option<u8>
+        requires none { (l : ℕ) → top < l → by_level self.now.lists l ≡ [] }
+        requires top { top < 64 }
+        ensures { result ≡ highest (suc top) (by_level self.now.lists) }
+    {
+        self.queues.top()
+    }
+
+    /// Takes the first task of the highest level that has one.
+    pub fn take_first(&mut self, level: u8) -> TaskId
+        requires some { 0 < length (by_level self.old.lists level) }
+        requires none { (l : ℕ) → level < l → by_level self.old.lists l ≡ [] }
+        requires level { level < 64 }
+        ensures task { result ≡ first (by_level self.old.lists level) }
+        ensures lists { by_level self.new.lists ≡ without_first (by_level self.old.lists) level }
+        ensures room { self.new.room ≡ self.old.room }
+    {
+        match self.queues.take_first() {
+            Some(task) => task,
+            None => unreachable!(),
+        }
+    }
+}

@@ -1,0 +1,98 @@
+//! OSEK/VDX OS: resource management. GetResource and ReleaseResource.
+
+ghost use Rattle.std.specs.Prelude.{◌≡◌, Some, false};
+ghost use Rattle.std.specs.List.{list_any};
+ghost use Rattle.osek_base.specs.declared.instr.Service.{Service};
+ghost use Rattle.kept_state.specs.KeptService.{caller_in, holds_in, is_held_in, slot_gets, slot_releases, with_caller_in};
+ghost use Rattle.services.specs.Objects.{kept_in, AreFit};
+ghost use Rattle.services.specs.Calls.{unmasked};
+
+use crate::objects::Objects;
+use crate::slot::Slot;
+use osek_base::{ResId, Status};
+use ready_queues::ReadyQueues;
+
+impl<'s, Q: ReadyQueues> Objects<'s, Q> {
+    /// The caller holds a resource. E_OS_ACCESS in a routine, where the caller's task doesn't list it, or where a job holds
+    /// it. RES_SCHEDULER needn't be listed.
+    #[tactic(auto, unfolding(kept_state::specs::KeptService::unmasked_in))]
+    pub fn get_resource(&mut self, resource: &ResId) -> Status
+        requires { AreFit self.old }
+        ensures system { self.new.system ≡ self.old.system }
+        ensures status { result ≡ (unmasked self.old (Service.GetResource (Some resource.now))).status }
+        ensures kept { kept_in self.new ≡ (unmasked self.old (Service.GetResource (Some resource.now))).state }
+    {
+        if self.by_routine() {
+            return Status::Access;
+        }
+        if !self.may_take(resource) {
+            return Status::Access;
+        }
+        if self.is_held(resource) {
+            return Status::Access;
+        }
+        self.get_held(resource);
+        Status::Ok
+    }
+
+    /// The caller releases a resource. E_OS_ACCESS in a routine, or where the resource's ceiling is below the caller's static
+    /// priority; E_OS_NOFUNC where it isn't the last that the caller got and still holds.
+    #[tactic(auto, unfolding(kept_state::specs::KeptService::unmasked_in))]
+    pub fn release_resource(&mut self, resource: &ResId) -> Status
+        requires { AreFit self.old }
+        ensures system { self.new.system ≡ self.old.system }
+        ensures status { result ≡ (unmasked self.old (Service.ReleaseResource (Some resource.now))).status }
+        ensures kept { kept_in self.new ≡ (unmasked self.old (Service.ReleaseResource (Some resource.now))).state }
+    {
+        if self.by_routine() {
+            return Status::Access;
+        }
+        if self.is_above_ceiling(resource) {
+            return Status::Access;
+        }
+        if !self.got_last(resource) {
+            return Status::NoFunc;
+        }
+        self.release_last();
+        Status::Ok
+    }
+
+    /// Whether a job holds a resource.
+    fn is_held(&self, resource: &ResId) -> bool
+        ensures { result ≡ is_held_in self.now.system (kept_in self.now) resource.now }
+    {
+        any_holds(&self.slots, resource)
+    }
+
+    /// The calling job gets a resource that no job holds.
+    fn get_held(&mut self, resource: &ResId)
+        requires fit { AreFit self.old }
+        requires free { is_held_in self.old.system (kept_in self.old) resource.now ≡ false }
+        ensures system { self.new.system ≡ self.old.system }
+        ensures kept { kept_in self.new ≡ with_caller_in (caller_in (kept_in self.old)) (slot_gets resource.now) (kept_in self.old) }
+    {
+        if let Some(task) = self.calling_task() {
+            let slot = &mut self.slots[task.number() as usize];
+            slot.get(resource);
+        }
+    }
+
+    /// The calling job releases the resource that it got last.
+    fn release_last(&mut self)
+        requires { AreFit self.old }
+        ensures system { self.new.system ≡ self.old.system }
+        ensures kept { kept_in self.new ≡ with_caller_in (caller_in (kept_in self.old)) slot_releases (kept_in self.old) }
+    {
+        if let Some(task) = self.calling_task() {
+            let slot = &mut self.slots[task.number() as usize];
+            slot.release_last();
+        }
+    }
+}
+
+/// Whether an oldest job holds a resource.
+fn any_holds(slots: &[Slot], resource: &ResId) -> bool
+    ensures { result ≡ list_any (holds_in resource.now) slots.now }
+{
+    slots.iter().any(|slot| slot.holds(resource))
+}

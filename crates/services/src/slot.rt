@@ -1,0 +1,190 @@
+//! OSEK/VDX OS: task management, task state model. The control block of a task.
+
+ghost use Rattle.std.specs.Prelude.{◌≡◌, ◌<◌, ◌+◌, ◌-◌, IsFalse, is_some, length};
+ghost use Rattle.osek_base.specs.Lists.{is_empty};
+ghost use Rattle.osek_base.specs.Service.{is_met, is_resource};
+ghost use Rattle.osek_base.specs.Lists.{last_of};
+ghost use Rattle.kept_state.specs.Kept.{unbegun};
+ghost use Rattle.kept_state.specs.KeptService.{slot_given_up, slot_gets, slot_releases, slot_waiting, slot_moved, holds_in};
+ghost use Rattle.kept_state.specs.Moves.{one_more, slot_entered, slot_woken, dynamic_in};
+
+use machine::Cpu;
+use osek_base::{ResId, System, TaskId};
+use resources::Held;
+use std::marker::Model;
+
+/// How many jobs a task has, and what its oldest one holds, waits for and has in its registers. All others haven't begun.
+#[derive(Drop)]
+pub struct Slot {
+    count: u8,
+    begun: bool,
+    held: Held,
+    taken: bool,
+    waits_for: Option<u32>,
+    cpu: Cpu,
+}
+
+impl Model for Slot {
+    ghost use Rattle.kept_state.specs.Kept.{Slot as ControlBlock};
+
+    ghost Value = { ControlBlock };
+
+    ghost view = { λ a. record {
+      count = a.count;
+      begun = a.begun;
+      held = a.held;
+      taken = a.taken;
+      waits_for = a.waits_for;
+      context = a.cpu;
+    } };
+}
+
+impl Slot {
+    /// A task without a job.
+    pub fn new() -> Self
+        ensures { result ≡ unbegun 0 }
+    {
+        Slot {
+            count: 0,
+            begun: false,
+            held: Held::new(),
+            taken: false,
+            waits_for: None,
+            cpu: Cpu::new(),
+        }
+    }
+
+    /// How many jobs the task has.
+    pub fn count(&self) -> u8
+        ensures value { result ≡ self.now.count }
+        ensures low { result < 256 }
+    {
+        self.count
+    }
+
+    /// One job more.
+    pub fn add(&mut self)
+        requires { self.old.count < 255 }
+        ensures { self.new ≡ one_more self.old }
+    {
+        self.count += 1;
+    }
+
+    /// The oldest job ends; the others haven't begun.
+    pub fn end(&mut self)
+        requires { 0 < self.old.count }
+        ensures { self.new ≡ unbegun (self.old.count - 1) }
+    {
+        self.count -= 1;
+        self.begun = false;
+        self.held = Held::new();
+        self.taken = false;
+        self.waits_for = None;
+        self.cpu = Cpu::new();
+    }
+
+    /// Whether the oldest job waits for an event.
+    pub fn waits(&self) -> bool
+        ensures { result ≡ is_some self.now.waits_for }
+    {
+        self.waits_for.is_some()
+    }
+
+    /// Whether the oldest job waits for one of the events of a mask.
+    pub fn waits_for(&self, set: u32) -> bool
+        ensures { result ≡ is_met set self.now.waits_for }
+    {
+        match &self.waits_for {
+            None => false,
+            Some(mask) => *mask & set != 0,
+        }
+    }
+
+    /// The oldest job waits for one of the events of a mask, and gives up its internal resource.
+    pub fn wait(&mut self, mask: u32)
+        ensures { self.new ≡ slot_waiting mask self.old }
+    {
+        self.waits_for = Some(mask);
+        self.taken = false;
+    }
+
+    /// The oldest job waits no more.
+    pub fn wake(&mut self)
+        ensures { self.new ≡ slot_woken self.old }
+    {
+        self.waits_for = None;
+    }
+
+    /// The oldest job enters running: it is begun, and takes its internal resource where its task has one.
+    pub fn enter(&mut self, system: &System, task: TaskId)
+        ensures { self.new ≡ slot_entered system.now task self.old }
+    {
+        self.begun = true;
+        self.taken = system.internal_ceiling(task).is_some();
+    }
+
+    /// The oldest job gives up its internal resource.
+    pub fn give_up(&mut self)
+        ensures { self.new ≡ slot_given_up self.old }
+    {
+        self.taken = false;
+    }
+
+    /// The dynamic priority of the oldest job.
+    pub fn dynamic(&self, system: &System, task: TaskId) -> u8
+        requires { task < length system.now.tasks }
+        ensures { result ≡ dynamic_in system.now task self.now }
+    {
+        self.held.dynamic(system, task, self.taken)
+    }
+
+    /// Whether the oldest job holds no resource, the internal one aside.
+    pub fn holds_none(&self) -> bool
+        ensures { result ≡ is_empty self.now.held }
+    {
+        self.held.holds_none()
+    }
+
+    /// Whether the oldest job holds a resource.
+    pub fn holds(&self, resource: &ResId) -> bool
+        ensures { result ≡ holds_in resource.now self.now }
+    {
+        self.held.holds(*resource)
+    }
+
+    /// Whether a resource is the last that the oldest job got and still holds.
+    pub fn got_last(&self, resource: &ResId) -> bool
+        ensures { result ≡ is_resource (last_of self.now.held) resource.now }
+    {
+        self.held.is_last(*resource)
+    }
+
+    /// The oldest job gets a resource that it doesn't hold.
+    pub fn get(&mut self, resource: &ResId)
+        requires { IsFalse (holds_in resource.now self.old) }
+        ensures { self.new ≡ slot_gets resource.now self.old }
+    {
+        self.held.get(*resource);
+    }
+
+    /// The oldest job releases the resource that it got last.
+    pub fn release_last(&mut self)
+        ensures { self.new ≡ slot_releases self.old }
+    {
+        self.held.release_last();
+    }
+
+    /// The registers and the place of the oldest job.
+    pub fn cpu(&self) -> Cpu
+        ensures { result ≡ self.now.context }
+    {
+        self.cpu
+    }
+
+    /// The oldest job gets other registers and another place.
+    pub fn go_on(&mut self, cpu: Cpu)
+        ensures { self.new ≡ slot_moved cpu self.old }
+    {
+        self.cpu = cpu;
+    }
+}

@@ -1,0 +1,124 @@
+//! OSEK/VDX OS: task management. ActivateTask, TerminateTask, ChainTask, Schedule, GetTaskState.
+
+ghost use Rattle.std.specs.Prelude.{◌≡◌, ◌<◌, ◌&&◌, not, Some, length};
+ghost use Rattle.osek_base.specs.declared.instr.Service.{Service};
+ghost use Rattle.osek_base.specs.Service.{state_number};
+ghost use Rattle.kept_state.specs.KeptService.{KeptCaller, caller_in, unmasked_in, is_own_in, is_full_in, task_state_in};
+ghost use Rattle.services.specs.Objects.{kept_in, AreFit};
+ghost use Rattle.services.specs.Calls.{IsTaskOperand, unmasked};
+
+use crate::objects::Objects;
+use osek_base::{Status, TaskId};
+use ready_queues::ReadyQueues;
+
+impl<'s, Q: ReadyQueues> Objects<'s, Q> {
+    /// A new job of a task is the newest. E_OS_LIMIT where the task has as many as its ACTIVATION allows.
+    #[tactic(auto, unfolding(kept_state::specs::KeptService::unmasked_in))]
+    pub fn activate(&mut self, task: TaskId) -> Status
+        requires fit { AreFit self.old }
+        requires task { task < length self.old.system.tasks }
+        ensures system { self.new.system ≡ self.old.system }
+        ensures status { (d : KeptCaller) → result ≡ (unmasked_in self.old.system d (kept_in self.old) (Service.ActivateTask (Some task))).status }
+        ensures kept { (d : KeptCaller) → kept_in self.new ≡ (unmasked_in self.old.system d (kept_in self.old) (Service.ActivateTask (Some task))).state }
+    {
+        if self.is_full(task) {
+            return Status::Limit;
+        }
+        self.add(task);
+        Status::Ok
+    }
+
+    /// The calling job ends. E_OS_CALLEVEL in a routine, E_OS_RESOURCE where the job holds a resource.
+    #[tactic(auto, unfolding(kept_state::specs::KeptService::unmasked_in))]
+    pub fn terminate(&mut self) -> Status
+        requires { AreFit self.old }
+        ensures system { self.new.system ≡ self.old.system }
+        ensures status { result ≡ (unmasked self.old Service.TerminateTask).status }
+        ensures kept { kept_in self.new ≡ (unmasked self.old Service.TerminateTask).state }
+    {
+        if self.by_routine() {
+            return Status::CallLevel;
+        }
+        if self.holds_any() {
+            return Status::Resource;
+        }
+        self.end_caller();
+        Status::Ok
+    }
+
+    /// The calling job ends, and then a new job of a task is the newest. E_OS_CALLEVEL in a routine, E_OS_ID for INVALID,
+    /// E_OS_RESOURCE where the job holds a resource, E_OS_LIMIT where the task is another one and has as many jobs as its
+    /// ACTIVATION allows.
+    #[tactic(auto, unfolding(kept_state::specs::KeptService::unmasked_in))]
+    pub fn chain(&mut self, task: Option<TaskId>) -> Status
+        requires fit { AreFit self.old }
+        requires known { IsTaskOperand self.old.system task }
+        ensures system { self.new.system ≡ self.old.system }
+        ensures status { result ≡ (unmasked self.old (Service.ChainTask task)).status }
+        ensures kept { kept_in self.new ≡ (unmasked self.old (Service.ChainTask task)).state }
+    {
+        if self.by_routine() {
+            return Status::CallLevel;
+        }
+        let Some(task) = task else {
+            return Status::Id;
+        };
+        if self.holds_any() {
+            return Status::Resource;
+        }
+        if self.is_chain_full(task) {
+            return Status::Limit;
+        }
+        self.end_caller();
+        self.add(task);
+        Status::Ok
+    }
+
+    /// Whether a task isn't the caller's own and has as many jobs as its ACTIVATION allows.
+    fn is_chain_full(&self, task: TaskId) -> bool
+        requires fit { AreFit self.now }
+        requires task { task < length self.now.system.tasks }
+        ensures { result ≡ (not (is_own_in (caller_in (kept_in self.now)) task) && is_full_in self.now.system (kept_in self.now) task) }
+    {
+        let other = !self.is_own_task(task);
+        other && self.is_full(task)
+    }
+
+    /// Where a task is ready above the caller's static priority, the caller gives up its internal resource.
+    /// E_OS_CALLEVEL in a routine, E_OS_RESOURCE where the job holds a resource.
+    #[tactic(auto, unfolding(kept_state::specs::KeptService::unmasked_in))]
+    pub fn schedule(&mut self) -> Status
+        requires { AreFit self.old }
+        ensures system { self.new.system ≡ self.old.system }
+        ensures status { result ≡ (unmasked self.old Service.Schedule).status }
+        ensures kept { kept_in self.new ≡ (unmasked self.old Service.Schedule).state }
+    {
+        if self.by_routine() {
+            return Status::CallLevel;
+        }
+        if self.holds_any() {
+            return Status::Resource;
+        }
+        if self.is_outranked() {
+            self.give_up();
+        }
+        Status::Ok
+    }
+
+    /// The state of a task: 0 running, 1 waiting, 2 ready, 3 suspended.
+    pub fn task_state(&self, task: TaskId) -> u32
+        requires { task < length self.now.system.tasks }
+        ensures { result ≡ state_number (task_state_in (kept_in self.now) task) }
+    {
+        let slot = &self.slots[task.number() as usize];
+        if self.running_task() == task.number() as u32 {
+            0
+        } else if slot.waits() {
+            1
+        } else if slot.count() == 0 {
+            3
+        } else {
+            2
+        }
+    }
+}

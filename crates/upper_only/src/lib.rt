@@ -1,0 +1,11 @@
+//! Partitions, no part of the standards: the upper part of a system, as a system by itself.
+#![tactic(auto)]
+
+mod by_itself;
+mod names;
+mod objects;
+mod programs;
+mod ranks;
+mod upper_part;
+
+pub use by_itself::upper_only;
