@@ -1,2 +1,10 @@
+mod AdvanceLemmas
+mod AlarmLemmas
+mod ChangeLemmas
+mod CountLemmas
 mod CounterLemmas
+mod ExpiryLemmas
+mod IdleLemmas
+mod PlaceLemmas
 mod TableLemmas
+mod WaitLemmas

@@ -1,20 +1,30 @@
 -- OSEK/VDX OS: alarms, counters and alarm management. The alarms of a system with their expiries, by counts that never wrap.
-use Rattle.std.specs.Prelude.{ℕ, ◌+◌, ◌-◌, ◌≡◌, if◌then◌else◌, List, Option, None, Some, length}
+use Rattle.std.specs.Prelude.{ℕ, ◌+◌, ◌-◌, ◌/◌, ◌≡◌, if◌then◌else◌, List, map, Option, None, Some, length, slice_index_or}
 use Rattle.osek_base.specs.declared.status.Status.{Status}
 use Rattle.osek_base.specs.declared.instr.Service.{Service}
-use Rattle.osek_base.specs.System.{System}
+use Rattle.osek_base.specs.declared.task.Counter.{Counter}
+use Rattle.osek_base.specs.System.{System, counter, no_counter}
 use Rattle.osek_base.specs.State.{Expiry, State, still}
 use Rattle.osek_base.specs.Alarm.{count, expiry, is_due_at, renewed, due_alarms, alarms_advanced}
 use Rattle.osek_base.specs.Service.{NobodyCalls, refusals, first_refusal, answer, changed}
 
--- an expiry for each alarm that is on, and the tick
+-- an expiry for each alarm that is on, the counter of each alarm, and the tick
 pub record AlarmTable : Type 0 where
   pub expiries : List (Option Expiry)
+  pub counters : List Counter
   pub tick : ℕ
 
--- there are as many alarms as the system has
-abbrev pub IsTableOf : System → AlarmTable → Type 0
-IsTableOf S a = length a.expiries ≡ length S.alarms
+-- there are as many alarms as the system has, and they are on the same counters
+pub record IsTableOf (S : System) (a : AlarmTable) : Type 0 where
+  pub expiries : length a.expiries ≡ length S.alarms
+  pub counters : a.counters ≡ map (λ b. counter S b.counter) S.alarms
+
+-- the counter of an alarm, and its count at the present tick
+abbrev pub counter_in : AlarmTable → ℕ → Counter
+counter_in a i = slice_index_or a.counters i no_counter
+
+abbrev pub count_in : AlarmTable → ℕ → ℕ
+count_in a i = a.tick / (counter_in a i).ticks_per_base
 
 -- a state with these alarms at this tick, still in all else
 abbrev pub state_of : System → AlarmTable → State

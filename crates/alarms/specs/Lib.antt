@@ -1,1 +1,3 @@
 pub mod Alarms
+pub mod Waits
+pub mod Counters

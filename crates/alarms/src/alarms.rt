@@ -1,65 +1,76 @@
 //! The alarms of a system.
 
-ghost use Rattle.std.specs.Prelude.{◌≡◌, ◌<◌, ◌≤◌, ◌+◌, ◌^◌, length, replicate, Option, None, Some, is_some, slice_index_or, slice_set};
-ghost use Rattle.osek_base.specs.System.{System as Configured, alarm_start_in, counter_of};
-ghost use Rattle.osek_base.specs.Alarm.{count, is_due_at, is_bad_cycle, next_count};
+ghost use Rattle.std.specs.Prelude.{◌≡◌, ◌<◌, ◌≤◌, ◌+◌, ◌^◌, ℕ, length, map, replicate, Option, None, Some, is_some, slice_index_or, slice_set};
+ghost use Rattle.osek_base.specs.System.{System as Configured, alarm_start_in, counter, counter_of};
+ghost use Rattle.osek_base.specs.Alarm.{is_bad_cycle, next_count};
 ghost use Rattle.osek_base.specs.declared.instr.Service.{Service};
 ghost use Rattle.osek_base.specs.Trace.{first_expiry, starting_alarms};
-ghost use Rattle.alarms.specs.Alarms.{IsTableOf, state_of, expired_at, status_of, after_call, remaining_of, next_tick, due_of, expired};
+ghost use Rattle.alarms.specs.Alarms.{IsTableOf, status_of, after_call, counter_in, count_in, remaining_at, remaining_of, next_tick, due_of, expired};
 
-use crate::slot::{Expiry, Slot};
+use crate::counter_alarms::CounterAlarms;
+use crate::counters::{advance_each, cancel_on, counter_numbers, idle_counters, start_on};
+use crate::due_alarms::DueAlarms;
 use arrayvec::ArrayVec;
-use osek_base::{AlarmId, Counter, ModeId, Status, System};
+use osek_base::{AlarmId, Counter, MAX_ALARMS, MAX_COUNTERS, MAX_TICKS, ModeId, Status, System};
 use std::marker::Model;
 
-/// The alarms of a system, and the tick. Contracts see the expiry of each alarm that is on, by a count that never wraps.
-/// A call is handed the system that the alarms were made of.
+/// The alarms of a system, and the tick. Contracts see the expiry of each alarm that is on, by a count that never wraps,
+/// and the counter of each alarm. A call is handed the system that the alarms were made of.
 #[derive(Drop)]
 pub struct Alarms {
-    slots: ArrayVec<Slot, 64>,
+    counters: ArrayVec<CounterAlarms, MAX_COUNTERS>,
+    numbers: ArrayVec<u8, MAX_ALARMS>,
     tick: u32,
 }
 
 impl Model for Alarms {
-    ghost use Rattle.std.specs.Prelude.{◌<◌};
     ghost use Rattle.alarms.specs.Alarms.{AlarmTable};
+    ghost use Rattle.alarms.specs.Counters.{table_of, AreWhole};
 
     ghost Value = { AlarmTable };
 
-    ghost view = { λ a. record { expiries = a.slots.items; tick = a.tick } };
+    ghost view = { λ a. table_of a.tick a.counters.items a.numbers.items };
 
-    ghost invariant = { λ a. a.tick < 1000000 };
+    ghost invariant = { λ a. AreWhole a.tick a.counters.items a.numbers.items };
 }
 
 impl Alarms {
     /// All alarms of the system are off, and the tick is 0.
     pub fn new(system: &System) -> Self
-        ensures value { result ≡ record { expiries = replicate (length system.now.alarms) None; tick = 0 } }
+        ensures value { result ≡ record {
+          expiries = replicate (length system.now.alarms) None;
+          counters = map (λ a. counter system.now a.counter) system.now.alarms;
+          tick = 0;
+        } }
         ensures table { IsTableOf system.now result }
     {
-        let mut slots = ArrayVec::from_array_in((), [Slot::off(); 64]);
-        slots.truncate(system.alarm_count());
-        Alarms { slots, tick: 0 }
+        let parts = system.parts();
+        Alarms {
+            counters: idle_counters(&parts.counters),
+            numbers: counter_numbers(&parts.alarms),
+            tick: 0,
+        }
     }
 
-    /// How often `advance` was called: the present tick, below 1,000,000.
+    /// How often `advance` was called: the present tick, below [`MAX_TICKS`].
     pub fn tick(&self) -> u32
         ensures value { result ≡ self.now.tick }
-        ensures low { result < 1000000 }
+        ensures low { result < MAX_TICKS }
     {
         self.tick
     }
 
     /// Sets the alarms that start by themselves in a mode, to their ALARMTIME and CYCLETIME from count 0 on. All others
-    /// go off; the tick stays.
+    /// go off; the tick is 0 and stays.
     pub fn start(&mut self, system: &System, mode: ModeId)
-        requires { IsTableOf system.now self.old }
+        requires table { IsTableOf system.now self.old }
+        requires first { self.old.tick ≡ 0 }
         ensures value { self.new ≡ record self.old { expiries = starting_alarms system.now mode } }
         ensures table { IsTableOf system.now self.new }
     {
+        *self = Alarms::new(system);
         for number in 0..self.len() {
-            let alarm = AlarmId::new(number);
-            self.put(alarm, first_slot(system, mode, alarm));
+            self.start_in(system, mode, AlarmId::new(number));
         }
     }
 
@@ -82,11 +93,7 @@ impl Alarms {
         {
             Status::Value
         } else {
-            let count = self.count(system, alarm) as u64;
-            self.put(
-                alarm,
-                Slot::on(Expiry::new(count + increment as u64, cycle)),
-            );
+            self.start_alarm(alarm, increment, cycle);
             Status::Ok
         }
     }
@@ -107,8 +114,8 @@ impl Alarms {
         } else if start > counter.max_allowed_value || is_bad_cycle(&counter, cycle) {
             Status::Value
         } else {
-            let count = next_count(&counter, self.count(system, alarm), start);
-            self.put(alarm, Slot::on(Expiry::new(count, cycle)));
+            let wait = self.wait_until(alarm, start);
+            self.start_alarm(alarm, wait, cycle);
             Status::Ok
         }
     }
@@ -118,10 +125,10 @@ impl Alarms {
         requires { alarm < length self.old.expiries }
         ensures status { (S : Configured) → result ≡ status_of S self.old (Service.CancelAlarm (Some alarm)) }
         ensures alarms { (S : Configured) → self.new ≡ after_call S self.old (Service.CancelAlarm (Some alarm)) }
-        ensures table { length self.new.expiries ≡ length self.old.expiries }
+        ensures table { (S : Configured) → IsTableOf S self.old → IsTableOf S self.new }
     {
         if self.is_on(alarm) {
-            self.put(alarm, Slot::off());
+            self.cancel_alarm(alarm);
             Status::Ok
         } else {
             Status::NoFunc
@@ -134,29 +141,22 @@ impl Alarms {
         requires alarm { alarm < length system.now.alarms }
         ensures { result ≡ remaining_of system.now self.now alarm }
     {
-        let count = self.count(system, alarm);
-        let slot = &self.slots[alarm.number() as usize];
-        slot.remaining_at(count)
+        self.counts_left(alarm)
     }
 
     /// The next tick begins, and the alarms that are due in it expire: each expires again a cycle later, or goes off. The
     /// content of `due` becomes these alarms, in declaration order.
-    pub fn advance(&mut self, system: &System, due: &mut ArrayVec<AlarmId, 64>)
+    pub fn advance(&mut self, system: &System, due: &mut ArrayVec<AlarmId, MAX_ALARMS>)
         requires table { IsTableOf system.now self.old }
-        requires last { self.old.tick < 999999 }
+        requires last { self.old.tick + 1 < MAX_TICKS }
         ensures due { due.new.items ≡ due_of system.now (next_tick self.old) }
         ensures alarms { self.new ≡ expired system.now (next_tick self.old) }
         ensures table { IsTableOf system.now self.new }
     {
-        self.begin_tick();
-        due.clear();
-        for number in 0..self.len() {
-            let alarm = AlarmId::new(number);
-            let count = self.count(system, alarm);
-            if self.expire(alarm, count) {
-                due.push(alarm);
-            }
-        }
+        let mut flags = DueAlarms::none();
+        advance_each(&mut self.counters, self.tick, &mut flags);
+        self.tick += 1;
+        flags.list(system.alarm_count(), due);
     }
 
     /// Whether an alarm is on.
@@ -164,67 +164,74 @@ impl Alarms {
         requires { alarm < length self.now.expiries }
         ensures { result ≡ is_some (slice_index_or self.now.expiries alarm None) }
     {
-        let slot = &self.slots[alarm.number() as usize];
-        slot.is_on()
+        self.counts_left(alarm).is_some()
     }
 
-    /// Puts another expiry in an alarm's place.
-    fn put(&mut self, alarm: AlarmId, slot: Slot)
-        requires { alarm < length self.old.expiries }
-        ensures { self.new ≡ record self.old { expiries = slice_set self.old.expiries alarm slot } }
+    /// How many counts an alarm has before it expires; None where it is off.
+    fn counts_left(&self, alarm: AlarmId) -> Option<u32>
+        requires { alarm < length self.now.expiries }
+        ensures { result ≡ remaining_at (count_in self.now alarm) (slice_index_or self.now.expiries alarm None) }
     {
-        self.slots[alarm.number() as usize] = slot;
+        let number = self.numbers[alarm.number() as usize];
+        let counter = &self.counters[number as usize];
+        counter.running.remaining(alarm)
     }
 
-    /// The count of an alarm's counter at the present tick.
-    fn count(&self, system: &System, alarm: AlarmId) -> u32
-        requires { alarm < length system.now.alarms }
-        ensures value { result ≡ count system.now (state_of system.now self.now) alarm }
-        ensures low { result < 1000000 }
+    /// How many counts there are to the next one at which an alarm's counter has the value `start`.
+    fn wait_until(&self, alarm: AlarmId, start: u32) -> u32
+        requires alarm { alarm < length self.now.expiries }
+        requires start { start ≤ (counter_in self.now alarm).max_allowed_value }
+        ensures value { count_in self.now alarm + result ≡ next_count (counter_in self.now alarm) (count_in self.now alarm) start }
+        ensures some { 0 < result }
     {
-        self.tick / counter_of(system, alarm).ticks_per_base
+        let number = self.numbers[alarm.number() as usize];
+        let counter = &self.counters[number as usize];
+        counter.wait_until(start)
     }
 
-    /// The next tick begins. The alarms stay as they are.
-    fn begin_tick(&mut self)
-        requires { self.old.tick < 999999 }
-        ensures { self.new ≡ next_tick self.old }
-    {
-        self.tick += 1;
-    }
-
-    /// Expires an alarm where it is due at a count. True where it was due.
-    fn expire(&mut self, alarm: AlarmId, count: u32) -> bool
+    /// An alarm that is off starts: it expires in `wait` counts, and each `cycle` counts after that, 0 for once.
+    fn start_alarm(&mut self, alarm: AlarmId, wait: u32, cycle: u32)
         requires alarm { alarm < length self.old.expiries }
-        requires count { count < 1000000 }
-        ensures due { result ≡ is_due_at count (slice_index_or self.old.expiries alarm None) }
-        ensures alarms { self.new ≡ record self.old {
-          expiries = slice_set self.old.expiries alarm (expired_at count (slice_index_or self.old.expiries alarm None));
+        requires off { slice_index_or self.old.expiries alarm None ≡ None }
+        requires wait { 0 < wait }
+        ensures { self.new ≡ record self.old {
+          expiries = slice_set self.old.expiries alarm (Some (record { count = count_in self.old alarm + wait; cycle = cycle }));
         } }
     {
-        let slot = &mut self.slots[alarm.number() as usize];
-        slot.expire_at(count)
+        let number = self.numbers[alarm.number() as usize];
+        start_on(&mut self.counters, number as usize, alarm, wait, cycle);
+    }
+
+    /// An alarm goes off.
+    fn cancel_alarm(&mut self, alarm: AlarmId)
+        requires { alarm < length self.old.expiries }
+        ensures { self.new ≡ record self.old { expiries = slice_set self.old.expiries alarm None } }
+    {
+        let number = self.numbers[alarm.number() as usize];
+        cancel_on(&mut self.counters, number as usize, alarm);
+    }
+
+    /// An alarm that is off starts at tick 0, if it starts by itself in a mode.
+    fn start_in(&mut self, system: &System, mode: ModeId, alarm: AlarmId)
+        requires table { IsTableOf system.now self.old }
+        requires alarm { alarm < length system.now.alarms }
+        requires off { slice_index_or self.old.expiries alarm None ≡ None }
+        requires first { self.old.tick ≡ 0 }
+        ensures { self.new ≡ record self.old { expiries = slice_set self.old.expiries alarm (first_expiry (alarm_start_in system.now mode alarm)) } }
+    {
+        // Who asks for the count of alarms learns that the system is proper, so that its values are within their limits.
+        let _proper = system.alarm_count();
+        if let Some((time, cycle)) = system.alarm_start(mode, alarm) {
+            self.start_alarm(alarm, time, cycle);
+        }
     }
 
     /// How many alarms there are.
     fn len(&self) -> u8
         ensures value { result ≡ length self.now.expiries }
-        ensures low { result ≤ 64 }
+        ensures low { result ≤ MAX_ALARMS }
     {
-        self.slots.len() as u8
-    }
-}
-
-/// An alarm as it is when the system starts in a mode.
-fn first_slot(system: &System, mode: ModeId, alarm: AlarmId) -> Slot
-    requires { alarm < length system.now.alarms }
-    ensures { result ≡ first_expiry (alarm_start_in system.now mode alarm) }
-{
-    // Who asks for the count of alarms learns that the system is proper, so that its values are within their limits.
-    let _proper = system.alarm_count();
-    match system.alarm_start(mode, alarm) {
-        None => Slot::off(),
-        Some((time, cycle)) => Slot::on(Expiry::new(time as u64, cycle)),
+        self.numbers.len() as u8
     }
 }
 
@@ -245,15 +252,4 @@ fn is_bad_cycle(counter: &Counter, cycle: u32) -> bool
     ensures { result ≡ is_bad_cycle counter.now cycle }
 {
     cycle != 0 && (cycle < counter.min_cycle || cycle > counter.max_allowed_value)
-}
-
-/// The next count after `count` at which the counter has the value `start`.
-fn next_count(counter: &Counter, count: u32, start: u32) -> u64
-    requires { count < 1000000 }
-    ensures value { result ≡ next_count counter.now count start }
-    ensures low { result ≤ count + 1 + counter.now.max_allowed_value }
-{
-    let round = counter.max_allowed_value as u64 + 1;
-    let next = count as u64 + 1;
-    next + (start as u64 + (round - next % round)) % round
 }

@@ -2,6 +2,9 @@
 #![tactic(auto)]
 
 mod alarms;
-mod slot;
+mod counter_alarms;
+mod counters;
+mod difference_list;
+mod due_alarms;
 
 pub use alarms::Alarms;

@@ -1,19 +1,18 @@
 //! Answers to command lines: what is printed, and the exit status.
 
+use crate::explaining::{Texts, explain_cut, explain_fault};
 use crate::host_files::{FileFault, Files};
-use crate::request::{Request, RunLine, read_line};
+use crate::request::{Question, Request, RunLine, read_line};
 use clap::Error as LineError;
 use clap::error::ErrorKind;
-use oil_reader::read_oil;
-use osek_base::System;
+use osek_base::{MAX_TICKS, System};
 use partition_check::{NamedDenial, check_partition};
 use std::alloc::Global;
 use std::convert::AsStr;
-use std::io::Write;
-use system_gen::{class_of, generate};
-use task_asm::assemble;
+use std::io::{self, Write};
+use system_gen::class_of;
 use thiserror::Error;
-use tracer::{RunFault, StdSink, run, run_upper};
+use tracer::{RunFault, StdSink, read_system, run, run_upper};
 
 /// Exit status: the line is answered, also one that asks for help.
 pub const DONE: u8 = 0;
@@ -30,29 +29,28 @@ pub const DENIED: u8 = 3;
 /// Exit status: a write failed.
 pub const WRITE_FAILED: u8 = 4;
 
-/// The most ticks that a line may ask for.
-const MOST_TICKS: u32 = 1_000_000;
-
-/// Why a command line that was read is not answered.
-#[derive(Debug, Drop, Error)]
-enum Failure<'a> {
+/// Why a file of a command line could not be had.
+#[derive(Clone, Copy, Debug, PartialEq, Eq, Drop, Error)]
+enum Unread<'a> {
     #[error("file: {0}")]
     File(&'a str),
-    #[error("{0}")]
-    Run(RunFault),
+    #[error("memory")]
+    Memory,
 }
 
-impl From<RunFault> for Failure<'_> {
-    fn from(fault: RunFault) -> Self {
-        Failure::Run(fault)
-    }
+/// What is written of a request that wasn't refused.
+#[derive(Debug, Drop)]
+enum Verdict {
+    Done,
+    /// A partition is denied at a priority.
+    Denied(u8, NamedDenial),
 }
 
-impl Failure<'_> {
+impl Verdict {
     fn status(&self) -> u8 {
         match self {
-            Failure::Run(RunFault::Write) => WRITE_FAILED,
-            Failure::Run(_) | Failure::File(_) => REFUSED,
+            Verdict::Done => DONE,
+            Verdict::Denied(..) => DENIED,
         }
     }
 }
@@ -61,134 +59,218 @@ fn read_file<'a, F: Files>(
     alloc: Global,
     files: &mut F,
     name: &'a str,
-) -> Result<Vec<u8>, Failure<'a>> {
+) -> Result<Vec<u8>, Unread<'a>> {
     match files.read(alloc, name) {
         Ok(bytes) => Ok(bytes),
-        Err(FileFault::Unreadable) => Err(Failure::File(name)),
-        Err(FileFault::Memory) => Err(Failure::Run(RunFault::Memory)),
+        Err(FileFault::Unreadable) => Err(Unread::File(name)),
+        Err(FileFault::Memory) => Err(Unread::Memory),
     }
 }
 
-fn read_system(alloc: Global, oil: &[u8], asm: &[u8]) -> Result<System, RunFault> {
-    let file = read_oil(alloc, oil)?;
-    let programs = assemble(alloc, asm)?;
-    let system = generate(alloc, file, programs)?;
-    Ok(system)
+fn read_texts<'a, F: Files>(
+    alloc: Global,
+    request: &Request<'a>,
+    files: &mut F,
+) -> Result<Texts, Unread<'a>> {
+    let oil = read_file(alloc, files, request.oil)?;
+    let asm = read_file(alloc, files, request.asm)?;
+    let irq = match request.question.run_line() {
+        Some(line) => read_file(alloc, files, line.irq)?,
+        None => Vec::new(alloc),
+    };
+    Ok(Texts { oil, asm, irq })
 }
 
-/// Writes the conformance class of a system.
-fn write_class<O: Write>(
-    alloc: Global,
-    oil: &[u8],
-    asm: &[u8],
-    out: &mut O,
-) -> Result<u8, RunFault> {
-    let system = read_system(alloc, oil, asm)?;
-    let class = class_of(&system);
-    match writeln!(out, "{}", class.name()) {
-        Ok(()) => Ok(DONE),
+fn system_of(alloc: Global, texts: &Texts) -> Result<System, RunFault> {
+    read_system(alloc, &texts.oil, &texts.asm)
+}
+
+/// The fault of a write, where it failed.
+fn written(outcome: io::Result<()>) -> Result<(), RunFault> {
+    match outcome {
+        Ok(()) => Ok(()),
         Err(_) => Err(RunFault::Write),
     }
+}
+
+/// Writes a denial at a priority: the rule, its subject by name, and a place where the rule is on programs.
+fn write_denial<O: Write>(
+    priority: u8,
+    denial: NamedDenial,
+    out: &mut O,
+) -> Result<Verdict, RunFault> {
+    written(writeln!(out, "denied: {denial}"))?;
+    Ok(Verdict::Denied(priority, denial))
 }
 
 /// Writes whether the part of a system from a priority upward is separable, or the first denial.
-fn write_check<O: Write>(
-    alloc: Global,
-    oil: &[u8],
-    asm: &[u8],
-    priority: u8,
-    out: &mut O,
-) -> Result<u8, RunFault> {
-    let system = read_system(alloc, oil, asm)?;
-    match check_partition(&system, priority) {
-        Ok(()) => match writeln!(out, "accepted") {
-            Ok(()) => Ok(DONE),
-            Err(_) => Err(RunFault::Write),
-        },
-        Err(denial) => write_denial(&denial.named(&system), out),
+fn write_check<O: Write>(system: &System, priority: u8, out: &mut O) -> Result<Verdict, RunFault> {
+    match check_partition(system, priority) {
+        Ok(()) => {
+            written(writeln!(out, "accepted"))?;
+            Ok(Verdict::Done)
+        }
+        Err(denial) => write_denial(priority, denial.named(system), out),
     }
 }
 
-/// Writes a denial: the rule, its subject by name, and a place where the rule is on programs.
-fn write_denial<O: Write>(denial: &NamedDenial, out: &mut O) -> Result<u8, RunFault> {
-    match writeln!(out, "denied: {denial}") {
-        Ok(()) => Ok(DENIED),
-        Err(_) => Err(RunFault::Write),
+/// Writes the same for each priority from 0 to the greatest of a task, a line each.
+fn write_partitions<O: Write>(system: &System, out: &mut O) -> Result<Verdict, RunFault> {
+    for priority in 0..=system.top_priority() {
+        written(write!(out, "{priority}: "))?;
+        write_check(system, priority, out)?;
     }
+    Ok(Verdict::Done)
 }
 
 /// Writes the trace of a run.
-fn write_trace<'a, F: Files, O: Write>(
+fn write_trace<O: Write>(
     alloc: Global,
-    line: RunLine<'a>,
-    files: &mut F,
+    texts: &Texts,
+    line: RunLine<'_>,
     out: &mut O,
-) -> Result<u8, Failure<'a>> {
-    let oil = read_file(alloc, files, line.oil)?;
-    let asm = read_file(alloc, files, line.asm)?;
-    let irq = read_file(alloc, files, line.irq)?;
-    let ticks = line.ticks.min(MOST_TICKS);
+) -> Result<Verdict, RunFault> {
+    let Texts { oil, asm, irq } = texts;
+    let ticks = line.ticks.min(MAX_TICKS);
     let mut sink = StdSink::new(&mut *out);
-    run(alloc, &oil, &asm, &irq, line.mode, ticks, &mut sink)?;
-    Ok(DONE)
+    run(alloc, oil, asm, irq, line.mode, ticks, &mut sink)?;
+    Ok(Verdict::Done)
 }
 
 /// Writes the view of a run at a priority, or the first denial.
-fn write_upper<'a, F: Files, O: Write>(
+fn write_upper<O: Write>(
     alloc: Global,
-    line: RunLine<'a>,
+    texts: &Texts,
+    line: RunLine<'_>,
     p: u8,
     alone: bool,
-    files: &mut F,
     out: &mut O,
-) -> Result<u8, Failure<'a>> {
-    let oil = read_file(alloc, files, line.oil)?;
-    let asm = read_file(alloc, files, line.asm)?;
-    let irq = read_file(alloc, files, line.irq)?;
-    let ticks = line.ticks.min(MOST_TICKS);
+) -> Result<Verdict, RunFault> {
+    let Texts { oil, asm, irq } = texts;
+    let ticks = line.ticks.min(MAX_TICKS);
     let mut sink = StdSink::new(&mut *out);
-    match run_upper(
-        alloc, &oil, &asm, &irq, line.mode, ticks, p, alone, &mut sink,
-    ) {
-        Ok(()) => Ok(DONE),
-        Err(RunFault::Denied(denial)) => Ok(write_denial(&denial, out)?),
-        Err(fault) => Err(Failure::Run(fault)),
+    match run_upper(alloc, oil, asm, irq, line.mode, ticks, p, alone, &mut sink) {
+        Ok(()) => Ok(Verdict::Done),
+        Err(RunFault::Denied(denial)) => write_denial(p, denial, out),
+        Err(fault) => Err(fault),
+    }
+}
+
+/// Writes the answer to a question.
+fn write_answer<O: Write>(
+    alloc: Global,
+    texts: &Texts,
+    question: Question<'_>,
+    out: &mut O,
+) -> Result<Verdict, RunFault> {
+    match question {
+        Question::Trace(line) => write_trace(alloc, texts, line, out),
+        Question::Upper {
+            line,
+            priority,
+            alone,
+        } => write_upper(alloc, texts, line, priority, alone, out),
+        Question::Check { priority } => write_check(&system_of(alloc, texts)?, priority, out),
+        Question::Partitions => write_partitions(&system_of(alloc, texts)?, out),
+        Question::Class => {
+            let class = class_of(&system_of(alloc, texts)?);
+            written(writeln!(out, "{}", class.name()))?;
+            Ok(Verdict::Done)
+        }
+    }
+}
+
+/// Explains why a system can't be cut at the priorities at which it can't.
+fn explain_partitions<E: Write>(
+    alloc: Global,
+    request: &Request<'_>,
+    texts: &Texts,
+    err: &mut E,
+) -> Result<(), RunFault> {
+    let system = system_of(alloc, texts)?;
+    for priority in 0..=system.top_priority() {
+        if let Err(denial) = check_partition(&system, priority) {
+            let denial = denial.named(&system);
+            written(write!(err, "{priority}: "))?;
+            written(explain_cut(alloc, request, texts, priority, &denial, err))?;
+        }
+    }
+    Ok(())
+}
+
+/// Explains what was denied, as far as memory and `err` allow.
+fn explain_verdict<E: Write>(
+    alloc: Global,
+    request: &Request<'_>,
+    texts: &Texts,
+    verdict: &Verdict,
+    err: &mut E,
+) {
+    if let Verdict::Denied(priority, denial) = verdict {
+        let _ = explain_cut(alloc, request, texts, *priority, denial, err);
+    }
+    if let Question::Partitions = request.question {
+        let _ = explain_partitions(alloc, request, texts, err);
+    }
+}
+
+/// Answers a request over its texts, and gives the exit status.
+fn answer_texts<O: Write, E: Write>(
+    alloc: Global,
+    request: &Request<'_>,
+    texts: &Texts,
+    out: &mut O,
+    err: &mut E,
+) -> Result<u8, RunFault> {
+    let verdict = write_answer(alloc, texts, request.question, out)?;
+    written(out.flush())?;
+    if request.is_explained {
+        explain_verdict(alloc, request, texts, &verdict, err);
+    }
+    Ok(verdict.status())
+}
+
+/// Writes the line of a refusal, and gives the exit status. Where it is wanted, an explanation follows, as far as memory and
+/// `err` allow.
+fn refuse<E: Write>(
+    alloc: Global,
+    request: &Request<'_>,
+    texts: &Texts,
+    fault: RunFault,
+    err: &mut E,
+) -> u8 {
+    let _ = writeln!(err, "{fault}");
+    if request.is_explained {
+        let _ = explain_fault(alloc, request, texts, &fault, err);
+    }
+    match fault {
+        RunFault::Write => WRITE_FAILED,
+        _ => REFUSED,
     }
 }
 
 /// Answers a request, and gives the exit status.
-fn answer<'a, F: Files, O: Write>(
+fn answer<F: Files, O: Write, E: Write>(
     alloc: Global,
-    request: Request<'a>,
+    request: &Request<'_>,
     files: &mut F,
     out: &mut O,
-) -> Result<u8, Failure<'a>> {
-    let status = match request {
-        Request::Trace(line) => write_trace(alloc, line, files, out)?,
-        Request::Upper {
-            line,
-            priority,
-            alone,
-        } => write_upper(alloc, line, priority, alone, files, out)?,
-        Request::Check { oil, asm, priority } => {
-            let oil = read_file(alloc, files, oil)?;
-            let asm = read_file(alloc, files, asm)?;
-            write_check(alloc, &oil, &asm, priority, out)?
+    err: &mut E,
+) -> u8 {
+    match read_texts(alloc, request, files) {
+        Ok(texts) => match answer_texts(alloc, request, &texts, out, err) {
+            Ok(status) => status,
+            Err(fault) => refuse(alloc, request, &texts, fault, err),
+        },
+        Err(unread) => {
+            let _ = writeln!(err, "{unread}");
+            REFUSED
         }
-        Request::Class { oil, asm } => {
-            let oil = read_file(alloc, files, oil)?;
-            let asm = read_file(alloc, files, asm)?;
-            write_class(alloc, &oil, &asm, out)?
-        }
-    };
-    match out.flush() {
-        Ok(()) => Ok(status),
-        Err(_) => Err(Failure::Run(RunFault::Write)),
     }
 }
 
-/// Prints help, or why a line is refused.
-fn explain<O: Write, E: Write>(error: LineError, out: &mut O, err: &mut E) -> u8 {
+/// Prints help or the version, or why a line is refused.
+fn print_help<O: Write, E: Write>(error: LineError, out: &mut O, err: &mut E) -> u8 {
     if error.kind() == ErrorKind::OutOfMemory {
         let _ = writeln!(err, "memory");
         return REFUSED;
@@ -206,7 +288,8 @@ fn explain<O: Write, E: Write>(error: LineError, out: &mut O, err: &mut E) -> u8
 
 /// Answers a command line, of which the first word is the program's name, and gives the exit status: 0, also after help;
 /// 1 for a refused input, an unreadable file or want of memory; 2 for a refused line; 3 for a denied partition; 4 for a
-/// failed write. For 1 and 4 one line says on `err` what it was.
+/// failed write. For 1 and 4 one line says on `err` what it was. Where the line asks for it, an explanation of the refusal
+/// or of the denial follows on `err`.
 pub fn command<S: AsStr, F: Files, O: Write, E: Write>(
     alloc: Global,
     words: &[S],
@@ -215,13 +298,7 @@ pub fn command<S: AsStr, F: Files, O: Write, E: Write>(
     err: &mut E,
 ) -> u8 {
     match read_line(alloc, words) {
-        Err(error) => explain(error, out, err),
-        Ok(request) => match answer(alloc, request, files, out) {
-            Ok(status) => status,
-            Err(failure) => {
-                let _ = writeln!(err, "{failure}");
-                failure.status()
-            }
-        },
+        Err(error) => print_help(error, out, err),
+        Ok(request) => answer(alloc, &request, files, out, err),
     }
 }

@@ -2,7 +2,10 @@
 #![tactic(auto)]
 
 mod answering;
+mod explaining;
+mod help;
 mod host_files;
+mod lines;
 mod request;
 
 pub use answering::{DENIED, DONE, REFUSED, REFUSED_LINE, WRITE_FAILED, command};

@@ -1,107 +1,58 @@
 //! What a command line asks for.
 
+use crate::lines::lines;
 use clap::error::ErrorKind;
-use clap::{Arg, ArgAction, ArgMatches, Command, Error, value_parser};
-use std::alloc::{AllocError, Global};
+use clap::{ArgMatches, Error};
+use std::alloc::Global;
 use std::convert::AsStr;
 
-/// What a run is of: the names of its three files, the mode, and how many ticks, 0 to 1,000,000.
+/// What a run is of besides its system: the name of its arrival list, the mode, and how many ticks, 0 to 1,000,000.
 #[derive(Clone, Copy, Debug)]
 pub struct RunLine<'a> {
-    pub oil: &'a str,
-    pub asm: &'a str,
     pub irq: &'a str,
     pub mode: &'a str,
     pub ticks: u32,
 }
 
-/// A command line, with the names of its files.
+/// What is asked of a system.
 #[derive(Clone, Copy, Debug)]
-pub enum Request<'a> {
+pub enum Question<'a> {
     /// The trace of a run.
     Trace(RunLine<'a>),
-    /// The view of a run at a priority, 0 to 31: of the system, or of its upper part by itself.
+    /// The view of a run at a priority: of the system, or of its upper part by itself.
     Upper {
         line: RunLine<'a>,
         priority: u8,
         alone: bool,
     },
-    /// Whether the part of a system from a priority upward, 0 to 31, is separable from what is below.
+    /// Whether the part from a priority upward is separable from what is below.
     Check {
-        oil: &'a str,
-        asm: &'a str,
         priority: u8,
     },
-    /// The conformance class of a system.
-    Class {
-        oil: &'a str,
-        asm: &'a str,
-    },
+    /// At which priorities that is so.
+    Partitions,
+    /// The conformance class.
+    Class,
 }
 
-fn word(alloc: Global, name: &str) -> Arg<'_> {
-    Arg::new(alloc, name).required(true).action(ArgAction::Set)
+impl<'a> Question<'a> {
+    /// What the run is of, where one is asked for.
+    pub fn run_line(&self) -> Option<RunLine<'a>> {
+        match *self {
+            Question::Trace(line) | Question::Upper { line, .. } => Some(line),
+            Question::Check { .. } | Question::Partitions | Question::Class => None,
+        }
+    }
 }
 
-fn ticks<'a>(alloc: Global) -> Arg<'a> {
-    word(alloc, "TICKS").value_parser(value_parser!(u32).range(0..=1_000_000))
-}
-
-fn priority<'a>(alloc: Global) -> Arg<'a> {
-    word(alloc, "P").value_parser(value_parser!(u8).range(0..=31))
-}
-
-fn alone<'a>(alloc: Global) -> Arg<'a> {
-    Arg::new(alloc, "alone")
-        .long("alone")
-        .action(ArgAction::SetTrue)
-        .help("Runs that part by itself")
-}
-
-fn trace_line<'a>(alloc: Global) -> Result<Command<'a>, AllocError> {
-    Command::new(alloc, "trace")
-        .about("Prints the trace of a system")
-        .arg(word(alloc, "OIL"))?
-        .arg(word(alloc, "ASM"))?
-        .arg(word(alloc, "IRQ"))?
-        .arg(word(alloc, "MODE"))?
-        .arg(ticks(alloc))
-}
-
-fn upper_line<'a>(alloc: Global) -> Result<Command<'a>, AllocError> {
-    Command::new(alloc, "upper")
-        .about("Prints the part of the trace from priority P upward")
-        .arg(word(alloc, "OIL"))?
-        .arg(word(alloc, "ASM"))?
-        .arg(word(alloc, "IRQ"))?
-        .arg(word(alloc, "MODE"))?
-        .arg(ticks(alloc))?
-        .arg(priority(alloc))?
-        .arg(alone(alloc))
-}
-
-fn check_line<'a>(alloc: Global) -> Result<Command<'a>, AllocError> {
-    Command::new(alloc, "check")
-        .about("Checks that the part from priority P upward is separable from the part below")
-        .arg(word(alloc, "OIL"))?
-        .arg(word(alloc, "ASM"))?
-        .arg(priority(alloc))
-}
-
-fn class_line<'a>(alloc: Global) -> Result<Command<'a>, AllocError> {
-    Command::new(alloc, "class")
-        .about("Prints the conformance class of a system")
-        .arg(word(alloc, "OIL"))?
-        .arg(word(alloc, "ASM"))
-}
-
-fn lines<'a>(alloc: Global) -> Result<Command<'a>, AllocError> {
-    Command::new(alloc, "osek_run")
-        .about("Runs a system that an OIL file and programs describe")
-        .subcommand(trace_line(alloc)?)?
-        .subcommand(upper_line(alloc)?)?
-        .subcommand(check_line(alloc)?)?
-        .subcommand(class_line(alloc)?)
+/// A command line: the names of the two files that a system is made of, what is asked of it, and whether a refusal or a
+/// denial is explained.
+#[derive(Clone, Copy, Debug)]
+pub struct Request<'a> {
+    pub oil: &'a str,
+    pub asm: &'a str,
+    pub question: Question<'a>,
+    pub is_explained: bool,
 }
 
 /// The word of that name. Each is required, so it is there.
@@ -111,39 +62,45 @@ fn text<'a>(matches: &ArgMatches<'a>, name: &str) -> &'a str {
 
 fn run_line<'a>(matches: &ArgMatches<'a>) -> RunLine<'a> {
     RunLine {
-        oil: text(matches, "OIL"),
-        asm: text(matches, "ASM"),
         irq: text(matches, "IRQ"),
         mode: text(matches, "MODE"),
         ticks: matches.get_one::<u32>("TICKS").unwrap_or(0),
     }
 }
 
-fn priority_of(matches: &ArgMatches<'_>) -> u8 {
+fn priority(matches: &ArgMatches<'_>) -> u8 {
     matches.get_one::<u8>("P").unwrap_or(0)
 }
 
-/// Reads a command line, of which the first word is the program's name. An error is a refused line, a call for help,
-/// or want of memory.
+/// What a subcommand asks for.
+fn asked<'a>(subcommand: &str, matches: &ArgMatches<'a>) -> Question<'a> {
+    match subcommand {
+        "upper" => Question::Upper {
+            line: run_line(matches),
+            priority: priority(matches),
+            alone: matches.get_flag("alone"),
+        },
+        "check" => Question::Check {
+            priority: priority(matches),
+        },
+        "partitions" => Question::Partitions,
+        "class" => Question::Class,
+        _ => Question::Trace(run_line(matches)),
+    }
+}
+
+/// Reads a command line, of which the first word is the program's name. An error is a refused line, a call for help or
+/// for the version, or want of memory.
 pub fn read_line<'a, S: AsStr>(alloc: Global, words: &'a [S]) -> Result<Request<'a>, Error> {
     let mut line = lines(alloc)?;
     let matches = line.try_get_matches_from_mut(words)?;
     match matches.subcommand() {
-        Some(("upper", found)) => Ok(Request::Upper {
-            line: run_line(found),
-            priority: priority_of(found),
-            alone: found.get_flag("alone"),
-        }),
-        Some(("check", found)) => Ok(Request::Check {
+        Some((name, found)) => Ok(Request {
             oil: text(found, "OIL"),
             asm: text(found, "ASM"),
-            priority: priority_of(found),
+            question: asked(name, found),
+            is_explained: found.get_flag("explain"),
         }),
-        Some(("class", found)) => Ok(Request::Class {
-            oil: text(found, "OIL"),
-            asm: text(found, "ASM"),
-        }),
-        Some((_, found)) => Ok(Request::Trace(run_line(found))),
         None => Err(line.error(ErrorKind::MissingSubcommand, "a subcommand is wanted")?),
     }
 }

@@ -2,4 +2,12 @@
 #![tactic(auto)]
 
 #[cfg(test)]
+mod explained;
+#[cfg(test)]
+mod explained_oil;
+#[cfg(test)]
+mod explained_programs;
+#[cfg(test)]
+mod explained_systems;
+#[cfg(test)]
 mod tests;

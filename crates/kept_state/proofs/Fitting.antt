@@ -5,6 +5,7 @@ use Rattle.std.specs.Option.{option_map}
 use Rattle.std.specs.List.{filter, list_any, AllByRecursion}
 use Rattle.std.proofs.lemmas.Bool.{cases_lt}
 use Rattle.std.proofs.lemmas.List.{get_or_past, length-map}
+use Rattle.ready_queues.specs.declared.ready_queues.TheConstants.{LEVELS}
 use Rattle.osek_base.specs.declared.ids.Owner.{Owner}
 use Rattle.osek_base.specs.System.{System, activation_of}
 use Rattle.osek_base.specs.Ceiling.{top_priority}
@@ -187,11 +188,11 @@ module _ (S : System) (running : Option JobId) where
 
   pub all_levels : (jobs : List Job) → total (queue S running jobs) ≤ length (filter (is_queued running) jobs)
   all_levels jobs =
-      let levels = by_level 64 jobs in
+      let levels = by_level LEVELS jobs in
       let fewer =
-      count_two (λ (j : Job). is_queued running j && nat_lt (dynamic_priority S j) 64) (λ (j : Job). false)
+      count_two (λ (j : Job). is_queued running j && nat_lt (dynamic_priority S j) LEVELS) (λ (j : Job). false)
       (is_queued running)
-      (λ j. and_less (is_queued running j) (nat_lt (dynamic_priority S j) 64)) jobs in
+      (λ j. and_less (is_queued running j) (nat_lt (dynamic_priority S j) LEVELS)) jobs in
       omega (arith, levels, fewer)
 
 -- ---- what fits

@@ -5,6 +5,7 @@ use Rattle.std.proofs.Math.Seq.{drop-cons}
 use Rattle.std.proofs.Math.ListN.{drop_of_length-le}
 use Rattle.std.proofs.Math.Numerals.{add-one}
 use Rattle.std.proofs.lemmas.Bool.{leb-true}
+use Rattle.osek_base.specs.declared.limits.TheConstants.{MAX_TICKS}
 use Rattle.osek_base.specs.declared.arrivals.Arrival.{Arrival}
 use Rattle.osek_base.specs.ArrivalList.{are_in_order, is_arrival_list}
 use Rattle.osek_base.specs.Tick.{flagged}
@@ -15,7 +16,7 @@ use Rattle.kernel.specs.Run.{AreLeft}
 -- a list in order: its first tick, and its rest
 pub record IsInOrder (least : ℕ) (a : Arrival) (rest : List Arrival) : Type 0 where
   pub first : least ≤ a.tick
-  pub limit : nat_lt a.tick 1000000 ≡ true
+  pub limit : nat_lt a.tick MAX_TICKS ≡ true
   pub others : are_in_order a.tick rest ≡ true
 
 order_split : (least : ℕ) (a : Arrival) (rest : List Arrival) → are_in_order least (a ∷ rest) ≡ true → IsInOrder least a rest

@@ -1,6 +1,7 @@
 -- OSEK/VDX OS: system start-up. A run of a system, as far as it has come.
 use Rattle.std.specs.Prelude.{ℕ, ◌≡◌, ◌<◌, ◌≤◌, ◌-◌, Bool, true, false, not, ◌||◌, nat_le, if◌then◌else◌, List, drop, Option, length}
 use Rattle.std.specs.List.{All, list_all}
+use Rattle.osek_base.specs.declared.limits.TheConstants.{MAX_TICKS}
 use Rattle.osek_base.specs.declared.arrivals.Arrival.{Arrival}
 use Rattle.osek_base.specs.declared.trace_event.TraceEvent.{TraceEvent}
 use Rattle.osek_base.specs.declared.instr.Instr.{Instr}
@@ -35,7 +36,7 @@ run_of r = run r.system r.mode r.arrivals r.ticks
 
 -- whether no tick follows: after ShutdownOS, or when 1,000,000 ticks are done
 abbrev pub is_over : Run → Bool
-is_over r = nat_le 1000000 r.ticks || (run_of r).state.over
+is_over r = nat_le MAX_TICKS r.ticks || (run_of r).state.over
 
 -- the step that follows, with the records of boot where it is the first
 abbrev pub next_step : System → List Arrival → RunSoFar → Step
@@ -80,7 +81,7 @@ pub record IsKept (S : System) (mode : ℕ) (arrivals : List Arrival) (ticks cur
   pub known : AreKnown S arrivals
   pub left : AreLeft arrivals cursor ticks
   pub tick : o.tick ≡ ticks - 1
-  pub limit : ticks ≤ 1000000
+  pub limit : ticks ≤ MAX_TICKS
   pub kept : kept_of (word words) (at_tick o ticks) ≡ kept S (run S mode arrivals ticks).state
   pub ahead : ticks ≡ 0 → AreAhead o.alarms
   -- the records of boot stand in tick 0 alone

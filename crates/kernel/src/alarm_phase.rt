@@ -10,7 +10,10 @@ ghost use Rattle.services.specs.Objects.{kept_in, kept_of};
 ghost use Rattle.kernel.specs.Run.{AreAhead, at_tick};
 
 use arrayvec::ArrayVec;
-use osek_base::{Action, AlarmId, Instr, Service, Source, Status, System, TickRecord, TraceEvent};
+use osek_base::{
+    Action, AlarmId, Instr, MAX_ALARMS, MAX_RECORDS, MAX_TICKS, Service, Source, Status, System,
+    TickRecord, TraceEvent,
+};
 use ready_queues::ReadyQueues;
 use services::Core;
 
@@ -24,7 +27,7 @@ pub fn alarm_phase<Q: ReadyQueues>(
     requires proper { IsProper system.now }
     requires system { core.old.system ≡ system.now }
     requires tick { core.old.tick ≡ tick - 1 }
-    requires limit { tick < 1000000 }
+    requires limit { tick < MAX_TICKS }
     requires size { length core.old.alarms ≡ length system.now.alarms }
     requires ahead { tick ≡ 0 → AreAhead core.old.alarms }
     requires ready { runner_waits (kept_in core.old) ≡ false }
@@ -33,7 +36,7 @@ pub fn alarm_phase<Q: ReadyQueues>(
     ensures system { core.new.system ≡ core.old.system }
     ensures kept { (w : Words) → kept_of w core.new ≡ (alarm_phase_in system.now (kept_of w (at_tick core.old tick))).state }
     ensures events { (w : Words) → record_of_tick.new ≡ record_of_tick.old ++ (alarm_phase_in system.now (kept_of w (at_tick core.old tick))).events }
-    ensures few { length record_of_tick.new ≤ 64 }
+    ensures few { length record_of_tick.new ≤ MAX_ALARMS }
 {
     if 0 < tick {
         advance(core, system, record_of_tick);
@@ -44,15 +47,15 @@ pub fn alarm_phase<Q: ReadyQueues>(
 fn advance<Q: ReadyQueues>(core: &mut Core<'_, Q>, system: &System, record_of_tick: &mut TickRecord)
     requires proper { IsProper system.now }
     requires system { core.old.system ≡ system.now }
-    requires last { core.old.tick < 999999 }
+    requires last { core.old.tick + 1 < MAX_TICKS }
     requires ready { runner_waits (kept_in core.old) ≡ false }
     requires room { length record_of_tick.old ≤ 0 }
     ensures system { core.new.system ≡ core.old.system }
     ensures kept { (w : Words) → kept_of w core.new ≡ (alarm_phase_in system.now (kept_of w (at_tick core.old (core.old.tick + 1)))).state }
     ensures events { (w : Words) → record_of_tick.new ≡ record_of_tick.old ++ (alarm_phase_in system.now (kept_of w (at_tick core.old (core.old.tick + 1)))).events }
-    ensures few { length record_of_tick.new ≤ 64 }
+    ensures few { length record_of_tick.new ≤ MAX_ALARMS }
 {
-    let mut due: ArrayVec<AlarmId, 64> = ArrayVec::new();
+    let mut due: ArrayVec<AlarmId, MAX_ALARMS> = ArrayVec::new();
     core.advance(&mut due);
     for number in 0..due.len() {
         alarm_acts(core, system, due[number], record_of_tick);
@@ -70,7 +73,7 @@ fn alarm_acts<Q: ReadyQueues>(
     requires system { core.old.system ≡ system.now }
     requires alarm { alarm < length system.now.alarms }
     requires ready { runner_waits (kept_in core.old) ≡ false }
-    requires room { length record_of_tick.old < 72 }
+    requires room { length record_of_tick.old < MAX_RECORDS }
     ensures system { core.new.system ≡ core.old.system }
     ensures ready { runner_waits (kept_in core.new) ≡ false }
     ensures kept { (w : Words) → kept_of w core.new ≡ (alarm_acts_in system.now alarm (kept_of w core.old)).state }
@@ -100,7 +103,7 @@ pub fn record_error(
     status: Status,
     record_of_tick: &mut TickRecord,
 )
-    requires { length record_of_tick.old < 72 }
+    requires { length record_of_tick.old < MAX_RECORDS }
     ensures events { record_of_tick.new ≡ record_of_tick.old ++ error_record system.now source instr status }
     ensures few { length record_of_tick.new ≤ length record_of_tick.old + 1 }
 {

@@ -16,7 +16,8 @@ ghost use Rattle.kernel.specs.Run.{IsNext, executed_by, next_of, ends_routine, c
 use crate::alarm_phase::record_error;
 use machine::{Cpu, Windows, exec_plain};
 use osek_base::{
-    Control, Instr, Outcome, Plain, Register, Service, Source, System, TickRecord, TraceEvent,
+    Control, Instr, MAX_RECORDS, MAX_TICKS, Outcome, Plain, Register, Service, Source, System,
+    TickRecord, TraceEvent,
 };
 use ready_queues::ReadyQueues;
 use services::{Call, Core, Execution};
@@ -32,9 +33,9 @@ pub fn execute_phase<Q: ReadyQueues>(
     requires proper { IsProper system.now }
     requires system { core.old.system ≡ system.now }
     requires serves { MayServe system.now (kept_in core.old) }
-    requires all { core.old.suspended_all < 1000000 }
-    requires os { core.old.suspended_os < 1000000 }
-    requires room { length record_of_tick.old + 2 ≤ 72 }
+    requires all { core.old.suspended_all < MAX_TICKS }
+    requires os { core.old.suspended_os < MAX_TICKS }
+    requires room { length record_of_tick.old + 2 ≤ MAX_RECORDS }
     ensures system { core.new.system ≡ core.old.system }
     ensures kept { kept_of (word windows.new) core.new ≡ (execute_phase_in system.now (kept_of (word windows.old) core.old)).state }
     ensures events { record_of_tick.new ≡ record_of_tick.old ++ (execute_phase_in system.now (kept_of (word windows.old) core.old)).events }
@@ -57,11 +58,11 @@ fn execute<Q: ReadyQueues>(
     requires proper { IsProper system.now }
     requires system { core.old.system ≡ system.now }
     requires serves { MayServe system.now (kept_in core.old) }
-    requires all { core.old.suspended_all < 1000000 }
-    requires os { core.old.suspended_os < 1000000 }
+    requires all { core.old.suspended_all < MAX_TICKS }
+    requires os { core.old.suspended_os < MAX_TICKS }
     requires who { Executes (kept_in core.old) execution.old.owner execution.old.cpu }
     requires placed { IsPlaced system.now execution.old.owner execution.old.cpu }
-    requires room { length record_of_tick.old + 2 ≤ 72 }
+    requires room { length record_of_tick.old + 2 ≤ MAX_RECORDS }
     ensures system { core.new.system ≡ core.old.system }
     ensures kept { kept_of (word windows.new) core.new ≡ (executed_by system.now execution.old (next_of system.now execution.old) (word windows.old) core.old).state }
     ensures events { record_of_tick.new ≡ record_of_tick.old ++ (executed_by system.now execution.old (next_of system.now execution.old) (word windows.old) core.old).events }
@@ -95,7 +96,7 @@ fn execute_plain<Q: ReadyQueues>(
     requires who { Executes (kept_in core.old) execution.old.owner execution.old.cpu }
     requires placed { IsPlaced _system.now execution.old.owner execution.old.cpu }
     requires instruction { IsNext _system.now execution.old (Instr.Plain plain.now) }
-    requires room { length record_of_tick.old < 72 }
+    requires room { length record_of_tick.old < MAX_RECORDS }
     ensures system { core.new.system ≡ core.old.system }
     ensures kept { kept_of (word windows.new) core.new ≡ (executed_by _system.now execution.old (Instr.Plain plain.now) (word windows.old) core.old).state }
     ensures events { record_of_tick.new ≡ record_of_tick.old ++ (executed_by _system.now execution.old (Instr.Plain plain.now) (word windows.old) core.old).events }
@@ -123,12 +124,12 @@ fn execute_service<Q: ReadyQueues>(
     requires proper { IsProper system.now }
     requires system { core.old.system ≡ system.now }
     requires serves { MayServe system.now (kept_in core.old) }
-    requires all { core.old.suspended_all < 1000000 }
-    requires os { core.old.suspended_os < 1000000 }
+    requires all { core.old.suspended_all < MAX_TICKS }
+    requires os { core.old.suspended_os < MAX_TICKS }
     requires who { Executes (kept_in core.old) execution.old.owner execution.old.cpu }
     requires placed { IsPlaced system.now execution.old.owner execution.old.cpu }
     requires instruction { IsNext system.now execution.old (Instr.Service service.now) }
-    requires room { length record_of_tick.old + 2 ≤ 72 }
+    requires room { length record_of_tick.old + 2 ≤ MAX_RECORDS }
     ensures system { core.new.system ≡ core.old.system }
     ensures kept { (w : Words) → kept_of w core.new ≡ (executed_by system.now execution.old (Instr.Service service.now) w core.old).state }
     ensures events { (w : Words) → record_of_tick.new ≡ record_of_tick.old ++ (executed_by system.now execution.old (Instr.Service service.now) w core.old).events }
@@ -168,12 +169,12 @@ fn execute_control<Q: ReadyQueues>(
     requires proper { IsProper system.now }
     requires system { core.old.system ≡ system.now }
     requires serves { MayServe system.now (kept_in core.old) }
-    requires all { core.old.suspended_all < 1000000 }
-    requires os { core.old.suspended_os < 1000000 }
+    requires all { core.old.suspended_all < MAX_TICKS }
+    requires os { core.old.suspended_os < MAX_TICKS }
     requires who { Executes (kept_in core.old) execution.now.owner execution.now.cpu }
     requires placed { IsPlaced system.now execution.now.owner execution.now.cpu }
     requires instruction { IsNext system.now execution.now (Instr.Control control.now) }
-    requires room { length record_of_tick.old + 2 ≤ 72 }
+    requires room { length record_of_tick.old + 2 ≤ MAX_RECORDS }
     ensures system { core.new.system ≡ core.old.system }
     ensures kept { (w : Words) → kept_of w core.new ≡ (executed_by system.now execution.now (Instr.Control control.now) w core.old).state }
     ensures events { (w : Words) → record_of_tick.new ≡ record_of_tick.old ++ (executed_by system.now execution.now (Instr.Control control.now) w core.old).events }
@@ -205,7 +206,7 @@ fn behind(control: &Control, cpu: Cpu) -> Cpu
 
 /// Records a ShutdownOS, where ShutdownHook is on.
 fn record_shutdown(system: &System, control: &Control, record_of_tick: &mut TickRecord)
-    requires { length record_of_tick.old < 72 }
+    requires { length record_of_tick.old < MAX_RECORDS }
     ensures events { record_of_tick.new ≡ record_of_tick.old ++ shutdown_record system.now control.now }
     ensures few { length record_of_tick.new ≤ length record_of_tick.old + 1 }
 {

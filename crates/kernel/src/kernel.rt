@@ -17,15 +17,14 @@ use crate::arrival_phase::arrival_phase;
 use crate::boot::{BootFault, booted};
 use crate::execute_phase::execute_phase;
 use machine::Windows;
-use osek_base::{Arrivals, ModeId, Owner, System, TickRecord};
+use osek_base::{
+    Arrivals, MAX_RECORDS, MAX_TICKS, ModeId, Owner, System, TickRecord, WINDOW_WORDS,
+};
 use ready_queues::ReadyQueues;
 use services::Core;
 use std::alloc::Global;
 use std::marker::Model;
 use std::mem;
-
-/// How many ticks a run has at most.
-const TICKS: u32 = 1_000_000;
 
 /// A kernel that runs a system from boot in a mode, with the interrupts of a list of arrivals, over ready queues of any kind.
 #[derive(Drop)]
@@ -105,16 +104,16 @@ impl<'s, Q: ReadyQueues> Kernel<'s, Q> {
         })
     }
 
-    /// Whether the run is over: after a ShutdownOS, or when 1,000,000 ticks are done.
+    /// Whether the run is over: after a ShutdownOS, or when [`MAX_TICKS`](osek_base::MAX_TICKS) are done.
     pub fn is_over(&self) -> bool
         ensures { result ≡ is_over self.now }
     {
-        TICKS <= self.ticks || self.core.is_over()
+        MAX_TICKS <= self.ticks || self.core.is_over()
     }
 
-    /// The word of a task's or routine's window at an index below 64.
+    /// The word of a task's or routine's window.
     pub fn word(&self, owner: Owner, index: u32) -> u32
-        requires { index < 64 }
+        requires { index < WINDOW_WORDS }
         ensures { result ≡ (run_of self.now).state.words owner index }
     {
         self.windows.word(owner, index as u8)
@@ -169,7 +168,7 @@ impl<'s, Q: ReadyQueues> Kernel<'s, Q> {
 
 /// The task that is to run becomes the running one, which is left out after ShutdownOS.
 fn last_phase<Q: ReadyQueues>(core: &mut Core<'_, Q>, record_of_tick: &mut TickRecord)
-    requires { length record_of_tick.old + 2 ≤ 72 }
+    requires { length record_of_tick.old + 2 ≤ MAX_RECORDS }
     ensures system { core.new.system ≡ core.old.system }
     ensures kept { (w : Words) → kept_of w core.new ≡ (last_phase_in core.old.system (kept_of w core.old)).state }
     ensures events { (w : Words) → record_of_tick.new ≡ record_of_tick.old ++ (last_phase_in core.old.system (kept_of w core.old)).events }
@@ -181,7 +180,7 @@ fn last_phase<Q: ReadyQueues>(core: &mut Core<'_, Q>, record_of_tick: &mut TickR
 
 /// After an instruction the task that is to run becomes the running one.
 fn dispatch_again<Q: ReadyQueues>(core: &mut Core<'_, Q>, record_of_tick: &mut TickRecord)
-    requires { length record_of_tick.old + 2 ≤ 72 }
+    requires { length record_of_tick.old + 2 ≤ MAX_RECORDS }
     ensures system { core.new.system ≡ core.old.system }
     ensures kept { kept_in core.new ≡ (rescheduled core.old.system (kept_in core.old)).state }
     ensures events { record_of_tick.new ≡ record_of_tick.old ++ (rescheduled core.old.system (kept_in core.old)).events }

@@ -3,92 +3,23 @@
 ghost use Rattle.std.specs.Prelude.{◌<◌, length};
 ghost use Rattle.alarms.specs.Alarms.{IsTableOf};
 
+use crate::systems::system_of;
 use alarms::Alarms;
 use arrayvec::ArrayVec;
-use osek_base::{
-    Action, Alarm, AlarmId, AlarmStart, Counter, CounterId, Hooks, Instr, ModeId, Name, Names,
-    Parts, Place, Plain, Program, Schedule, Service, Status, System, Task, TaskId,
-};
-use std::alloc::{AllocError, Global};
+use osek_base::{AlarmId, MAX_TICKS, ModeId, Status, System};
+use std::alloc::Global;
 use std::test::Fail;
 
-/// A counter with a base of so many ticks.
-fn counter(max_allowed_value: u32, min_cycle: u32, ticks_per_base: u32) -> Counter {
-    Counter {
-        max_allowed_value,
-        ticks_per_base,
-        min_cycle,
-    }
-}
-
-/// A list with one name, or none where the name is too long.
-fn named(alloc: Global, text: &str) -> Result<Vec<Name>, AllocError> {
-    let mut names = Vec::new(alloc);
-    if let Some(name) = Name::new(text) {
-        names.push(name)?;
-    }
-    Ok(names)
-}
-
-/// A task that ends.
-fn task(alloc: Global) -> Result<Task, AllocError> {
-    let mut program = Program::new(alloc);
-    program.push(Instr::Service(Service::TerminateTask))?;
-    program.push(Instr::Plain(Plain::Jmp(Place::new(1))))?;
-    Ok(Task {
-        priority: 1,
-        schedule: Schedule::Full,
-        activation: 1,
-        autostart: Vec::new(alloc),
-        resources: Vec::new(alloc),
-        events: Vec::new(alloc),
-        program,
-    })
-}
-
 /// One alarm on one counter, which activates a task. In the mode it starts by itself at 2, with the cycle 3.
-fn parts(alloc: Global, counter: Counter) -> Result<Parts, AllocError> {
-    let mut tasks = Vec::new(alloc);
-    tasks.push(task(alloc)?)?;
-    let mut counters = Vec::new(alloc);
-    counters.push(counter)?;
-    let mut modes = Vec::new(alloc);
-    modes.push(ModeId::new(0))?;
-    let mut alarms = Vec::new(alloc);
-    alarms.push(Alarm {
-        counter: CounterId::new(0),
-        action: Action::ActivateTask(TaskId::new(0)),
-        autostart: Some(AlarmStart {
-            time: 2,
-            cycle: 3,
-            modes,
-        }),
-    })?;
-    Ok(Parts {
-        names: Names {
-            tasks: named(alloc, "A")?,
-            routines: Vec::new(alloc),
-            resources: Vec::new(alloc),
-            events: Vec::new(alloc),
-            alarms: named(alloc, "AL")?,
-            modes: named(alloc, "M")?,
-        },
-        tasks,
-        routines: Vec::new(alloc),
-        resources: Vec::new(alloc),
-        events: Vec::new(alloc),
-        counters,
-        alarms,
-        hooks: Hooks {
-            startup: false,
-            error: false,
-            shutdown: false,
-            pre_task: false,
-            post_task: false,
-        },
-        use_res_scheduler: true,
-    })
-}
+const TASK_AND_ALARM: &str = "
+  TASK A { PRIORITY = 1; SCHEDULE = FULL; ACTIVATION = 1; AUTOSTART = FALSE; };
+  ALARM AL { COUNTER = C; ACTION = ACTIVATETASK { TASK = A; };
+    AUTOSTART = TRUE { ALARMTIME = 2; CYCLETIME = 3; APPMODE = M; }; };
+";
+
+const PROGRAM: &str = ".task A
+a: JMP a
+";
 
 /// Goes on by some ticks. Whether an alarm was due in one of them.
 fn pass(alarms: &mut Alarms, system: &System, ticks: u32) -> bool
@@ -98,7 +29,7 @@ fn pass(alarms: &mut Alarms, system: &System, ticks: u32) -> bool
     let mut due = ArrayVec::new();
     let mut any = false;
     for _ in 0..ticks {
-        if alarms.tick() < 999_999 {
+        if alarms.tick() + 1 < MAX_TICKS {
             alarms.advance(system, &mut due);
             any = any || due.len() > 0;
         }
@@ -141,14 +72,22 @@ fn remaining(alarms: &Alarms, system: &System) -> Option<u32>
     alarms.remaining(system, AlarmId::new(0))
 }
 
-/// The system with that counter.
-fn system_on(alloc: Global, counter: Counter) -> Result<System, Fail> {
-    Ok(System::new(parts(alloc, counter)?).ok_or("improper")?)
+/// The system with a counter C of these attributes.
+fn system_on(alloc: Global, attributes: &str) -> Result<System, Fail> {
+    let mut objects = String::new(alloc);
+    objects.push_str("  COUNTER C { ")?;
+    objects.push_str(attributes)?;
+    objects.push_str(" };")?;
+    objects.push_str(TASK_AND_ALARM)?;
+    system_of(alloc, objects.as_str(), PROGRAM)
 }
 
 #[test]
 fn an_absolute_start_at_the_present_value_waits_a_whole_round(rt: HostRuntime) -> Result<(), Fail> {
-    let system = system_on(rt.alloc(), counter(7, 1, 1))?;
+    let system = system_on(
+        rt.alloc(),
+        "MAXALLOWEDVALUE = 7; TICKSPERBASE = 1; MINCYCLE = 1;",
+    )?;
     assert_eq!(rt; system.alarm_count(), 1);
     let mut alarms = Alarms::new(&system);
     pass(&mut alarms, &system, 2);
@@ -166,7 +105,10 @@ fn an_absolute_start_at_the_present_value_waits_a_whole_round(rt: HostRuntime) -
 
 #[test]
 fn bad_values_and_an_alarm_in_use_are_refused(rt: HostRuntime) -> Result<(), Fail> {
-    let system = system_on(rt.alloc(), counter(7, 2, 1))?;
+    let system = system_on(
+        rt.alloc(),
+        "MAXALLOWEDVALUE = 7; TICKSPERBASE = 1; MINCYCLE = 2;",
+    )?;
     assert_eq!(rt; system.alarm_count(), 1);
     let mut alarms = Alarms::new(&system);
     assert_eq!(rt; set_rel(&mut alarms, &system, 0, 0), Status::Value);
@@ -180,7 +122,10 @@ fn bad_values_and_an_alarm_in_use_are_refused(rt: HostRuntime) -> Result<(), Fai
 
 #[test]
 fn a_round_of_two_to_the_31_counts(rt: HostRuntime) -> Result<(), Fail> {
-    let system = system_on(rt.alloc(), counter(2147483647, 1, 1000000))?;
+    let system = system_on(
+        rt.alloc(),
+        "MAXALLOWEDVALUE = 2147483647; TICKSPERBASE = 1000000; MINCYCLE = 1;",
+    )?;
     assert_eq!(rt; system.alarm_count(), 1);
     let mut alarms = Alarms::new(&system);
     assert_eq!(rt; set_abs(&mut alarms, &system, 0, 0), Status::Ok);
@@ -191,7 +136,10 @@ fn a_round_of_two_to_the_31_counts(rt: HostRuntime) -> Result<(), Fail> {
 
 #[test]
 fn a_cyclic_alarm_starts_by_itself(rt: HostRuntime) -> Result<(), Fail> {
-    let system = system_on(rt.alloc(), counter(7, 1, 1))?;
+    let system = system_on(
+        rt.alloc(),
+        "MAXALLOWEDVALUE = 7; TICKSPERBASE = 1; MINCYCLE = 1;",
+    )?;
     assert_eq!(rt; system.alarm_count(), 1);
     let mut alarms = Alarms::new(&system);
     alarms.start(&system, ModeId::new(0));

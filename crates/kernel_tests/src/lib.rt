@@ -1,13 +1,11 @@
-//! Tests of the kernel's crates: instructions, held resources, alarms and whole runs.
+//! Tests of the kernel's crates: instructions, held resources and alarms.
 #![tactic(auto)]
 
 #[cfg(test)]
 mod alarm_ticks;
 #[cfg(test)]
-mod counting_queues;
-#[cfg(test)]
 mod held_resources;
 #[cfg(test)]
 mod processor;
 #[cfg(test)]
-mod whole_runs;
+mod systems;

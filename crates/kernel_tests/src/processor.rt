@@ -4,8 +4,8 @@ ghost use Rattle.std.specs.Prelude.{◌≡◌, ◌<◌};
 
 use machine::{Cpu, Windows, exec_plain};
 use osek_base::{
-    Comparison, Effect, IsrId, Operation, Owner, Place, Plain, Register, Results, Service, Status,
-    TaskId,
+    Comparison, Effect, IsrId, MAX_INSTRUCTIONS, Operation, Owner, Place, Plain, Register, Results,
+    Service, Status, TaskId,
 };
 use std::test::Fail;
 
@@ -19,7 +19,7 @@ fn r(number: u8) -> Register
 /// Executes an instruction of task 0, unless the place is the last.
 #[tactic(auto, using(machine::proofs::ExecutionLemmas::has_next))]
 fn step(cpu: &mut Cpu, windows: &mut Windows, instruction: Plain) -> Option<Effect> {
-    if cpu.place().number() >= Place::LIMIT - 1 {
+    if cpu.place().number() as usize + 1 >= MAX_INSTRUCTIONS {
         return None;
     }
     let owner = Owner::Task(TaskId::new(0));

@@ -1,17 +1,19 @@
--- The modelled processor, no part of the standards. The windows of words in one list: 64 words for each of 32 tasks, and then for each of 16 routines.
+-- The modelled processor, no part of the standards. The windows of words in one list: one for each task that there may be,
+-- and then for each routine.
 use Rattle.std.specs.Prelude.{ℕ, ◌+◌, ◌*◌, Bool, ◌&&◌, nat_lt, if◌then◌else◌, List, slice_index}
 use Rattle.osek_base.specs.declared.ids.Owner.{Owner}
+use Rattle.osek_base.specs.declared.limits.TheConstants.{MAX_TASKS, MAX_ROUTINES, WINDOW_WORDS}
 
 -- whether an owner has a window
 abbrev pub has_window : Owner → Bool
-has_window (Owner.Task t) = nat_lt t 32
-has_window (Owner.Routine i) = nat_lt i 16
+has_window (Owner.Task t) = nat_lt t MAX_TASKS
+has_window (Owner.Routine i) = nat_lt i MAX_ROUTINES
 
 -- where an owner's window stands among all
 abbrev pub window_of : Owner → ℕ
 window_of (Owner.Task t) = t
-window_of (Owner.Routine i) = 32 + i
+window_of (Owner.Routine i) = MAX_TASKS + i
 
 -- the word at an index of an owner's window, 0 where there is none
 abbrev pub word : List ℕ → Owner → ℕ → ℕ
-word words owner index = if has_window owner && nat_lt index 64 then slice_index words (window_of owner * 64 + index) else 0
+word words owner index = if has_window owner && nat_lt index WINDOW_WORDS then slice_index words (window_of owner * WINDOW_WORDS + index) else 0

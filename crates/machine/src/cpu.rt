@@ -1,17 +1,17 @@
-//! The eight registers and the place of who executes.
+//! The registers and the place of who executes.
 
 ghost use Rattle.std.specs.Prelude.{◌≡◌, ◌<◌, ◌+◌, length};
 ghost use Rattle.osek_base.specs.Instruction.{value, next, with_value};
 ghost use Rattle.osek_base.specs.State.{fresh_context};
 ghost use Rattle.osek_base.specs.Tick.{answered, at_values, status_number, with_results};
 
-use osek_base::{Place, Register, Results, Service, Status};
+use osek_base::{MAX_INSTRUCTIONS, Place, REGISTERS, Register, Results, Service, Status};
 use std::marker::Model;
 
-/// The eight registers of 32 bits and the place in the program. Contracts see both as one context.
+/// The registers of 32 bits and the place in the program. Contracts see both as one context.
 #[derive(Clone, Copy, Debug)]
 pub struct Cpu {
-    registers: [u32; 8],
+    registers: [u32; REGISTERS],
     place: Place,
 }
 
@@ -31,7 +31,7 @@ impl Cpu {
         ensures { result ≡ fresh_context }
     {
         Cpu {
-            registers: [0; 8],
+            registers: [0; REGISTERS],
             place: Place::new(0),
         }
     }
@@ -59,7 +59,7 @@ impl Cpu {
 
     /// Goes on to the next instruction; the registers stay.
     pub fn go_on(&mut self)
-        requires { self.old.place + 1 < 1024 }
+        requires { self.old.place + 1 < MAX_INSTRUCTIONS }
         ensures { self.new ≡ next self.old }
     {
         self.place = self.place.next();
@@ -74,7 +74,7 @@ impl Cpu {
 
     /// Takes what a service answers: the status into r0, the results into r1 to r3. Goes on to the next instruction.
     pub fn answer(&mut self, status: Status, results: Results)
-        requires { self.old.place + 1 < 1024 }
+        requires { self.old.place + 1 < MAX_INSTRUCTIONS }
         ensures { self.new ≡ answered status results self.old }
     {
         self.set(Register::new(0), number_of(status));

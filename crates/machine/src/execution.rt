@@ -9,10 +9,14 @@ ghost use Rattle.machine.specs.Execution.{HasNext};
 
 use crate::cpu::Cpu;
 use crate::windows::Windows;
-use osek_base::{Comparison, Effect, Operation, Owner, Plain, Register};
+use osek_base::{
+    Comparison, Effect, MAX_INSTRUCTIONS, Operation, Owner, Plain, Register, WINDOW_WORDS,
+};
 
 /// Executes a plain instruction of an owner. A load reads one word of the owner's own window, a store writes one, at the
-/// address modulo 64; no other word is touched. Sums, differences and products wrap. At the last place only a jump may stand.
+/// address modulo
+/// the words of a window; no other word is touched. Sums, differences and products wrap. At the last place only a jump may
+/// stand.
 pub fn exec_plain(cpu: &mut Cpu, windows: &mut Windows, owner: Owner, instruction: &Plain) -> Effect
     requires { HasNext instruction.now cpu.old }
     ensures effect { result ≡ (plain instruction.now cpu.old (word windows.old owner)).effect }
@@ -54,7 +58,7 @@ pub fn exec_plain(cpu: &mut Cpu, windows: &mut Windows, owner: Owner, instructio
 
 /// Gives a register a value, which is shown, and goes on.
 fn set(cpu: &mut Cpu, to: Register, new: u32) -> Effect
-    requires { cpu.old.place + 1 < 1024 }
+    requires { cpu.old.place + 1 < MAX_INSTRUCTIONS }
     ensures effect { result ≡ (sets cpu.old to new).effect }
     ensures context { cpu.new ≡ (sets cpu.old to new).context }
 {
@@ -65,10 +69,10 @@ fn set(cpu: &mut Cpu, to: Register, new: u32) -> Effect
 
 /// The index that an address means in a window.
 fn index_of(address: u32) -> u8
-    ensures value { result ≡ address % 64 }
-    ensures low { result < 64 }
+    ensures value { result ≡ address % WINDOW_WORDS }
+    ensures low { result < WINDOW_WORDS }
 {
-    (address % 64) as u8
+    (address % WINDOW_WORDS as u32) as u8
 }
 
 /// Sums, differences and products of 32 bits wrap.

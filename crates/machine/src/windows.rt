@@ -5,19 +5,17 @@ ghost use Rattle.osek_base.specs.declared.ids.Owner.{Owner};
 ghost use Rattle.osek_base.specs.State.{with_word};
 ghost use Rattle.machine.specs.Windows.{word, window_of, has_window};
 
-use osek_base::{Owner, TaskId};
+use osek_base::{MAX_ROUTINES, MAX_TASKS, Owner, WINDOW_WORDS};
 use std::marker::Model;
 
-/// How many words a window has.
-const WORDS: usize = 64;
+/// How many words there are in all windows.
+const ALL_WORDS: usize = (MAX_TASKS + MAX_ROUTINES) * WINDOW_WORDS;
 
-/// How many words there are: a window for each of 32 tasks and 16 routines.
-const ALL: usize = 48 * WORDS;
-
-/// A window of 64 words for each of 32 tasks and 16 routines. Contracts see the word of an owner at an index.
+/// A window of [`WINDOW_WORDS`] words for each task and each routine that there may be. Contracts see the word of an owner
+/// at an index.
 #[derive(Drop)]
 pub struct Windows {
-    words: [u32; ALL],
+    words: [u32; ALL_WORDS],
 }
 
 impl Model for Windows {
@@ -33,20 +31,22 @@ impl Windows {
     pub fn new() -> Self
         ensures { (o : Owner) (i : ℕ) → word result o i ≡ 0 }
     {
-        Windows { words: [0; ALL] }
+        Windows {
+            words: [0; ALL_WORDS],
+        }
     }
 
-    /// The word of an owner at an index below 64.
+    /// The word of an owner at an index of its window.
     pub fn word(&self, owner: Owner, index: u8) -> u32
-        requires { index < 64 }
+        requires { index < WINDOW_WORDS }
         ensures { result ≡ word self.now owner index }
     {
         self.words[position(owner, index)]
     }
 
-    /// Writes the word of an owner at an index below 64. All other words stay.
+    /// Writes the word of an owner at an index of its window. All other words stay.
     pub fn store(&mut self, owner: Owner, index: u8, new: u32)
-        requires { index < 64 }
+        requires { index < WINDOW_WORDS }
         ensures { (o : Owner) (i : ℕ) → word self.new o i ≡ with_word (word self.old) owner index new o i }
     {
         self.words[position(owner, index)] = new;
@@ -55,14 +55,14 @@ impl Windows {
 
 /// Where a word stands among all.
 fn position(owner: Owner, index: u8) -> usize
-    requires { index < 64 }
-    ensures value { result ≡ window_of owner * 64 + index }
+    requires { index < WINDOW_WORDS }
+    ensures value { result ≡ window_of owner * WINDOW_WORDS + index }
     ensures owner { IsTrue (has_window owner) }
-    ensures low { result < 3072 }
+    ensures low { result < ALL_WORDS }
 {
     let window = match owner {
         Owner::Task(task) => task.number(),
-        Owner::Routine(routine) => TaskId::LIMIT + routine.number(),
+        Owner::Routine(routine) => MAX_TASKS as u8 + routine.number(),
     };
-    window as usize * WORDS + index as usize
+    window as usize * WINDOW_WORDS + index as usize
 }

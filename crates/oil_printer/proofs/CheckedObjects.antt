@@ -5,6 +5,7 @@ use Rattle.std.specs.List.{list_all, list_any}
 use Rattle.std.specs.Str.{bytes_eq}
 use Rattle.std.proofs.Math.Dec.{leb-zero}
 use Rattle.std.proofs.lemmas.Bool.{leb-true, lt-ltb}
+use Rattle.osek_base.specs.declared.limits.TheConstants.{MAX_ROUTINE_PRIORITY}
 use Rattle.osek_base.specs.Names.{are_distinct_names}
 use Rattle.osek_base.specs.declared.task.Schedule.{Schedule}
 use Rattle.osek_base.specs.declared.task.Schedule.TheVariants as schedule
@@ -129,10 +130,10 @@ mode_fit name h =
 
 pub isr_fit : (i : IsrRecord) → is_checked_isr i ≡ true → IsFit (isr_object i)
 isr_fit i h =
-    let s = both (is_object_name kind.Isr i.name) (leb i.priority 31) h in
+    let s = both (is_object_name kind.Isr i.name) (leb i.priority MAX_ROUTINE_PRIORITY) h in
     let t = both (is_name i.name) (not (is_one_of (reserved kind.Isr) i.name)) s.0 in
     record {
-      prints = rw (t.0, number_below i.priority 31 (omega arith) s.1) refl;
+      prints = rw (t.0, number_below i.priority MAX_ROUTINE_PRIORITY (omega arith) s.1) refl;
       right = rw (leb-zero i.priority, s.1, t.1) refl;
     }
 

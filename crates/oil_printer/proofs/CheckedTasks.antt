@@ -4,6 +4,7 @@ use Rattle.std.specs.List.{list_all, list_any}
 use Rattle.std.specs.Str.{bytes_eq}
 use Rattle.std.proofs.Math.Dec.{leb-zero}
 use Rattle.std.proofs.lemmas.List.Folds.{list_all-append}
+use Rattle.osek_base.specs.declared.limits.TheConstants.{MAX_TASK_PRIORITY, MAX_ACTIVATION}
 use Rattle.osek_base.specs.Lists.{is_empty}
 use Rattle.osek_base.specs.Names.{are_distinct_names}
 use Rattle.osek_base.specs.declared.task.Schedule.{Schedule}
@@ -91,9 +92,9 @@ lines_right resources events =
 record HasTask (t : TaskRecord) : Type 0 where
   name : is_name t.name ≡ true
   free : not (is_one_of (reserved kind.Task) t.name) ≡ true
-  priority : leb t.priority 31 ≡ true
+  priority : leb t.priority MAX_TASK_PRIORITY ≡ true
   some : leb 1 t.activation ≡ true
-  few : leb t.activation 15 ≡ true
+  few : leb t.activation MAX_ACTIVATION ≡ true
   modes : are_distinct_names t.autostart ≡ true
   resources : are_distinct_names t.resources ≡ true
   events : are_distinct_names t.events ≡ true
@@ -109,9 +110,9 @@ has_task t h =
     let h4 = both _ (are_distinct_names t.events) h3.0 in
     let h5 = both _ (are_distinct_names t.resources) h4.0 in
     let h6 = both _ (are_distinct_names t.autostart) h5.0 in
-    let h7 = both _ (leb t.activation 15) h6.0 in
+    let h7 = both _ (leb t.activation MAX_ACTIVATION) h6.0 in
     let h8 = both _ (leb 1 t.activation) h7.0 in
-    let h9 = both _ (leb t.priority 31) h8.0 in
+    let h9 = both _ (leb t.priority MAX_TASK_PRIORITY) h8.0 in
     let n = both (is_name t.name) (not (is_one_of (reserved kind.Task) t.name)) h9.0 in
     record {
       name = n.0;
@@ -135,9 +136,9 @@ task_prints : (t : TaskRecord) → HasTask t → may_print_object (task_object t
 task_prints t h =
     rw (
       h.name,
-      number_below t.priority 31 (omega arith) h.priority,
+      number_below t.priority MAX_TASK_PRIORITY (omega arith) h.priority,
       schedule_name t.schedule,
-      number_below t.activation 15 (omega arith) h.few,
+      number_below t.activation MAX_ACTIVATION (omega arith) h.few,
       start_prints t.autostart h.mode_names,
       list_all-append may_print_attribute (lines_of TaskResource t.resources) (lines_of TaskEvent t.events),
       lines_print TaskResource refl t.resources h.resource_names,

@@ -18,7 +18,7 @@ ghost use Rattle.oil_printer.specs.Printed.{
   printed,
 };
 
-use crate::objects::{
+use crate::attributes::{
     push_alarm, push_counter, push_event, push_isr, push_mode, push_os, push_resource, push_task,
 };
 use oil_reader::{

@@ -5,6 +5,7 @@ use Rattle.std.specs.List.{list_all}
 use Rattle.std.specs.Str.{bytes_eq}
 use Rattle.std.proofs.lemmas.Bool.{le-leb, leb-true}
 use Rattle.std.proofs.lemmas.Slice.Eq.{bytes_eq-Decides}
+use Rattle.osek_base.specs.declared.limits.TheConstants.{MAX_TASK_PRIORITY, MAX_ROUTINE_PRIORITY, MAX_ACTIVATION}
 use Rattle.osek_base.specs.Lists.{is_empty}
 use Rattle.osek_base.specs.Names.{is_named, is_proper_name, are_distinct_names}
 use Rattle.osek_base.specs.Proper.{are_proper_names}
@@ -133,7 +134,7 @@ activation_low : (o : Object) → IsSoundObject o → o.kind ≡ kind.Task → l
 activation_low o sound k =
     let scope = object_scope o in
     let v = needed_stands scope (object_sound o sound) Activation (rw k (inr (inr (inl refl)))) refl in
-    rw v.1 (low_of 1 15 v.0 (accepted scope (object_sound o sound) Activation (rw k refl) v.0 v.1))
+    rw v.1 (low_of 1 MAX_ACTIVATION v.0 (accepted scope (object_sound o sound) Activation (rw k refl) v.0 v.1))
 
 free_if : (o : Object) → IsSoundObject o → (b : Bool) → is_one_of (reserved o.kind) o.name ≡ b → b ≡ false
 free_if o sound false t = refl
@@ -160,9 +161,9 @@ module _ (o : Object) (sound : IsSoundObject o) (spelled : is_spelled_object o �
       let name = name_checked kind.Task k in
       let xs = settings_in o in
       let scope = object_sound o sound in
-      let high = le-leb (number_at TaskPriority xs) 31 (task_priority o sound k) in
+      let high = le-leb (number_at TaskPriority xs) MAX_TASK_PRIORITY (task_priority o sound k) in
       let low = activation_low o sound k in
-      let top = le-leb (number_at Activation xs) 15 (task_activation o sound k) in
+      let top = le-leb (number_at Activation xs) MAX_ACTIVATION (task_activation o sound k) in
       let block = object_block o spelled TaskAutostart in
       let starts = is_true TaskAutostart xs in
       let distinct = modes_distinct starts (block_at TaskAutostart o.attributes) (distinct_modes o sound TaskAutostart (rw k refl) (StartMode ∷ []) refl (inl refl) refl) in
@@ -174,7 +175,7 @@ module _ (o : Object) (sound : IsSoundObject o) (spelled : is_spelled_object o �
       rw (name, high, low, top, distinct, resources, events, modes, resource_names, event_names) refl
 
   isr_checked : o.kind ≡ kind.Isr → is_checked_isr (isr_record o) ≡ true
-  isr_checked k = rw (name_checked kind.Isr k) (le-leb (number_at IsrPriority (settings_in o)) 31 (isr_priority o sound k))
+  isr_checked k = rw (name_checked kind.Isr k) (le-leb (number_at IsrPriority (settings_in o)) MAX_ROUTINE_PRIORITY (isr_priority o sound k))
 
   resource_checked : o.kind ≡ kind.Resource → is_checked_resource (resource_record o) ≡ true
   resource_checked k = name_checked kind.Resource k

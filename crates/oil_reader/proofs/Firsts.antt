@@ -2,18 +2,10 @@
 use Rattle.std.proofs.Common.{◌≡◌, ℕ, ◌+◌, ◌<◌, ◌≤◌, ◌⊎◌, length, take, map, get_or, List, [], ◌∷◌, ◌++◌, Option, Some, None, Result, Ok, Err, IfOk, refl, sym, ap, ◌∙◌, subst, arith, inl, inr}
 use Rattle.std.proofs.lemmas.List.{take_more, take_all, map_push}
 use Rattle.std.proofs.lemmas.Bool.{cases_lt, lt-ltb, le-ltb, eq-eqb, le-leb, lt-leb, ne_eqb, cases_eq}
+use Rattle.osek_base.proofs.FirstFaultLemmas.{no_later_trans, no_later_self}
 use Rattle.oil_reader.specs.declared.fault.OilFault.{OilFault}
-use Rattle.oil_reader.specs.Order.{place_of, number_of, IsNoLater, earlier, earlier_of, first_of_all}
-use Rattle.oil_reader.specs.Attributes.{Among, IsFirstFault, Finds, SomeFault}
-
-pub no_later_trans : (e f g : OilFault) → IsNoLater e f → IsNoLater f g → IsNoLater e g
-no_later_trans e f g (inl a) (inl b) = inl (omega arith)
-no_later_trans e f g (inl a) (inr b) = inl (omega (arith, b.0))
-no_later_trans e f g (inr a) (inl b) = inl (omega (arith, a.0))
-no_later_trans e f g (inr a) (inr b) = inr (a.0 ∙ b.0, omega (arith, a.1, b.1))
-
-pub no_later_self : (e : OilFault) → IsNoLater e e
-no_later_self e = inr (refl, omega arith)
+use Rattle.oil_reader.specs.Order.{place_of, number_of, rank, IsNoLater, IsFirstFault, earlier, earlier_of, first_of_all}
+use Rattle.oil_reader.specs.Attributes.{Among, Finds, SomeFault}
 
 -- the earlier of two is one of them, and no later than the other
 earlier_is : (f g : OilFault) → ((earlier (Some f) g ≡ f) × IsNoLater f g) ⊎ ((earlier (Some f) g ≡ g) × IsNoLater g f)
@@ -37,7 +29,7 @@ Finds_map P Q to from (Some e) h = record { stands = to e h.stands; first = λ g
 Finds_more : (P : OilFault → Type 0) (o : Option OilFault) (g : OilFault) → Finds P o → Finds (λ e. P e ⊎ (g ≡ e)) (Some (earlier o g))
 Finds_more P None g h = record {
   stands = inr refl;
-  first = λ e q. elim q [ inl a ↦ absurd (h e a) | inr b ↦ subst (IsNoLater g) b (no_later_self g) ];
+  first = λ e q. elim q [ inl a ↦ absurd (h e a) | inr b ↦ subst (IsNoLater g) b (no_later_self rank g) ];
 }
 Finds_more P (Some f) g h =
     elim (earlier_is f g) [
@@ -47,7 +39,7 @@ Finds_more P (Some f) g h =
       })
       | inr b ↦ subst (λ (x : OilFault). IsFirstFault (λ e. P e ⊎ (g ≡ e)) x) (sym b.0) (record {
         stands = inr refl;
-        first = λ e q. elim q [ inl x ↦ no_later_trans g f e b.1 (h.first e x) | inr y ↦ subst (IsNoLater g) y (no_later_self g) ];
+        first = λ e q. elim q [ inl x ↦ no_later_trans rank g f e b.1 (h.first e x) | inr y ↦ subst (IsNoLater g) y (no_later_self rank g) ];
       })
     ]
 
@@ -91,7 +83,7 @@ Finds_both P Q a (Some g) p q =
     let more = Finds_more P a g p in
     record {
       stands = elim more.stands [ inl x ↦ inl x | inr y ↦ inr (subst Q y q.stands) ];
-      first = λ e x. elim x [ inl y ↦ more.first e (inl y) | inr y ↦ no_later_trans (earlier a g) g e (more.first g (inr refl)) (q.first e y) ];
+      first = λ e x. elim x [ inl y ↦ more.first e (inl y) | inr y ↦ no_later_trans rank (earlier a g) g e (more.first g (inr refl)) (q.first e y) ];
     }
 
 pub Finds_none : {X : Type 0} (F : X → OilFault → Type 0) → Finds (SomeFault F []) None

@@ -1,4 +1,3 @@
-pub mod Pieces
 pub mod OneMeaning
 pub mod Passes
 pub mod Lists
@@ -17,3 +16,4 @@ pub mod CheckedLemmas
 pub mod CheckedParts
 pub mod OneTree
 pub mod TextMeaning
+pub mod OlderLemmas

@@ -10,11 +10,12 @@ use Rattle.oil_reader.specs.declared.syntax.Kind.{Kind}
 use Rattle.oil_reader.specs.declared.syntax.Kind.TheVariants as kind
 use Rattle.oil_reader.specs.Grammar.{Object, File}
 use Rattle.oil_reader.specs.Table.{is_one_of}
-use Rattle.oil_reader.specs.Order.{first_of_all, earlier, IsNoLater}
+use Rattle.oil_reader.specs.Order.{first_of_all, earlier, rank, IsNoLater}
 use Rattle.oil_reader.proofs.Scopes.{first_of_both}
 use Rattle.oil_reader.specs.Attributes.{Among, IsSecondObject, Lacks, ObjectFault, ReservedFault, reserved, Finds}
 use Rattle.oil_reader.specs.Checks.{kind_number, same_kind, is_os, clashes, stood, seconds, has_kind, lacks}
-use Rattle.oil_reader.proofs.Firsts.{Finds_listed, no_later_self, among_left, among_right, among_either}
+use Rattle.osek_base.proofs.FirstFaultLemmas.{no_later_self}
+use Rattle.oil_reader.proofs.Firsts.{Finds_listed, among_left, among_right, among_either}
 use Rattle.oil_reader.proofs.Listed.{any_is, any_by, both, or_true}
 
 kind_at : ℕ → Kind
@@ -171,7 +172,7 @@ is_one (v ∷ ws) w (inl e) = rw ((bytes_eq-Decides w v).1 (sym e)) refl
 is_one (v ∷ ws) w (inr h) = or_true (bytes_eq w v) (is_one_of ws w) (is_one ws w h)
 
 pub reserved_some : (o : Object) → is_one_of (reserved o.kind) o.name ≡ true → Finds (ReservedFault o) (Some (fault.Range o.place))
-reserved_some o h = record { stands = (one_of_is (reserved o.kind) o.name h, refl); first = λ g q. subst (IsNoLater (fault.Range o.place)) q.1 (no_later_self (fault.Range o.place)) }
+reserved_some o h = record { stands = (one_of_is (reserved o.kind) o.name h, refl); first = λ g q. subst (IsNoLater (fault.Range o.place)) q.1 (no_later_self rank (fault.Range o.place)) }
 
 pub reserved_none : (o : Object) → is_one_of (reserved o.kind) o.name ≡ false → Finds (ReservedFault o) None
 reserved_none o h = λ g q. let yes = is_one (reserved o.kind) o.name q.0 in absurd cc

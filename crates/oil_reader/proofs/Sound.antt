@@ -4,6 +4,7 @@ use Rattle.std.specs.Prelude.{codes}
 use Rattle.std.specs.Str.{bytes_eq}
 use Rattle.std.proofs.lemmas.Bool.{leb-true}
 use Rattle.std.proofs.lemmas.Slice.Eq.{bytes_eq-Decides}
+use Rattle.osek_base.specs.declared.limits.TheConstants.{MAX_TASK_PRIORITY, MAX_ROUTINE_PRIORITY, MAX_ACTIVATION}
 use Rattle.oil_reader.specs.declared.fault.OilFault.TheVariants as fault
 use Rattle.oil_reader.specs.declared.syntax.Kind.TheVariants as kind
 use Rattle.oil_reader.specs.declared.table.AttributeName.{AttributeName}
@@ -102,14 +103,14 @@ module _ (o : Object) (sound : IsSoundObject o) where
   pub object_sound : IsSoundScope (object_scope o)
   object_sound e f = sound e (inl (inl f))
 
-  pub task_priority : o.kind ≡ kind.Task → number_at TaskPriority (settings_in o) ≤ 31
-  task_priority k = number_below (value_at TaskPriority (settings_in o)) 0 31 (accepted (object_scope o) object_sound TaskPriority (rw k refl))
+  pub task_priority : o.kind ≡ kind.Task → number_at TaskPriority (settings_in o) ≤ MAX_TASK_PRIORITY
+  task_priority k = number_below (value_at TaskPriority (settings_in o)) 0 MAX_TASK_PRIORITY (accepted (object_scope o) object_sound TaskPriority (rw k refl))
 
-  pub task_activation : o.kind ≡ kind.Task → number_at Activation (settings_in o) ≤ 15
-  task_activation k = number_below (value_at Activation (settings_in o)) 1 15 (accepted (object_scope o) object_sound Activation (rw k refl))
+  pub task_activation : o.kind ≡ kind.Task → number_at Activation (settings_in o) ≤ MAX_ACTIVATION
+  task_activation k = number_below (value_at Activation (settings_in o)) 1 MAX_ACTIVATION (accepted (object_scope o) object_sound Activation (rw k refl))
 
-  pub isr_priority : o.kind ≡ kind.Isr → number_at IsrPriority (settings_in o) ≤ 31
-  isr_priority k = number_below (value_at IsrPriority (settings_in o)) 0 31 (accepted (object_scope o) object_sound IsrPriority (rw k refl))
+  pub isr_priority : o.kind ≡ kind.Isr → number_at IsrPriority (settings_in o) ≤ MAX_ROUTINE_PRIORITY
+  isr_priority k = number_below (value_at IsrPriority (settings_in o)) 0 MAX_ROUTINE_PRIORITY (accepted (object_scope o) object_sound IsrPriority (rw k refl))
 
   pub alarm_counter : o.kind ≡ kind.Alarm → has_name AlarmCounter (settings_in o) ≡ true
   alarm_counter k = needed_name (object_scope o) object_sound AlarmCounter (rw k (inl refl)) (rw k refl) refl any_name

@@ -3,6 +3,7 @@ use Rattle.std.proofs.Common.{◌≡◌, ℕ, zero, suc, ◌≤◌, ◌<◌, ◌
 use Rattle.std.specs.List.{list_all}
 use Rattle.std.proofs.lemmas.Bool.{le-leb, lt-ltb, cases_lt}
 use Rattle.std.proofs.lemmas.List.{length-take-le}
+use Rattle.osek_base.specs.declared.limits.TheConstants.{MAX_NAME}
 use Rattle.osek_base.specs.Words.{is_letter, is_digit, is_word_byte, IsRun}
 use Rattle.osek_base.specs.Tokens as base
 use Rattle.osek_base.specs.Tokens.Lexes.{ends, passes, takes}
@@ -69,7 +70,7 @@ word_bytes (b ∷ bytes) (suc n) within each =
     and_true (is_word_byte b) (list_all is_word_byte (take n bytes)) (each 0 (omega arith)) (word_bytes bytes n (omega (arith, within)) (λ i less. each (suc i) (omega (arith, less))))
 
 -- a run that begins with a letter is a name
-run_name : (bytes : List ℕ) (n : ℕ) → is_letter (get_or bytes 0 0) ≡ true → IsRun bytes n → 1 ≤ n → n ≤ 32 → is_name (take n bytes) ≡ true
+run_name : (bytes : List ℕ) (n : ℕ) → is_letter (get_or bytes 0 0) ≡ true → IsRun bytes n → 1 ≤ n → n ≤ MAX_NAME → is_name (take n bytes) ≡ true
 run_name bytes zero letter run low high = absurd (omega (arith, low))
 run_name [] (suc n) letter run low high = absurd (omega (arith, run.within))
 run_name (b ∷ bytes) (suc n) letter run low high =

@@ -1,11 +1,12 @@
 -- A text means one file, or has one fault, and not both.
-use Rattle.std.proofs.Common.{◌≡◌, ℕ, ◌≤◌, zero, suc, List, refl, sym, ap, ◌∙◌, subst, inl, inr, arith, length}
+use Rattle.std.proofs.Common.{◌≡◌, ℕ, zero, suc, List, refl, sym, ap, ◌∙◌, subst, inl, inr, length}
+use Rattle.osek_base.proofs.FirstFaultLemmas.{first_unique}
 use Rattle.oil_reader.specs.declared.fault.OilFault.{OilFault}
 use Rattle.oil_reader.specs.declared.fault.OilFault.TheVariants as fault
 use Rattle.oil_reader.specs.Tokens.{Lexeme}
 use Rattle.oil_reader.specs.Grammar.{File, IsFile, IsSyntaxFault}
-use Rattle.oil_reader.specs.Order.{place_of, number_of, IsNoLater}
-use Rattle.oil_reader.specs.Attributes.{Stands, IsFirstFault}
+use Rattle.oil_reader.specs.Order.{place_of, number_of, rank, IsFirstFault}
+use Rattle.oil_reader.specs.Attributes.{Stands}
 use Rattle.oil_reader.specs.Configuration.{Configuration}
 use Rattle.oil_reader.specs.Meaning.{configuration_of}
 use Rattle.oil_reader.specs.Faults.{IsTreeOf, HasSyntaxFault, HasFault, Means}
@@ -72,22 +73,8 @@ fault_back (fault.Missing p) = refl
 fault_back (fault.Twice p) = refl
 fault_back (fault.Range p) = refl
 
-no_later_places : (e g : OilFault) → IsNoLater e g → place_of e ≤ place_of g
-no_later_places e g (inl a) = omega arith
-no_later_places e g (inr a) = omega (arith, a.0)
-
-no_later_numbers : (e g : OilFault) → place_of e ≡ place_of g → IsNoLater e g → number_of e ≤ number_of g
-no_later_numbers e g same (inl a) = absurd (omega arith)
-no_later_numbers e g same (inr a) = a.1
-
-no_later_both : (e g : OilFault) → IsNoLater e g → IsNoLater g e → e ≡ g
-no_later_both e g a b =
-    let places : place_of e ≡ place_of g = omega (arith, no_later_places e g a, no_later_places g e b) in
-    let numbers : number_of e ≡ number_of g = omega (arith, no_later_numbers e g places a, no_later_numbers g e (sym places) b) in
-    sym (fault_back e) ∙ ap (λ (n : ℕ). fault_at n (place_of e)) numbers ∙ ap (fault_at (number_of g)) places ∙ fault_back g
-
-first_unique : (P : OilFault → Type 0) (e g : OilFault) → IsFirstFault P e → IsFirstFault P g → e ≡ g
-first_unique P e g a b = no_later_both e g (a.first g b.stands) (b.first e a.stands)
+told : (e g : OilFault) → place_of e ≡ place_of g → number_of e ≡ number_of g → e ≡ g
+told e g places numbers = sym (fault_back e) ∙ ap (λ (n : ℕ). fault_at n (place_of e)) numbers ∙ ap (fault_at (number_of g)) places ∙ fault_back g
 
 -- a text has one fault
 pub text_fault_unique : (text : List ℕ) (e g : OilFault) → ¬ (e ≡ fault.Memory) → ¬ (g ≡ fault.Memory) → HasFault text e → HasFault text g → e ≡ g
@@ -95,4 +82,4 @@ text_fault_unique text e g real other (inl h) (inl k) = syntax_fault_unique text
 text_fault_unique text e g real other (inl h) (inr k) = absurd (syntax_fault_apart text k.0 e real h k.1)
 text_fault_unique text e g real other (inr h) (inl k) = absurd (syntax_fault_apart text h.0 g other k h.1)
 text_fault_unique text e g real other (inr h) (inr k) =
-    first_unique (Stands h.0) e g h.2 (subst (λ (f : File). IsFirstFault (Stands f) g) (sym (tree_unique text h.0 k.0 h.1 k.1)) k.2)
+    first_unique rank told (Stands h.0) e g h.2 (subst (λ (f : File). IsFirstFault (Stands f) g) (sym (tree_unique text h.0 k.0 h.1 k.1)) k.2)

@@ -9,7 +9,7 @@ use Rattle.oil_reader.specs.Grammar.{Setting, Block, Attribute, Object, File}
 use Rattle.std.specs.List.{find}
 use Rattle.std.specs.Str.{bytes_eq}
 use Rattle.oil_reader.specs.Table.{word_of, presence_of, is_list, may_lack, attributes_of, accepts, block_of}
-use Rattle.oil_reader.specs.Order.{IsNoLater}
+use Rattle.oil_reader.specs.Order.{IsFirstFault}
 
 -- x is one of the list
 abbrev pub Among : {X : Type 0} → List X → X → Type 0
@@ -150,11 +150,6 @@ OneObjectFault o e = AttributeFault o e ⊎ ReservedFault o e
 -- a fault that stands in the file
 abbrev pub Stands : File → OilFault → Type 0
 Stands f e = ObjectFault f e ⊎ SomeFault OneObjectFault f.objects e
-
--- the first of all that stand in it
-pub record IsFirstFault (P : OilFault → Type 0) (e : OilFault) : Type 0 where
-  pub stands : P e
-  pub first : (g : OilFault) → P g → IsNoLater e g
 
 -- what a check answers
 abbrev pub Finds : (OilFault → Type 0) → Option OilFault → Type 0

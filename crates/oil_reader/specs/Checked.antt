@@ -1,6 +1,7 @@
 -- OIL: standard objects. What the reader has checked of all that a file holds.
 use Rattle.std.specs.Prelude.{ℕ, Bool, true, false, not, ◌&&◌, nat_le, nat_lt, ◌^◌, List, [], ◌∷◌, map, Option, Some, None, length}
 use Rattle.std.specs.List.{list_all}
+use Rattle.osek_base.specs.declared.limits.TheConstants.{MAX_TASK_PRIORITY, MAX_ROUTINE_PRIORITY, MAX_ACTIVATION}
 use Rattle.osek_base.specs.Lists.{is_empty}
 use Rattle.osek_base.specs.Names.{are_distinct_names}
 use Rattle.osek_base.specs.Proper.{are_proper_names}
@@ -42,12 +43,12 @@ is_checked_os o = is_object_name kind.Os o.name
 -- a task's numbers are in range, and no list names one object twice
 abbrev pub is_checked_task : TaskRecord → Bool
 is_checked_task t =
-    is_object_name kind.Task t.name && nat_le t.priority 31 && nat_le 1 t.activation && nat_le t.activation 15
+    is_object_name kind.Task t.name && nat_le t.priority MAX_TASK_PRIORITY && nat_le 1 t.activation && nat_le t.activation MAX_ACTIVATION
     && are_distinct_names t.autostart && are_distinct_names t.resources && are_distinct_names t.events
     && are_names t.autostart && are_names t.resources && are_names t.events
 
 abbrev pub is_checked_isr : IsrRecord → Bool
-is_checked_isr i = is_object_name kind.Isr i.name && nat_le i.priority 31
+is_checked_isr i = is_object_name kind.Isr i.name && nat_le i.priority MAX_ROUTINE_PRIORITY
 
 abbrev pub is_checked_resource : ResourceRecord → Bool
 is_checked_resource r = is_object_name kind.Resource r.name

@@ -4,10 +4,11 @@ use Rattle.oil_reader.specs.declared.fault.OilFault.{OilFault}
 use Rattle.oil_reader.specs.declared.fault.OilFault.TheVariants as fault
 use Rattle.oil_reader.specs.declared.tokens.Token.{Token}
 use Rattle.oil_reader.specs.declared.tokens.Class.{Class}
-use Rattle.oil_reader.specs.declared.tokens.Piece.{Piece}
+use Rattle.osek_base.specs.declared.lexing.Piece.{Piece}
 use Rattle.oil_reader.specs.Tokens.{Word, Lexeme, IsTokensOf, IsTokenFaultAt, word_of, IsPieceOf}
 use Rattle.oil_reader.specs.Grammar.{File, IsFile, IsSyntaxFault}
-use Rattle.oil_reader.specs.Attributes.{Stands, IsFirstFault, IsSoundFile}
+use Rattle.oil_reader.specs.Order.{IsFirstFault}
+use Rattle.oil_reader.specs.Attributes.{Stands, IsSoundFile}
 use Rattle.oil_reader.specs.Configuration.{Configuration}
 use Rattle.oil_reader.specs.Meaning.{configuration_of}
 
@@ -21,7 +22,7 @@ abbrev pub piece_word : Option Token → Option Word
 piece_word t = option_map word_of t
 
 -- a function that looks for a piece of a class: what it found, or there is none
-abbrev pub GivesPiece : Class → List ℕ → Option Piece → Type 0
+abbrev pub GivesPiece : Class → List ℕ → Option (Piece Token) → Type 0
 GivesPiece k bytes (Some p) = IsPieceOf k bytes p.len (piece_word p.token) × (0 < p.len) × (p.len ≤ length bytes)
 GivesPiece k bytes None = (n : ℕ) (t : Option Word) → ¬ IsPieceOf k bytes n t
 

@@ -12,3 +12,4 @@ pub mod Machine
 pub mod Checks
 pub mod Trees
 pub mod Rest
+pub mod Older

@@ -1,5 +1,6 @@
 -- Which fault is answered where there are several.
-use Rattle.std.specs.Prelude.{◌≡◌, ℕ, ◌<◌, ◌≤◌, ◌⊎◌, ◌&&◌, ◌==◌, nat_lt, nat_le, if◌then◌else◌, List, [], ◌∷◌, Option, Some, None}
+use Rattle.std.specs.Prelude.{ℕ, ◌&&◌, ◌==◌, nat_lt, nat_le, if◌then◌else◌, List, [], ◌∷◌, Option, Some, None}
+use Rattle.osek_base.specs.FirstFault as base
 use Rattle.oil_reader.specs.declared.fault.OilFault.{OilFault}
 use Rattle.oil_reader.specs.declared.fault.OilFault.TheVariants as fault
 
@@ -21,9 +22,15 @@ number_of (fault.Missing p) = 4
 number_of (fault.Twice p) = 5
 number_of (fault.Range p) = 6
 
--- at the lesser place, or at one place the lower number
+abbrev pub rank : base.Rank OilFault
+rank = record { place = place_of; number = number_of }
+
 abbrev pub IsNoLater : OilFault → OilFault → Type 0
-IsNoLater e g = (place_of e < place_of g) ⊎ ((place_of e ≡ place_of g) × (number_of e ≤ number_of g))
+IsNoLater e g = base.IsNoLater rank e g
+
+-- the first of all that stand
+abbrev pub IsFirstFault : (OilFault → Type 0) → OilFault → Type 0
+IsFirstFault P e = base.IsFirst rank P e
 
 abbrev pub earlier : Option OilFault → OilFault → OilFault
 earlier None g = g

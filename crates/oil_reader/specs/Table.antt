@@ -1,6 +1,7 @@
 -- OIL: standard objects and their attributes. The attributes that each kind of object has, and their values.
 use Rattle.std.specs.Prelude.{ℕ, List, [], ◌∷◌, Bool, true, false, ◌||◌, ◌&&◌, nat_le, if◌then◌else◌, codes}
 use Rattle.std.specs.Str.{bytes_eq}
+use Rattle.osek_base.specs.declared.limits.TheConstants.{MAX_TASK_PRIORITY, MAX_ROUTINE_PRIORITY, MAX_ACTIVATION}
 use Rattle.oil_reader.specs.declared.syntax.Kind.{Kind}
 use Rattle.oil_reader.specs.declared.syntax.Kind.TheVariants as kind
 use Rattle.oil_reader.specs.declared.table.AttributeName.{AttributeName}
@@ -99,13 +100,13 @@ abbrev pub range_of : AttributeName → Range
 range_of Status = Words (codes "EXTENDED" ∷ [])
 range_of UseGetServiceId = Words (codes "FALSE" ∷ [])
 range_of UseParameterAccess = Words (codes "FALSE" ∷ [])
-range_of TaskPriority = Between 0 31
+range_of TaskPriority = Between 0 MAX_TASK_PRIORITY
 range_of Schedule = Words (codes "NON" ∷ codes "FULL" ∷ [])
-range_of Activation = Between 1 15
+range_of Activation = Between 1 MAX_ACTIVATION
 range_of TaskResource = AnyName
 range_of TaskEvent = AnyName
 range_of Category = Between 2 2
-range_of IsrPriority = Between 0 31
+range_of IsrPriority = Between 0 MAX_ROUTINE_PRIORITY
 range_of ResourceProperty = Words (codes "STANDARD" ∷ codes "INTERNAL" ∷ [])
 range_of EventMask = AutoOrPositive
 range_of MaxAllowedValue = AnyNumber

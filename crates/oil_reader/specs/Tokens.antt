@@ -1,6 +1,7 @@
 -- OIL: grammar. The tokens of a text, each with its place.
-use Rattle.std.specs.Prelude.{◌≡◌, ◌≢◌, ℕ, ◌+◌, ◌-◌, ◌<◌, ◌≤◌, ◌⊎◌, ◌||◌, ◌==◌, List, length, take, map, slice_index, Option, Some, None, if◌then◌else◌, codes}
-use Rattle.osek_base.specs.Words.{is_letter, is_digit, IsRun, IsNumeral}
+use Rattle.std.specs.Prelude.{◌≡◌, ℕ, ◌+◌, ◌-◌, ◌<◌, ◌≤◌, ◌⊎◌, ◌||◌, ◌==◌, List, length, take, slice_index, Option, Some, None, if◌then◌else◌, codes}
+use Rattle.osek_base.specs.declared.limits.TheConstants.{MAX_NAME}
+use Rattle.osek_base.specs.Words.{is_letter, is_digit, IsRun, IsNumeral, IsLine}
 use Rattle.osek_base.specs.Tokens as base
 use Rattle.oil_reader.specs.declared.tokens.Class.{Class}
 use Rattle.oil_reader.specs.declared.tokens.Class.TheVariants as class
@@ -8,7 +9,7 @@ use Rattle.oil_reader.specs.declared.tokens.Sign.{Sign}
 use Rattle.oil_reader.specs.declared.tokens.Sign.TheVariants.{Open, Close, Equals, Semicolon}
 use Rattle.oil_reader.specs.declared.tokens.Token.{Token}
 use Rattle.oil_reader.specs.declared.tokens.Token.TheVariants as token
-use Rattle.oil_reader.specs.declared.tokens.Placed.{Placed}
+use Rattle.osek_base.specs.declared.lexing.Placed.{Placed}
 
 -- ---- pieces
 
@@ -27,12 +28,8 @@ class_of b =
     else class.Other))))))))
 
 -- // and what stands before the next LF or the end
-pub record IsLineComment (bytes : List ℕ) (n : ℕ) : Type 0 where
-  pub opens : slice_index bytes 1 ≡ 47
-  pub within : n ≤ length bytes
-  pub long : 2 ≤ n
-  pub each : (i : ℕ) → 2 ≤ i → i < n → slice_index bytes i ≢ 10
-  pub longest : n < length bytes → slice_index bytes n ≡ 10
+abbrev pub IsLineComment : List ℕ → ℕ → Type 0
+IsLineComment bytes n = (slice_index bytes 1 ≡ 47) × IsLine bytes n
 
 -- */ stands at i
 abbrev pub ClosesAt : List ℕ → ℕ → Type 0
@@ -55,7 +52,7 @@ pub data Word : Type 0 where
 
 -- the first n bytes are a piece of the text: a token, or what means nothing
 abbrev pub IsPieceOf : Class → List ℕ → ℕ → Option Word → Type 0
-IsPieceOf class.Letter bytes n t = IsRun bytes n × (n ≤ 32) × (t ≡ Some (Name (take n bytes)))
+IsPieceOf class.Letter bytes n t = IsRun bytes n × (n ≤ MAX_NAME) × (t ≡ Some (Name (take n bytes)))
 IsPieceOf class.Digit bytes n t = IsRun bytes n × (v : ℕ) × IsNumeral (take n bytes) v × (t ≡ Some (Number v))
 IsPieceOf class.Blank bytes n t = (n ≡ 1) × (t ≡ None)
 IsPieceOf class.Slash bytes n t = (IsLineComment bytes n ⊎ IsBlockComment bytes n) × (t ≡ None)
@@ -86,8 +83,8 @@ word_of (token.Number n) = Number n
 word_of token.Version = Version
 word_of (token.Sign s) = Mark s
 
-abbrev pub lexeme_of : Placed → Lexeme
-lexeme_of t = record { place = t.place; word = word_of t.token }
+abbrev pub lexeme_of : Placed Token → Lexeme
+lexeme_of t = base.lexeme_of word_of t
 
-abbrev pub lexemes_of : List Placed → List Lexeme
-lexemes_of ts = map lexeme_of ts
+abbrev pub lexemes_of : List (Placed Token) → List Lexeme
+lexemes_of ts = base.lexemes_of word_of ts

@@ -37,10 +37,10 @@ impl Model for Os {
 #[derive(Debug, Drop)]
 pub struct TaskObject {
     pub name: Name,
-    /// 0 to 31; 0 is the lowest.
+    /// 0 to [`MAX_TASK_PRIORITY`](osek_base::MAX_TASK_PRIORITY); 0 is the lowest.
     pub priority: u8,
     pub schedule: Schedule,
-    /// How many jobs it may have at once, 1 to 15.
+    /// How many jobs it may have at once, 1 to [`MAX_ACTIVATION`](osek_base::MAX_ACTIVATION).
     pub activation: u8,
     pub autostart: Vec<Name>,
     pub resources: Vec<Name>,
@@ -63,7 +63,7 @@ impl Model for TaskObject {
     } };
 }
 
-/// An ISR of category 2, with its PRIORITY of 0 to 31 (which is no attribute of OIL 2.5, and 0 where it is left out).
+/// An ISR of category 2, with its PRIORITY (which is no attribute of OIL 2.5, and 0 where it is left out).
 #[derive(Debug, Drop)]
 pub struct IsrObject {
     pub name: Name,

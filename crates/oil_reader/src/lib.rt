@@ -19,4 +19,8 @@ pub use file::{
     ActionObject, AlarmObject, AlarmStartObject, CounterObject, EventObject, IsrObject, Mask,
     OilFile, OilParts, Os, ResourceObject, TaskObject,
 };
+pub use ident::Ident;
 pub use reading::{one_meaning, read_oil};
+pub use syntax::{Attribute, Block, Kind, Object, Setting, SyntaxTree, Value, parse};
+pub use table::{AttributeName, Presence, attributes_of};
+pub use tokens::{Placed, Sign, Token, tokenize};

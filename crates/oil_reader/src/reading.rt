@@ -1,6 +1,7 @@
 //! OIL: grammar and standard objects. Bytes to the file that they mean.
 
 ghost use Rattle.std.specs.Prelude.{◌≡◌, ℕ, List, IfOk, IfErr};
+ghost use Rattle.oil_reader.specs.Older.{MeantThen};
 ghost use Rattle.oil_reader.specs.Configuration.{Configuration};
 ghost use Rattle.oil_reader.specs.declared.fault.OilFault.{OilFault};
 ghost use Rattle.oil_reader.specs.declared.fault.OilFault.TheVariants.{Memory};
@@ -25,11 +26,8 @@ fn read_tree(alloc: Global, text: &[u8]) -> Result<SyntaxTree<'_>, OilFault>
     parse(alloc, text.len(), &tokens)
 }
 
-/// Reads an OIL file (OIL 2.5: grammar, standard objects and their attributes).
-///
-/// The file is the one that the text means. Where the text has a fault, its first one is answered. Want of memory is
-/// answered where a growth was refused, and then nothing is known of the text.
-pub fn read_oil(alloc: Global, text: &[u8]) -> Result<OilFile, OilFault>
+/// The file that a text means, or its first fault.
+fn read(alloc: Global, text: &[u8]) -> Result<OilFile, OilFault>
     ensures ok { IfOk result (λ file. Means text.now file) }
     ensures err { IfErr result (λ e. HasFault text.now e) }
 {
@@ -38,6 +36,20 @@ pub fn read_oil(alloc: Global, text: &[u8]) -> Result<OilFile, OilFault>
         return Err(fault);
     }
     Ok(oil_file(alloc, &tree)?)
+}
+
+/// Reads an OIL file (OIL 2.5: grammar, standard objects and their attributes).
+///
+/// The file is the one that the text means. Where the text has a fault, its first one is answered. Want of memory is
+/// answered where a growth was refused, and then nothing is known of the text. A text that had a meaning when the PRIORITY
+/// of a task ended at 31 has the same meaning now.
+pub fn read_oil(alloc: Global, text: &[u8]) -> Result<OilFile, OilFault>
+    ensures ok { IfOk result (λ file. Means text.now file) }
+    ensures err { IfErr result (λ e. HasFault text.now e) }
+    ensures older { (c : Configuration) → MeantThen text.now c → IfOk result (λ file. file ≡ c) }
+    ensures accepted { (c : Configuration) → MeantThen text.now c → IfErr result (λ e. e ≡ Memory) }
+{
+    read(alloc, text)
 }
 
 /// A law of the definitions: a text means one file, or has one first fault, and never both. Want of memory is no fault

@@ -6,6 +6,7 @@ ghost use Rattle.oil_reader.specs.Grammar.{Named, Numeric};
 ghost use Rattle.oil_reader.specs.Trees.{value_of};
 
 use crate::syntax::{Kind, Value};
+use osek_base::{MAX_ACTIVATION, MAX_ROUTINE_PRIORITY, MAX_TASK_PRIORITY};
 
 /// The attributes of objects, and of the blocks behind a value.
 #[derive(Clone, Copy, Debug, PartialEq, Eq)]
@@ -145,8 +146,9 @@ impl AttributeName {
         ensures { result ≡ accepts self (Numeric number) }
     {
         match self {
-            AttributeName::TaskPriority | AttributeName::IsrPriority => number <= 31,
-            AttributeName::Activation => 1 <= number && number <= 15,
+            AttributeName::TaskPriority => number <= MAX_TASK_PRIORITY as u32,
+            AttributeName::IsrPriority => number <= MAX_ROUTINE_PRIORITY as u32,
+            AttributeName::Activation => 1 <= number && number <= MAX_ACTIVATION as u32,
             AttributeName::Category => number == 2,
             AttributeName::EventMask => 1 <= number,
             AttributeName::MaxAllowedValue

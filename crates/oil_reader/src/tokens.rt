@@ -1,13 +1,14 @@
 //! OIL: grammar. Bytes to tokens.
 
 ghost use Rattle.std.specs.Prelude.{◌≡◌, ◌≢◌, ◌<◌, ◌≤◌, ℕ, length, slice_index, IfOk, IfErr, IfSome, IfNone};
-ghost use Rattle.oil_reader.specs.Tokens.{IsLineComment, IsBlockComment, IsTokensOf, IsTokenFaultAt, lexemes_of, class_of};
+ghost use Rattle.oil_reader.specs.Tokens.{IsBlockComment, IsTokensOf, lexemes_of, class_of};
 ghost use Rattle.oil_reader.specs.declared.tokens.Class.TheVariants as class;
 ghost use Rattle.oil_reader.specs.Faults.{IsTokenFault, GivesPiece};
 
 use crate::fault::OilFault;
 use crate::ident::Ident;
-use osek_base::words::{numeral, run_len};
+use osek_base::lexing::{self, LexFault, Piece};
+use osek_base::words::{line_len, number_at, word_at};
 use std::alloc::Global;
 
 /// The signs that are tokens: `{`, `}`, `=` and `;`.
@@ -42,21 +43,7 @@ pub enum Token<'a> {
 }
 
 /// A token and its place in the text.
-#[derive(Clone, Copy, Debug, PartialEq, Eq)]
-pub struct Placed<'a> {
-    pub place: usize,
-    pub token: Token<'a>,
-}
-
-/// What stands at the front of a text: a token, or white space or a comment.
-#[derive(Clone, Copy, Debug)]
-pub struct Piece<'a> {
-    pub len: usize,
-    pub token: Option<Token<'a>>,
-}
-
-/// How many bytes a NAME may have.
-const NAME_MAX: usize = 32;
+pub type Placed<'a> = lexing::Placed<Token<'a>>;
 
 fn class_of(b: u8) -> Class
     ensures { result ≡ class_of b }
@@ -75,19 +62,6 @@ fn class_of(b: u8) -> Class
     }
 }
 
-/// How many bytes a comment to the line's end has.
-fn line_comment_len(bytes: &[u8]) -> usize
-    requires opens { slice_index bytes.now 1 ≡ 47 }
-    requires long { 2 ≤ length bytes.now }
-    ensures { IsLineComment bytes.now result }
-{
-    let mut n = 2;
-    while n < bytes.len() && bytes[n] != b'\n' {
-        n += 1;
-    }
-    n
-}
-
 /// How many bytes a comment up to `*/` has, where it ends.
 fn block_comment_len(bytes: &[u8]) -> Option<usize>
     requires opens { slice_index bytes.now 1 ≡ 42 }
@@ -104,42 +78,38 @@ fn block_comment_len(bytes: &[u8]) -> Option<usize>
     None
 }
 
-fn name(bytes: &[u8]) -> Option<Piece<'_>>
+fn name(bytes: &[u8]) -> Option<Piece<Token<'_>>>
     requires first { class_of (slice_index bytes.now 0) ≡ class.Letter }
     requires some { 0 < length bytes.now }
     ensures { GivesPiece class.Letter bytes.now result }
 {
-    let len = run_len(bytes);
-    if len > NAME_MAX {
-        return None;
-    }
-    let ident = Ident::new(&bytes[..len]);
+    let text = word_at(bytes)?;
     Some(Piece {
-        len,
-        token: Some(Token::Name(ident)),
+        len: text.len(),
+        token: Some(Token::Name(Ident { text })),
     })
 }
 
-fn number(bytes: &[u8]) -> Option<Piece<'_>>
+fn number(bytes: &[u8]) -> Option<Piece<Token<'_>>>
     requires first { class_of (slice_index bytes.now 0) ≡ class.Digit }
     requires some { 0 < length bytes.now }
     ensures { GivesPiece class.Digit bytes.now result }
 {
-    let len = run_len(bytes);
-    let number = numeral(&bytes[..len])?;
+    let number = number_at(bytes)?;
     Some(Piece {
-        len,
-        token: Some(Token::Number(number)),
+        len: number.len,
+        token: Some(Token::Number(number.value)),
     })
 }
 
-fn comment(bytes: &[u8]) -> Option<Piece<'_>>
-    requires { 0 < length bytes.now }
+fn comment(bytes: &[u8]) -> Option<Piece<Token<'_>>>
+    requires first { class_of (slice_index bytes.now 0) ≡ class.Slash }
+    requires some { 0 < length bytes.now }
     ensures { GivesPiece class.Slash bytes.now result }
 {
     match bytes {
         [_, b'/', ..] => Some(Piece {
-            len: line_comment_len(bytes),
+            len: line_len(bytes),
             token: None,
         }),
         [_, b'*', ..] => {
@@ -150,7 +120,7 @@ fn comment(bytes: &[u8]) -> Option<Piece<'_>>
     }
 }
 
-fn version(bytes: &[u8]) -> Option<Piece<'_>>
+fn version(bytes: &[u8]) -> Option<Piece<Token<'_>>>
     ensures { GivesPiece class.Quote bytes.now result }
 {
     match bytes {
@@ -164,25 +134,31 @@ fn version(bytes: &[u8]) -> Option<Piece<'_>>
     }
 }
 
-/// The piece at the front of a text, where one begins there.
-fn piece_at(bytes: &[u8]) -> Option<Piece<'_>>
-    requires { 0 < length bytes.now }
-    ensures { GivesPiece (class_of (slice_index bytes.now 0)) bytes.now result }
-{
-    match class_of(bytes[0]) {
-        Class::Letter => name(bytes),
-        Class::Digit => number(bytes),
-        Class::Blank => Some(Piece {
-            len: 1,
-            token: None,
-        }),
-        Class::Slash => comment(bytes),
-        Class::Quote => version(bytes),
-        Class::Mark(sign) => Some(Piece {
-            len: 1,
-            token: Some(Token::Sign(sign)),
-        }),
-        Class::Other => None,
+impl<'a> lexing::Token<'a> for Token<'a> {
+    ghost use Rattle.oil_reader.specs.Tokens as text;
+
+    ghost Word = { text.Word };
+
+    ghost word = { text.word_of };
+
+    ghost IsPiece = { text.IsPiece };
+
+    fn piece_at(bytes: &'a [u8]) -> Option<Piece<Token<'a>>> {
+        match class_of(bytes[0]) {
+            Class::Letter => name(bytes),
+            Class::Digit => number(bytes),
+            Class::Blank => Some(Piece {
+                len: 1,
+                token: None,
+            }),
+            Class::Slash => comment(bytes),
+            Class::Quote => version(bytes),
+            Class::Mark(sign) => Some(Piece {
+                len: 1,
+                token: Some(Token::Sign(sign)),
+            }),
+            Class::Other => None,
+        }
     }
 }
 
@@ -191,16 +167,9 @@ pub fn tokenize(alloc: Global, text: &[u8]) -> Result<Vec<Placed<'_>>, OilFault>
     ensures ok { IfOk result (λ tokens. IsTokensOf text.now (lexemes_of tokens.items)) }
     ensures err { IfErr result (λ e. IsTokenFault text.now e) }
 {
-    let mut tokens = Vec::new(alloc);
-    let mut place = 0;
-    while place < text.len() {
-        let Some(piece) = piece_at(&text[place..]) else {
-            return Err(OilFault::Token(place));
-        };
-        if let Some(token) = piece.token {
-            tokens.push(Placed { place, token })?;
-        }
-        place += piece.len;
+    match lexing::tokenize(alloc, text) {
+        Ok(tokens) => Ok(tokens),
+        Err(LexFault::NoPiece(place)) => Err(OilFault::Token(place)),
+        Err(LexFault::Memory) => Err(OilFault::Memory),
     }
-    Ok(tokens)
 }

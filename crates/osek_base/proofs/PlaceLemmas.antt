@@ -7,6 +7,7 @@ use Rattle.std.proofs.lemmas.Bool.{cases_lt, false≢true, true≢false, leb-tru
 use Rattle.osek_base.specs.declared.ids.Owner.{Owner}
 use Rattle.osek_base.specs.declared.instr.Instr.{Instr}
 use Rattle.osek_base.specs.declared.instr.Plain.{Plain}
+use Rattle.osek_base.specs.declared.limits.TheConstants.{MAX_TASK_PRIORITY, MAX_INSTRUCTIONS}
 use Rattle.osek_base.specs.System.{System, no_task, no_routine, program, instruction_in, instruction_at}
 use Rattle.osek_base.specs.Separable.{IsOwner}
 use Rattle.osek_base.specs.Proper.{IsProper, has_proper_objects, are_falling, is_proper_task, is_proper_routine, is_proper_program, is_proper_instruction, is_end_instruction, ends_well}
@@ -39,7 +40,7 @@ six f t r m c a h =
 -- the tasks and routines of a proper system are proper
 objects_split : (S : System) → has_proper_objects S ≡ true
     → (list_all (is_proper_task S) S.tasks ≡ true) × (list_all (is_proper_routine S) S.routines ≡ true)
-objects_split S h = six (are_falling 31 S.tasks) _ _ _ _ _ h
+objects_split S h = six (are_falling MAX_TASK_PRIORITY S.tasks) _ _ _ _ _ h
 
 -- a program of a proper system is proper
 pub proper_program : (S : System) (owner : Owner) → IsProper S → IsOwner S owner
@@ -79,7 +80,7 @@ has_next p place below ends other = elim (cases_lt (place + 1) (length p)) [
 pub record KnownPlace (S : System) (owner : Owner) (place : ℕ) : Type 0 where
   pub operands : is_proper_instruction S (is_routine owner) (length (program S owner)) (instruction_at S owner place) ≡ true
   pub next : is_end_instruction (instruction_at S owner place) ≡ false → place + 1 < length (program S owner)
-  pub short : length (program S owner) ≤ 1024
+  pub short : length (program S owner) ≤ MAX_INSTRUCTIONS
   pub some : 0 < length (program S owner)
 
 pub known_place : (S : System) (owner : Owner) (place : ℕ) → IsProper S → IsOwner S owner → place < length (program S owner)

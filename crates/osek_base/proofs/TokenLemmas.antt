@@ -1,9 +1,10 @@
 -- A text has one list of tokens, or one place where none begins; and a reader's loop over the pieces of a text.
-use Rattle.std.proofs.Common.{◌≡◌, ℕ, ◌+◌, ◌≤◌, ◌<◌, List, [], ◌∷◌, ◌++◌, length, drop, Option, Some, None, arith, inl, inr, refl, sym, ◌∙◌, ◌⊎◌, subst, append_assoc, length-drop}
+use Rattle.std.proofs.Common.{◌≡◌, ◌≢◌, get_or, ℕ, ◌+◌, ◌≤◌, ◌<◌, List, [], ◌∷◌, ◌++◌, length, take, drop, Option, Some, None, arith, inl, inr, refl, sym, ◌∙◌, ◌⊎◌, subst, append_assoc, length-drop}
+use Rattle.std.specs.Option.{option_map}
 use Rattle.std.proofs.lemmas.List.{append-nil}
 use Rattle.std.proofs.lemmas.Bool.{cases_lt}
-use Rattle.osek_base.specs.Words.{IsRun, IsNumeral, IsDecimal, IsHexadecimal}
-use Rattle.osek_base.specs.Tokens.{Lexeme, Lexes, LexFails, IsTokenRelation}
+use Rattle.osek_base.specs.Words.{IsRun, IsNumeral, IsDecimal, IsHexadecimal, IsNumberOf, IsLine}
+use Rattle.osek_base.specs.Tokens.{Lexeme, Lexes, LexFails, IsTokenRelation, lexeme_of}
 use Rattle.osek_base.specs.Tokens.Lexes.{ends, passes, takes}
 use Rattle.osek_base.specs.Tokens.LexFails.{here, later}
 
@@ -49,6 +50,15 @@ module _ {W : Type 0} (IsPiece : List ℕ → ℕ → Option W → Type 0) (one 
       let same = one.same_length (drop p text) n m (Some w) t piece2 piece in
       fails_apart fails (subst (λ (i : ℕ). Lexes IsPiece text (p + i) us) same more)
 
+  -- a text has one place where none begins
+  pub fails_once : {p q r : ℕ} → LexFails IsPiece text p q → LexFails IsPiece text p r → q ≡ r
+  fails_once (here inside none) (here also nothing) = refl
+  fails_once (here inside none) (later n t piece more) = absurd (none n t piece)
+  fails_once (later n t piece more) (here inside none) = absurd (none n t piece)
+  fails_once {p} {q} {r} (later m t piece more) (later n u piece2 more2) =
+      let same = one.same_length (drop p text) n m u t piece2 piece in
+      fails_once more (subst (λ (i : ℕ). LexFails IsPiece text (p + i) r) same more2)
+
 -- ---- the loop over the pieces
 
 module _ {W : Type 0} (IsPiece : List ℕ → ℕ → Option W → Type 0) (text : List ℕ) where
@@ -88,6 +98,21 @@ module _ {W : Type 0} (IsPiece : List ℕ → ℕ → Option W → Type 0) (text
   pub before_end : (p : ℕ) (ts : List (Lexeme W)) → length text ≤ p → TokensBefore p ts → Lexes IsPiece text 0 ts
   before_end p ts end before = subst (Lexes IsPiece text 0) (append-nil ts) (before.tokens [] (ends (omega (arith, before.within))))
 
+-- the same, by a token as the code holds it
+module _ {T W : Type 0} (word : T → W) (IsPiece : List ℕ → ℕ → Option W → Type 0) (text : List ℕ) (p : ℕ) (ts : List (Lexeme W)) (n : ℕ)
+    (inside : p < length text) (fits : n ≤ length (drop p text)) (before : TokensBefore IsPiece text p ts) where
+  pub gap_at : (o : Option T) → o ≡ None → IsPiece (drop p text) n (option_map word o) → TokensBefore IsPiece text (p + n) ts
+  gap_at None e piece = before_gap IsPiece text p ts n inside fits piece before
+  gap_at (Some t) e piece = absurd cc
+
+  pub token_at : (o : Option T) (t : T) → o ≡ Some t → IsPiece (drop p text) n (option_map word o)
+      → TokensBefore IsPiece text (p + n) (ts ++ lexeme_of word (record { place = p; token = t }) ∷ [])
+  token_at None t e piece = absurd cc
+  token_at (Some s) t e piece =
+      let same : s ≡ t = cc in
+      subst (λ (u : T). TokensBefore IsPiece text (p + n) (ts ++ lexeme_of word (record { place = p; token = u }) ∷ [])) same
+      (before_token IsPiece text p ts n (word s) inside fits piece before)
+
 -- ---- runs
 
 run_le : (bytes : List ℕ) (m n : ℕ) → IsRun bytes m → IsRun bytes n → m ≤ n
@@ -110,3 +135,33 @@ numeral_unique_of word m n (inr p) (inl q) = absurd (omega (arith, q.1 p.0, leng
 -- a word has one value
 pub numeral_unique : (word : List ℕ) (m n : ℕ) → IsNumeral word m → IsNumeral word n → m ≡ n
 numeral_unique word m n p q = numeral_unique_of word m n p.1 q.1
+
+-- where the longest run is no numeral, no number stands at the front
+pub no_number : (bytes : List ℕ) (len : ℕ) → IsRun bytes len → ((v : ℕ) → IsNumeral (take len bytes) v → ⊥) → (n v : ℕ) → IsNumberOf bytes n v → ⊥
+no_number bytes len run none n v number = none v (subst (λ (k : ℕ). IsNumeral (take k bytes) v) (run_unique bytes n len number.run run) number.numeral)
+
+-- one number stands at the front
+pub number_unique : (bytes : List ℕ) (m n u v : ℕ) → IsNumberOf bytes m u → IsNumberOf bytes n v → (m ≡ n) × (u ≡ v)
+number_unique bytes m n u v p q =
+    let same = run_unique bytes m n p.run q.run in
+    (same, numeral_unique (take n bytes) u v (subst (λ (i : ℕ). IsNumeral (take i bytes) u) same p.numeral) q.numeral)
+
+-- ---- lines
+
+line_le : (bytes : List ℕ) (m n : ℕ) → IsLine bytes m → IsLine bytes n → m ≤ n
+line_le bytes m n p q =
+    elim (cases_lt n m) [
+      | inl lt ↦ absurd (p.each n lt (q.longest (omega (arith, p.within))))
+      | inr le ↦ le
+    ]
+
+pub line_unique : (bytes : List ℕ) (m n : ℕ) → IsLine bytes m → IsLine bytes n → m ≡ n
+line_unique bytes m n p q = omega (arith, line_le bytes m n p q, line_le bytes n m q p)
+
+-- a line that doesn't begin with a LF
+pub line_some : (bytes : List ℕ) (n : ℕ) → 0 < length bytes → get_or bytes 0 0 ≢ 10 → IsLine bytes n → 0 < n
+line_some bytes n some other p =
+    elim (cases_lt 0 n) [
+      | inl positive ↦ positive
+      | inr le ↦ let none : n ≡ 0 = omega arith in absurd (other (subst (λ (i : ℕ). get_or bytes i 0 ≡ 10) none (p.longest (omega arith))))
+    ]

@@ -2,6 +2,7 @@
 -- while it runs.
 use Rattle.std.specs.Prelude.{ℕ, ◌≡◌, ◌<◌, List, Option, None, slice_index, slice_index_or}
 use Rattle.osek_base.specs.declared.ceilings.Ceilings.{Ceilings}
+use Rattle.osek_base.specs.declared.limits.TheConstants.{MAX_TASKS, MAX_RESOURCES}
 use Rattle.osek_base.specs.System.{System}
 use Rattle.osek_base.specs.Ceiling.{top_priority, declared_ceiling, internal_ceiling}
 
@@ -14,6 +15,6 @@ HasInternal S ceilings n = (t : ℕ) → t < n → slice_index_or ceilings t Non
 
 -- the kept ceilings are those of the system
 pub record AreCeilings (S : System) (kept : Ceilings) : Type 0 where
-  pub declared : HasCeilings S kept.declared 32
+  pub declared : HasCeilings S kept.declared MAX_RESOURCES
   pub top : kept.top ≡ top_priority S
-  pub internal : HasInternal S kept.internal 32
+  pub internal : HasInternal S kept.internal MAX_TASKS

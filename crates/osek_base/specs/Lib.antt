@@ -3,6 +3,7 @@ pub mod Names
 pub mod Lists
 pub mod Words
 pub mod Tokens
+pub mod FirstFault
 pub mod System
 pub mod Ceiling
 pub mod Numbering

@@ -2,6 +2,8 @@
 use Rattle.std.specs.Prelude.{ℕ, ◌-◌, ◌^◌, Bool, true, false, not, ◌&&◌, ◌||◌, ◌==◌, nat_lt, nat_le, List, [], ◌∷◌, if◌then◌else◌, Option, Some, None, IsTrue, length, slice_get}
 use Rattle.std.specs.List.{list_all, list_any}
 use Rattle.std.specs.Option.{option_map_or}
+use Rattle.osek_base.specs.declared.limits.TheConstants.{MAX_TASKS, MAX_TASK_PRIORITY, MAX_ACTIVATION, MAX_ROUTINES, MAX_ROUTINE_PRIORITY, MAX_RESOURCES}
+use Rattle.osek_base.specs.declared.limits.TheConstants.{MAX_EVENTS, MAX_COUNTERS, MAX_COUNTS, MAX_ALARMS, MAX_MODES, MAX_INSTRUCTIONS, REGISTERS}
 use Rattle.osek_base.specs.Types.{ResId, Plain, Service, Control, Instr, Schedule, Counter, Action}
 use Rattle.osek_base.specs.Lists.{is_empty}
 use Rattle.osek_base.specs.Names.{Names, is_proper_name, are_distinct_names}
@@ -45,7 +47,7 @@ is_resource_operand S None = true
 is_resource_operand S (Some r) = may_be_got S r
 
 abbrev pub is_register : ℕ → Bool
-is_register r = nat_lt r 8
+is_register r = nat_lt r REGISTERS
 
 abbrev pub is_proper_plain : ℕ → Plain → Bool
 is_proper_plain size Plain.Nop = true
@@ -101,7 +103,7 @@ ends_well program = option_map_or is_end_instruction (slice_get program (length 
 abbrev pub is_proper_program : System → Bool → List Instr → Bool
 is_proper_program S in_routine program =
     list_all (is_proper_instruction S in_routine (length program)) program
-    && ends_well program && nat_le (length program) 1024
+    && ends_well program && nat_le (length program) MAX_INSTRUCTIONS
 
 -- ---- objects
 
@@ -127,7 +129,7 @@ are_proper_resources S schedule resources =
 -- an ACTIVATION, which is 1 for an extended task
 abbrev pub is_proper_activation : ℕ → List ℕ → Bool
 is_proper_activation activation events =
-    nat_le 1 activation && nat_le activation 15 && (is_empty events || activation == 1)
+    nat_le 1 activation && nat_le activation MAX_ACTIVATION && (is_empty events || activation == 1)
 
 abbrev pub is_proper_task : System → Task → Bool
 is_proper_task S a =
@@ -135,11 +137,11 @@ is_proper_task S a =
     && are_proper_resources S a.schedule a.resources && is_proper_program S false a.program
 
 abbrev pub is_proper_routine : System → Routine → Bool
-is_proper_routine S a = nat_lt a.priority 32 && is_proper_program S true a.program
+is_proper_routine S a = nat_le a.priority MAX_ROUTINE_PRIORITY && is_proper_program S true a.program
 
 abbrev pub is_proper_counter : Counter → Bool
 is_proper_counter c =
-    nat_le 1 c.max_allowed_value && nat_le c.max_allowed_value 2147483647
+    nat_le 1 c.max_allowed_value && nat_le c.max_allowed_value MAX_COUNTS
     && nat_le 1 c.min_cycle && nat_le c.min_cycle c.max_allowed_value
     && nat_le 1 c.ticks_per_base && is_word c.ticks_per_base
 
@@ -164,9 +166,9 @@ is_proper_alarm S a =
 -- no more objects of a kind than allowed, and one mode at least
 abbrev pub is_within_limits : System → Bool
 is_within_limits S =
-    nat_le (length S.tasks) 32 && nat_le (length S.routines) 16 && nat_le (length S.resources) 32
-    && nat_le (length S.events) 32 && nat_le (length S.counters) 8 && nat_le (length S.alarms) 64
-    && nat_le 1 (mode_count S) && nat_le (mode_count S) 8
+    nat_le (length S.tasks) MAX_TASKS && nat_le (length S.routines) MAX_ROUTINES && nat_le (length S.resources) MAX_RESOURCES
+    && nat_le (length S.events) MAX_EVENTS && nat_le (length S.counters) MAX_COUNTERS && nat_le (length S.alarms) MAX_ALARMS
+    && nat_le 1 (mode_count S) && nat_le (mode_count S) MAX_MODES
 
 -- each object has a name
 abbrev pub is_named_throughout : System → Bool
@@ -184,12 +186,8 @@ has_proper_names names =
 -- each object is as generation checks it
 abbrev pub has_proper_objects : System → Bool
 has_proper_objects S =
-    are_falling 31 S.tasks && list_all (is_proper_task S) S.tasks && list_all (is_proper_routine S) S.routines
+    are_falling MAX_TASK_PRIORITY S.tasks && list_all (is_proper_task S) S.tasks && list_all (is_proper_routine S) S.routines
     && list_all is_proper_mask S.events && list_all is_proper_counter S.counters && list_all (is_proper_alarm S) S.alarms
-
--- all of it, as a test
-abbrev pub is_proper : System → Bool
-is_proper S = is_within_limits S && is_named_throughout S && has_proper_names S.names && has_proper_objects S
 
 -- a proper system: within the limits, named, and as generation checks
 pub record IsProper (S : System) : Type 0 where

@@ -1,5 +1,8 @@
 -- OIL: grammar. The tokens along a text, for any kind of token, given what is a piece at the front of some bytes.
-use Rattle.std.specs.Prelude.{◌≡◌, ℕ, ◌+◌, ◌<◌, List, [], ◌∷◌, length, drop, Option, Some, None}
+use Rattle.std.specs.Prelude.{◌≡◌, ℕ, ◌+◌, ◌<◌, List, [], ◌∷◌, length, drop, map, Option, Some, None}
+use Rattle.osek_base.specs.declared.lexing.Placed.{Placed}
+use Rattle.osek_base.specs.declared.lexing.LexFault.{LexFault}
+use Rattle.osek_base.specs.declared.lexing.LexFault.TheVariants as fault
 
 -- a token at its place
 pub record Lexeme (W : Type 0) : Type 0 where
@@ -23,3 +26,16 @@ pub record IsTokenRelation {W : Type 0} (IsPiece : List ℕ → ℕ → Option W
   pub some : (bytes : List ℕ) (n : ℕ) (t : Option W) → IsPiece bytes n t → 0 < length bytes
   pub same_length : (bytes : List ℕ) (m n : ℕ) (t u : Option W) → IsPiece bytes m t → IsPiece bytes n u → m ≡ n
   pub same_token : (bytes : List ℕ) (m n : ℕ) (t u : Option W) → IsPiece bytes m t → IsPiece bytes n u → t ≡ u
+
+-- ---- what the code holds
+
+abbrev pub lexeme_of : {T W : Type 0} → (T → W) → Placed T → Lexeme W
+lexeme_of word t = record { place = t.place; word = word t.token }
+
+abbrev pub lexemes_of : {T W : Type 0} → (T → W) → List (Placed T) → List (Lexeme W)
+lexemes_of word ts = map (lexeme_of word) ts
+
+-- want of memory, or the first place at which no piece of the text begins
+abbrev pub IsLexFault : {W : Type 0} → (List ℕ → ℕ → Option W → Type 0) → List ℕ → LexFault → Type 0
+IsLexFault IsPiece text fault.Memory = Unit {0}
+IsLexFault IsPiece text (fault.NoPiece p) = LexFails IsPiece text 0 p

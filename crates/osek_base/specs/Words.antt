@@ -1,6 +1,7 @@
 -- OIL: grammar, names and numbers. Words and numbers of a text, for all that is read.
-use Rattle.std.specs.Prelude.{◌≡◌, ℕ, ◌+◌, ◌-◌, ◌*◌, ◌<◌, ◌≤◌, ◌^◌, ◌⊎◌, ◌||◌, ◌&&◌, ◌==◌, Bool, IsTrue, List, [], ◌∷◌, length, drop, slice_index, if◌then◌else◌, nat_le}
+use Rattle.std.specs.Prelude.{◌≡◌, ◌≢◌, ℕ, ◌+◌, ◌-◌, ◌*◌, ◌<◌, ◌≤◌, ◌^◌, ◌⊎◌, ◌||◌, ◌&&◌, ◌==◌, Bool, IsTrue, List, [], ◌∷◌, length, take, drop, slice_index, if◌then◌else◌, nat_le}
 use Rattle.std.specs.List.{AllByRecursion}
+use Rattle.osek_base.specs.declared.limits.TheConstants.{MAX_NAME}
 
 -- ---- bytes
 
@@ -56,3 +57,22 @@ IsHexadecimal word n = (slice_index word 0 ≡ 48) × ((slice_index word 1 ≡ 1
 -- a NUMBER and its value, of 32 bits
 abbrev pub IsNumeral : List ℕ → ℕ → Type 0
 IsNumeral word n = (n < 2 ^ 32) × (IsDecimal word n ⊎ IsHexadecimal word n)
+
+-- ---- at the front of a text
+
+-- a word that isn't too long
+pub record IsWordOf (bytes word : List ℕ) : Type 0 where
+  pub run : IsRun bytes (length word)
+  pub short : length word ≤ MAX_NAME
+  pub is : word ≡ take (length word) bytes
+
+-- a NUMBER of so many bytes, and its value
+pub record IsNumberOf (bytes : List ℕ) (n v : ℕ) : Type 0 where
+  pub run : IsRun bytes n
+  pub numeral : IsNumeral (take n bytes) v
+
+-- the first n bytes are those before the next LF, or all
+pub record IsLine (bytes : List ℕ) (n : ℕ) : Type 0 where
+  pub within : n ≤ length bytes
+  pub each : (i : ℕ) → i < n → slice_index bytes i ≢ 10
+  pub longest : n < length bytes → slice_index bytes n ≡ 10

@@ -4,17 +4,18 @@ ghost use Rattle.std.specs.Prelude.{◌≡◌, ◌↔◌, IsTrue, IsSome, IfSome
 ghost use Rattle.osek_base.specs.ArrivalList.{are_in_order, is_arrival_list};
 
 use crate::ids::IsrId;
+use crate::limits::{MAX_ARRIVALS, MAX_TICKS};
 use std::marker::Model;
 
 /// A routine's interrupt arrives at a tick.
 #[derive(Clone, Copy, Debug, PartialEq, Eq)]
 pub struct Arrival {
-    /// The tick, below 1,000,000 in a list of arrivals.
+    /// The tick, below [`MAX_TICKS`] in a list of arrivals.
     pub tick: u32,
     pub routine: IsrId,
 }
 
-/// The arrivals of a run, at most 65,536, at ticks that don't fall and are below 1,000,000. Seen as the list.
+/// The arrivals of a run, at most [`MAX_ARRIVALS`], at ticks that don't fall and are below [`MAX_TICKS`]. Seen as the list.
 #[derive(Debug, Drop)]
 pub struct Arrivals {
     list: Vec<Arrival>,
@@ -33,15 +34,12 @@ impl Model for Arrivals {
 }
 
 impl Arrivals {
-    /// The most arrivals that a run may have.
-    pub const LIMIT: usize = 65536;
-
     /// The arrivals in that list, where it keeps the order and the limits.
     pub fn new(list: Vec<Arrival>) -> Option<Self>
         ensures kept { IsSome result ↔ IsTrue (is_arrival_list list.items) }
         ensures value { IfSome result (λ arrivals. arrivals ≡ list.items) }
     {
-        if list.len() <= Self::LIMIT && are_in_order(list.as_slice()) {
+        if list.len() <= MAX_ARRIVALS && are_in_order(list.as_slice()) {
             Some(Arrivals { list })
         } else {
             None
@@ -62,7 +60,7 @@ fn are_in_order(arrivals: &[Arrival]) -> bool
 {
     let mut least = 0;
     for arrival in arrivals {
-        if arrival.tick < least || arrival.tick >= 1_000_000 {
+        if arrival.tick < least || arrival.tick >= MAX_TICKS {
             return false;
         }
         least = arrival.tick;

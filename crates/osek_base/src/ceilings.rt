@@ -5,9 +5,11 @@ ghost use Rattle.std.specs.List.{filter};
 ghost use Rattle.osek_base.specs.Lists.{greatest};
 ghost use Rattle.osek_base.specs.System.{lists};
 ghost use Rattle.osek_base.specs.Ceiling.{top_priority, declared_ceiling, internal_ceiling};
+ghost use Rattle.osek_base.specs.declared.limits.TheConstants.{MAX_TASKS, MAX_RESOURCES};
 ghost use Rattle.osek_base.specs.Kept.{HasCeilings, HasInternal, AreCeilings};
 
 use crate::ids::{ResourceNumber, TaskId};
+use crate::limits::{MAX_RESOURCES, MAX_TASKS};
 use crate::parts::Parts;
 use crate::task::{Schedule, Task};
 
@@ -15,11 +17,11 @@ use crate::task::{Schedule, Task};
 #[derive(Debug, Drop)]
 pub(crate) struct Ceilings {
     /// Of each resource number.
-    pub(crate) declared: [u8; 32],
+    pub(crate) declared: [u8; MAX_RESOURCES],
     /// Of RES_SCHEDULER.
     pub(crate) top: u8,
     /// Of each task number, the internal ceiling.
-    pub(crate) internal: [Option<u8>; 32],
+    pub(crate) internal: [Option<u8>; MAX_TASKS],
 }
 
 impl Ceilings {
@@ -35,11 +37,11 @@ impl Ceilings {
     }
 }
 
-fn declared_ceilings(parts: &Parts) -> [u8; 32]
-    ensures { HasCeilings parts.now result 32 }
+fn declared_ceilings(parts: &Parts) -> [u8; MAX_RESOURCES]
+    ensures { HasCeilings parts.now result MAX_RESOURCES }
 {
-    let mut ceilings = [0; 32];
-    for number in 0..32u8 {
+    let mut ceilings = [0; MAX_RESOURCES];
+    for number in 0..MAX_RESOURCES as u8 {
         ceilings[number as usize] = declared_ceiling(parts, ResourceNumber::new(number));
     }
     ceilings
@@ -51,11 +53,11 @@ fn declared_ceiling(parts: &Parts, resource: ResourceNumber) -> u8
     highest_that_lists(resource, parts.tasks.as_slice())
 }
 
-fn internal_ceilings(parts: &Parts) -> [Option<u8>; 32]
-    ensures { HasInternal parts.now result 32 }
+fn internal_ceilings(parts: &Parts) -> [Option<u8>; MAX_TASKS]
+    ensures { HasInternal parts.now result MAX_TASKS }
 {
-    let mut ceilings = [None; 32];
-    for number in 0..32u8 {
+    let mut ceilings = [None; MAX_TASKS];
+    for number in 0..MAX_TASKS as u8 {
         ceilings[number as usize] = internal_ceiling(parts, TaskId::new(number));
     }
     ceilings

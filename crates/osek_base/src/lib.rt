@@ -5,6 +5,8 @@ mod arrivals;
 mod ceilings;
 mod ids;
 mod instr;
+pub mod lexing;
+mod limits;
 mod names;
 mod numbering;
 mod parts;
@@ -21,6 +23,11 @@ pub use ids::{
     AlarmId, CounterId, IsrId, ModeId, Owner, Place, Register, ResId, ResourceNumber, TaskId,
 };
 pub use instr::{Comparison, Control, Instr, Operation, Plain, Service};
+pub use limits::{
+    MAX_ACTIVATION, MAX_ALARMS, MAX_ARRIVALS, MAX_COUNTERS, MAX_COUNTS, MAX_EVENTS,
+    MAX_INSTRUCTIONS, MAX_MODES, MAX_NAME, MAX_RECORDS, MAX_RESOURCES, MAX_ROUTINE_PRIORITY,
+    MAX_ROUTINES, MAX_TASK_PRIORITY, MAX_TASKS, MAX_TICKS, REGISTERS, WINDOW_WORDS,
+};
 pub use names::{Name, Names};
 pub use numbering::task_order;
 pub use parts::Parts;

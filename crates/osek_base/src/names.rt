@@ -1,7 +1,6 @@
 //! OIL: names of objects. Names of 1 to 32 bytes, and the names of a system.
 
 ghost use Rattle.std.specs.Prelude.{◌≡◌, ◌<◌, ◌↔◌, IsTrue, IsSome, IfSome, length, bytes_eq, ◌≤◌};
-ghost use Rattle.std.specs.List.{list_all};
 ghost use Rattle.osek_base.specs.Names.{
   HasOwner,
   HasResource,
@@ -9,20 +8,18 @@ ghost use Rattle.osek_base.specs.Names.{
   resource_name,
   alarm_name,
   is_proper_name,
-  is_named,
-  are_distinct_names,
   number_of,
 };
-ghost use Rattle.osek_base.specs.Proper.{are_proper_names, has_proper_names};
 
 use crate::ids::{AlarmId, ModeId, Owner, ResId};
+use crate::limits::{MAX_MODES, MAX_NAME};
 use arrayvec::ArrayString;
 use std::marker::Model;
 
 /// A name of 1 to 32 bytes, seen as its bytes.
 #[derive(Clone, Debug, Drop)]
 pub struct Name {
-    text: ArrayString<32>,
+    text: ArrayString<MAX_NAME>,
 }
 
 impl Model for Name {
@@ -42,7 +39,7 @@ impl Name {
         ensures proper { IsSome result ↔ IsTrue (is_proper_name text.now) }
         ensures value { IfSome result (λ n. n ≡ text.now) }
     {
-        if text.is_empty() || text.len() > 32 {
+        if text.is_empty() || text.len() > MAX_NAME {
             return None;
         }
         match ArrayString::from(text) {
@@ -66,19 +63,6 @@ impl Name {
     }
 }
 
-fn is_proper_name(name: &Name) -> bool
-    ensures { result ≡ is_proper_name name.now }
-{
-    let size = name.as_str().len();
-    1 <= size && size <= 32
-}
-
-fn is_named(name: &Name, names: &[Name]) -> bool
-    ensures { result ≡ is_named name.now names.now }
-{
-    names.iter().any(|other| name.is(other.as_str()))
-}
-
 fn number_of(text: &str, names: &[Name]) -> Option<usize>
     ensures value { result ≡ number_of text.now names.now }
     ensures bound { IfSome result (λ n. n < length names.now) }
@@ -96,27 +80,6 @@ fn number_of(text: &str, names: &[Name]) -> Option<usize>
             }
         }
     }
-}
-
-fn are_distinct(names: &[Name]) -> bool
-    ensures { result ≡ are_distinct_names names.now }
-{
-    match names.split_first() {
-        None => true,
-        Some((name, rest)) => !is_named(name, rest) && are_distinct(rest),
-    }
-}
-
-fn each_proper(names: &[Name]) -> bool
-    ensures { result ≡ list_all is_proper_name names.now }
-{
-    names.iter().all(|name| is_proper_name(name))
-}
-
-fn are_proper(names: &[Name]) -> bool
-    ensures { result ≡ are_proper_names names.now }
-{
-    each_proper(names) && are_distinct(names)
 }
 
 /// The names of a system's objects, each at its number.
@@ -178,21 +141,12 @@ impl Names {
 
     /// The application mode of that name.
     pub fn mode(&self, name: &str) -> Option<ModeId>
-        requires { length self.now.modes ≤ 8 }
+        requires { length self.now.modes ≤ MAX_MODES }
         ensures { result ≡ number_of name.now self.now.modes }
     {
         match number_of(name, self.modes.as_slice()) {
             None => None,
             Some(number) => Some(ModeId::new(number as u8)),
         }
-    }
-
-    pub(crate) fn are_proper(&self) -> bool
-        ensures { result ≡ has_proper_names self.now }
-    {
-        let upper = are_proper(self.tasks.as_slice()) && are_proper(self.routines.as_slice());
-        let middle = are_proper(self.resources.as_slice()) && are_proper(self.events.as_slice());
-        let lower = are_proper(self.alarms.as_slice()) && are_proper(self.modes.as_slice());
-        upper && middle && lower
     }
 }

@@ -3,15 +3,16 @@
 ghost use Rattle.std.specs.Prelude.{◌≡◌, ◌++◌, IfOk, OnOk};
 ghost use Rattle.osek_base.specs.Numbering.{places_of, task_order};
 
+use crate::limits::MAX_TASK_PRIORITY;
 use std::alloc::{AllocError, Global};
 
 /// The declared place of each task, in the order of their numbers: by falling priority, ties in declaration order.
-/// A task whose priority is above 31 has no number.
+/// A task whose priority is above [`MAX_TASK_PRIORITY`] has no number.
 pub fn task_order(alloc: Global, priorities: &[u8]) -> Result<Vec<usize>, AllocError>
     ensures { IfOk result (λ order. order.items ≡ task_order priorities.now) }
 {
     let mut order = Vec::new(alloc);
-    let mut priority = 32;
+    let mut priority = MAX_TASK_PRIORITY + 1;
     while priority > 0 {
         priority -= 1;
         push_places(&mut order, priorities, priority)?;

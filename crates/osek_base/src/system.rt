@@ -1,6 +1,6 @@
 //! OIL: standard objects and their attributes. A configured system, which keeps all that generation checks.
 
-ghost use Rattle.std.specs.Prelude.{◌≡◌, ◌<◌, ◌↔◌, IsSome, IfSome, IsTrue, length};
+ghost use Rattle.std.specs.Prelude.{◌≡◌, ◌<◌, length};
 ghost use Rattle.osek_base.specs.Separable.{IsOwner};
 ghost use Rattle.osek_base.specs.System.{
   mode_count,
@@ -18,7 +18,7 @@ ghost use Rattle.osek_base.specs.System.{
   alarm_start_in,
 };
 ghost use Rattle.osek_base.specs.Ceiling.{top_priority, declared_ceiling, ceiling, internal_ceiling, is_internal};
-ghost use Rattle.osek_base.specs.Proper.{IsProper, is_proper};
+ghost use Rattle.osek_base.specs.Proper.{IsProper};
 
 use crate::ceilings::Ceilings;
 use crate::ids::{AlarmId, IsrId, ModeId, Owner, Place, ResId, ResourceNumber, TaskId};
@@ -48,16 +48,13 @@ impl Model for System {
 }
 
 impl System {
-    /// The system of these parts, where they are proper.
-    pub fn new(parts: Parts) -> Option<Self>
-        ensures proper { IsSome result ↔ IsProper parts }
-        ensures value { IfSome result (λ s. s ≡ parts) }
+    /// The system of these parts, which have been shown to be proper. Its ceilings are computed here.
+    pub fn new(parts: Parts) -> Self
+        requires { IsProper parts }
+        ensures { result ≡ parts }
     {
-        if !parts.are_proper() {
-            return None;
-        }
         let ceilings = Ceilings::of(&parts);
-        Some(System { parts, ceilings })
+        System { parts, ceilings }
     }
 
     /// The names of the system's objects.
@@ -130,7 +127,7 @@ impl System {
         self.parts.use_res_scheduler
     }
 
-    /// The static priority of a task, 0 to 31.
+    /// The static priority of a task, 0 to [`MAX_TASK_PRIORITY`](crate::MAX_TASK_PRIORITY).
     pub fn priority_of(&self, task: TaskId) -> u8
         requires { task < length self.now.tasks }
         ensures { result ≡ priority_of self.now task }
@@ -224,7 +221,7 @@ impl System {
         self.ceilings.internal[task.number() as usize]
     }
 
-    /// The PRIORITY of a routine, 0 to 31.
+    /// The PRIORITY of a routine, 0 to [`MAX_ROUTINE_PRIORITY`](crate::MAX_ROUTINE_PRIORITY).
     pub fn routine_priority(&self, id: IsrId) -> u8
         requires { id < length self.now.routines }
         ensures { result ≡ (routine self.now id).priority }

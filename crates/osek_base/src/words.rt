@@ -1,7 +1,21 @@
 //! OIL: grammar, names and numbers. Words and numbers at the front of a text.
 
-ghost use Rattle.std.specs.Prelude.{◌≡◌, ◌<◌, ◌≤◌, ◌^◌, ℕ, IfSome, IfNone};
-ghost use Rattle.osek_base.specs.Words.{is_word_byte, digit_of, AreDigits, number_from, IsNumeral, IsRun};
+ghost use Rattle.std.specs.Prelude.{
+  ◌≡◌,
+  ◌<◌,
+  ◌≤◌,
+  ◌^◌,
+  ℕ,
+  IsTrue,
+  IfSome,
+  IfNone,
+  length,
+  take,
+  slice_index,
+};
+ghost use Rattle.osek_base.specs.Words.{is_word_byte, digit_of, AreDigits, number_from, IsNumeral, IsRun, IsWordOf, IsNumberOf, IsLine};
+
+use crate::limits::MAX_NAME;
 
 /// Whether a byte may stand in a word: an ASCII letter, a digit or `_`.
 pub fn is_word_byte(byte: u8) -> bool
@@ -11,7 +25,7 @@ pub fn is_word_byte(byte: u8) -> bool
 }
 
 /// How many bytes the longest run of letters, digits and `_` at the front has, 0 where none stands there.
-pub fn run_len(bytes: &[u8]) -> usize
+fn run_len(bytes: &[u8]) -> usize
     ensures { IsRun bytes.now result }
 {
     let mut n = 0;
@@ -21,9 +35,61 @@ pub fn run_len(bytes: &[u8]) -> usize
     n
 }
 
+/// The word at the front: the longest run of letters, digits and `_` there, where it has no more than [`MAX_NAME`] bytes.
+pub fn word_at(bytes: &[u8]) -> Option<&str>
+    ensures some { IfSome result (λ w. IsWordOf bytes.now w.now) }
+    ensures none { IfNone result ((n : ℕ) → IsRun bytes.now n → n ≤ MAX_NAME → ⊥) }
+{
+    let len = run_len(bytes);
+    if len > MAX_NAME {
+        return None;
+    }
+    Some(text_of(&bytes[..len]))
+}
+
+/// The text of a run, whose bytes are ASCII.
+fn text_of(run: &[u8]) -> &str
+    requires { (i : ℕ) → i < length run.now → IsTrue (is_word_byte (slice_index run.now i)) }
+    ensures { result.now ≡ run.now }
+{
+    match std::str::from_utf8(run) {
+        Ok(text) => text,
+        Err(_) => unreachable!(),
+    }
+}
+
+/// How many bytes stand before the next line feed; all, where there is none.
+pub fn line_len(bytes: &[u8]) -> usize
+    ensures { IsLine bytes.now result }
+{
+    let mut n = 0;
+    while n < bytes.len() && bytes[n] != b'\n' {
+        n += 1;
+    }
+    n
+}
+
+/// A NUMBER at the front of some bytes.
+#[derive(Clone, Copy, Debug, PartialEq, Eq)]
+pub struct Number {
+    /// How many bytes it has.
+    pub len: usize,
+    pub value: u32,
+}
+
+/// The NUMBER at the front: the longest run of letters, digits and `_` there, where that is a numeral.
+pub fn number_at(bytes: &[u8]) -> Option<Number>
+    ensures some { IfSome result (λ n. IsNumberOf bytes.now n.len n.value) }
+    ensures none { IfNone result ((n v : ℕ) → IsNumberOf bytes.now n v → ⊥) }
+{
+    let len = run_len(bytes);
+    let value = numeral(&bytes[..len])?;
+    Some(Number { len, value })
+}
+
 /// The value of a NUMBER: `0`, or decimal digits without a leading zero, or `0x` or `0X` and at least one hexadecimal
 /// digit, of a value below 2^32. None for any other word.
-pub fn numeral(word: &[u8]) -> Option<u32>
+fn numeral(word: &[u8]) -> Option<u32>
     ensures some { IfSome result (λ n. IsNumeral word.now n) }
     ensures none { IfNone result ((n : ℕ) → IsNumeral word.now n → ⊥) }
 {

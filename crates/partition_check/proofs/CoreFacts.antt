@@ -3,6 +3,7 @@ use Rattle.std.proofs.Common.{◌≡◌, ℕ, ◌<◌, ◌≤◌, Bool, true, fa
 use Rattle.std.specs.Prelude.{Some, slice_get, slice_index_or}
 use Rattle.std.specs.List.{list_all, AllByRecursion}
 use Rattle.std.proofs.lemmas.List.{length-map}
+use Rattle.osek_base.specs.declared.limits.TheConstants.{MAX_TASKS, MAX_TASK_PRIORITY}
 use Rattle.osek_base.specs.declared.ids.ResId.{ResId}
 use Rattle.osek_base.specs.declared.task.Property.{Property}
 use Rattle.osek_base.specs.declared.task.Schedule.{Schedule}
@@ -44,14 +45,14 @@ in_rank test r [] pass all = refl
 in_rank test r (n ∷ ns) pass all = ap₂ (λ a b. a || b) (rank_same test n r all.0 pass) (in_rank test r ns pass all.1)
 
 module _ (S : System) (p : ℕ) (proper : IsProper S) where
-  pub falling : are_falling 31 S.tasks ≡ true
+  pub falling : are_falling MAX_TASK_PRIORITY S.tasks ≡ true
   falling = (and_split _ _ (and_split _ _ (and_split _ _ (and_split _ _ (and_split _ _ proper.objects).0).0).0).0).0
 
   pub each_task : list_all (is_proper_task S) S.tasks ≡ true
   each_task = (and_split _ _ (and_split _ _ (and_split _ _ (and_split _ _ (and_split _ _ proper.objects).0).0).0).0).1
 
   pub firstly : IsFirstly (is_upper_task S p) (length S.tasks)
-  firstly a b le inside h = grind (arith, falling_pair 31 S.tasks a b falling le inside)
+  firstly a b le inside h = grind (arith, falling_pair MAX_TASK_PRIORITY S.tasks a b falling le inside)
 
   pub upper_tasks_first : upper_tasks S p ≡ below (upper_count S p)
   upper_tasks_first = first_kept (is_upper_task S p) (length S.tasks) firstly
@@ -59,11 +60,11 @@ module _ (S : System) (p : ℕ) (proper : IsProper S) where
   pub within : upper_count S p ≤ length S.tasks
   within = rank_within (is_upper_task S p) (length S.tasks)
 
-  pub few : upper_count S p ≤ 32
+  pub few : upper_count S p ≤ MAX_TASKS
   few =
-      let limit : nat_le (length S.tasks) 32 ≡ true =
+      let limit : nat_le (length S.tasks) MAX_TASKS ≡ true =
       (and_split _ _ (and_split _ _ (and_split _ _ (and_split _ _ (and_split _ _ (and_split _ _ (and_split _ _ proper.limits).0).0).0).0).0).0).0 in
-      let small : length S.tasks ≤ 32 = true_le (length S.tasks) 32 limit in
+      let small : length S.tasks ≤ MAX_TASKS = true_le (length S.tasks) MAX_TASKS limit in
       omega (arith, within, small)
 
   pub split : (t : ℕ) → t < length S.tasks → is_upper_task S p t ≡ nat_lt t (upper_count S p)
@@ -134,9 +135,9 @@ module _ (S : System) (p : ℕ) (proper : IsProper S) where
       ∙ ap (λ n. greatest (map (priority_of (upper_core S p)) (below n))) task_count
       ∙ ap greatest (map_below (priority_of (upper_core S p)) (priority_of S) (upper_count S p) priorities)
       ∙ greatest_first (priority_of S) (upper_count S p) some
-      (λ t h. falling_pair 31 S.tasks 0 t falling (omega arith) (omega (arith, h, within)))
+      (λ t h. falling_pair MAX_TASK_PRIORITY S.tasks 0 t falling (omega arith) (omega (arith, h, within)))
       ∙ sym (greatest_first (priority_of S) (length S.tasks) (omega (arith, some, within))
-      (λ t h. falling_pair 31 S.tasks 0 t falling (omega arith) h))
+      (λ t h. falling_pair MAX_TASK_PRIORITY S.tasks 0 t falling (omega arith) h))
       ∙ sym (top_kept S)
 
   -- lower tasks list no upper resource

@@ -4,6 +4,7 @@ use Rattle.std.specs.Prelude.{Some, None, slice_get, slice_index_or}
 use Rattle.std.specs.List.{list_all}
 use Rattle.std.specs.Option.{option_map_or}
 use Rattle.std.proofs.lemmas.List.{length-map}
+use Rattle.osek_base.specs.declared.limits.TheConstants.{MAX_INSTRUCTIONS}
 use Rattle.osek_base.specs.declared.ids.ResId.{ResId}
 use Rattle.osek_base.specs.declared.ids.Owner.{Owner}
 use Rattle.osek_base.specs.declared.instr.Service.{Service}
@@ -138,7 +139,7 @@ module _ (S : System) (p : ℕ) (proper : IsProper S) where
       (ap (λ n. list_all (is_proper_instruction (upper_part S p) in_routine n) (map (renumbered S p) xs)) size
       ∙ each_new in_routine (length xs) xs front.0 none)
       (ends_same S p xs ∙ front.1))
-      (ap (λ n. nat_le n 1024) size ∙ both.1)
+      (ap (λ n. nat_le n MAX_INSTRUCTIONS) size ∙ both.1)
 
   -- ---- routines
 

@@ -3,6 +3,7 @@ use Rattle.std.proofs.Common.{◌≡◌, ℕ, ◌<◌, Bool, true, not, nat_le, 
 use Rattle.std.specs.Prelude.{Option, Some, None, ◌==◌}
 use Rattle.std.specs.List.{list_all}
 use Rattle.std.proofs.lemmas.List.{length-map}
+use Rattle.osek_base.specs.declared.limits.TheConstants.{MAX_TASKS, MAX_RESOURCES, MAX_ROUTINES, MAX_ALARMS}
 use Rattle.osek_base.specs.declared.task.Action.{Action}
 use Rattle.osek_base.specs.declared.task.Counter.{Counter}
 use Rattle.osek_base.specs.Lists.{is_empty}
@@ -87,11 +88,11 @@ module _ (S : System) (p : ℕ) (proper : IsProper S) where
       record {
         limits =
             and_join _ _ (and_join _ _ (and_join _ _ (and_join _ _ (and_join _ _ (and_join _ _ (and_join _ _
-            (shorter (upper_task S p) (is_upper_task S p) (length S.tasks) 32 routines.0)
-            (ap (λ n. nat_le n 16) many_routines ∙ routines.1))
-            (shorter (resource S) (is_upper_declared S p) (length S.resources) 32 resources.1))
+            (shorter (upper_task S p) (is_upper_task S p) (length S.tasks) MAX_TASKS routines.0)
+            (ap (λ n. nat_le n MAX_ROUTINES) many_routines ∙ routines.1))
+            (shorter (resource S) (is_upper_declared S p) (length S.resources) MAX_RESOURCES resources.1))
             events.1) counters.1)
-            (shorter (alarm S) (is_upper_alarm S p) (length S.alarms) 64 alarms.1))
+            (shorter (alarm S) (is_upper_alarm S p) (length S.alarms) MAX_ALARMS alarms.1))
             some.1) modes.1;
         named =
             and_join _ _ (and_join _ _ (and_join _ _ (and_join _ _

@@ -1,6 +1,7 @@
 -- The tasks of the upper part: what is proper stays proper.
 use Rattle.std.proofs.Common.{◌≡◌, ℕ, ◌<◌, Bool, true, false, cond, not, ◌&&◌, ◌||◌, nat_lt, nat_le, List, [], ◌∷◌, map, length, refl, sym, ◌∙◌, ap, ap₂}
 use Rattle.std.specs.List.{list_all, list_any, AllByRecursion}
+use Rattle.osek_base.specs.declared.limits.TheConstants.{MAX_TASK_PRIORITY}
 use Rattle.osek_base.specs.declared.ids.Owner.{Owner}
 use Rattle.osek_base.specs.declared.task.Schedule.{Schedule}
 use Rattle.osek_base.specs.System.{System, task, no_task}
@@ -43,11 +44,11 @@ falling_tasks S p limit [] = refl
 falling_tasks S p limit (n ∷ ns) = ap (λ b. nat_le (task S n).priority limit && b) (falling_tasks S p (task S n).priority ns)
 
 module _ (S : System) (p : ℕ) (proper : IsProper S) where
-  pub falling_new : are_falling 31 (upper_part S p).tasks ≡ true
+  pub falling_new : are_falling MAX_TASK_PRIORITY (upper_part S p).tasks ≡ true
   falling_new =
-      falling_tasks S p 31 (upper_tasks S p)
-      ∙ ap (are_falling 31) (picked_kept S.tasks no_task (is_upper_task S p))
-      ∙ falling_picked 31 (is_upper_task S p) S.tasks (falling S p proper)
+      falling_tasks S p MAX_TASK_PRIORITY (upper_tasks S p)
+      ∙ ap (are_falling MAX_TASK_PRIORITY) (picked_kept S.tasks no_task (is_upper_task S p))
+      ∙ falling_picked MAX_TASK_PRIORITY (is_upper_task S p) S.tasks (falling S p proper)
 
   module _ (t : ℕ) (inside : t < length S.tasks) (high : is_upper_task S p t ≡ true) where
     below_count : t < upper_count S p

@@ -1,6 +1,7 @@
 -- What the proof of isolation is made of: the upper core beside its system, states in two layers, and equal lines.
 use Rattle.std.specs.Prelude.{ℕ, ◌≡◌, ◌<◌, ◌≤◌, Bool, true, false, nat_lt, List, map, Option, Some, None, length, slice_get}
 use Rattle.std.specs.List.{AllByRecursion}
+use Rattle.osek_base.specs.declared.limits.TheConstants.{MAX_TASKS}
 use Rattle.osek_base.specs.declared.ids.ResId.{ResId}
 use Rattle.osek_base.specs.declared.ids.Owner.{Owner}
 use Rattle.osek_base.specs.declared.instr.Service.{Service}
@@ -32,7 +33,7 @@ is_visible S p ResId.Scheduler = true
 pub record IsCounterpart (S : System) (p : ℕ) : Type 0 where
   -- the upper tasks are those of the first numbers
   pub within : upper_count S p ≤ length S.tasks
-  pub few : upper_count S p ≤ 32
+  pub few : upper_count S p ≤ MAX_TASKS
   pub split : (t : ℕ) → t < length S.tasks → is_upper_task S p t ≡ nat_lt t (upper_count S p)
   pub task_count : length (upper_core S p).tasks ≡ upper_count S p
   pub tasks : (t : ℕ) → t < upper_count S p → task (upper_core S p) t ≡ upper_task S p t

@@ -2,6 +2,7 @@
 use Rattle.std.proofs.Common.{◌≡◌, ℕ, ◌+◌, Bool, true, false, cond, List, [], ◌∷◌, ◌++◌, map, length, refl, sym, ◌∙◌, ap, ap₂, subst, arith}
 use Rattle.std.specs.List.{filter, AllByRecursion}
 use Rattle.std.proofs.lemmas.List.{length-map, map-append}
+use Rattle.osek_base.specs.declared.limits.TheConstants.{WINDOW_WORDS}
 use Rattle.osek_base.specs.declared.ids.Owner.{Owner}
 use Rattle.osek_base.specs.declared.trace_event.TraceEvent.{TraceEvent}
 use Rattle.osek_base.specs.Lists.{below}
@@ -107,7 +108,7 @@ module _ (S : System) (p : ℕ) (both : IsCounterpart S p) (low : IsLow S p) (pr
       ap₂ (λ ts n. map Owner.Task ts ++ map Owner.Routine (below n)) tasks (length-map S.routines (upper_routine S p))
 
   same_window : (s : State) (owner : Owner) → is_upper_owner S p owner ≡ true → window (up S p s) owner ≡ window s owner
-  same_window s owner high = ap (λ (words : ℕ → ℕ). map words (below 64)) (own_words S p s.words owner high)
+  same_window s owner high = ap (λ (words : ℕ → ℕ). map words (below WINDOW_WORDS)) (own_words S p s.words owner high)
 
   task_windows : (s : State) (ts : List ℕ) → AllByRecursion (λ t. is_upper_task S p t ≡ true) ts
       → map (window (up S p s)) (map Owner.Task ts) ≡ map (window s) (map Owner.Task ts)

@@ -11,7 +11,7 @@ use crate::programs::{first_in_lower, first_in_routines, first_in_upper};
 use crate::tasks::{first_listing, first_not_full};
 use osek_base::System;
 
-/// Checks that the upper part of a system at p, 0 to 31, is separable from the lower one. Upper are the tasks of priority p
+/// Checks that the upper part of a system at p, 0 to the highest task priority, is separable from the lower one. Upper are the tasks of priority p
 /// or more, all routines, the resources of ceiling p or more, and the alarms that act on upper tasks. A denial is the first:
 /// the lowest rule broken, its first subject (tasks by number, then routines as declared), and its first place.
 ///

@@ -137,6 +137,8 @@ const CHECK_AT_6: &str = "osek_run check s.oil p.asm 6";
 
 const CHECK_AT_0: &str = "osek_run check s.oil p.asm 0";
 
+const PARTITIONS: &str = "osek_run partitions s.oil p.asm";
+
 const VIEW: &str = "osek_run upper s.oil p.asm none.irq M 7 5";
 
 const ALONE: &str = "osek_run upper s.oil p.asm none.irq M 7 5 --alone";
@@ -252,6 +254,35 @@ fn views(rt: HostRuntime) -> Result<(), Fail> {
     Ok(())
 }
 
+/// A line for each priority from 0 to the greatest of a task, also where each is denied.
+#[test]
+fn partitions(rt: HostRuntime) -> Result<(), Fail> {
+    let wrong = first_wrong(
+        rt.alloc(),
+        &[
+            prints(
+                SHARED_INTERNAL,
+                ENDS,
+                PARTITIONS,
+                "0: accepted\n1: accepted\n2: denied: rule 2, L\n3: denied: rule 2, L\n\
+                 4: denied: rule 2, L\n5: denied: rule 2, L\n",
+                0,
+            ),
+            prints(
+                ROUTINE,
+                ASKS_TASK,
+                PARTITIONS,
+                "0: denied: rule 7, I, 0\n1: denied: rule 7, I, 0\n2: denied: rule 7, I, 0\n\
+                 3: denied: rule 7, I, 0\n4: denied: rule 7, I, 0\n5: denied: rule 7, I, 0\n",
+                0,
+            ),
+            prints("CPU", ENDS, PARTITIONS, "oil: fault 2 at 0\n", 1),
+        ],
+    )?;
+    assert_eq!(rt; wrong, None);
+    Ok(())
+}
+
 /// A denial comes before the arrival list and the mode.
 #[test]
 fn denied_views(rt: HostRuntime) -> Result<(), Fail> {
@@ -326,8 +357,9 @@ fn refused_lines(rt: HostRuntime) -> Result<(), Fail> {
                 1,
             ),
             prints("CPU", ENDS, CHECK, "oil: fault 2 at 0\n", 1),
-            prints(PLAIN, ENDS, "osek_run check s.oil p.asm 32", "", 2),
+            prints(PLAIN, ENDS, "osek_run check s.oil p.asm 64", "", 2),
             prints(PLAIN, ENDS, "osek_run check s.oil p.asm -1", "", 2),
+            prints(PLAIN, ENDS, "osek_run partitions s.oil p.asm 5", "", 2),
             prints(PLAIN, ENDS, "osek_run check s.oil p.asm 5 --alone", "", 2),
             prints(
                 PLAIN,
@@ -346,7 +378,7 @@ fn refused_lines(rt: HostRuntime) -> Result<(), Fail> {
             prints(
                 PLAIN,
                 ENDS,
-                "osek_run upper s.oil p.asm none.irq M 5 32 --alone",
+                "osek_run upper s.oil p.asm none.irq M 5 64 --alone",
                 "",
                 2,
             ),

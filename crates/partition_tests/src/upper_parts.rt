@@ -3,21 +3,16 @@
 use crate::systems::{BUS_AND_LOG, ENDS, EVERY_THIRD_TICK, GOES_ROUND, LOWER_FIRST, PLAIN};
 use arrayvec::ArrayString;
 use kernel::Kernel;
-use oil_reader::read_oil;
 use osek_base::{Arrivals, System};
 use partition_check::check_partition;
 use ready_queues::LevelQueues;
 use std::alloc::Global;
 use std::test::Fail;
-use system_gen::generate;
-use task_asm::assemble;
-use tracer::{line_text, upper_view};
+use tracer::{line_text, read_system, upper_view};
 use upper_only::upper_only;
 
 fn system_of(alloc: Global, oil: &str, asm: &str) -> Result<System, Fail> {
-    let file = read_oil(alloc, oil.as_bytes())?;
-    let programs = assemble(alloc, asm.as_bytes())?;
-    Ok(generate(alloc, file, programs)?)
+    Ok(read_system(alloc, oil.as_bytes(), asm.as_bytes())?)
 }
 
 /// The upper part of a system that is separable at p.

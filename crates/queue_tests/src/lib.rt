@@ -4,9 +4,13 @@
 #[cfg(test)]
 mod alarm_runs;
 #[cfg(test)]
+mod counting_queues;
+#[cfg(test)]
 mod event_runs;
 #[cfg(test)]
 mod interrupt_runs;
+#[cfg(test)]
+mod many_tasks;
 #[cfg(test)]
 mod resource_runs;
 #[cfg(test)]

@@ -2,14 +2,11 @@
 
 use arrayvec::ArrayString;
 use kernel::Kernel;
-use oil_reader::read_oil;
 use osek_base::System;
 use ready_queues::{LevelQueues, ListQueues, ReadyQueues};
 use std::alloc::{AllocError, Global};
 use std::test::Fail;
-use system_gen::generate;
-use task_asm::assemble;
-use tracer::{line_text, read_arrivals};
+use tracer::{line_text, read_arrivals, read_system};
 
 /// No hook is on.
 pub const NO_HOOKS: &str = "STARTUPHOOK = FALSE; ERRORHOOK = FALSE; SHUTDOWNHOOK = FALSE;
@@ -50,31 +47,35 @@ pub struct Case {
     pub lines: &'static str,
 }
 
-/// The OIL text of a case.
-fn oil_of(alloc: Global, case: &Case) -> Result<String, AllocError> {
+/// The OIL text with these hooks, the mode M and these objects.
+pub fn oil_text(alloc: Global, hooks: &str, objects: &str) -> Result<String, AllocError> {
     let mut text = String::new(alloc);
     text.push_str("OIL_VERSION = \"2.5\"; CPU c { OS o { STATUS = EXTENDED; ")?;
-    text.push_str(case.hooks)?;
+    text.push_str(hooks)?;
     text.push_str(" }; APPMODE M {};\n")?;
-    text.push_str(case.objects)?;
+    text.push_str(objects)?;
     text.push_str("};\n")?;
     Ok(text)
 }
 
-fn system_of(alloc: Global, case: &Case) -> Result<System, Fail> {
-    let oil = oil_of(alloc, case)?;
-    let file = read_oil(alloc, oil.as_str().as_bytes())?;
-    let programs = assemble(alloc, case.programs.as_bytes())?;
-    Ok(generate(alloc, file, programs)?)
+/// The system of a case.
+pub fn system_of(alloc: Global, case: &Case) -> Result<System, Fail> {
+    let oil = oil_text(alloc, case.hooks, case.objects)?;
+    Ok(read_system(alloc, oil.as_str().as_bytes(), case.programs.as_bytes())?)
 }
 
-/// The lines of the trace over one kind of queues.
-fn lines_over<Q: ReadyQueues>(alloc: Global, system: &System, case: &Case) -> Result<String, Fail> {
-    let arrivals = read_arrivals(alloc, case.arrivals.as_bytes(), system)?;
+/// The trace over one kind of queues.
+pub fn trace_over<Q: ReadyQueues>(
+    alloc: Global,
+    system: &System,
+    arrivals: &str,
+    ticks: u32,
+) -> Result<String, Fail> {
+    let arrivals = read_arrivals(alloc, arrivals.as_bytes(), system)?;
     let mut kernel: Kernel<'_, Q> = Kernel::boot(alloc, system, "M", arrivals)?;
     let mut text = String::new(alloc);
     let mut line = ArrayString::new();
-    for tick in 0..case.ticks {
+    for tick in 0..ticks {
         if kernel.is_over() {
             break;
         }
@@ -91,8 +92,8 @@ fn lines_over<Q: ReadyQueues>(alloc: Global, system: &System, case: &Case) -> Re
 /// Whether a run has its lines over both kinds of queues.
 fn has_its_lines(alloc: Global, case: &Case) -> Result<bool, Fail> {
     let system = system_of(alloc, case)?;
-    let over_lists = lines_over::<ListQueues>(alloc, &system, case)?;
-    let over_levels = lines_over::<LevelQueues>(alloc, &system, case)?;
+    let over_lists = trace_over::<ListQueues>(alloc, &system, case.arrivals, case.ticks)?;
+    let over_levels = trace_over::<LevelQueues>(alloc, &system, case.arrivals, case.ticks)?;
     Ok(over_lists.as_str() == case.lines && over_levels.as_str() == case.lines)
 }
 

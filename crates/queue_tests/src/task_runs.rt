@@ -69,7 +69,7 @@ z: JMP z
 };
 
 /// A preempted task goes on before one of its priority that was activated meanwhile.
-const OLDEST: Case = Case {
+pub const OLDEST: Case = Case {
     shows: "a preempted task is the oldest",
     hooks: SWITCH_HOOKS,
     objects: "  TASK A { PRIORITY = 1; SCHEDULE = FULL; ACTIVATION = 1;

@@ -1,9 +1,11 @@
-//! Tests of the crates that read: OIL, and programs.
+//! Tests of the crates that read OIL and programs, and of the one that prints OIL.
 #![tactic(auto)]
 
 #[cfg(test)]
 mod assembler;
 #[cfg(test)]
 mod hostile_texts;
+#[cfg(test)]
+mod printer;
 #[cfg(test)]
 mod reader;

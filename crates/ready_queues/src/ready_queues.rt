@@ -3,11 +3,11 @@
 ghost use Rattle.std.specs.Prelude.{◌≡◌, ℕ, ◌<◌, ◌↔◌, IsTrue, IfOk};
 ghost use Rattle.ready_queues.specs.Queues.{Queues, no_tasks, total, top_level, first_task, with_newest, with_oldest, without_first};
 
-use osek_base::TaskId;
+use osek_base::{MAX_TASK_PRIORITY, TaskId};
 use std::alloc::{AllocError, Global};
 
-/// How many levels there are: they are numbered from 0, and the highest is `LEVELS - 1`.
-pub const LEVELS: u8 = 64;
+/// How many levels there are: one for each priority of a task, numbered from 0.
+pub const LEVELS: u8 = MAX_TASK_PRIORITY + 1;
 
 /// The ready list: for each level the tasks that are ready there, oldest first, and room for so
 /// many entries in all. A task may stand in it more than once, an entry for each of its jobs.

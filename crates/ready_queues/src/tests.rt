@@ -4,7 +4,7 @@ ghost use Rattle.std.specs.Prelude.{◌≡◌, ◌+◌, ◌<◌, ◌≤◌, Some
 ghost use Rattle.ready_queues.specs.Queues.{total, HasNoneAbove};
 
 use crate::{LEVELS, LevelQueues, ListQueues, ReadyQueues};
-use osek_base::TaskId;
+use osek_base::{MAX_TASKS, TaskId};
 use std::process::Abort;
 use std::test::Fail;
 
@@ -81,14 +81,14 @@ const TOPS: [Call; 14] = [
 fn meets<Q: ReadyQueues>(queues: &mut Q, call: &Call) -> bool {
     match call {
         Call::Newest(level, task) => {
-            if !queues.has_room() || *level >= LEVELS || *task >= TaskId::LIMIT {
+            if !queues.has_room() || *level >= LEVELS || *task as usize >= MAX_TASKS {
                 return false;
             }
             queues.put_newest(*level, TaskId::new(*task));
             true
         }
         Call::Oldest(level, task) => {
-            if !queues.has_room() || *level >= LEVELS || *task >= TaskId::LIMIT {
+            if !queues.has_room() || *level >= LEVELS || *task as usize >= MAX_TASKS {
                 return false;
             }
             queues.put_oldest(*level, TaskId::new(*task));

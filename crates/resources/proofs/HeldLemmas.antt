@@ -1,11 +1,12 @@
--- What is held: no more than 33 resources, and what a get and a release leave.
-use Rattle.std.proofs.Common.{ℕ, ◌≡◌, ◌<◌, ◌≤◌, ◌-◌, Bool, true, false, ◌||◌, eqb, List, [], ◌∷◌, ◌++◌, map, take, length, slice_get, refl, sym, ◌∙◌, ap, inl, inr, arith}
+-- What is held: no more resources than there are, and what a get and a release leave.
+use Rattle.std.proofs.Common.{ℕ, ◌≡◌, ◌<◌, ◌≤◌, ◌+◌, ◌-◌, Bool, true, false, ◌||◌, eqb, List, [], ◌∷◌, ◌++◌, map, take, length, slice_get, refl, sym, ◌∙◌, ap, inl, inr, arith}
 use Rattle.std.specs.List.{list_any, IsDistinct, AllByRecursion}
 use Rattle.std.proofs.lemmas.Grind.{common_steps}
 use Rattle.std.proofs.lemmas.Bool.{cases_Bool, false≢true}
 use Rattle.std.proofs.lemmas.List.{length-map}
 use Rattle.std.proofs.lemmas.List.Folds.{list_any-append}
 use Rattle.std.proofs.lemmas.Map.Steps.{length-le_from_distinct_below}
+use Rattle.osek_base.specs.declared.limits.TheConstants.{MAX_RESOURCES}
 use Rattle.osek_base.specs.declared.ids.ResId.{ResId}
 use Rattle.osek_base.specs.Lists.{same_resource, without_last, last_of}
 use Rattle.resources.specs.Held.{IsLow, IsEachOnce, is_held, number_of}
@@ -22,7 +23,7 @@ or_join false true g h = h
 or_join true false g h = g
 or_join true true g h = g
 
-number_low : (r : ResId) → IsLow r → number_of r < 33
+number_low : (r : ResId) → IsLow r → number_of r < (MAX_RESOURCES + 1)
 number_low (ResId.Declared n) low = omega arith
 number_low ResId.Scheduler low = omega arith
 
@@ -37,8 +38,8 @@ same_back m n = grind (arith, common_steps)
 
 apart : (a b : ResId) → IsLow a → IsLow b → same_resource a b ≡ false → eqb (number_of a) (number_of b) ≡ false
 apart (ResId.Declared m) (ResId.Declared n) l k h = h
-apart (ResId.Declared m) ResId.Scheduler l k h = unlike m 32 l
-apart ResId.Scheduler (ResId.Declared n) l k h = unlike_back n 32 k
+apart (ResId.Declared m) ResId.Scheduler l k h = unlike m MAX_RESOURCES l
+apart ResId.Scheduler (ResId.Declared n) l k h = unlike_back n MAX_RESOURCES k
 apart ResId.Scheduler ResId.Scheduler l k h = absurd (false≢true (sym h))
 
 same_flips : (a b : ResId) → same_resource a b ≡ same_resource b a
@@ -59,17 +60,17 @@ unfolding IsDistinct
 distinct [] once = tt
 distinct (r ∷ rs) once = (each_apart r rs once.0 once.1.1 once.1.0, distinct rs once.1.1)
 
-numbers_low : (held : List ResId) → IsEachOnce held → (q : ℕ) → list_any (eqb q) (map number_of held) ≡ true → q < 33
+numbers_low : (held : List ResId) → IsEachOnce held → (q : ℕ) → list_any (eqb q) (map number_of held) ≡ true → q < (MAX_RESOURCES + 1)
 numbers_low [] once q h = absurd (false≢true h)
 numbers_low (r ∷ rs) once q h = elim (cases_Bool (eqb q (number_of r))) [
-  | inl same ↦ let low : number_of r < 33 = number_low r once.0 in grind (arith, common_steps)
+  | inl same ↦ let low : number_of r < (MAX_RESOURCES + 1) = number_low r once.0 in grind (arith, common_steps)
   | inr other ↦ numbers_low rs once.1.1 q (rw other at h)
 ]
 
--- at most 32 declared resources and RES_SCHEDULER
-pub length-held : (held : List ResId) → IsEachOnce held → length held ≤ 33
+-- at most the declared resources and RES_SCHEDULER
+pub length-held : (held : List ResId) → IsEachOnce held → length held ≤ (MAX_RESOURCES + 1)
 length-held held once =
-    let most : length (map number_of held) ≤ 33 = length-le_from_distinct_below (map number_of held) 33 (distinct held once) (numbers_low held once) in
+    let most : length (map number_of held) ≤ (MAX_RESOURCES + 1) = length-le_from_distinct_below (map number_of held) (MAX_RESOURCES + 1) (distinct held once) (numbers_low held once) in
     rw length-map at most
 
 pub once-get : (held : List ResId) (r : ResId) → IsEachOnce held → IsLow r → is_held r held ≡ false → IsEachOnce (held ++ r ∷ [])

@@ -1,6 +1,7 @@
 -- OSEK/VDX OS: resource management. What one job holds, as the list of its resources in the order got.
 use Rattle.std.specs.Prelude.{ℕ, ◌<◌, Bool, true, IsFalse, List, [], ◌∷◌, None}
 use Rattle.std.specs.List.{list_any}
+use Rattle.osek_base.specs.declared.limits.TheConstants.{MAX_RESOURCES}
 use Rattle.osek_base.specs.declared.ids.ResId.{ResId}
 use Rattle.osek_base.specs.Lists.{same_resource, last_of}
 use Rattle.osek_base.specs.System.{System}
@@ -15,11 +16,11 @@ is_held r held = list_any (same_resource r) held
 -- a number for each resource, which tells it apart
 abbrev pub number_of : ResId → ℕ
 number_of (ResId.Declared n) = n
-number_of ResId.Scheduler = 32
+number_of ResId.Scheduler = MAX_RESOURCES
 
--- a declared resource's number is below 32
+-- a declared resource's number is within the limit
 abbrev pub IsLow : ResId → Type 0
-IsLow (ResId.Declared n) = n < 32
+IsLow (ResId.Declared n) = n < MAX_RESOURCES
 IsLow ResId.Scheduler = Unit {0}
 
 -- no resource stands twice

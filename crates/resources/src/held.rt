@@ -7,14 +7,17 @@ ghost use Rattle.osek_base.specs.Ceiling.{ceiling};
 ghost use Rattle.resources.specs.Held.{is_held, is_last, IsLow, number_of, priority_with};
 
 use arrayvec::ArrayVec;
-use osek_base::{ResId, ResourceNumber, Status, System, TaskId};
+use osek_base::{MAX_RESOURCES, ResId, Status, System, TaskId};
 use std::marker::Model;
 
-/// What one job holds: at most the 32 declared resources and RES_SCHEDULER, each once. Contracts see the list in the
+/// The declared resources and RES_SCHEDULER.
+const MOST_HELD: usize = MAX_RESOURCES + 1;
+
+/// What one job holds: at most [`MOST_HELD`] resources, each once. Contracts see the list in the
 /// order got.
 #[derive(Drop)]
 pub struct Held {
-    resources: ArrayVec<ResId, 33>,
+    resources: ArrayVec<ResId, MOST_HELD>,
 }
 
 impl Model for Held {
@@ -45,7 +48,7 @@ impl Held {
         ensures { self.new ≡ self.old ++ resource ∷ [] }
     {
         let number = number_of(&resource);
-        prove!(number <= ResourceNumber::LIMIT);
+        prove!(number <= MAX_RESOURCES as u8);
         self.resources.push(resource);
     }
 
@@ -142,13 +145,13 @@ fn is_same(a: ResId, b: ResId) -> bool
     }
 }
 
-/// A number of at most 32 for each resource, which tells it apart.
+/// A number for each resource, which tells it apart; RES_SCHEDULER has the one behind those of declared resources.
 fn number_of(resource: &ResId) -> u8
     ensures value { result ≡ number_of resource.now }
     ensures low { IsLow resource.now }
 {
     match resource {
         ResId::Declared(number) => number.number(),
-        ResId::Scheduler => ResourceNumber::LIMIT,
+        ResId::Scheduler => MAX_RESOURCES as u8,
     }
 }

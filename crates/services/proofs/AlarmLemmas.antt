@@ -1,7 +1,8 @@
 -- What is kept after a service on alarms.
 use Rattle.std.proofs.Common.{◌≡◌, ℕ, refl, ◌∙◌, ap}
-use Rattle.std.specs.Prelude.{Option, Some, None}
+use Rattle.std.specs.Prelude.{List, Option, Some, None}
 use Rattle.osek_base.specs.declared.instr.Service.{Service}
+use Rattle.osek_base.specs.declared.task.Counter.{Counter}
 use Rattle.osek_base.specs.declared.status.Status.{Status}
 use Rattle.osek_base.specs.Service.{NobodyCalls, changed}
 use Rattle.alarms.specs.Alarms.{AlarmTable, after_call, refusal, state_of, status_of}
@@ -9,22 +10,22 @@ use Rattle.kept_state.specs.KeptService.{caller_in, changed_in, unmasked_in}
 use Rattle.services.specs.Objects.{Objects, kept_in}
 use Rattle.services.specs.Calls.{unmasked}
 
-abbrev pub table : Objects → AlarmTable
-table o = record { expiries = o.alarms; tick = o.tick }
+abbrev pub table : List Counter → Objects → AlarmTable
+table counters o = record { expiries = o.alarms; counters = counters; tick = o.tick }
 
-pub cancelled_status : (o : Objects) (a : ℕ) → status_of o.system (table o) (Service.CancelAlarm (Some a)) ≡ (unmasked o (Service.CancelAlarm (Some a))).status
+pub cancelled_status : (cs : List Counter) (o : Objects) (a : ℕ) → status_of o.system (table cs o) (Service.CancelAlarm (Some a)) ≡ (unmasked o (Service.CancelAlarm (Some a))).status
 unfolding unmasked_in
-cancelled_status o a = refl
+cancelled_status cs o a = refl
 
-pub cancelled_kept : (o : Objects) (a : ℕ) (t : AlarmTable) → t ≡ after_call o.system (table o) (Service.CancelAlarm (Some a))
+pub cancelled_kept : (cs : List Counter) (o : Objects) (a : ℕ) (t : AlarmTable) → t ≡ after_call o.system (table cs o) (Service.CancelAlarm (Some a))
     → kept_in (record o { alarms = t.expiries; tick = t.tick }) ≡ (unmasked o (Service.CancelAlarm (Some a))).state
 unfolding unmasked_in
-cancelled_kept o a t e =
+cancelled_kept cs o a t e =
     ap (λ (u : AlarmTable). kept_in (record o { alarms = u.expiries; tick = u.tick })) e
-    ∙ go (refusal o.system (table o) (Service.CancelAlarm (Some a)))
+    ∙ go (refusal o.system (table cs o) (Service.CancelAlarm (Some a)))
   where
     go : (x : Option Status)
-        → kept_in (record o { alarms = (changed o.system NobodyCalls (state_of o.system (table o)) (Service.CancelAlarm (Some a)) x).alarms })
+        → kept_in (record o { alarms = (changed o.system NobodyCalls (state_of o.system (table cs o)) (Service.CancelAlarm (Some a)) x).alarms })
         ≡ changed_in o.system (caller_in (kept_in o)) (kept_in o) (Service.CancelAlarm (Some a)) x
     go None = refl
     go (Some refusal) = refl

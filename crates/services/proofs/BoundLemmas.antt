@@ -3,6 +3,8 @@ use Rattle.std.proofs.Common.{◌≡◌, ℕ, zero, suc, ◌-◌, ◌<◌, ◌�
 use Rattle.std.specs.Prelude.{Option, Some, None, is_some, ◌==◌}
 use Rattle.std.specs.List.{AllByRecursion}
 use Rattle.std.proofs.lemmas.Bool.{cases_lt, leb-true}
+use Rattle.osek_base.specs.declared.limits.TheConstants.{MAX_TASK_PRIORITY, MAX_ACTIVATION}
+use Rattle.ready_queues.specs.declared.ready_queues.TheConstants.{LEVELS}
 use Rattle.osek_base.specs.Lists.{greatest, is_empty}
 use Rattle.osek_base.specs.System.{System, Task, task, priority_of, activation_of}
 use Rattle.osek_base.specs.Ceiling.{top_priority}
@@ -28,23 +30,23 @@ falling_low limit (a ∷ rest) h =
     let low = leb-true a.priority limit both.0 in
     omega (arith, ih, low)
 
-top_low : (S : System) → IsProper S → top_priority S < 64
+top_low : (S : System) → IsProper S → top_priority S < LEVELS
 top_low S proper =
-    let low = falling_low 31 S.tasks (and_split _ _ (and_split _ _ (and_split _ _ (and_split _ _ (and_split _ _ proper.objects).0).0).0).0).0 in
+    let low = falling_low MAX_TASK_PRIORITY S.tasks (and_split _ _ (and_split _ _ (and_split _ _ (and_split _ _ (and_split _ _ proper.objects).0).0).0).0).0 in
     omega (arith, low)
 
 activation_low : (S : System) → IsProper S → (t : ℕ) → t < length S.tasks → activation_of S t < 255
 activation_low S proper t inside =
     let here = and_split _ _ (and_split _ _ (and_split _ _ (and_split _ _ (proper_at S t proper inside)).0).0).0 in
-    few (activation_of S t) (leb-true (activation_of S t) 15 (and_split _ _ (and_split _ _ here.0).0).1)
+    few (activation_of S t) (leb-true (activation_of S t) MAX_ACTIVATION (and_split _ _ (and_split _ _ here.0).0).1)
   where
-    few : (n : ℕ) → n ≤ 15 → n < 255
+    few : (n : ℕ) → n ≤ MAX_ACTIVATION → n < 255
     few n low = omega (arith, low)
 
 pub bounds_of : (S : System) → IsProper S → HasBounds S
 bounds_of S proper = record { top = top_low S proper; activation = activation_low S proper }
 
-pub priority_low : (S : System) (t : ℕ) → HasBounds S → priority_of S t < 64
+pub priority_low : (S : System) (t : ℕ) → HasBounds S → priority_of S t < LEVELS
 priority_low S t bounds = let a = at_most S S.tasks t in let b = bounds.top in omega (arith, a, b)
 
 -- ---- what fits

@@ -4,6 +4,8 @@ use Rattle.std.specs.Prelude.{ℕ, ◌≡◌, ◌<◌, Bool, List, [], Option, s
 use Rattle.osek_base.specs.System.{System, activation_of}
 use Rattle.osek_base.specs.Ceiling.{top_priority}
 use Rattle.osek_base.specs.State.{State, Active, Expiry, Words}
+use Rattle.ready_queues.specs.declared.ready_queues.TheConstants.{LEVELS}
+use Rattle.alarms.specs.Alarms.{AlarmTable, IsTableOf}
 use Rattle.kept_state.specs.Kept.{Kept, Slot, unbegun, kept}
 use Rattle.kept_state.specs.Standing.{IsStanding, Fits, room_for}
 
@@ -63,16 +65,16 @@ kept_in o = kept_of no_words o
 
 -- priorities are levels, and the number of a task's jobs fits a byte with one more
 pub record HasBounds (S : System) : Type 0 where
-  pub top : top_priority S < 64
+  pub top : top_priority S < LEVELS
   pub activation : (t : ℕ) → t < length S.tasks → activation_of S t < 255
 
--- the lists have the lengths of the system's
-pub record IsSized (S : System) (blocks : List Slot) (events : List ℕ) (flags : List Bool) (expiries : List (Option Expiry)) (places : ℕ) : Type 0 where
+-- the lists have the lengths of the system's, and the alarms are the system's
+pub record IsSized (S : System) (blocks : List Slot) (events : List ℕ) (flags : List Bool) (table : AlarmTable) (places : ℕ) : Type 0 where
   pub bounds : HasBounds S
   pub slots : length blocks ≡ length S.tasks
   pub masks : length events ≡ length S.tasks
   pub pending : length flags ≡ length S.routines
-  pub alarms : length expiries ≡ length S.alarms
+  pub alarms : IsTableOf S table
   pub room : places ≡ room_for S
 
 -- a state of a run, or one like it, is what the objects stand for

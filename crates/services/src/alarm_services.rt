@@ -13,7 +13,7 @@ ghost use Rattle.services.specs.Calls.{unmasked};
 use crate::calls::Answer;
 use crate::objects::Objects;
 use arrayvec::ArrayVec;
-use osek_base::{AlarmId, Results, Status};
+use osek_base::{AlarmId, MAX_ALARMS, MAX_TICKS, Results, Status};
 use ready_queues::ReadyQueues;
 
 impl<'s, Q: ReadyQueues> Objects<'s, Q> {
@@ -77,8 +77,8 @@ impl<'s, Q: ReadyQueues> Objects<'s, Q> {
 
     /// The next tick begins, and the alarms that are due in it expire. The content of `due` becomes these alarms, in
     /// declaration order.
-    pub fn advance(&mut self, due: &mut ArrayVec<AlarmId, 64>)
-        requires { self.old.tick < 999999 }
+    pub fn advance(&mut self, due: &mut ArrayVec<AlarmId, MAX_ALARMS>)
+        requires { self.old.tick + 1 < MAX_TICKS }
         ensures due { due.new.items ≡ due_alarms self.old.system (bare (record (kept_in self.old) { tick = self.old.tick + 1 })) }
         ensures objects { self.new ≡ record self.old { tick = self.old.tick + 1; alarms = alarms_advanced self.old.system (bare (record (kept_in self.old) { tick = self.old.tick + 1 })) } }
     {

@@ -9,8 +9,8 @@ ghost use Rattle.kept_state.specs.Standing.{room_for};
 ghost use Rattle.services.specs.Objects.{by_level, by_task, kept_in, AreFit};
 
 use crate::objects::Objects;
-use osek_base::{System, TaskId, TickRecord, TraceEvent};
-use ready_queues::ReadyQueues;
+use osek_base::{MAX_RECORDS, System, TaskId, TickRecord, TraceEvent};
+use ready_queues::{LEVELS, ReadyQueues};
 
 impl<'s, Q: ReadyQueues> Objects<'s, Q> {
     /// A new job of a task is the newest of its level. The events of an extended task that had no job are cleared.
@@ -47,7 +47,7 @@ impl<'s, Q: ReadyQueues> Objects<'s, Q> {
     fn level_of(&self, task: TaskId) -> u8
         requires { task < length self.now.system.tasks }
         ensures value { result ≡ priority_of self.now.system task }
-        ensures low { result < 64 }
+        ensures low { result < LEVELS }
     {
         self.system.priority_of(task)
     }
@@ -88,7 +88,7 @@ impl<'s, Q: ReadyQueues> Objects<'s, Q> {
 
     /// No task runs.
     fn stop(&mut self, record_of_tick: &mut TickRecord)
-        requires { length record_of_tick.old < 72 }
+        requires { length record_of_tick.old < MAX_RECORDS }
         ensures system { self.new.system ≡ self.old.system }
         ensures kept { kept_in self.new ≡ (nobody self.old.system (kept_in self.old)).state }
         ensures events { record_of_tick.new ≡ record_of_tick.old ++ (nobody self.old.system (kept_in self.old)).events }
@@ -133,7 +133,7 @@ impl<'s, Q: ReadyQueues> Objects<'s, Q> {
         requires some { 0 < length (by_level self.old.queues level) }
         requires none { (l : ℕ) → level < l → by_level self.old.queues l ≡ [] }
         requires known { first (by_level self.old.queues level) < length self.old.system.tasks }
-        requires room { length record_of_tick.old + 2 ≤ 72 }
+        requires room { length record_of_tick.old + 2 ≤ MAX_RECORDS }
         ensures system { self.new.system ≡ self.old.system }
         ensures kept { kept_in self.new ≡ (dispatched self.old.system level (by_level self.old.queues) (kept_in self.old)).state }
         ensures events { record_of_tick.new ≡ record_of_tick.old ++ (dispatched self.old.system level (by_level self.old.queues) (kept_in self.old)).events }
@@ -153,7 +153,7 @@ impl<'s, Q: ReadyQueues> Objects<'s, Q> {
         requires some { 0 < length (by_level self.old.queues level) }
         requires none { (l : ℕ) → level < l → by_level self.old.queues l ≡ [] }
         requires known { first (by_level self.old.queues level) < length self.old.system.tasks }
-        requires room { length record_of_tick.old + 2 ≤ 72 }
+        requires room { length record_of_tick.old + 2 ≤ MAX_RECORDS }
         ensures system { self.new.system ≡ self.old.system }
         ensures kept { kept_in self.new ≡ (dispatched self.old.system level (put_first (by_level self.old.queues) own task) (kept_in self.old)).state }
         ensures events { record_of_tick.new ≡ record_of_tick.old ++ (dispatched self.old.system level (put_first (by_level self.old.queues) own task) (kept_in self.old)).events }
@@ -179,7 +179,7 @@ impl<'s, Q: ReadyQueues> Objects<'s, Q> {
     #[tactic(auto, unfolding(kept_state::specs::Moves::rescheduled))]
     pub fn reschedule(&mut self, record_of_tick: &mut TickRecord)
         requires fit { AreFit self.old }
-        requires room { length record_of_tick.old + 2 ≤ 72 }
+        requires room { length record_of_tick.old + 2 ≤ MAX_RECORDS }
         ensures system { self.new.system ≡ self.old.system }
         ensures kept { kept_in self.new ≡ (rescheduled self.old.system (kept_in self.old)).state }
         ensures events { record_of_tick.new ≡ record_of_tick.old ++ (rescheduled self.old.system (kept_in self.old)).events }
@@ -211,7 +211,7 @@ impl<'s, Q: ReadyQueues> Objects<'s, Q> {
 
 /// Records that a task leaves running, where PostTaskHook is on.
 fn record_left(system: &System, task: &Option<TaskId>, record_of_tick: &mut TickRecord)
-    requires { length record_of_tick.old < 72 }
+    requires { length record_of_tick.old < MAX_RECORDS }
     ensures events { record_of_tick.new ≡ record_of_tick.old ++ left_in system.now task.now }
     ensures few { length record_of_tick.new ≤ length record_of_tick.old + 1 }
 {
@@ -224,7 +224,7 @@ fn record_left(system: &System, task: &Option<TaskId>, record_of_tick: &mut Tick
 
 /// Records that a task enters running, where PreTaskHook is on.
 fn record_entered(system: &System, task: TaskId, record_of_tick: &mut TickRecord)
-    requires { length record_of_tick.old < 72 }
+    requires { length record_of_tick.old < MAX_RECORDS }
     ensures events { record_of_tick.new ≡ record_of_tick.old ++ entered_in system.now task }
     ensures few { length record_of_tick.new ≤ length record_of_tick.old + 1 }
 {

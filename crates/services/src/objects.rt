@@ -60,7 +60,7 @@ impl<'s, Q: ReadyQueues> Model for Objects<'s, Q> {
       over = c.over;
     } };
 
-    ghost invariant = { λ c. IsSized c.system.now c.slots.items c.masks.items c.pending.items c.alarms.expiries c.ready.room };
+    ghost invariant = { λ c. IsSized c.system.now c.slots.items c.masks.items c.pending.items c.alarms c.ready.room };
 }
 
 /// The sum of the ACTIVATION values.
@@ -112,8 +112,9 @@ impl<'s, Q: ReadyQueues> Objects<'s, Q> {
         })
     }
 
-    /// Sets the alarms that start by themselves in a mode.
+    /// Sets the alarms that start by themselves in a mode, at tick 0.
     pub fn start_alarms(&mut self, mode: ModeId)
+        requires { self.old.tick ≡ 0 }
         ensures { self.new ≡ record self.old { alarms = starting_alarms self.old.system mode } }
     {
         self.alarms.start(self.system, mode);

@@ -19,7 +19,10 @@ use crate::calls::{Answer, Call};
 use crate::objects::Objects;
 use arrayvec::ArrayVec;
 use machine::Cpu;
-use osek_base::{AlarmId, IsrId, ModeId, Owner, Status, System, TaskId, TickRecord};
+use osek_base::{
+    AlarmId, IsrId, MAX_ALARMS, MAX_RECORDS, MAX_TICKS, ModeId, Owner, Status, System, TaskId,
+    TickRecord,
+};
 use ready_queues::ReadyQueues;
 use std::alloc::{AllocError, Global};
 use std::marker::Model;
@@ -53,8 +56,9 @@ impl<'s, Q: ReadyQueues> Core<'s, Q> {
         })
     }
 
-    /// Sets the alarms that start by themselves in a mode.
+    /// Sets the alarms that start by themselves in a mode, at tick 0.
     pub fn start_alarms(&mut self, mode: ModeId)
+        requires { self.old.tick ≡ 0 }
         ensures { self.new ≡ record self.old { alarms = starting_alarms self.old.system mode } }
     {
         self.objects.start_alarms(mode);
@@ -102,8 +106,8 @@ impl<'s, Q: ReadyQueues> Core<'s, Q> {
     pub fn call(&mut self, call: &Call) -> Answer
         requires known { IsKnownCall self.old.system call.now }
         requires serves { MayServe self.old.system (kept_in self.old) }
-        requires all { self.old.suspended_all < 1000000 }
-        requires os { self.old.suspended_os < 1000000 }
+        requires all { self.old.suspended_all < MAX_TICKS }
+        requires os { self.old.suspended_os < MAX_TICKS }
         ensures system { self.new.system ≡ self.old.system }
         ensures caller { IsSameCaller self.old self.new }
         ensures status { result.status ≡ (call_in self.old.system (kept_in self.old) call.now).status }
@@ -116,7 +120,7 @@ impl<'s, Q: ReadyQueues> Core<'s, Q> {
     /// With no routine active and interrupts on, the task that is to run becomes the running one, with a Post record of the
     /// old one and a Pre record of the new one where the running job changes.
     pub fn reschedule(&mut self, record_of_tick: &mut TickRecord)
-        requires { length record_of_tick.old + 2 ≤ 72 }
+        requires { length record_of_tick.old + 2 ≤ MAX_RECORDS }
         ensures system { self.new.system ≡ self.old.system }
         ensures kept { kept_in self.new ≡ (rescheduled self.old.system (kept_in self.old)).state }
         ensures events { record_of_tick.new ≡ record_of_tick.old ++ (rescheduled self.old.system (kept_in self.old)).events }
@@ -127,8 +131,8 @@ impl<'s, Q: ReadyQueues> Core<'s, Q> {
 
     /// The next tick begins, and the alarms that are due in it expire. The content of `due` becomes these alarms, in
     /// declaration order.
-    pub fn advance(&mut self, due: &mut ArrayVec<AlarmId, 64>)
-        requires { self.old.tick < 999999 }
+    pub fn advance(&mut self, due: &mut ArrayVec<AlarmId, MAX_ALARMS>)
+        requires { self.old.tick + 1 < MAX_TICKS }
         ensures due { due.new.items ≡ due_alarms self.old.system (bare (record (kept_in self.old) { tick = self.old.tick + 1 })) }
         ensures objects { self.new ≡ record self.old { tick = self.old.tick + 1; alarms = alarms_advanced self.old.system (bare (record (kept_in self.old) { tick = self.old.tick + 1 })) } }
     {

@@ -7,7 +7,7 @@ ghost use Rattle.services.specs.Objects.{by_level};
 ghost use Rattle.services.specs.Levels.{level_lists};
 
 use osek_base::TaskId;
-use ready_queues::ReadyQueues;
+use ready_queues::{LEVELS, ReadyQueues};
 use std::alloc::{AllocError, Global};
 use std::marker::Model;
 
@@ -45,7 +45,7 @@ impl<Q: ReadyQueues> ReadyList<Q> {
 
     /// Adds a task behind those of its level.
     pub fn put_last(&mut self, level: u8, task: TaskId)
-        requires level { level < 64 }
+        requires level { level < LEVELS }
         requires room { total (by_level self.old.lists) < self.old.room }
         ensures lists { by_level self.new.lists ≡ put_last (by_level self.old.lists) level task }
         ensures room { self.new.room ≡ self.old.room }
@@ -55,7 +55,7 @@ impl<Q: ReadyQueues> ReadyList<Q> {
 
     /// Adds a task before those of its level.
     pub fn put_first(&mut self, level: u8, task: TaskId)
-        requires level { level < 64 }
+        requires level { level < LEVELS }
         requires room { total (by_level self.old.lists) < self.old.room }
         ensures lists { by_level self.new.lists ≡ put_first (by_level self.old.lists) level task }
         ensures room { self.new.room ≡ self.old.room }
@@ -66,7 +66,7 @@ impl<Q: ReadyQueues> ReadyList<Q> {
     /// The highest level that has a task, where none above `top` has.
     pub fn highest(&self, top: u8) -> Option<u8>
         requires none { (l : ℕ) → top < l → by_level self.now.lists l ≡ [] }
-        requires top { top < 64 }
+        requires top { top < LEVELS }
         ensures { result ≡ highest (suc top) (by_level self.now.lists) }
     {
         self.queues.top()
@@ -76,7 +76,7 @@ impl<Q: ReadyQueues> ReadyList<Q> {
     pub fn take_first(&mut self, level: u8) -> TaskId
         requires some { 0 < length (by_level self.old.lists level) }
         requires none { (l : ℕ) → level < l → by_level self.old.lists l ≡ [] }
-        requires level { level < 64 }
+        requires level { level < LEVELS }
         ensures task { result ≡ first (by_level self.old.lists level) }
         ensures lists { by_level self.new.lists ≡ without_first (by_level self.old.lists) level }
         ensures room { self.new.room ≡ self.old.room }

@@ -3,7 +3,6 @@ pub mod Places
 pub mod OrderLemmas
 pub mod LimitLemmas
 pub mod FaultLemmas
-pub mod GeneratedLemmas
 pub mod NumberedNames
 pub mod NamePlaces
 pub mod TasksDeclared

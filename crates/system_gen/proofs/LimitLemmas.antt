@@ -3,6 +3,7 @@ use Rattle.std.proofs.Common.{◌≡◌, Bool, true, false, length, map, Option,
 use Rattle.std.specs.Prelude.{if◌then◌else◌}
 use Rattle.std.proofs.lemmas.Bool.{ltb-false}
 use Rattle.std.proofs.lemmas.List.{length-map}
+use Rattle.osek_base.specs.declared.limits.TheConstants.{MAX_MODES, MAX_TASKS, MAX_RESOURCES, MAX_COUNTERS, MAX_ALARMS}
 use Rattle.oil_reader.specs.Configuration.{Configuration}
 use Rattle.system_gen.specs.Checks.{beyond_limit}
 use Rattle.system_gen.specs.ObjectNames.{order_of, task_name}
@@ -24,9 +25,9 @@ within_limits f e =
     let counters = split_limit _ _ _ events.1 in
     let alarms = split_limit _ _ _ counters.1 in
     record {
-      modes = ltb-false 8 (length f.app_modes) modes.0;
-      tasks = omega (arith, length-map (order_of f.tasks) (task_name f.tasks), order_short (map (λ t. t.priority) f.tasks), length-map f.tasks (λ t. t.priority), ltb-false 32 (length f.tasks) tasks.0);
-      resources = omega (arith, length-map f.resources (λ r. r.name), ltb-false 32 (length f.resources) resources.0);
-      counters = omega (arith, length-map f.counters (λ r. r.name), ltb-false 8 (length f.counters) counters.0);
-      alarms = omega (arith, length-map f.alarms (λ r. r.name), ltb-false 64 (length f.alarms) alarms.0);
+      modes = ltb-false MAX_MODES (length f.app_modes) modes.0;
+      tasks = omega (arith, length-map (order_of f.tasks) (task_name f.tasks), order_short (map (λ t. t.priority) f.tasks), length-map f.tasks (λ t. t.priority), ltb-false MAX_TASKS (length f.tasks) tasks.0);
+      resources = omega (arith, length-map f.resources (λ r. r.name), ltb-false MAX_RESOURCES (length f.resources) resources.0);
+      counters = omega (arith, length-map f.counters (λ r. r.name), ltb-false MAX_COUNTERS (length f.counters) counters.0);
+      alarms = omega (arith, length-map f.alarms (λ r. r.name), ltb-false MAX_ALARMS (length f.alarms) alarms.0);
     }

@@ -5,6 +5,7 @@ use Rattle.std.specs.List.{list_all, list_any, Contains, AllByRecursion}
 use Rattle.std.specs.Str.{bytes_eq}
 use Rattle.std.proofs.lemmas.Bool.{and_parts, or_cases, ltb-false, le-leb, eq-eqb}
 use Rattle.std.proofs.lemmas.List.{length-map}
+use Rattle.osek_base.specs.declared.limits.TheConstants.{MAX_MODES, MAX_TASKS, MAX_TASK_PRIORITY, MAX_ROUTINES, MAX_RESOURCES, MAX_EVENTS, MAX_COUNTERS, MAX_ALARMS}
 use Rattle.osek_base.specs.Lists.{is_empty}
 use Rattle.osek_base.specs.Names.{is_named}
 use Rattle.osek_base.specs.Proper.{is_within_limits, is_named_throughout, has_proper_names, are_proper_names, are_falling}
@@ -64,24 +65,24 @@ module _ (f : Configuration) (programs : List Program) where
       let events = split_limit _ _ _ resources.1 in
       let counters = split_limit _ _ _ events.1 in
       let alarms = split_limit _ _ _ counters.1 in
-      let max_modes : length f.app_modes ≤ 8 = ltb-false 8 (length f.app_modes) modes.0 in
-      let max_tasks : length f.tasks ≤ 32 = ltb-false 32 (length f.tasks) tasks.0 in
-      let max_routines : length f.routines ≤ 16 = ltb-false 16 (length f.routines) routines.0 in
-      let max_resources : length f.resources ≤ 32 = ltb-false 32 (length f.resources) resources.0 in
-      let max_events : length f.events ≤ 32 = ltb-false 32 (length f.events) events.0 in
-      let max_counters : length f.counters ≤ 8 = ltb-false 8 (length f.counters) counters.0 in
-      let max_alarms : length f.alarms ≤ 64 = ltb-false 64 (length f.alarms) alarms.0 in
+      let max_modes : length f.app_modes ≤ MAX_MODES = ltb-false MAX_MODES (length f.app_modes) modes.0 in
+      let max_tasks : length f.tasks ≤ MAX_TASKS = ltb-false MAX_TASKS (length f.tasks) tasks.0 in
+      let max_routines : length f.routines ≤ MAX_ROUTINES = ltb-false MAX_ROUTINES (length f.routines) routines.0 in
+      let max_resources : length f.resources ≤ MAX_RESOURCES = ltb-false MAX_RESOURCES (length f.resources) resources.0 in
+      let max_events : length f.events ≤ MAX_EVENTS = ltb-false MAX_EVENTS (length f.events) events.0 in
+      let max_counters : length f.counters ≤ MAX_COUNTERS = ltb-false MAX_COUNTERS (length f.counters) counters.0 in
+      let max_alarms : length f.alarms ≤ MAX_ALARMS = ltb-false MAX_ALARMS (length f.alarms) alarms.0 in
       let mode = some_mode f.app_modes (checked_parts f checked).app_modes in
       let S = system_of f programs in
       all_eight _ _ _ _ _ _ _ _
-      (le-leb (length S.tasks) 32 (omega (arith, max_tasks, length-map (order_of f.tasks) (task_declared (known_of f) programs f.tasks), order_short (map (λ t. t.priority) f.tasks), length-map f.tasks (λ t. t.priority))))
-      (le-leb (length S.routines) 16 (omega (arith, max_routines, length-map f.routines (resolved_routine (known_of f) programs))))
-      (le-leb (length S.resources) 32 (omega (arith, max_resources, length-map f.resources (λ r. r.property))))
-      (le-leb (length S.events) 32 (omega (arith, max_events, masks)))
-      (le-leb (length S.counters) 8 (omega (arith, max_counters, length-map f.counters (λ c. c.counter))))
-      (le-leb (length S.alarms) 64 (omega (arith, max_alarms, length-map f.alarms (resolved_alarm (known_of f)))))
+      (le-leb (length S.tasks) MAX_TASKS (omega (arith, max_tasks, length-map (order_of f.tasks) (task_declared (known_of f) programs f.tasks), order_short (map (λ t. t.priority) f.tasks), length-map f.tasks (λ t. t.priority))))
+      (le-leb (length S.routines) MAX_ROUTINES (omega (arith, max_routines, length-map f.routines (resolved_routine (known_of f) programs))))
+      (le-leb (length S.resources) MAX_RESOURCES (omega (arith, max_resources, length-map f.resources (λ r. r.property))))
+      (le-leb (length S.events) MAX_EVENTS (omega (arith, max_events, masks)))
+      (le-leb (length S.counters) MAX_COUNTERS (omega (arith, max_counters, length-map f.counters (λ c. c.counter))))
+      (le-leb (length S.alarms) MAX_ALARMS (omega (arith, max_alarms, length-map f.alarms (resolved_alarm (known_of f)))))
       (le-leb 1 (mode_count S) mode)
-      (le-leb (mode_count S) 8 max_modes)
+      (le-leb (mode_count S) MAX_MODES max_modes)
 
   -- each object has a name
   pub named : length (masks_of f.events) ≡ length f.events → is_named_throughout (system_of f programs) ≡ true
@@ -95,7 +96,7 @@ module _ (f : Configuration) (programs : List Program) where
       (eq-eqb (length S.names.alarms) (length S.alarms) (length-map f.alarms (λ o. o.name) ∙ sym (length-map f.alarms (resolved_alarm (known_of f)))))
 
   -- tasks stand by falling priority
-  pub falling : are_falling 31 (system_of f programs).tasks ≡ true
+  pub falling : are_falling MAX_TASK_PRIORITY (system_of f programs).tasks ≡ true
   falling = tasks_fall f.tasks (known_of f) programs
 
   -- as many tasks as names of tasks

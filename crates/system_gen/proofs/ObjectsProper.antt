@@ -5,6 +5,7 @@ use Rattle.std.specs.List.{list_all, AllByRecursion}
 use Rattle.std.proofs.lemmas.Bool.{leb-true, eq-eqb, and_parts, and_from, and_right}
 use Rattle.std.proofs.lemmas.List.{length-map}
 use Rattle.std.proofs.lemmas.List.Folds.{list_all-map}
+use Rattle.osek_base.specs.declared.limits.TheConstants.{MAX_ACTIVATION}
 use Rattle.osek_base.specs.declared.task.Schedule.{Schedule}
 use Rattle.osek_base.specs.declared.task.Property.{Property}
 use Rattle.osek_base.specs.Lists.{is_empty}
@@ -86,7 +87,7 @@ checked_lists f h =
 -- of a task: what it may have at once, and that it lists no resource twice
 pub record IsCheckedTask (t : TaskRecord) : Type 0 where
   pub some : nat_le 1 t.activation ≡ true
-  pub few : nat_le t.activation 15 ≡ true
+  pub few : nat_le t.activation MAX_ACTIVATION ≡ true
   pub resources : are_distinct_names t.resources ≡ true
 
 pub checked_task : (t : TaskRecord) → is_checked_task t ≡ true → IsCheckedTask t

@@ -2,6 +2,7 @@
 use Rattle.std.proofs.Common.{◌≡◌, ◌⊎◌, ℕ, zero, suc, ◌+◌, ◌<◌, ◌≤◌, Bool, true, false, cond, not, ◌||◌, eqb, ltb, List, [], ◌∷◌, ◌++◌, length, get_or, refl, sym, ap, ◌∙◌, arith, inl, inr, length-append}
 use Rattle.std.specs.List.{filter}
 use Rattle.std.proofs.lemmas.Bool.{cases_Bool, cases_order, cases_eq, and_parts, and_from, or_cases, or_left, or_right, not_from_false, true≢false, eqb-true, lt-ltb, le-ltb, eq-eqb, ne_eqb}
+use Rattle.osek_base.specs.declared.limits.TheConstants.{MAX_TASK_PRIORITY}
 use Rattle.osek_base.specs.Lists.{below, is_in}
 use Rattle.osek_base.specs.Classes.{are_distinct}
 use Rattle.osek_base.specs.Numbering.{places_of, order_below, task_order}
@@ -155,12 +156,12 @@ order_has_below ps (suc p) n lt small =
 -- no place stands twice
 pub order_distinct : (ps : List ℕ) → are_distinct (task_order ps) ≡ true
 unfolding task_order
-order_distinct ps = order_distinct_below ps 32
+order_distinct ps = order_distinct_below ps (MAX_TASK_PRIORITY + 1)
 
--- a place with a priority of at most 31 stands in the order
-pub order_has : (ps : List ℕ) (n : ℕ) → n < length ps → get_or ps n 0 ≤ 31 → is_in n (task_order ps) ≡ true
+-- a place with a priority of a task stands in the order
+pub order_has : (ps : List ℕ) (n : ℕ) → n < length ps → get_or ps n 0 ≤ MAX_TASK_PRIORITY → is_in n (task_order ps) ≡ true
 unfolding task_order
-order_has ps n lt small = order_has_below ps 32 n lt (omega arith)
+order_has ps n lt small = order_has_below ps (MAX_TASK_PRIORITY + 1) n lt (omega arith)
 
 -- ---- how long the order is
 
@@ -212,10 +213,10 @@ below_length (suc n) = omega (arith, length-append (below n) (n ∷ []), below_l
 pub order_short : (ps : List ℕ) → length (task_order ps) ≤ length ps
 unfolding task_order
 order_short ps =
-    omega (arith, order_lower ps 32, filter_short (λ i. ltb (get_or ps i 0) 32) (below (length ps)), below_length (length ps))
+    omega (arith, order_lower ps (MAX_TASK_PRIORITY + 1), filter_short (λ i. ltb (get_or ps i 0) (MAX_TASK_PRIORITY + 1)) (below (length ps)), below_length (length ps))
 
--- and as long, where priorities are at most 31
-pub order_length : (ps : List ℕ) → ((i : ℕ) → get_or ps i 0 ≤ 31) → length (task_order ps) ≡ length ps
+-- and as long, where all are priorities of tasks
+pub order_length : (ps : List ℕ) → ((i : ℕ) → get_or ps i 0 ≤ MAX_TASK_PRIORITY) → length (task_order ps) ≡ length ps
 unfolding task_order
 order_length ps small =
-    omega (arith, order_lower ps 32, ap length (all_lower ps (below (length ps)) 32 (λ i. omega (arith, small i))), below_length (length ps))
+    omega (arith, order_lower ps (MAX_TASK_PRIORITY + 1), ap length (all_lower ps (below (length ps)) (MAX_TASK_PRIORITY + 1) (λ i. omega (arith, small i))), below_length (length ps))

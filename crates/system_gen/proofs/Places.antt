@@ -1,7 +1,8 @@
 -- The order of tasks has places of the declared tasks alone.
-use Rattle.std.proofs.Common.{ℕ, zero, suc, ◌<◌, ◌≤◌, Bool, true, false, cond, eqb, List, [], ◌∷◌, ◌++◌, length, map, get_or, subst, arith}
+use Rattle.std.proofs.Common.{ℕ, zero, suc, ◌+◌, ◌<◌, ◌≤◌, Bool, true, false, cond, eqb, List, [], ◌∷◌, ◌++◌, length, map, get_or, subst, arith}
 use Rattle.std.specs.List.{filter, AllByRecursion}
 use Rattle.std.proofs.lemmas.List.{length-map}
+use Rattle.osek_base.specs.declared.limits.TheConstants.{MAX_TASK_PRIORITY}
 use Rattle.osek_base.specs.Lists.{below}
 use Rattle.osek_base.specs.Numbering.{places_of, order_below, task_order}
 use Rattle.system_gen.specs.Order.{ArePlaces}
@@ -34,11 +35,11 @@ places_from_each m (x ∷ xs) h (suc k) lt = places_from_each m xs h.1 k (omega 
 
 pub order_each : (ps : List ℕ) → AllByRecursion (λ i. i < length ps) (task_order ps)
 unfolding task_order
-order_each ps = each_order ps 32
+order_each ps = each_order ps (MAX_TASK_PRIORITY + 1)
 
 pub order_places : (ps : List ℕ) → ArePlaces (length ps) (task_order ps)
 unfolding task_order
-order_places ps = places_from_each (length ps) (order_below ps 32) (each_order ps 32)
+order_places ps = places_from_each (length ps) (order_below ps (MAX_TASK_PRIORITY + 1)) (each_order ps (MAX_TASK_PRIORITY + 1))
 
 -- the same for the priorities of some tasks
 pub order_places_of : {X : Type 0} (priority : X → ℕ) (tasks : List X) → ArePlaces (length tasks) (task_order (map priority tasks))

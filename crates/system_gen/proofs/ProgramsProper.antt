@@ -6,6 +6,7 @@ use Rattle.std.specs.Option.{option_map_or}
 use Rattle.std.proofs.lemmas.Bool.{false≢true, ltb-true, lt-ltb, leb-true, le-leb, and_parts, and_from}
 use Rattle.std.proofs.lemmas.Nat.{or_of_32, le_or_r}
 use Rattle.std.proofs.lemmas.List.{length-map}
+use Rattle.osek_base.specs.declared.limits.TheConstants.{MAX_INSTRUCTIONS, MAX_ROUTINE_PRIORITY}
 use Rattle.osek_base.specs.declared.ids.ResId.{ResId}
 use Rattle.osek_base.specs.declared.instr.Plain.{Plain}
 use Rattle.osek_base.specs.declared.instr.Control.{Control}
@@ -236,7 +237,7 @@ module _ (f : Configuration) (k : Known) (S : System) (known : AreKnown f k S) w
   unfolding is_closed
   program_proper p checked =
       let is = p.instructions in
-      let short = and_parts (ends_well p && list_all (jumps_below (length is)) is) (nat_le (length is) 1024) checked.closed in
+      let short = and_parts (ends_well p && list_all (jumps_below (length is)) is) (nat_le (length is) MAX_INSTRUCTIONS) checked.closed in
       let ends = and_parts (ends_well p) (list_all (jumps_below (length is)) is) short.0 in
       let names = none_of (owner_reference k.declared p.kind p.name) (first_of (instruction_reference f k.declared) is) checked.references in
       let same : length (resolved_program k is) ≡ length is = length-map is (resolved_instruction k) in
@@ -245,7 +246,7 @@ module _ (f : Configuration) (k : Known) (S : System) (known : AreKnown f k S) w
       (and_from _ _
       (subst (λ (n : ℕ). list_all (is_proper_instruction S (is_of_routine p.kind) n) (resolved_program k is) ≡ true) (sym same) each)
       (subst (λ (n : ℕ). option_map_or is_end_instruction (slice_get (resolved_program k is) (n - 1)) false ≡ true) (sym same) (end_at k is (length is - 1) ∙ ends.0)))
-      (subst (λ (n : ℕ). nat_le n 1024 ≡ true) (sym same) short.1)
+      (subst (λ (n : ℕ). nat_le n MAX_INSTRUCTIONS ≡ true) (sym same) short.1)
 
   -- the program of a task or routine that has one
   pub program_for_proper : (kind : ProgramKind) (name : List ℕ) (programs : List Program) → AllByRecursion (IsChecked f k) programs
@@ -279,8 +280,8 @@ module _ (f : Configuration) (k : Known) (S : System) (known : AreKnown f k S) w
 
     routine_proper : (i : IsrRecord) → is_checked_isr i ≡ true → has_routine_program programs i ≡ true → is_proper_routine S (resolved_routine k programs i) ≡ true
     routine_proper i checked has =
-        let low : i.priority ≤ 31 = leb-true i.priority 31 (and_parts (is_object_name kind.Isr i.name) (nat_le i.priority 31) checked).1 in
-        and_from _ _ (lt-ltb i.priority 32 (omega arith)) (program_for_proper ProgramKind.Routine i.name programs all has)
+        let low : nat_le i.priority MAX_ROUTINE_PRIORITY ≡ true = (and_parts (is_object_name kind.Isr i.name) (nat_le i.priority MAX_ROUTINE_PRIORITY) checked).1 in
+        and_from _ _ low (program_for_proper ProgramKind.Routine i.name programs all has)
 
     pub routines : (is : List IsrRecord) → list_all is_checked_isr is ≡ true → list_all (has_routine_program programs) is ≡ true
         → list_all (is_proper_routine S) (map (resolved_routine k programs) is) ≡ true

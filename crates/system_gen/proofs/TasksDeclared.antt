@@ -6,6 +6,7 @@ use Rattle.std.specs.Option.{option_map_or}
 use Rattle.std.specs.Str.{bytes_eq}
 use Rattle.std.proofs.lemmas.Bool.{and_parts, and_from, or_cases, or_left, or_right, cases_Bool, not_from_false, false≢true, leb-true, le-leb, eqb-true, eq-eqb}
 use Rattle.std.proofs.lemmas.List.{length-map, map-append, get_or-map}
+use Rattle.osek_base.specs.declared.limits.TheConstants.{MAX_TASK_PRIORITY}
 use Rattle.osek_base.specs.Lists.{below, is_in}
 use Rattle.osek_base.specs.Classes.{are_distinct}
 use Rattle.osek_base.specs.Names.{name_at, is_named, is_proper_name, are_distinct_names}
@@ -141,9 +142,9 @@ falling_below g ps (suc p) limit is le =
     rw (map-append g (places_of ps p) (order_below ps p))
     (falling_block g p limit (places_of ps p) (map g (order_below ps p)) (each_of g ps p (below (length ps)) is) (omega arith) (falling_below g ps p p is (omega arith)))
 
-falling_order : (g : ℕ → Task) (ps : List ℕ) → ((i : ℕ) → (g i).priority ≡ get_or ps i 0) → are_falling 31 (map g (task_order ps)) ≡ true
+falling_order : (g : ℕ → Task) (ps : List ℕ) → ((i : ℕ) → (g i).priority ≡ get_or ps i 0) → are_falling MAX_TASK_PRIORITY (map g (task_order ps)) ≡ true
 unfolding task_order
-falling_order g ps is = falling_below g ps 32 31 is (omega arith)
+falling_order g ps is = falling_below g ps (MAX_TASK_PRIORITY + 1) MAX_TASK_PRIORITY is (omega arith)
 
 -- ---- checked tasks
 
@@ -152,11 +153,11 @@ second a true c d e f g h i j all = refl
 second true false c d e f g h i j all = all
 second false false c d e f g h i j all = all
 
--- a priority is at most 31, and so is what stands for one past the end
-low_priority : (tasks : List TaskRecord) (i : ℕ) → list_all is_checked_task tasks ≡ true → get_or (priorities tasks) i 0 ≤ 31
+-- a priority is within the limit, and so is what stands for one past the end
+low_priority : (tasks : List TaskRecord) (i : ℕ) → list_all is_checked_task tasks ≡ true → get_or (priorities tasks) i 0 ≤ MAX_TASK_PRIORITY
 low_priority [] i h = omega arith
 low_priority (t ∷ tasks) zero h =
-    leb-true t.priority 31 (second _ _ _ _ _ _ _ _ _ _ (and_parts (is_checked_task t) (list_all is_checked_task tasks) h).0)
+    leb-true t.priority MAX_TASK_PRIORITY (second _ _ _ _ _ _ _ _ _ _ (and_parts (is_checked_task t) (list_all is_checked_task tasks) h).0)
 low_priority (t ∷ tasks) (suc i) h = low_priority tasks i (and_parts (is_checked_task t) (list_all is_checked_task tasks) h).1
 
 module _ (tasks : List TaskRecord) where
@@ -212,7 +213,7 @@ module _ (tasks : List TaskRecord) where
         (sym (get_or-map (task_name tasks) (order_of tasks) n 0 [] inside) ∙ name_stands (numbered tasks) (task_name tasks i) there)
 
   module _ (k : Known) (programs : List Program) where
-    pub tasks_fall : are_falling 31 (tasks_of k programs tasks) ≡ true
+    pub tasks_fall : are_falling MAX_TASK_PRIORITY (tasks_of k programs tasks) ≡ true
     tasks_fall = falling_order (task_declared k programs tasks) (priorities tasks) (place_priority k programs tasks)
 
     -- what holds of the task that each record gives holds of each task

@@ -1,6 +1,7 @@
 -- OIL: standard objects and their attributes; OSEK/VDX OS: constraints. What generation refuses in an OIL file.
 use Rattle.std.specs.Prelude.{◌≡◌, ℕ, Bool, true, not, ◌&&◌, ◌||◌, ◌==◌, ◌⊎◌, nat_lt, nat_le, if◌then◌else◌, List, [], ◌∷◌, Option, Some, None, length, bytes_eq}
 use Rattle.std.specs.List.{list_any}
+use Rattle.osek_base.specs.declared.limits.TheConstants.{MAX_MODES, MAX_TASKS, MAX_ROUTINES, MAX_RESOURCES, MAX_EVENTS, MAX_COUNTERS, MAX_COUNTS, MAX_ALARMS}
 use Rattle.osek_base.specs.Lists.{is_empty}
 use Rattle.osek_base.specs.Ceiling.{is_internal_property}
 use Rattle.osek_base.specs.Proper.{has_two}
@@ -23,13 +24,13 @@ IsFoundOrMemory found e = (e ≡ GenFault.Memory) ⊎ (found ≡ Some e)
 -- the first kind of which there are more objects than a system may have
 abbrev pub beyond_limit : Configuration → Option ObjectKind
 beyond_limit f =
-    if nat_lt 8 (length f.app_modes) then Some ObjectKind.AppMode
-    else (if nat_lt 32 (length f.tasks) then Some ObjectKind.Task
-    else (if nat_lt 16 (length f.routines) then Some ObjectKind.Isr
-    else (if nat_lt 32 (length f.resources) then Some ObjectKind.Resource
-    else (if nat_lt 32 (length f.events) then Some ObjectKind.Event
-    else (if nat_lt 8 (length f.counters) then Some ObjectKind.Counter
-    else (if nat_lt 64 (length f.alarms) then Some ObjectKind.Alarm else None))))))
+    if nat_lt MAX_MODES (length f.app_modes) then Some ObjectKind.AppMode
+    else (if nat_lt MAX_TASKS (length f.tasks) then Some ObjectKind.Task
+    else (if nat_lt MAX_ROUTINES (length f.routines) then Some ObjectKind.Isr
+    else (if nat_lt MAX_RESOURCES (length f.resources) then Some ObjectKind.Resource
+    else (if nat_lt MAX_EVENTS (length f.events) then Some ObjectKind.Event
+    else (if nat_lt MAX_COUNTERS (length f.counters) then Some ObjectKind.Counter
+    else (if nat_lt MAX_ALARMS (length f.alarms) then Some ObjectKind.Alarm else None))))))
 
 -- an extended task, which is one that lists an event, has one activation at most
 abbrev pub has_proper_activation : TaskRecord → Bool
@@ -54,7 +55,7 @@ has_proper_resources resources t = is_single_internal resources t.schedule t.res
 -- a counter counts, and cycles fit between its MINCYCLE and its MAXALLOWEDVALUE
 abbrev pub has_proper_values : Counter → Bool
 has_proper_values c =
-    nat_le 1 c.max_allowed_value && nat_le c.max_allowed_value 2147483647
+    nat_le 1 c.max_allowed_value && nat_le c.max_allowed_value MAX_COUNTS
     && nat_le 1 c.min_cycle && nat_le c.min_cycle c.max_allowed_value && nat_le 1 c.ticks_per_base
 
 abbrev pub is_proper_counter : CounterRecord → Bool

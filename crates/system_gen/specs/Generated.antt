@@ -3,6 +3,7 @@ use Rattle.std.specs.Prelude.{◌≡◌, ℕ, ◌≤◌, if◌then◌else◌, Li
 use Rattle.std.specs.List.{find}
 use Rattle.std.specs.Option.{option_map, option_map_or}
 use Rattle.std.specs.Result.{result_unwrap_or}
+use Rattle.osek_base.specs.declared.limits.TheConstants.{MAX_MODES, MAX_TASKS, MAX_RESOURCES, MAX_COUNTERS, MAX_ALARMS}
 use Rattle.osek_base.specs.declared.ids.ResId.{ResId}
 use Rattle.osek_base.specs.declared.instr.Service.{Service}
 use Rattle.osek_base.specs.declared.instr.Instr.{Instr}
@@ -27,11 +28,11 @@ pub record Known : Type 0 where
 
 -- no more objects of a kind than their numbers can tell
 pub record IsWithinLimits (d : Declared) : Type 0 where
-  pub modes : length d.modes ≤ 8
-  pub tasks : length d.tasks ≤ 32
-  pub resources : length d.resources ≤ 32
-  pub counters : length d.counters ≤ 8
-  pub alarms : length d.alarms ≤ 64
+  pub modes : length d.modes ≤ MAX_MODES
+  pub tasks : length d.tasks ≤ MAX_TASKS
+  pub resources : length d.resources ≤ MAX_RESOURCES
+  pub counters : length d.counters ≤ MAX_COUNTERS
+  pub alarms : length d.alarms ≤ MAX_ALARMS
 
 -- ---- operands
 

@@ -1,6 +1,7 @@
 -- OIL: standard object EVENT, attribute MASK. The masks of the events.
 use Rattle.std.specs.Prelude.{ℕ, ◌^◌, ◌==◌, List, [], ◌∷◌, ◌++◌, Option, Some, None, Result, Ok, Err, bit_and, bit_or, map}
 use Rattle.std.specs.List.{find}
+use Rattle.osek_base.specs.declared.limits.TheConstants.{MAX_EVENTS}
 use Rattle.osek_base.specs.Lists.{below}
 use Rattle.oil_reader.specs.declared.file.Mask.{Mask}
 use Rattle.oil_reader.specs.Configuration.{EventRecord}
@@ -8,7 +9,7 @@ use Rattle.system_gen.specs.declared.fault.GenFault.{GenFault}
 
 -- the bits of a mask, from the lowest on
 abbrev pub bits : List ℕ
-bits = map (λ k. 2 ^ k) (below 32)
+bits = map (λ k. 2 ^ k) (below MAX_EVENTS)
 
 -- the first of some bits that isn't taken
 abbrev pub first_free : ℕ → List ℕ → Option ℕ

@@ -23,12 +23,3 @@ names_of f = record {
   alarms = map (λ o. o.name) f.alarms;
   modes = f.app_modes;
 }
-
--- the names of the objects of a file: tasks by their numbers, all else in the order of declaration
-pub record AreNamesOf (f : Configuration) (names : Names) : Type 0 where
-  pub tasks : names.tasks ≡ map (task_name f.tasks) (order_of f.tasks)
-  pub routines : names.routines ≡ map (λ o. o.name) f.routines
-  pub resources : names.resources ≡ map (λ o. o.name) f.resources
-  pub events : names.events ≡ map (λ o. o.name) f.events
-  pub alarms : names.alarms ≡ map (λ o. o.name) f.alarms
-  pub modes : names.modes ≡ f.app_modes

@@ -2,6 +2,7 @@
 use Rattle.std.specs.Prelude.{ℕ, ◌-◌, Bool, true, false, not, ◌&&◌, List, Option, length, nat_lt, nat_le, slice_get, bytes_eq}
 use Rattle.std.specs.List.{list_all, list_any}
 use Rattle.std.specs.Option.{option_map_or}
+use Rattle.osek_base.specs.declared.limits.TheConstants.{MAX_INSTRUCTIONS}
 use Rattle.osek_base.specs.declared.instr.Plain.{Plain}
 use Rattle.osek_base.specs.declared.instr.Control.{Control}
 use Rattle.oil_reader.specs.Configuration.{TaskRecord, IsrRecord}
@@ -30,7 +31,7 @@ jumps_below size _ = true
 -- whether a program can't be left, neither at its end nor by a jump
 unfoldable pub is_closed : Program → Bool
 is_closed p =
-    ends_well p && list_all (jumps_below (length p.instructions)) p.instructions && nat_le (length p.instructions) 1024
+    ends_well p && list_all (jumps_below (length p.instructions)) p.instructions && nat_le (length p.instructions) MAX_INSTRUCTIONS
 
 abbrev pub is_return : NamedInstr → Bool
 is_return (NamedInstr.Control Control.ReturnFromInterrupt) = true

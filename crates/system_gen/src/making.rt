@@ -1,11 +1,11 @@
 //! OIL: standard objects; OSEK/VDX OS: system generation. From an OIL file and its programs to a system.
 
-ghost use Rattle.std.specs.Prelude.{◌≡◌, ◌<◌, IfOk, IfErr, OnOk, IsTrue, Ok, None, length, map};
+ghost use Rattle.std.specs.Prelude.{◌≡◌, ◌<◌, IfOk, IfErr, OnOk, IsTrue, None, length, map};
 ghost use Rattle.std.specs.Option.{option_map};
 ghost use Rattle.oil_reader.specs.Checked.{is_checked};
 ghost use Rattle.system_gen.specs.declared.fault.GenFault.TheVariants.{Limit};
 ghost use Rattle.system_gen.specs.Checks.{IsFoundOrMemory, beyond_limit};
-ghost use Rattle.system_gen.specs.ObjectNames.{AreNamesOf, order_of, names_of};
+ghost use Rattle.system_gen.specs.ObjectNames.{order_of, names_of};
 ghost use Rattle.system_gen.specs.DeclaredNames.{AreDistinct, declared_in, counter_names};
 ghost use Rattle.system_gen.specs.Generated.{
   AreObjectsOf,
@@ -23,21 +23,21 @@ ghost use Rattle.system_gen.specs.Faults.{
   value_fault,
 };
 ghost use Rattle.system_gen.specs.Order.{ArePlaces};
-ghost use Rattle.system_gen.specs.Masks.{all_masks};
-ghost use Rattle.system_gen.specs.Passes.{Passes};
 ghost use Rattle.system_gen.specs.Typed.{are_typed};
 
-use crate::checks::{check_activations, check_alarms, check_counters, check_internal_resources};
-use crate::declared::Declared;
+use crate::declared_names::Declared;
 use crate::fault::GenFault;
 use crate::limits::beyond_limit;
 use crate::masks::masks;
-use crate::object_names::{counter_names_of, names_of};
+use crate::object_checks::{
+    check_activations, check_alarms, check_counters, check_internal_resources,
+};
+use crate::object_names::{names_in_order, names_of};
 use crate::program_checks::{
     check_ends, check_returns, check_routine_programs, check_task_programs,
 };
-use crate::programs::Resolver;
 use crate::references::check_references;
+use crate::resolver::Resolver;
 use oil_reader::{AlarmObject, CounterObject, IsrObject, OilFile, ResourceObject, TaskObject};
 use osek_base::{Alarm, Counter, Name, Names, Parts, Property, Routine, System, Task, task_order};
 use std::alloc::{AllocError, Global};
@@ -70,24 +70,13 @@ pub fn generate(
     ensures made { IfOk result (λ s. s ≡ generated file programs.items) }
     ensures sound { OnOk result (generation_fault file programs.items ≡ None) }
     ensures fault { IfErr result (IsFoundOrMemory (generation_fault file programs.items)) }
-    ensures passed { OnOk result (Passes file programs.items) }
-    ensures names { IfOk result (λ s. AreNamesOf file s.names) }
-    ensures masks { IfOk result (λ s. all_masks file.events ≡ Ok s.events) }
-    ensures resources { IfOk result (λ s. s.resources ≡ map (λ r. r.property) file.resources) }
-    ensures counters { IfOk result (λ s. s.counters ≡ map (λ c. c.counter) file.counters) }
-    ensures hooks { IfOk result (λ s. s.hooks ≡ file.os.hooks) }
-    ensures scheduler { IfOk result (λ s. s.use_res_scheduler ≡ file.os.use_res_scheduler) }
 {
     stays_checked(&file);
     let parts = parts_of(alloc, &file, programs.as_slice())?;
-    match System::new(parts) {
-        Some(system) => Ok(system),
-        // What passed the checks is proper, so there is always a system.
-        None => unreachable!(),
-    }
+    Ok(System::new(parts))
 }
 
-/// All of a file is as its reader has checked it, by its type.
+/// For the prover alone: all of a file is as its reader has checked it, by its type.
 fn stays_checked(file: &OilFile)
     ensures { IsTrue (is_checked file.now) }
 {
@@ -113,7 +102,7 @@ fn parts_of(alloc: Global, file: &OilFile, programs: &[NamedProgram]) -> Result<
     stays_checked(file);
     let order = order_of(alloc, file.tasks())?;
     let names = names_of(alloc, file, order.as_slice())?;
-    let counters = counter_names_of(alloc, file.counters())?;
+    let counters = names_in_order(alloc, file.counters())?;
     let (objects, events) = resolve(alloc, file, programs, &names, &counters, &order)?;
     let resources = properties_of(alloc, file.resources())?;
     let counters = counters_of(alloc, file.counters())?;

@@ -1,6 +1,6 @@
 //! OIL: names of objects. The names of the objects of a file, kind by kind.
 
-ghost use Rattle.std.specs.Prelude.{◌≡◌, ◌<◌, IfOk, length, map};
+ghost use Rattle.std.specs.Prelude.{◌≡◌, ◌<◌, ℕ, List, IfOk, length, map};
 ghost use Rattle.system_gen.specs.ObjectNames.{names_of, order_of, task_name};
 ghost use Rattle.system_gen.specs.Order.{ArePlaces};
 
@@ -17,11 +17,11 @@ pub(crate) fn names_of(alloc: Global, file: &OilFile, order: &[usize]) -> Result
     ensures { IfOk result (λ names. names ≡ names_of file.now) }
 {
     let tasks = task_names_of(alloc, file.tasks(), order)?;
-    let routines = routine_names_of(alloc, file.routines())?;
-    let resources = resource_names_of(alloc, file.resources())?;
-    let events = event_names_of(alloc, file.events())?;
-    let alarms = alarm_names_of(alloc, file.alarms())?;
-    let modes = mode_names_of(alloc, file.app_modes())?;
+    let routines = names_in_order(alloc, file.routines())?;
+    let resources = names_in_order(alloc, file.resources())?;
+    let events = names_in_order(alloc, file.events())?;
+    let alarms = names_in_order(alloc, file.alarms())?;
+    let modes = names_in_order(alloc, file.app_modes())?;
     Ok(Names {
         tasks,
         routines,
@@ -59,65 +59,72 @@ fn task_name_at(tasks: &[TaskObject], place: usize) -> Result<Name, AllocError>
     }
 }
 
-fn routine_names_of(alloc: Global, objects: &[IsrObject]) -> Result<Vec<Name>, AllocError>
-    ensures { IfOk result (λ names. names.items ≡ map (λ o. o.name) objects.now) }
-{
-    let mut names = Vec::new(alloc);
-    for object in objects {
-        names.push(object.name.clone()?)?;
-    }
-    Ok(names)
+/// What has a name: the objects of a file, and a name itself.
+pub(crate) trait Named {
+    ghost name_of: { Self → List ℕ };
+
+    fn name(&self) -> &Name
+        ensures { result.now ≡ name_of self.now };
 }
 
-fn resource_names_of(alloc: Global, objects: &[ResourceObject]) -> Result<Vec<Name>, AllocError>
-    ensures { IfOk result (λ names. names.items ≡ map (λ o. o.name) objects.now) }
-{
-    let mut names = Vec::new(alloc);
-    for object in objects {
-        names.push(object.name.clone()?)?;
+impl Named for Name {
+    ghost name_of = { λ name. name };
+
+    fn name(&self) -> &Name {
+        self
     }
-    Ok(names)
 }
 
-fn event_names_of(alloc: Global, objects: &[EventObject]) -> Result<Vec<Name>, AllocError>
-    ensures { IfOk result (λ names. names.items ≡ map (λ o. o.name) objects.now) }
-{
-    let mut names = Vec::new(alloc);
-    for object in objects {
-        names.push(object.name.clone()?)?;
+impl Named for IsrObject {
+    ghost name_of = { λ object. object.name };
+
+    fn name(&self) -> &Name {
+        &self.name
     }
-    Ok(names)
 }
 
-pub(crate) fn counter_names_of(
+impl Named for ResourceObject {
+    ghost name_of = { λ object. object.name };
+
+    fn name(&self) -> &Name {
+        &self.name
+    }
+}
+
+impl Named for EventObject {
+    ghost name_of = { λ object. object.name };
+
+    fn name(&self) -> &Name {
+        &self.name
+    }
+}
+
+impl Named for CounterObject {
+    ghost name_of = { λ object. object.name };
+
+    fn name(&self) -> &Name {
+        &self.name
+    }
+}
+
+impl Named for AlarmObject {
+    ghost name_of = { λ object. object.name };
+
+    fn name(&self) -> &Name {
+        &self.name
+    }
+}
+
+/// The names of some objects, in their order.
+pub(crate) fn names_in_order<T: Named>(
     alloc: Global,
-    objects: &[CounterObject],
+    objects: &[T],
 ) -> Result<Vec<Name>, AllocError>
-    ensures { IfOk result (λ names. names.items ≡ map (λ o. o.name) objects.now) }
+    ensures { IfOk result (λ names. names.items ≡ map T.name_of objects.now) }
 {
     let mut names = Vec::new(alloc);
     for object in objects {
-        names.push(object.name.clone()?)?;
-    }
-    Ok(names)
-}
-
-fn alarm_names_of(alloc: Global, objects: &[AlarmObject]) -> Result<Vec<Name>, AllocError>
-    ensures { IfOk result (λ names. names.items ≡ map (λ o. o.name) objects.now) }
-{
-    let mut names = Vec::new(alloc);
-    for object in objects {
-        names.push(object.name.clone()?)?;
-    }
-    Ok(names)
-}
-
-fn mode_names_of(alloc: Global, modes: &[Name]) -> Result<Vec<Name>, AllocError>
-    ensures { IfOk result (λ names. names.items ≡ modes.now) }
-{
-    let mut names = Vec::new(alloc);
-    for mode in modes {
-        names.push(mode.clone()?)?;
+        names.push(object.name().clone()?)?;
     }
     Ok(names)
 }

@@ -20,7 +20,7 @@ ghost use Rattle.system_gen.specs.Programs.{
 
 use crate::fault::GenFault;
 use oil_reader::{IsrObject, TaskObject};
-use osek_base::{Control, Name, Plain};
+use osek_base::{Control, MAX_INSTRUCTIONS, Name, Plain};
 use task_asm::{NamedInstr, NamedLine, NamedProgram, ProgramKind};
 
 /// The program of the task or routine of that name.
@@ -116,7 +116,7 @@ fn is_closed(program: &NamedProgram) -> bool
 {
     let end = ends_well(program);
     let jumps = jumps_within(program.lines.as_slice());
-    end && jumps && program.lines.len() <= 1024
+    end && jumps && program.lines.len() <= MAX_INSTRUCTIONS
 }
 
 fn jumps_within(lines: &[NamedLine]) -> bool

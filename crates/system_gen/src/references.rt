@@ -29,12 +29,12 @@ ghost use Rattle.system_gen.specs.Typed.{
   are_typed,
 };
 
-use crate::checks::is_internal;
-use crate::declared::{Declared, is_res_scheduler};
+use crate::declared_names::{Declared, is_res_scheduler};
 use crate::fault::GenFault;
+use crate::object_checks::is_internal;
 use name_tables::NameTable;
 use oil_reader::{ActionObject, AlarmObject, AlarmStartObject, OilFile, TaskObject};
-use osek_base::{Control, Name, Plain, Register};
+use osek_base::{Control, Name, Plain, REGISTERS, Register};
 use task_asm::{NamedInstr, NamedLine, NamedProgram, NamedService, ProgramKind};
 
 /// Looks each name up: those of the tasks, of the alarms, and of the programs.
@@ -187,7 +187,7 @@ fn check_instruction(
     }
 }
 
-/// A plain instruction names no object, and its registers exist.
+/// For the prover alone: the registers of a plain instruction exist.
 fn plain_is_typed(plain: &Plain)
     ensures { IsTrue (is_typed_plain plain.now) }
 {
@@ -209,6 +209,7 @@ fn plain_is_typed(plain: &Plain)
     }
 }
 
+/// For the prover alone: the number of a control instruction has 32 bits.
 fn control_is_typed(control: &Control)
     ensures { IsTrue (is_typed_control control.now) }
 {
@@ -218,18 +219,18 @@ fn control_is_typed(control: &Control)
     }
 }
 
-/// A number has 32 bits by its type.
+/// For the prover alone: a number has 32 bits by its type.
 fn fits(number: u32)
     ensures { IsTrue (is_word number) }
 {
     prove!(number <= u32::MAX);
 }
 
-/// A register exists by its type.
+/// For the prover alone: a register exists by its type.
 fn exists(register: Register)
     ensures { IsTrue (is_register register) }
 {
-    prove!(register.number() < Register::LIMIT);
+    prove!((register.number() as usize) < REGISTERS);
 }
 
 fn check_service(

@@ -3,6 +3,7 @@ use Rattle.std.proofs.Common.{◌≡◌, ℕ, ◌+◌, ◌<◌, ◌≤◌, ◌==
 use Rattle.std.specs.Prelude.{if◌then◌else◌}
 use Rattle.std.proofs.lemmas.List.{append-nil}
 use Rattle.std.proofs.lemmas.Bool.{cases_lt, eq-eqb}
+use Rattle.osek_base.specs.declared.limits.TheConstants.{MAX_INSTRUCTIONS}
 use Rattle.task_asm.specs.declared.program.ProgramKind.{ProgramKind}
 use Rattle.task_asm.specs.declared.operands.Title.{Title}
 use Rattle.task_asm.specs.declared.fault.AsmFault.{AsmFault}
@@ -119,7 +120,7 @@ module _ (before after : List Entry) (place : ℕ) where
         subst (λ (v : AsmFault). IsNoLater v (fault.UnknownLabel p)) (sym (jump_first own l a (place_in program l.word) program refl h))
         (no_later (fault.UnknownLabel l.place) (fault.UnknownLabel p) (omega (arith, s.0)) (omega arith))
 
-    instruction_first : (own : List Entry) (w : Written) (a g : AsmFault) (b : Bool) → (instruction_count own == 1024) ≡ b → OnLabel (place + 1) r w
+    instruction_first : (own : List Entry) (w : Written) (a g : AsmFault) (b : Bool) → (instruction_count own == MAX_INSTRUCTIONS) ≡ b → OnLabel (place + 1) r w
         → (if b then Some (fault.TooLong place) else operand_fault (own ++ record { place = place; item = Item.Instruction (Some w) } ∷ after) w) ≡ Some a
         → StandsAt before (Some own) (record { place = place; item = Item.Instruction (Some w) }) after g → IsNoLater a g
     instruction_first own w a (fault.Token p) b e on h s = absurd s
@@ -132,7 +133,7 @@ module _ (before after : List Entry) (place : ℕ) where
     instruction_first own w a (fault.Twice p) b e on h s = absurd s
     instruction_first own w a (fault.TooLong p) true e on h s =
         subst (λ (v : AsmFault). IsNoLater v (fault.TooLong p)) (same_fault (fault.TooLong place) a h) (no_later (fault.TooLong place) (fault.TooLong p) (omega (arith, s.0)) (omega arith))
-    instruction_first own w a (fault.TooLong p) false e on h s = absurd (let k = eq-eqb (instruction_count own) 1024 s.1 in cc)
+    instruction_first own w a (fault.TooLong p) false e on h s = absurd (let k = eq-eqb (instruction_count own) MAX_INSTRUCTIONS s.1 in cc)
     instruction_first own w a fault.Memory b e on h s = absurd s
 
     title_first : (own : Option (List Entry)) (kind : ProgramKind) (t : Title) (a g : AsmFault) (b : Bool)
@@ -162,7 +163,7 @@ module _ (before after : List Entry) (place : ℕ) where
     entry_first None (Item.Instruction o) a g on h s = lowest None (Item.Instruction o) a g (fault.UnknownMnemonic place) h refl (from_two None (Item.Instruction o) g s) on s
     entry_first (Some own) (Item.Instruction None) a g on h s =
         lowest (Some own) (Item.Instruction None) a g (fault.Operand place) h refl (from_three (Some own) (Item.Instruction None) g (λ k. cc) s) on s
-    entry_first (Some own) (Item.Instruction (Some w)) a g on h s = instruction_first own w a g (instruction_count own == 1024) refl on h s
+    entry_first (Some own) (Item.Instruction (Some w)) a g on h s = instruction_first own w a g (instruction_count own == MAX_INSTRUCTIONS) refl on h s
     entry_first own (Item.Program kind None) a g on h s =
         lowest own (Item.Program kind None) a g (fault.Operand place) h refl (from_three own (Item.Program kind None) g (λ k. k) s) on s
     entry_first own (Item.Program kind (Some t)) a g on h s = title_first own kind t a g (has_program before kind t.name) h s

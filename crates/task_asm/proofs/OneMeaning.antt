@@ -1,9 +1,9 @@
 -- A program text has one list of tokens, which says one list of entries; a text with programs has no fault.
-use Rattle.std.proofs.Common.{◌≡◌, ℕ, ◌+◌, Bool, true, false, List, ◌∷◌, take, drop, Some, None, refl, sym, ap, ◌∙◌, subst, inl, inr, arith}
+use Rattle.std.proofs.Common.{◌≡◌, ℕ, Bool, true, false, List, ◌∷◌, take, Some, None, refl, sym, ap, ◌∙◌, subst, inl, inr, arith}
 use Rattle.std.specs.Prelude.{if◌then◌else◌}
-use Rattle.osek_base.specs.Tokens.{Lexeme, LexFails}
-use Rattle.osek_base.specs.Tokens.LexFails.{here, later}
-use Rattle.osek_base.proofs.TokenLemmas.{Lexes-unique, fails_apart}
+use Rattle.osek_base.specs.Tokens.{Lexeme}
+use Rattle.osek_base.proofs.TokenLemmas.{Lexes-unique, fails_apart, fails_once}
+use Rattle.osek_base.proofs.FirstFaultLemmas.{first_unique}
 use Rattle.task_asm.specs.declared.fault.AsmFault.{AsmFault}
 use Rattle.task_asm.specs.declared.fault.AsmFault.TheVariants as fault
 use Rattle.task_asm.specs.Tokens.{Symbol, Word, Number, Directive, Mark, LineEnd, IsPiece, IsTokenFault}
@@ -12,7 +12,7 @@ use Rattle.task_asm.specs.Programs.{Program}
 use Rattle.task_asm.specs.Entries.{Entry, Reads, head, line_len, label_at, word_of, is_colon, is_line_end}
 use Rattle.task_asm.specs.Entries.Reads.{ends, new_line, label, heads}
 use Rattle.task_asm.specs.Meaning.{Says, IsProgramText, HasEntryFault, HasFault, programs_of}
-use Rattle.task_asm.specs.Order.{place_of, number_of, IsNoLater}
+use Rattle.task_asm.specs.Order.{place_of, number_of, rank, IsFirstFault}
 use Rattle.task_asm.specs.Faults.{Stands}
 use Rattle.task_asm.proofs.PieceLemmas.{pieces_are_tokens}
 
@@ -69,12 +69,6 @@ told (fault.Twice q) (fault.Twice r) p n = ap fault.Twice p
 told (fault.TooLong q) (fault.TooLong r) p n = ap fault.TooLong p
 told _ _ p n = absurd (omega (arith, n))
 
-same_order : (e f : AsmFault) → IsNoLater e f → IsNoLater f e → e ≡ f
-same_order e f (inl a) (inl b) = absurd (omega arith)
-same_order e f (inl a) (inr b) = absurd (omega (arith, b.0))
-same_order e f (inr a) (inl b) = absurd (omega (arith, a.0))
-same_order e f (inr a) (inr b) = told e f a.0 (omega (arith, a.1, b.1))
-
 -- ---- texts
 
 pub one_list : (text : List ℕ) (ps qs : List Program) → IsProgramText text ps → IsProgramText text qs → ps ≡ qs
@@ -99,14 +93,6 @@ no_fault text ps e p (inr h) = absurd (no_entry_fault text ps e p h)
 
 -- ---- one fault
 
-fails_once : (text : List ℕ) {p q r : ℕ} → LexFails IsPiece text p q → LexFails IsPiece text p r → q ≡ r
-fails_once text (here inside none) (here also nothing) = refl
-fails_once text (here inside none) (later n t piece more) = absurd (none n t piece)
-fails_once text (later n t piece more) (here inside none) = absurd (none n t piece)
-fails_once text {p} {q} {r} (later m t piece more) (later n u piece2 more2) =
-    let same = pieces_are_tokens.same_length (drop p text) n m u t piece2 piece in
-    fails_once text more (subst (λ (i : ℕ). LexFails IsPiece text (p + i) r) same more2)
-
 -- where a token fault stands there are no entries
 no_says : (text : List ℕ) (e : AsmFault) (es : List Entry) → (e ≡ fault.Memory → ⊥) → IsTokenFault text e → Says text es → ⊥
 no_says text fault.Memory es real h says = real refl
@@ -118,7 +104,7 @@ no_says text (fault.Twice at) es real h says = h
 no_says text (fault.TooLong at) es real h says = h
 
 one_token_fault : (text : List ℕ) (e f : AsmFault) → (e ≡ fault.Memory → ⊥) → (f ≡ fault.Memory → ⊥) → IsTokenFault text e → IsTokenFault text f → e ≡ f
-one_token_fault text (fault.Token p) (fault.Token q) er fr a b = ap fault.Token (fails_once text a b)
+one_token_fault text (fault.Token p) (fault.Token q) er fr a b = ap fault.Token (fails_once IsPiece pieces_are_tokens text a b)
 one_token_fault text fault.Memory f er fr a b = absurd (er refl)
 one_token_fault text (fault.Token p) fault.Memory er fr a b = absurd (fr refl)
 one_token_fault text (fault.Token p) (fault.UnknownMnemonic q) er fr a b = absurd b
@@ -138,5 +124,4 @@ one_fault text e f (inl a) (inr b) er fr = absurd (no_says text e b.entries er a
 one_fault text e f (inr a) (inl b) er fr = absurd (no_says text f a.entries fr b a.says)
 one_fault text e f (inr a) (inr b) er fr =
     let same = says_one text b.entries a.entries b.says a.says in
-    same_order e f (a.first.first f (subst (λ (es : List Entry). Stands es f) same b.first.stands))
-    (b.first.first e (subst (λ (es : List Entry). Stands es e) (sym same) a.first.stands))
+    first_unique rank told (Stands a.entries) e f a.first (subst (λ (es : List Entry). IsFirstFault (Stands es) f) same b.first)

@@ -8,6 +8,7 @@ use Rattle.std.specs.Cmp.Lexicographic.{slice_cmp}
 use Rattle.std.specs.BTreeSet.{BTreeSet, contains_by, UpdatesBy}
 use Rattle.std.proofs.lemmas.Map.Text.{is_eq-slice_cmp}
 use Rattle.std.proofs.lemmas.List.{length-take}
+use Rattle.osek_base.specs.declared.limits.TheConstants.{MAX_INSTRUCTIONS}
 use Rattle.task_asm.specs.declared.program.ProgramKind.{ProgramKind}
 use Rattle.task_asm.specs.declared.labels.Definition.{Definition}
 use Rattle.task_asm.specs.declared.checks.Open.{Open}
@@ -53,8 +54,8 @@ module _ (es : List Entry) (at passed : ℕ) (o : Open) (it : IsOpen es at passe
       → open_instruction_fault o passed place w ≡ instruction_fault (Some (take (at - o.start) (drop o.start es))) (drop at es) place w
   instruction_same place None = refl
   instruction_same place (Some w) =
-      ap (λ (n : ℕ). if n == 1024 then Some (fault.TooLong place) else open_operand_fault o w) it.count
-      ∙ ap (λ (f : Option AsmFault). if instruction_count (take (at - o.start) (drop o.start es)) == 1024 then Some (fault.TooLong place) else f) (operand_same w)
+      ap (λ (n : ℕ). if n == MAX_INSTRUCTIONS then Some (fault.TooLong place) else open_operand_fault o w) it.count
+      ∙ ap (λ (f : Option AsmFault). if instruction_count (take (at - o.start) (drop o.start es)) == MAX_INSTRUCTIONS then Some (fault.TooLong place) else f) (operand_same w)
 
   pub label_same : (x : Entry) (v : List ℕ) → at < length es → x ≡ get_or es at x → x.item ≡ Item.Label v → (place : ℕ)
       → open_label_fault o at passed place v ≡ label_fault (Some (take (at - o.start) (drop o.start es))) place v (drop (at + 1) es)

@@ -1,5 +1,5 @@
 -- The places of tokens rise along a text, and so do those of what they say.
-use Rattle.std.proofs.Common.{◌≡◌, ℕ, zero, suc, ◌+◌, ◌<◌, ◌≤◌, Bool, true, false, List, [], ◌∷◌, length, take, drop, get_or, Option, Some, None, refl, arith, inl, inr}
+use Rattle.std.proofs.Common.{◌≡◌, ◌≢◌, subst, ℕ, zero, suc, ◌+◌, ◌<◌, ◌≤◌, Bool, true, false, List, [], ◌∷◌, length, take, drop, get_or, Option, Some, None, refl, arith, inl, inr}
 use Rattle.std.specs.Prelude.{IfSome, IsTrue, if◌then◌else◌}
 use Rattle.std.specs.Option.{option_map}
 use Rattle.osek_base.specs.Words.{IsRun, is_word_byte}
@@ -7,6 +7,7 @@ use Rattle.osek_base.specs.Names.{is_proper_name}
 use Rattle.osek_base.specs.Tokens.{Lexeme, Lexes}
 use Rattle.osek_base.specs.Tokens.Lexes.{ends as text_ends, passes, takes}
 use Rattle.osek_base.specs.declared.instr.Plain.{Plain}
+use Rattle.osek_base.proofs.TokenLemmas.{line_some}
 use Rattle.task_asm.specs.declared.mnemonic.PlainMnemonic.{PlainMnemonic}
 use Rattle.task_asm.specs.declared.mnemonic.Mnemonic.{Mnemonic}
 use Rattle.task_asm.specs.declared.program.NamedInstr.{NamedInstr}
@@ -32,13 +33,16 @@ letter_begins b e = grind (arith)
 digit_begins : (b : ℕ) → class_of b ≡ class.Digit → IsTrue (is_word_byte b)
 digit_begins b e = grind (arith)
 
+comment_begins : (b : ℕ) → class_of b ≡ class.Semicolon → b ≢ 10
+comment_begins b e is = let semicolon : class_of 10 ≡ class.Semicolon = subst (λ (n : ℕ). class_of n ≡ class.Semicolon) is e in absurd cc
+
 -- a piece has a byte at least
 piece_by : (k : Class) (bytes : List ℕ) (n : ℕ) (t : Option Symbol) → class_of (get_or bytes 0 0) ≡ k → 0 < length bytes → IsPieceOf k bytes n t → 0 < n
 piece_by class.Letter bytes n t e some p = run_some bytes n some (letter_begins (get_or bytes 0 0) e) p.0
 piece_by class.Digit bytes n t e some p = run_some bytes n some (digit_begins (get_or bytes 0 0) e) p.0
 piece_by class.Blank bytes n t e some p = omega (arith, p.0)
 piece_by class.LineEnd bytes n t e some p = omega (arith, p.0)
-piece_by class.Semicolon bytes n t e some p = omega (arith, p.0.long)
+piece_by class.Semicolon bytes n t e some p = line_some bytes n some (comment_begins (get_or bytes 0 0) e) p.0
 piece_by class.Dot bytes n t e some p = elim p [ inl d ↦ omega (arith, d.0) | inr d ↦ omega (arith, d.0) ]
 piece_by (class.Mark s) bytes n t e some p = omega (arith, p.0)
 piece_by class.Other bytes n t e some p = absurd p

@@ -3,6 +3,7 @@ use Rattle.std.proofs.Common.{◌≡◌, ℕ, Bool, true, false, List, [], ◌�
 use Rattle.std.specs.Prelude.{if◌then◌else◌}
 use Rattle.std.proofs.lemmas.List.{append-nil}
 use Rattle.std.proofs.lemmas.Bool.{eqb-true, eq-eqb}
+use Rattle.osek_base.specs.declared.limits.TheConstants.{MAX_INSTRUCTIONS}
 use Rattle.task_asm.specs.declared.program.ProgramKind.{ProgramKind}
 use Rattle.task_asm.specs.declared.operands.Title.{Title}
 use Rattle.task_asm.specs.declared.fault.AsmFault.{AsmFault}
@@ -51,10 +52,10 @@ module _ (before after : List Entry) (place : ℕ) where
       let f = jump_found program l e (place_in program l.word) refl h in
       subst (λ (v : AsmFault). StandsAt before (Some own) (record { place = place; item = Item.Instruction (Some (JumpIf test a b l)) }) after v) (sym f.0) (refl, f.1)
 
-  count_found : (own : List Entry) (w : Written) (e : AsmFault) (b : Bool) → (instruction_count own == 1024) ≡ b
+  count_found : (own : List Entry) (w : Written) (e : AsmFault) (b : Bool) → (instruction_count own == MAX_INSTRUCTIONS) ≡ b
       → (if b then Some (fault.TooLong place) else operand_fault (own ++ record { place = place; item = Item.Instruction (Some w) } ∷ after) w) ≡ Some e
       → StandsAt before (Some own) (record { place = place; item = Item.Instruction (Some w) }) after e
-  count_found own w e true p h = found (Some own) (Item.Instruction (Some w)) (fault.TooLong place) e h (refl, eqb-true (instruction_count own) 1024 p)
+  count_found own w e true p h = found (Some own) (Item.Instruction (Some w)) (fault.TooLong place) e h (refl, eqb-true (instruction_count own) MAX_INSTRUCTIONS p)
   count_found own w e false p h = operand_found own w e h
 
   title_found : (own : Option (List Entry)) (kind : ProgramKind) (t : Title) (e : AsmFault) (b : Bool) → has_program before kind t.name ≡ b
@@ -68,7 +69,7 @@ module _ (before after : List Entry) (place : ℕ) where
   entry_found (Some own) (Item.Label w) e h = label_found own w e (has_instruction after) refl (defines own w) refl h
   entry_found None (Item.Instruction o) e h = found None (Item.Instruction o) (fault.UnknownMnemonic place) e h (refl, refl)
   entry_found (Some own) (Item.Instruction None) e h = found (Some own) (Item.Instruction None) (fault.Operand place) e h (refl, refl)
-  entry_found (Some own) (Item.Instruction (Some w)) e h = count_found own w e (instruction_count own == 1024) refl h
+  entry_found (Some own) (Item.Instruction (Some w)) e h = count_found own w e (instruction_count own == MAX_INSTRUCTIONS) refl h
   entry_found own (Item.Program kind None) e h = found own (Item.Program kind None) (fault.Operand place) e h (refl, refl)
   entry_found own (Item.Program kind (Some t)) e h = title_found own kind t e (has_program before kind t.name) refl h
   entry_found own Item.Unknown e h = found own Item.Unknown (fault.UnknownMnemonic place) e h (refl, tt)
@@ -129,7 +130,7 @@ module _ (before after : List Entry) (place : ℕ) where
       let program : List Entry = own ++ record { place = place; item = Item.Instruction (Some (JumpIf test a b l)) } ∷ after in
       jump_clear program l (place_in program l.word) refl h stands.1
 
-  instruction_none : (own : List Entry) (w : Written) (e : AsmFault) (b : Bool) → (instruction_count own == 1024) ≡ b
+  instruction_none : (own : List Entry) (w : Written) (e : AsmFault) (b : Bool) → (instruction_count own == MAX_INSTRUCTIONS) ≡ b
       → (if b then Some (fault.TooLong place) else operand_fault (own ++ record { place = place; item = Item.Instruction (Some w) } ∷ after) w) ≡ None
       → StandsAt before (Some own) (record { place = place; item = Item.Instruction (Some w) }) after e → ⊥
   instruction_none own w e true q f h = absurd cc
@@ -138,7 +139,7 @@ module _ (before after : List Entry) (place : ℕ) where
   instruction_none own w (fault.Operand p) false q f h = let k = h.1 in cc
   instruction_none own w (fault.UnknownLabel p) false q f h = unknown_none own w p f h
   instruction_none own w (fault.Twice p) false q f h = h
-  instruction_none own w (fault.TooLong p) false q f h = let k = eq-eqb (instruction_count own) 1024 h.1 in cc
+  instruction_none own w (fault.TooLong p) false q f h = let k = eq-eqb (instruction_count own) MAX_INSTRUCTIONS h.1 in cc
   instruction_none own w fault.Memory false q f h = h
 
   title_none : (own : Option (List Entry)) (kind : ProgramKind) (t : Title) (e : AsmFault) (b : Bool) → has_program before kind t.name ≡ b
@@ -160,7 +161,7 @@ module _ (before after : List Entry) (place : ℕ) where
       label_none own w e k.0 k.1 h
   entry_none None (Item.Instruction o) e f h = absurd cc
   entry_none (Some own) (Item.Instruction None) e f h = absurd cc
-  entry_none (Some own) (Item.Instruction (Some w)) e f h = instruction_none own w e (instruction_count own == 1024) refl f h
+  entry_none (Some own) (Item.Instruction (Some w)) e f h = instruction_none own w e (instruction_count own == MAX_INSTRUCTIONS) refl f h
   entry_none own (Item.Program kind None) e f h = absurd cc
   entry_none own (Item.Program kind (Some t)) e f h = title_none own kind t e (has_program before kind t.name) refl f h
   entry_none own Item.Unknown e f h = absurd cc

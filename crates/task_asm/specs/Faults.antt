@@ -1,5 +1,6 @@
 -- Program texts: the faults that stand in what a text says.
 use Rattle.std.specs.Prelude.{◌≡◌, ℕ, true, false, List, ◌∷◌, ◌++◌, Option, Some, None}
+use Rattle.osek_base.specs.declared.limits.TheConstants.{MAX_INSTRUCTIONS}
 use Rattle.task_asm.specs.declared.fault.AsmFault.{AsmFault}
 use Rattle.task_asm.specs.declared.fault.AsmFault.TheVariants as fault
 use Rattle.task_asm.specs.Lines.{Written, Ready, Jump, JumpIf}
@@ -47,7 +48,7 @@ IsSecond Item.Unknown before own place p = ⊥
 -- instruction 1,025 of its program
 abbrev pub IsOneTooMany : Item → Option (List Entry) → Type 0
 IsOneTooMany (Item.Label w) own = ⊥
-IsOneTooMany (Item.Instruction o) (Some own) = instruction_count own ≡ 1024
+IsOneTooMany (Item.Instruction o) (Some own) = instruction_count own ≡ MAX_INSTRUCTIONS
 IsOneTooMany (Item.Instruction o) None = ⊥
 IsOneTooMany (Item.Program kind o) own = ⊥
 IsOneTooMany Item.Unknown own = ⊥

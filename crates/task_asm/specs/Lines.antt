@@ -20,7 +20,8 @@ use Rattle.task_asm.specs.declared.operands.Written.{Written as TheWritten}
 use Rattle.task_asm.specs.declared.operands.Refusal.TheVariants as refusal
 use Rattle.task_asm.specs.declared.tokens.Sign.{Sign}
 use Rattle.task_asm.specs.declared.tokens.Sign.TheVariants as sign
-use Rattle.task_asm.specs.declared.tokens.Placed.{Placed}
+use Rattle.osek_base.specs.declared.lexing.Placed.{Placed}
+use Rattle.task_asm.specs.declared.tokens.Token.{Token}
 use Rattle.task_asm.specs.Tokens.{lexeme_of, Symbol, Word, Number, Mark}
 
 abbrev pub Tokens : Type 0
@@ -258,7 +259,7 @@ TakesSurely o (Ok x) rest = o ≡ Some (record { value = x; rest = rest })
 TakesSurely o (Err refusal.Operand) rest = o ≡ None
 TakesSurely o (Err refusal.Memory) rest = ⊥
 
-abbrev pub TakesToken : Tokens → Result Placed Refusal → Tokens → Type 0
+abbrev pub TakesToken : Tokens → Result (Placed Token) Refusal → Tokens → Type 0
 TakesToken ts (Ok t) rest = ts ≡ lexeme_of t ∷ rest
 TakesToken ts (Err refusal.Operand) rest = ts ≡ []
 TakesToken ts (Err refusal.Memory) rest = ⊥

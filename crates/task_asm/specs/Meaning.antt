@@ -1,5 +1,6 @@
 -- Program texts: the programs of what stands in a text, and its first fault.
-use Rattle.std.specs.Prelude.{◌≡◌, ℕ, List, [], ◌∷◌, Some, None, if◌then◌else◌, nat_lt, unwrap_or, ◌⊎◌}
+use Rattle.std.specs.Prelude.{◌≡◌, ℕ, ◌-◌, List, [], ◌∷◌, Some, None, if◌then◌else◌, nat_lt, unwrap_or, ◌⊎◌}
+use Rattle.osek_base.specs.declared.limits.TheConstants.{MAX_INSTRUCTIONS}
 use Rattle.osek_base.specs.declared.instr.Plain.{Plain}
 use Rattle.osek_base.specs.Tokens.{Lexes}
 use Rattle.task_asm.specs.declared.program.NamedInstr.{NamedInstr}
@@ -16,7 +17,7 @@ use Rattle.task_asm.specs.Faults.{Stands}
 
 -- a program has 1,024 places. A label behind them all is a fault, so that the bound plays no part in programs without fault
 abbrev pub within_program : ℕ → ℕ
-within_program n = if nat_lt n 1024 then n else 1023
+within_program n = if nat_lt n MAX_INSTRUCTIONS then n else MAX_INSTRUCTIONS - 1
 
 -- the place that a label names in a program with these entries
 abbrev pub target : List Entry → Label → ℕ

@@ -1,5 +1,6 @@
 -- Which fault of a program text is answered where there are several.
-use Rattle.std.specs.Prelude.{◌≡◌, ℕ, ◌<◌, ◌≤◌, ◌⊎◌}
+use Rattle.std.specs.Prelude.{ℕ}
+use Rattle.osek_base.specs.FirstFault as base
 use Rattle.task_asm.specs.declared.fault.AsmFault.{AsmFault}
 use Rattle.task_asm.specs.declared.fault.AsmFault.TheVariants as fault
 
@@ -21,11 +22,12 @@ number_of (fault.UnknownLabel p) = 4
 number_of (fault.Twice p) = 5
 number_of (fault.TooLong p) = 6
 
--- at the lesser place, or at one place the lower number
+abbrev pub rank : base.Rank AsmFault
+rank = record { place = place_of; number = number_of }
+
 abbrev pub IsNoLater : AsmFault → AsmFault → Type 0
-IsNoLater e g = (place_of e < place_of g) ⊎ ((place_of e ≡ place_of g) × (number_of e ≤ number_of g))
+IsNoLater e g = base.IsNoLater rank e g
 
 -- of the faults that stand, one that is no later than any
-pub record IsFirstFault (Stands : AsmFault → Type 0) (e : AsmFault) : Type 0 where
-  pub stands : Stands e
-  pub first : (g : AsmFault) → Stands g → IsNoLater e g
+abbrev pub IsFirstFault : (AsmFault → Type 0) → AsmFault → Type 0
+IsFirstFault Stands e = base.IsFirst rank Stands e

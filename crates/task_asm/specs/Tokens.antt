@@ -1,8 +1,10 @@
 -- The tokens of a program text, each with its place.
-use Rattle.std.specs.Prelude.{◌≡◌, ◌≢◌, ℕ, ◌<◌, ◌≤◌, ◌⊎◌, ◌||◌, ◌==◌, IsTrue, List, length, take, map, slice_index, Option, Some, None, option_map, if◌then◌else◌, codes}
+use Rattle.std.specs.Prelude.{◌≡◌, ℕ, ◌<◌, ◌≤◌, ◌⊎◌, ◌||◌, ◌==◌, IsTrue, List, length, take, slice_index, Option, Some, None, option_map, if◌then◌else◌, codes}
 use Rattle.std.specs.List.{AllByRecursion}
-use Rattle.osek_base.specs.Words.{is_letter, is_digit, IsRun, IsNumeral}
+use Rattle.osek_base.specs.declared.limits.TheConstants.{MAX_NAME}
+use Rattle.osek_base.specs.Words.{is_letter, is_digit, IsRun, IsNumeral, IsLine}
 use Rattle.osek_base.specs.Names.{is_proper_name}
+use Rattle.osek_base.specs.Tokens as base
 use Rattle.osek_base.specs.Tokens.{Lexeme, LexFails}
 use Rattle.task_asm.specs.declared.program.ProgramKind.{ProgramKind}
 use Rattle.task_asm.specs.declared.tokens.Class.{Class}
@@ -11,8 +13,8 @@ use Rattle.task_asm.specs.declared.tokens.Sign.{Sign}
 use Rattle.task_asm.specs.declared.tokens.Sign.TheVariants.{Comma, Colon, Plus}
 use Rattle.task_asm.specs.declared.tokens.Token.{Token}
 use Rattle.task_asm.specs.declared.tokens.Token.TheVariants as token
-use Rattle.task_asm.specs.declared.tokens.Placed.{Placed}
-use Rattle.task_asm.specs.declared.tokens.Piece.{Piece}
+use Rattle.osek_base.specs.declared.lexing.Placed.{Placed}
+use Rattle.osek_base.specs.declared.lexing.Piece.{Piece}
 use Rattle.task_asm.specs.declared.fault.AsmFault.{AsmFault}
 use Rattle.task_asm.specs.declared.fault.AsmFault.TheVariants as fault
 
@@ -30,13 +32,6 @@ class_of b =
     else (if b == 43 then class.Mark Plus
     else class.Other))))))))
 
--- ; and what stands before the next LF or the end
-pub record IsComment (bytes : List ℕ) (n : ℕ) : Type 0 where
-  pub within : n ≤ length bytes
-  pub long : 1 ≤ n
-  pub each : (i : ℕ) → 1 ≤ i → i < n → slice_index bytes i ≢ 10
-  pub longest : n < length bytes → slice_index bytes n ≡ 10
-
 -- a token without where it lies in memory
 pub data Symbol : Type 0 where
   Word : List ℕ → Symbol
@@ -51,13 +46,13 @@ IsDirective bytes n t =
     ((n ≡ 5) × (take 5 bytes ≡ codes ".task") × (t ≡ Some (Directive ProgramKind.Task)))
     ⊎ ((n ≡ 4) × (take 4 bytes ≡ codes ".isr") × (t ≡ Some (Directive ProgramKind.Routine)))
 
--- the first n bytes are a piece of the text: a token, or what means nothing
+-- the first n bytes are a piece of the text: a token, or what means nothing, as a comment, which is ; and the rest of its line
 abbrev pub IsPieceOf : Class → List ℕ → ℕ → Option Symbol → Type 0
-IsPieceOf class.Letter bytes n t = IsRun bytes n × (n ≤ 32) × (t ≡ Some (Word (take n bytes)))
+IsPieceOf class.Letter bytes n t = IsRun bytes n × (n ≤ MAX_NAME) × (t ≡ Some (Word (take n bytes)))
 IsPieceOf class.Digit bytes n t = IsRun bytes n × (v : ℕ) × IsNumeral (take n bytes) v × (t ≡ Some (Number v))
 IsPieceOf class.Blank bytes n t = (n ≡ 1) × (t ≡ None)
 IsPieceOf class.LineEnd bytes n t = (n ≡ 1) × (t ≡ Some LineEnd)
-IsPieceOf class.Semicolon bytes n t = IsComment bytes n × (t ≡ None)
+IsPieceOf class.Semicolon bytes n t = IsLine bytes n × (t ≡ None)
 IsPieceOf class.Dot bytes n t = IsDirective bytes n t
 IsPieceOf (class.Mark s) bytes n t = (n ≡ 1) × (t ≡ Some (Mark s))
 IsPieceOf class.Other bytes n t = ⊥
@@ -74,11 +69,11 @@ symbol_of (token.Directive kind) = Directive kind
 symbol_of (token.Sign s) = Mark s
 symbol_of token.LineEnd = LineEnd
 
-abbrev pub lexeme_of : Placed → Lexeme Symbol
-lexeme_of t = record { place = t.place; word = symbol_of t.token }
+abbrev pub lexeme_of : Placed Token → Lexeme Symbol
+lexeme_of t = base.lexeme_of symbol_of t
 
-abbrev pub lexemes_of : List Placed → List (Lexeme Symbol)
-lexemes_of ts = map lexeme_of ts
+abbrev pub lexemes_of : List (Placed Token) → List (Lexeme Symbol)
+lexemes_of ts = base.lexemes_of symbol_of ts
 
 -- words have 1 to 32 bytes
 abbrev pub IsProperSymbol : Symbol → Type 0
@@ -89,7 +84,7 @@ abbrev pub AreProper : List (Lexeme Symbol) → Type 0
 AreProper ts = AllByRecursion (λ t. IsProperSymbol t.word) ts
 
 -- a function that looks for a piece of a class: what it found, or there is none
-abbrev pub GivesPiece : Class → List ℕ → Option Piece → Type 0
+abbrev pub GivesPiece : Class → List ℕ → Option (Piece Token) → Type 0
 GivesPiece k bytes (Some p) = IsPieceOf k bytes p.len (option_map symbol_of p.token) × (0 < p.len) × (p.len ≤ length bytes)
 GivesPiece k bytes None = (n : ℕ) (t : Option Symbol) → ¬ IsPieceOf k bytes n t
 

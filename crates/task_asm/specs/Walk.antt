@@ -5,6 +5,7 @@ use Rattle.std.specs.Ordering.{nat_cmp}
 use Rattle.std.specs.Cmp.Lexicographic.{slice_cmp}
 use Rattle.std.specs.BTreeMap.{BTreeMap, get_by}
 use Rattle.std.specs.BTreeSet.{contains_by}
+use Rattle.osek_base.specs.declared.limits.TheConstants.{MAX_INSTRUCTIONS}
 use Rattle.task_asm.specs.declared.labels.Definition.{Definition}
 use Rattle.task_asm.specs.declared.labels.Labels.{Labels}
 use Rattle.task_asm.specs.declared.checks.Open.{Open}
@@ -44,7 +45,7 @@ abbrev pub instruction_fault : Option (List Entry) → List Entry → ℕ → Op
 instruction_fault None here place o = Some (fault.UnknownMnemonic place)
 instruction_fault (Some own) here place None = Some (fault.Operand place)
 instruction_fault (Some own) here place (Some w) =
-    if instruction_count own == 1024 then Some (fault.TooLong place) else operand_fault (own ++ here) w
+    if instruction_count own == MAX_INSTRUCTIONS then Some (fault.TooLong place) else operand_fault (own ++ here) w
 
 -- a directive behind these entries
 abbrev pub program_fault : List Entry → ℕ → ProgramKind → Option Title → Option AsmFault
@@ -120,7 +121,7 @@ open_operand_fault o (JumpIf test a b l) = open_jump_fault o l
 
 abbrev pub open_instruction_fault : Open → ℕ → ℕ → Option Written → Option AsmFault
 open_instruction_fault o passed place None = Some (fault.Operand place)
-open_instruction_fault o passed place (Some w) = if passed == 1024 then Some (fault.TooLong place) else open_operand_fault o w
+open_instruction_fault o passed place (Some w) = if passed == MAX_INSTRUCTIONS then Some (fault.TooLong place) else open_operand_fault o w
 
 -- the place that a label names, 0 where it isn't defined
 abbrev pub found_place : Option Definition → ℕ

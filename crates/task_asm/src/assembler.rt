@@ -15,17 +15,17 @@ use crate::labels::Labels;
 use crate::operands::Written;
 use crate::program::{NamedInstr, NamedLine, NamedProgram};
 use crate::tokens::tokenize;
-use osek_base::{Place, Plain};
+use osek_base::{MAX_INSTRUCTIONS, Place, Plain};
 use std::alloc::{AllocError, Global};
 
 /// The place of that number, or the last that a program has.
 fn place_of(number: usize) -> Place
     ensures { result ≡ within_program number }
 {
-    if number < 1024 {
+    if number < MAX_INSTRUCTIONS {
         Place::new(number as u16)
     } else {
-        Place::new(1023)
+        Place::new(MAX_INSTRUCTIONS as u16 - 1)
     }
 }
 

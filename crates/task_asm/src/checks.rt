@@ -24,11 +24,9 @@ use crate::fault::AsmFault;
 use crate::labels::Labels;
 use crate::operands::{Title, Written};
 use crate::program::ProgramKind;
+use osek_base::MAX_INSTRUCTIONS;
 use std::alloc::{AllocError, Global};
 use std::collections::BTreeSet;
-
-/// How many instructions a program may have.
-const PROGRAM_MAX: usize = 1024;
 
 /// The names of the programs that were passed, by kind.
 #[derive(Drop)]
@@ -128,7 +126,7 @@ impl<'a> Open<'a> {
         let Some(written) = written else {
             return Some(AsmFault::Operand(place));
         };
-        if passed == PROGRAM_MAX {
+        if passed == MAX_INSTRUCTIONS {
             return Some(AsmFault::TooLong(place));
         }
         self.operand_fault(written)

@@ -16,3 +16,4 @@ pub use assembler::{assemble, one_meaning};
 pub use fault::AsmFault;
 pub use program::{EventNames, NamedInstr, NamedLine, NamedProgram, NamedService, ProgramKind};
 pub use text::instr_text;
+pub use tokens::{Placed, Sign, Token, tokenize};

@@ -12,7 +12,7 @@ use Rattle.tracer.specs.Lines.{ended}
 use Rattle.tracer.specs.ArrivalText.{lines_of}
 use Rattle.tracer.specs.UpperRuns.{IsShown}
 use Rattle.tracer.specs.WholeRuns.{RefusesStart}
-use Rattle.tracer.specs.declared.whole_run.RunFault.{RunFault}
+use Rattle.tracer.specs.declared.run_fault.RunFault.{RunFault}
 use Rattle.tracer.proofs.RunTextLemmas.{view_shown}
 use Rattle.tracer.proofs.ArrivalLemmas.{number_below, are_read_same, first_fault_same}
 

@@ -4,7 +4,7 @@ use Rattle.std.specs.List.{AllByRecursion}
 use Rattle.osek_base.specs.declared.arrivals.Arrival.{Arrival}
 use Rattle.osek_base.specs.Names.{Names, number_of}
 use Rattle.tracer.specs.ArrivalText.{IsRead, IsKnown, LineFault, AreRead, HasFirstFault}
-use Rattle.tracer.specs.declared.arrivals.IrqFault.{IrqFault}
+use Rattle.tracer.specs.declared.irq_fault.IrqFault.{IrqFault}
 
 next_below : (found : Option ℕ) (n size : ℕ) → ((m : ℕ) → found ≡ Some m → m < size) → option_map suc found ≡ Some n → n < suc size
 next_below None n size f e = absurd cc

@@ -17,7 +17,7 @@ use Rattle.tracer.specs.RunFaults.{of_oil, of_asm, of_gen, of_irq, of_boot}
 use Rattle.system_gen.specs.Checks.{IsFoundOrMemory}
 use Rattle.system_gen.specs.Faults.{generation_fault}
 use Rattle.tracer.specs.WholeRuns.{RefusesSystem, RefusesStart}
-use Rattle.tracer.specs.declared.arrivals.IrqFault.{IrqFault}
+use Rattle.tracer.specs.declared.irq_fault.IrqFault.{IrqFault}
 
 pub told_of_oil : (oil asm : List ℕ) (fault : OilFault) → HasOilFault oil fault → RefusesSystem oil asm (of_oil fault)
 told_of_oil oil asm OilFault.Memory h = tt

@@ -5,7 +5,7 @@ use Rattle.osek_base.specs.declared.arrivals.Arrival.{Arrival}
 use Rattle.osek_base.specs.Names.{Names, number_of}
 use Rattle.osek_base.specs.Words.{is_digit, number_from}
 use Rattle.tracer.specs.ArrivalText.{has_no_leading_zero, lines_of, IsLineOf, IsRead, IsKnown, LineFault, AreRead, HasFirstFault, IsArrivalList, IsFirstFault}
-use Rattle.tracer.specs.declared.arrivals.IrqFault.{IrqFault}
+use Rattle.tracer.specs.declared.irq_fault.IrqFault.{IrqFault}
 use Rattle.tracer.proofs.TextLemmas.{both_left, digits_lack_space, same_cut}
 
 -- ---- one line

@@ -13,12 +13,11 @@ use Rattle.osek_base.specs.Trace.{Run, run}
 use Rattle.osek_base.specs.Text.{line, text}
 use Rattle.osek_base.specs.View.{Sight, sight}
 use Rattle.kernel.specs.Run.{is_over, step_at, record_at}
-use Rattle.kernel.proofs.RunLemmas.{run_over, steps_more, going}
+use Rattle.kernel.proofs.RunLemmas.{run_over, run_stays, steps_more, step_number, going}
 use Rattle.tracer.specs.Lines.{ended, tick_text}
 use Rattle.tracer.specs.Shown.{records_shown, lines_shown, text_shown, view_text}
 use Rattle.tracer.specs.Sinks.{AppendsSome}
 use Rattle.tracer.proofs.SinkLemmas.{appends_more, begins_longer, begins_later}
-use Rattle.tracer.proofs.StepLemmas.{run_stays, step_number}
 
 -- ---- all, and the view
 

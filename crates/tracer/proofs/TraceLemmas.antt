@@ -8,7 +8,7 @@ use Rattle.kernel.specs.Run.{Run}
 use Rattle.tracer.specs.Shown.{text_shown}
 use Rattle.tracer.specs.UpperRuns.{IsShown, IsView, RefusesPartition}
 use Rattle.tracer.specs.WholeRuns.{IsSystemOf, IsBegun, IsTrace, RefusesSystem, RefusesStart}
-use Rattle.tracer.specs.declared.whole_run.RunFault.{RunFault}
+use Rattle.tracer.specs.declared.run_fault.RunFault.{RunFault}
 use Rattle.tracer.proofs.RunTextLemmas.{all_shown, view_shown}
 
 -- what is shown of a run that was begun

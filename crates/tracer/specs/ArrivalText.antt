@@ -1,10 +1,11 @@
 -- The text of an arrival list, no part of the standards: what it means, and its first fault.
 use Rattle.std.specs.Prelude.{◌≡◌, ℕ, ◌+◌, ◌<◌, ◌≤◌, ◌⊎◌, Bool, true, false, not, ◌&&◌, ◌==◌, nat_le, IsTrue, List, [], ◌∷◌, ◌++◌, length, Some, None, if◌then◌else◌}
 use Rattle.std.specs.List.{list_all}
+use Rattle.osek_base.specs.declared.limits.TheConstants.{MAX_ARRIVALS, MAX_TICKS}
 use Rattle.osek_base.specs.declared.arrivals.Arrival.{Arrival}
 use Rattle.osek_base.specs.Names.{Names, number_of}
 use Rattle.osek_base.specs.Words.{is_digit, is_letter, is_word_byte, number_from}
-use Rattle.tracer.specs.declared.arrivals.IrqFault.{IrqFault}
+use Rattle.tracer.specs.declared.irq_fault.IrqFault.{IrqFault}
 
 -- ---- lines
 
@@ -55,8 +56,8 @@ pub record IsRead (names : Names) (number before : ℕ) (line : List ℕ) (a : A
   pub formed : IsLineOf line a.tick name
   pub known : number_of name names.routines ≡ Some a.routine
   pub ordered : before ≤ a.tick
-  pub few : number ≤ 65536
-  pub small : a.tick ≤ 999999
+  pub few : number ≤ MAX_ARRIVALS
+  pub small : a.tick < MAX_TICKS
 
 -- the line has the form and names a routine
 pub record IsKnown (names : Names) (line : List ℕ) (tick : ℕ) : Type 0 where
@@ -74,9 +75,9 @@ LineFault names number before line (IrqFault.UnknownIsr n) =
 LineFault names number before line (IrqFault.Order n) =
     (n ≡ number) × ((tick : ℕ) × IsKnown names line tick × (tick < before))
 LineFault names number before line (IrqFault.TooMany n) =
-    (n ≡ number) × ((tick : ℕ) × IsKnown names line tick × (before ≤ tick) × (65536 < number))
+    (n ≡ number) × ((tick : ℕ) × IsKnown names line tick × (before ≤ tick) × (MAX_ARRIVALS < number))
 LineFault names number before line (IrqFault.TickRange n) =
-    (n ≡ number) × ((tick : ℕ) × IsKnown names line tick × (before ≤ tick) × (number ≤ 65536) × (999999 < tick))
+    (n ≡ number) × ((tick : ℕ) × IsKnown names line tick × (before ≤ tick) × (number ≤ MAX_ARRIVALS) × (MAX_TICKS ≤ tick))
 LineFault names number before line IrqFault.Memory = ⊥
 
 -- ---- the whole text

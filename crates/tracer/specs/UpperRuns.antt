@@ -10,7 +10,7 @@ use Rattle.partition_check.specs.declared.denial.NamedDenial.{NamedDenial}
 use Rattle.tracer.specs.ArrivalText.{IsArrivalList}
 use Rattle.tracer.specs.Shown.{text_shown, view_text}
 use Rattle.tracer.specs.WholeRuns.{IsSystemOf, RefusesSystem, RefusesStart}
-use Rattle.tracer.specs.declared.whole_run.RunFault.{RunFault}
+use Rattle.tracer.specs.declared.run_fault.RunFault.{RunFault}
 
 -- ---- what is written
 

@@ -1,18 +1,25 @@
 //! Whole runs: arrival lists, the texts of trace lines, and what is written to a sink.
 #![tactic(auto)]
 
+mod arrival_line;
 mod arrivals;
+mod instruction_texts;
+mod irq_fault;
 mod line;
+mod run_fault;
 mod sink;
-#[cfg(test)]
-mod tests;
+mod system_texts;
 mod upper_run;
 mod view;
 mod whole_run;
+mod written_ticks;
 
-pub use arrivals::{IrqFault, one_meaning, read_arrivals};
+pub use arrivals::{one_meaning, read_arrivals};
+pub use irq_fault::IrqFault;
 pub use line::{LineText, line_text};
+pub use run_fault::RunFault;
 pub use sink::{Sink, SinkFault, StdSink};
+pub use system_texts::read_system;
 pub use upper_run::run_upper;
 pub use view::upper_view;
-pub use whole_run::{RunFault, run};
+pub use whole_run::run;

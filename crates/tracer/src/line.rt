@@ -1,6 +1,7 @@
 //! The lines of a trace, no part of the standards.
 
 ghost use Rattle.std.specs.Prelude.{◌≡◌, ◌+◌, ◌<◌, ◌≤◌, ◌++◌, length, decimal, codes};
+ghost use Rattle.tracer.specs.Lines.{executed_text};
 ghost use Rattle.osek_base.specs.Names.{name_at, owner_name};
 ghost use Rattle.osek_base.specs.Text.{
   instruction_text,
@@ -13,19 +14,44 @@ ghost use Rattle.osek_base.specs.Text.{
 
 use arrayvec::ArrayString;
 use itoa::Buffer;
-use osek_base::{Effect, Instr, Name, Names, Outcome, Owner, Results, Source, TraceEvent};
+use osek_base::{Effect, Instr, Name, Names, Outcome, Owner, Place, Results, Source, TraceEvent};
 use task_asm::instr_text;
 
 /// What a trace line is written to: it has room for whatever names of 32 bytes and numbers of 32 bits come together.
 pub type LineText = ArrayString<256>;
 
-fn push_number(text: &mut LineText, number: u32)
+/// The text of a number of one digit, which needs no division.
+#[tactic(auto, using(std::proofs::lemmas::Fmt::decimal_digit))]
+fn digit_text(number: u32) -> &'static str
+    requires { number < 10 }
+    ensures same { result.now ≡ decimal number }
+    ensures short { length result.now ≡ 1 }
+{
+    match number {
+        0 => "0",
+        1 => "1",
+        2 => "2",
+        3 => "3",
+        4 => "4",
+        5 => "5",
+        6 => "6",
+        7 => "7",
+        8 => "8",
+        _ => "9",
+    }
+}
+
+pub(crate) fn push_number(text: &mut LineText, number: u32)
     requires { length text.old.bytes + 10 ≤ 256 }
     ensures same { text.new.bytes ≡ text.old.bytes ++ decimal number }
     ensures short { length text.new.bytes ≤ length text.old.bytes + 10 }
 {
-    let mut buffer = Buffer::new();
-    text.push_str(buffer.format(number));
+    if number < 10 {
+        text.push_str(digit_text(number));
+    } else {
+        let mut buffer = Buffer::new();
+        text.push_str(buffer.format(number));
+    }
 }
 
 /// The name of that number, empty where there is none.
@@ -78,6 +104,25 @@ fn push_instr(text: &mut LineText, names: &Names, what: &Instr)
     text.push_str(operation.as_str());
 }
 
+/// Appends what the line of an instruction has between the tick and the outcome.
+pub(crate) fn push_executed(
+    text: &mut LineText,
+    names: &Names,
+    who: &Owner,
+    place: Place,
+    what: &Instr,
+)
+    requires { length text.old.bytes + 172 ≤ 256 }
+    ensures same { text.new.bytes ≡ text.old.bytes ++ executed_text names.now who.now place what.now }
+    ensures short { length text.new.bytes ≤ length text.old.bytes + 172 }
+{
+    push_owner(text, names, *who);
+    text.push_str(" ");
+    push_number(text, place.number() as u32);
+    text.push_str(" ");
+    push_instr(text, names, what);
+}
+
 fn push_results(text: &mut LineText, results: Results)
     requires { length text.old.bytes + 35 ≤ 256 }
     ensures same { text.new.bytes ≡ text.old.bytes ++ results_text results }
@@ -120,7 +165,7 @@ fn push_effect(text: &mut LineText, effect: Effect)
     }
 }
 
-fn push_outcome(text: &mut LineText, outcome: Outcome)
+pub(crate) fn push_outcome(text: &mut LineText, outcome: Outcome)
     requires { length text.old.bytes + 48 ≤ 256 }
     ensures same { text.new.bytes ≡ text.old.bytes ++ outcome_text outcome }
     ensures short { length text.new.bytes ≤ length text.old.bytes + 48 }
@@ -138,7 +183,8 @@ fn push_outcome(text: &mut LineText, outcome: Outcome)
 
 fn push_event(text: &mut LineText, names: &Names, event: &TraceEvent)
     requires { length text.old.bytes ≤ 11 }
-    ensures { text.new.bytes ≡ text.old.bytes ++ event_text names.now event.now }
+    ensures same { text.new.bytes ≡ text.old.bytes ++ event_text names.now event.now }
+    ensures short { length text.new.bytes ≤ length text.old.bytes + 220 }
 {
     match event {
         TraceEvent::Startup => text.push_str("startup"),
@@ -151,11 +197,7 @@ fn push_event(text: &mut LineText, names: &Names, event: &TraceEvent)
             push_owner(text, names, Owner::Task(*task));
         }
         TraceEvent::Executed(who, place, what, outcome) => {
-            push_owner(text, names, *who);
-            text.push_str(" ");
-            push_number(text, place.number() as u32);
-            text.push_str(" ");
-            push_instr(text, names, what);
+            push_executed(text, names, who, *place, what);
             push_outcome(text, *outcome);
         }
         TraceEvent::Idle => text.push_str("idle"),
@@ -177,7 +219,8 @@ fn push_event(text: &mut LineText, names: &Names, event: &TraceEvent)
 
 /// Replaces the content of `text` by the line of a record of that tick, without the line's end.
 pub fn line_text(names: &Names, tick: u32, event: &TraceEvent, text: &mut LineText)
-    ensures { text.new.bytes ≡ line names.now tick event.now }
+    ensures same { text.new.bytes ≡ line names.now tick event.now }
+    ensures short { length text.new.bytes ≤ 231 }
 {
     text.clear();
     push_number(text, tick);

@@ -6,10 +6,12 @@ ghost use Rattle.osek_base.specs.Separable.{Separable};
 ghost use Rattle.tracer.specs.Sinks.{AppendsSome};
 ghost use Rattle.tracer.specs.UpperRuns.{IsShown, IsView, RefusesPartition, IsFirstViewRefusal};
 ghost use Rattle.tracer.specs.WholeRuns.{RefusesStart};
-ghost use Rattle.tracer.specs.declared.whole_run.RunFault.{RunFault};
+ghost use Rattle.tracer.specs.declared.run_fault.RunFault.{RunFault};
 
+use crate::run_fault::RunFault;
 use crate::sink::Sink;
-use crate::whole_run::{RunFault, system_of, write_run};
+use crate::system_texts::read_system;
+use crate::whole_run::write_run;
 use osek_base::System;
 use partition_check::check_partition;
 use std::alloc::Global;
@@ -103,7 +105,7 @@ pub fn run_upper<S: Sink>(
     ensures unwritten { IfErr result (λ fault. fault ≢ RunFault.Write → out.new ≡ out.old) }
     ensures refusal { IfErr result (λ fault. fault ≢ RunFault.Write → IsFirstViewRefusal oil.now asm.now irqs.now mode.now p fault) }
 {
-    let system = system_of(alloc, oil, asm)?;
+    let system = read_system(alloc, oil, asm)?;
     check_upper(&system, p)?;
     write_view(alloc, &system, p, alone, irqs, mode, ticks, out)
 }

@@ -50,10 +50,18 @@ pub fn upper_view(system: &System, p: u8, records: &TickRecord) -> TickRecord
     ensures { result ≡ view_records system.now p records.now }
 {
     let mut view = TickRecord::new();
+    upper_view_into(system, p, records, &mut view);
+    view
+}
+
+/// As `upper_view`, in place of what `view` has: a list that is used again needn't be filled anew.
+pub(crate) fn upper_view_into(system: &System, p: u8, records: &TickRecord, view: &mut TickRecord)
+    ensures { view.new ≡ view_records system.now p records.now }
+{
+    view.clear();
     'entries: for entry in records.entries() {
         if let Some(event) = shown(system, p, entry.event()) {
             view.push(event);
         }
     }
-    view
 }

@@ -9,7 +9,7 @@ use crate::upper_part::UpperPart;
 use osek_base::{Parts, System};
 use std::alloc::{AllocError, Global};
 
-/// The upper part of a system at p, 0 to 31, as a system by itself: the switches, modes, events,
+/// The upper part of a system at p, 0 to the highest task priority, as a system by itself: the switches, modes, events,
 /// counters and routines, and of the rest what is upper, that is the tasks of priority p or more,
 /// the resources of ceiling p or more, and the alarms that act on such tasks. All stand in their
 /// order, with their masks and programs; resources and alarms have new numbers.
@@ -27,11 +27,7 @@ pub fn upper_only(alloc: Global, system: &System, p: u8) -> Result<System, Alloc
 {
     system.names();
     let parts = UpperPart::new(system, p).parts(alloc)?;
-    match System::new(parts) {
-        Some(part) => Ok(part),
-        // The upper part of a separable system is proper.
-        None => unreachable!(),
-    }
+    Ok(System::new(parts))
 }
 
 impl UpperPart<'_> {

@@ -6,7 +6,9 @@ ghost use Rattle.osek_base.specs.Upper.{is_upper_task, is_upper_alarm};
 ghost use Rattle.osek_base.specs.Agree.{kept, is_upper_declared, upper_part};
 
 use crate::upper_part::UpperPart;
-use osek_base::{AlarmId, Name, Names, ResourceNumber, TaskId};
+use osek_base::{
+    AlarmId, MAX_ALARMS, MAX_RESOURCES, MAX_TASKS, Name, Names, ResourceNumber, TaskId,
+};
 use std::alloc::{AllocError, Global};
 
 impl UpperPart<'_> {
@@ -26,7 +28,7 @@ impl UpperPart<'_> {
 
     #[tactic(auto, using(crate::proofs::KeptSteps::kept_in, crate::proofs::KeptSteps::kept_out))]
     fn task_names(&self, alloc: Global, names: &[Name]) -> Result<Vec<Name>, AllocError>
-        requires { length names.now ≤ 32 }
+        requires { length names.now ≤ MAX_TASKS }
         ensures { IfOk result (λ r. r.items ≡ map (name_at names.now) (kept (is_upper_task self.now.system self.now.p) (length names.now))) }
     {
         let mut upper = Vec::new(alloc);
@@ -40,7 +42,7 @@ impl UpperPart<'_> {
 
     #[tactic(auto, using(crate::proofs::KeptSteps::kept_in, crate::proofs::KeptSteps::kept_out))]
     fn resource_names(&self, alloc: Global, names: &[Name]) -> Result<Vec<Name>, AllocError>
-        requires { length names.now ≤ 32 }
+        requires { length names.now ≤ MAX_RESOURCES }
         ensures { IfOk result (λ r. r.items ≡ map (name_at names.now) (kept (is_upper_declared self.now.system self.now.p) (length names.now))) }
     {
         let mut upper = Vec::new(alloc);
@@ -54,7 +56,7 @@ impl UpperPart<'_> {
 
     #[tactic(auto, using(crate::proofs::KeptSteps::kept_in, crate::proofs::KeptSteps::kept_out))]
     fn alarm_names(&self, alloc: Global, names: &[Name]) -> Result<Vec<Name>, AllocError>
-        requires { length names.now ≤ 64 }
+        requires { length names.now ≤ MAX_ALARMS }
         ensures { IfOk result (λ r. r.items ≡ map (name_at names.now) (kept (is_upper_alarm self.now.system self.now.p) (length names.now))) }
     {
         let mut upper = Vec::new(alloc);

@@ -5,7 +5,7 @@ ghost use Rattle.osek_base.specs.Upper.{is_upper_alarm};
 ghost use Rattle.osek_base.specs.Agree.{rank, is_upper_declared};
 
 use crate::upper_part::UpperPart;
-use osek_base::{AlarmId, ResourceNumber};
+use osek_base::{AlarmId, MAX_ALARMS, MAX_RESOURCES, ResourceNumber};
 
 impl UpperPart<'_> {
     /// The number of a resource among the upper ones.
@@ -24,7 +24,7 @@ impl UpperPart<'_> {
 
     /// How many resources with a number below this one are upper.
     fn resources_below(&self, end: u8) -> u8
-        requires { end ≤ 32 }
+        requires { end ≤ MAX_RESOURCES }
         ensures is { result ≡ rank (is_upper_declared self.now.system self.now.p) end }
         ensures low { result ≤ end }
     {
@@ -40,7 +40,7 @@ impl UpperPart<'_> {
     /// How many alarms with a number below this one are upper.
     #[tactic(auto, using(crate::proofs::KeptSteps::rank_in, crate::proofs::KeptSteps::rank_out))]
     fn alarms_below(&self, end: u8) -> u8
-        requires { end ≤ 64 }
+        requires { end ≤ MAX_ALARMS }
         ensures is { result ≡ rank (is_upper_alarm self.now.system self.now.p) end }
         ensures low { result ≤ end }
     {

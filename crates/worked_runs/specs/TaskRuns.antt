@@ -1,5 +1,5 @@
 -- OSEK/VDX OS: task management. Worked runs of tasks: activation, preemption, ends, chaining, Schedule, plain instructions.
-use Rattle.std.specs.Prelude.{true, ◌≡◌, [], ◌∷◌, Some, None, codes}
+use Rattle.std.specs.Prelude.{ℕ, true, ◌≡◌, List, [], ◌∷◌, Some, None, codes}
 use Rattle.osek_base.specs.declared.status.Class.{Class}
 use Rattle.osek_base.specs.declared.instr.Operation.TheVariants.{Add, Mul}
 use Rattle.osek_base.specs.declared.instr.Comparison.TheVariants.{Less}
@@ -79,10 +79,10 @@ preempted_is_oldest =
       hooks = record no_hooks { pre_task = true; post_task = true };
     }
 
-abbrev pub RunPreemptedIsOldest : Type 0
-RunPreemptedIsOldest =
-    IsWorkedRun preempted_is_oldest [] 6
-    (codes "0 pre A"
+-- its lines
+abbrev pub oldest_lines : List (List ℕ)
+oldest_lines =
+    codes "0 pre A"
     ∷ codes "0 A 0 ACT B = 0"
     ∷ codes "1 A 1 ACT C = 0"
     ∷ codes "1 post A"
@@ -96,7 +96,26 @@ RunPreemptedIsOldest =
     ∷ codes "4 pre B"
     ∷ codes "5 B 0 TERM = 0"
     ∷ codes "5 post B"
-    ∷ [])
+    ∷ []
+
+abbrev pub RunPreemptedIsOldest : Type 0
+RunPreemptedIsOldest =
+    IsWorkedRun preempted_is_oldest [] 6 oldest_lines
+
+-- the same with the highest priority
+abbrev pub highest_priority : System
+highest_priority =
+    record preempted_is_oldest {
+      tasks =
+          task 63 (term ∷ [])
+          ∷ autostarted (task 31 (act (Some 2) ∷ act (Some 0) ∷ nop ∷ term ∷ []))
+          ∷ task 31 (term ∷ [])
+          ∷ [];
+    }
+
+abbrev pub RunHighestPriority : Type 0
+RunHighestPriority =
+    IsWorkedRun highest_priority [] 6 oldest_lines
 
 -- chaining to oneself makes the newest job
 abbrev pub chain_to_itself : System

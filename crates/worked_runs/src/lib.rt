@@ -9,7 +9,7 @@ ghost use Rattle.worked_runs.specs.EventRuns.{RunReleasedIsNewest, ClassReleased
 ghost use Rattle.worked_runs.specs.InterruptRuns.{RunInterruptsOff, RunRoutinesAlone, RunNestedSuspension, RunRoutineRefused};
 ghost use Rattle.worked_runs.specs.PartitionRuns.{RunLowerEnds, ViewLowerEnds, AloneLowerEnds, CheckLowerEndsAt5, CheckLowerEndsAt6, CoreLowerEnds, WindowsLowerEnds, RunLowerGoesRound, ViewLowerGoesRound, AloneLowerGoesRound, CheckLowerGoesRound, CoreLowerGoesRound, WindowsLowerGoesRound, ProperLowerTakesScheduler, CheckLowerTakesScheduler, ProperRoutineAsksTask, CheckRoutineAsksTask, ProperLowerNonPreemptable, CheckLowerNonPreemptable, ProperSharedInternal, CheckSharedInternal, ProperLowerSuspends, CheckLowerSuspends, ProperLowerNamesUpper, CheckLowerNamesUpper, ProperUpperNamesLower, CheckUpperNamesLower, ProperTwoBreaches, CheckTwoBreaches, ProperMixed, CheckMixed, CoreMixed, WindowsMixed};
 ghost use Rattle.worked_runs.specs.ResourceRuns.{RunNestedResources, BlockersNestedResourcesAt0, BlockersNestedResourcesAt5, BlockersNestedResourcesAt4, BlockersNestedResourcesAt6, BlockersNestedResourcesAt8, RunNoEndWhileHolding, RunSchedule, RunResScheduler};
-ghost use Rattle.worked_runs.specs.TaskRuns.{RunOneTask, ClassOneTask, RunActivationOrder, ClassActivationOrder, RunPreemptedIsOldest, RunChainToItself, RunNonPreemptable, RunBasicTaskRefused, RunPlain, RunWrapping, RunShutdown};
+ghost use Rattle.worked_runs.specs.TaskRuns.{RunOneTask, ClassOneTask, RunActivationOrder, ClassActivationOrder, RunPreemptedIsOldest, RunHighestPriority, RunChainToItself, RunNonPreemptable, RunBasicTaskRefused, RunPlain, RunWrapping, RunShutdown};
 
 /// Tasks: activation, preemption, ends, chaining, Schedule, plain instructions and a shutdown.
 pub fn tasks()
@@ -18,6 +18,7 @@ pub fn tasks()
     ensures run_activation_order { RunActivationOrder }
     ensures class_activation_order { ClassActivationOrder }
     ensures run_preempted_is_oldest { RunPreemptedIsOldest }
+    ensures run_highest_priority { RunHighestPriority }
     ensures run_chain_to_itself { RunChainToItself }
     ensures run_non_preemptable { RunNonPreemptable }
     ensures run_basic_task_refused { RunBasicTaskRefused }

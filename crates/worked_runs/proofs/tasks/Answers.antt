@@ -29,6 +29,10 @@ pub returns-clause-run_preempted_is_oldest : goal.returns-clause-run_preempted_i
 unfolding digits reschedule activated released service unmasked_service alarm_phase start_phase execute_phase tick boot run first_denial
 returns-clause-run_preempted_is_oldest c = record { proper = record { limits = refl; named = refl; names = refl; objects = refl }; told = refl }
 
+pub returns-clause-run_highest_priority : goal.returns-clause-run_highest_priority
+unfolding digits reschedule activated released service unmasked_service alarm_phase start_phase execute_phase tick boot run first_denial
+returns-clause-run_highest_priority c = record { proper = record { limits = refl; named = refl; names = refl; objects = refl }; told = refl }
+
 pub returns-clause-run_chain_to_itself : goal.returns-clause-run_chain_to_itself
 unfolding digits reschedule activated released service unmasked_service alarm_phase start_phase execute_phase tick boot run first_denial
 returns-clause-run_chain_to_itself c = record { proper = record { limits = refl; named = refl; names = refl; objects = refl }; told = refl }

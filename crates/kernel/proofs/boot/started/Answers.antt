@@ -13,6 +13,9 @@ use Rattle.kernel.proofs.StartLemmas.{AreStarting, starting_none, starting_more,
 use Rattle.kernel.proofs.boot.started.Goals as goal
 use Rattle.kernel.proofs.boot.started.Goals.{then-starts_in, else-starts_in}
 
+pub start_alarms-requires : goal.start_alarms-requires
+start_alarms-requires g c = ap (λ (k : Kept). k.tick) c.in_ok-core.ensures.kept
+
 pub loop-number-init : goal.loop-number-init
 loop-number-init g c =
     let S = c.args.system.now in

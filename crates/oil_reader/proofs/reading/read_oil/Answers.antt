@@ -1,6 +1,8 @@
-use Rattle.oil_reader.specs.Trees.{file_of}
-use Rattle.oil_reader.proofs.Spelling.{tree_spelled}
+use Rattle.oil_reader.proofs.OlderLemmas.{read_as_then, refused_then}
 use Rattle.oil_reader.proofs.reading.read_oil.Goals as goal
 
-pub oil_file-requires-clause-spelled : goal.oil_file-requires-clause-spelled
-oil_file-requires-clause-spelled c = tree_spelled c.args.text.now (file_of c.in_ok-tree.tree) c.in_ok-tree.ensures.ok
+pub returns-clause-older : goal.returns-clause-older
+returns-clause-older c file meant = read_as_then c.args.text.now file c.read.result c.read.ensures.ok meant
+
+pub returns-clause-accepted : goal.returns-clause-accepted
+returns-clause-accepted c file meant = refused_then c.args.text.now file c.read.result c.read.ensures.err meant

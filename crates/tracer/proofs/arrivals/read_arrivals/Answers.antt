@@ -7,6 +7,7 @@ use Rattle.osek_base.specs.Names.{Names}
 use Rattle.tracer.specs.ArrivalText.{lines_of, AreRead}
 use Rattle.std.specs.List.{All}
 use Rattle.std.proofs.lemmas.List.Elements.{All-from_recursion}
+use Rattle.osek_base.specs.declared.limits.TheConstants.{MAX_ARRIVALS}
 use Rattle.osek_base.specs.System.{System}
 use Rattle.osek_base.specs.Proper.{IsProper}
 use Rattle.tracer.proofs.TextLemmas.{both_left, both_right}
@@ -40,7 +41,7 @@ are_arrivals : (names : Names) (text : List ℕ) (arrivals : List Arrival) → A
 are_arrivals names text arrivals h =
     let all : AreRead names 1 0 (lines_of text) arrivals = rw (append-nil arrivals) at h in
     rw (
-      le-leb (length arrivals) 65536 (omega (arith, few names 1 0 (lines_of text) arrivals all)),
+      le-leb (length arrivals) MAX_ARRIVALS (omega (arith, few names 1 0 (lines_of text) arrivals all)),
       ordered names 1 0 (lines_of text) arrivals all,
     ) refl
 

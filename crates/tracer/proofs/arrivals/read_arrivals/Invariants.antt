@@ -1,7 +1,7 @@
 -- Whatever follows from here completes the whole text.
 use Rattle.std.proofs.Common.{◌+◌, ◌≤◌, List, ◌++◌, length}
 use Rattle.osek_base.specs.declared.arrivals.Arrival.{Arrival}
-use Rattle.tracer.specs.declared.arrivals.IrqFault.{IrqFault}
+use Rattle.tracer.specs.declared.irq_fault.IrqFault.{IrqFault}
 use Rattle.tracer.specs.ArrivalText.{lines_of, AreRead, HasFirstFault}
 use Rattle.tracer.proofs.arrivals.read_arrivals.Given as goal
 

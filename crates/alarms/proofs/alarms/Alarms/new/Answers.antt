@@ -1,14 +1,24 @@
-use Rattle.std.proofs.Common.{◌≡◌, List, Option, None, length, replicate, ap, ◌∙◌}
-use Rattle.std.proofs.lemmas.List.{take-replicate, length-replicate}
-use Rattle.osek_base.specs.State.{Expiry}
-use Rattle.alarms.specs.Alarms.{AlarmTable}
-use Rattle.alarms.proofs.CounterLemmas.{few}
+use Rattle.std.proofs.Common.{◌≡◌, length, refl, ap, ◌∙◌}
+use Rattle.osek_base.specs.System.{System}
+use Rattle.alarms.proofs.IdleLemmas.{new_whole, new_table}
+use Rattle.alarms.proofs.AlarmLemmas.{length-off}
 use Rattle.alarms.proofs.alarms.Alarms.new.Goals as goal
 
-pub returns : goal.returns
-returns c =
-    let made : List (Option Expiry) → AlarmTable = λ e. record { expiries = e; tick = 0 } in
-    let off : c.truncate.new.self.items ≡ replicate (length c.args.system.now.alarms) None =
-    rw (c.truncate.ensures.items, c.from_array_in-slots.ensures.items, c.off.ensures, c.alarm_count.ensures.value)
-    (take-replicate _ 64 None (few _ c.alarm_count.ensures.proper)) in
-    record { value = ap made off; table = ap length off ∙ length-replicate _ _ }
+pub invariant_of-result : goal.invariant_of-result
+invariant_of-result c =
+    let counters : c.deref.result.now ≡ c.args.system.now.counters = c.deref.ensures.value ∙ ap (λ (S : System). S.counters) (c.parts.view_is ∙ c.parts-parts.ensures.value) in
+    let alarms : c.deref-2.result.now ≡ c.args.system.now.alarms = c.deref-2.ensures.value ∙ ap (λ (S : System). S.alarms) (c.parts.view_is ∙ c.parts-parts.ensures.value) in
+    rw (c.idle_counters.ensures, c.counter_numbers.ensures, counters, alarms) (new_whole c.args.system.now c.parts-parts.ensures.proper)
+
+pub returns-clause-value : goal.returns-clause-value
+returns-clause-value c =
+    let counters : c.deref.result.now ≡ c.args.system.now.counters = c.deref.ensures.value ∙ ap (λ (S : System). S.counters) (c.parts.view_is ∙ c.parts-parts.ensures.value) in
+    let alarms : c.deref-2.result.now ≡ c.args.system.now.alarms = c.deref-2.ensures.value ∙ ap (λ (S : System). S.alarms) (c.parts.view_is ∙ c.parts-parts.ensures.value) in
+    rw (c.idle_counters.ensures, c.counter_numbers.ensures, counters, alarms) (new_table c.args.system.now)
+
+pub returns-clause-table : goal.returns-clause-table
+returns-clause-table c =
+    let counters : c.deref.result.now ≡ c.args.system.now.counters = c.deref.ensures.value ∙ ap (λ (S : System). S.counters) (c.parts.view_is ∙ c.parts-parts.ensures.value) in
+    let alarms : c.deref-2.result.now ≡ c.args.system.now.alarms = c.deref-2.ensures.value ∙ ap (λ (S : System). S.alarms) (c.parts.view_is ∙ c.parts-parts.ensures.value) in
+    rw (c.idle_counters.ensures, c.counter_numbers.ensures, counters, alarms, new_table c.args.system.now)
+    (record { expiries = length-off (length c.args.system.now.alarms); counters = refl })

@@ -1,4 +1,4 @@
-use Rattle.alarms.proofs.TableLemmas.{IsStarted}
+use Rattle.alarms.proofs.AlarmLemmas.{IsStarted}
 use Rattle.alarms.proofs.alarms.Alarms.start.Given as goal
 
 abbrev pub invariant-loop-number : goal.invariant-loop-number

@@ -9,7 +9,7 @@ use Rattle.services.proofs.objects.Objects.cancel_alarm.Goals as goal
 pub returns-clause-status : goal.returns-clause-status
 returns-clause-status g c =
     subst (λ (k : Objects). c.cancel.result ≡ (unmasked k (Service.CancelAlarm (Some c.args.alarm))).status) c.self.view_is
-    (c.cancel.ensures.status c.self.inside.system.now ∙ cancelled_status (record {
+    (c.cancel.ensures.status c.self.inside.system.now ∙ cancelled_status c.self.inside.alarms.counters (record {
       system = c.self.inside.system.now;
       room = c.self.inside.ready.room;
       queues = c.self.inside.ready.lists;
@@ -30,5 +30,5 @@ returns-clause-status g c =
 pub returns-clause-kept : goal.returns-clause-kept
 returns-clause-kept g c =
     ap (λ (k : Objects). kept_in (record k { alarms = c.cancel.new.self.expiries; tick = c.cancel.new.self.tick })) c.self.view_is
-    ∙ cancelled_kept c.args.self.now c.args.alarm c.cancel.new.self
-    (subst (λ (k : Objects). c.cancel.new.self ≡ after_call k.system (table k) (Service.CancelAlarm (Some c.args.alarm))) c.self.view_is (c.cancel.ensures.alarms c.self.inside.system.now))
+    ∙ cancelled_kept c.self.inside.alarms.counters c.args.self.now c.args.alarm c.cancel.new.self
+    (subst (λ (k : Objects). c.cancel.new.self ≡ after_call k.system (table c.self.inside.alarms.counters k) (Service.CancelAlarm (Some c.args.alarm))) c.self.view_is (c.cancel.ensures.alarms c.self.inside.system.now))

@@ -1,0 +1,22 @@
+use Rattle.std.proofs.Common.{false, take, arith, ◌≡◌, sym}
+use Rattle.std.specs.List.{list_any}
+use Rattle.alarms.specs.Waits.{is_of}
+use Rattle.std.proofs.lemmas.List.{take_all}
+use Rattle.alarms.proofs.WaitLemmas.{taken_at, taken_span, none_left}
+use Rattle.alarms.proofs.difference_list.DifferenceList.cancel.Goals as goal
+
+pub invariant_of-self : goal.invariant_of-self
+invariant_of-self c =
+    let least = taken_span c.self.inside.entries.items c.place_of-place.result (omega arith) in
+    rw c.take_out.ensures (omega arith)
+
+pub returns-then-place-len : goal.returns-then-place-len
+returns-then-place-len c =
+    rw (c.take_out.ensures, ← c.self.view_is)
+    (taken_at c.args.alarm c.self.inside.entries.items c.place_of-place.result (omega arith) c.place_of-place.ensures.before (c.place_of-place.ensures.here (omega arith)))
+
+pub returns-else-place-len : goal.returns-else-place-len
+returns-else-place-len c =
+    let all : take c.place_of-place.result c.self.inside.entries.items ≡ c.self.inside.entries.items = take_all c.place_of-place.result c.self.inside.entries.items (omega arith) in
+    let none : list_any (is_of c.args.alarm) c.self.inside.entries.items ≡ false = rw all at c.place_of-place.ensures.before in
+    rw (← c.self.view_is) (sym (none_left c.args.alarm c.self.inside.entries.items none))

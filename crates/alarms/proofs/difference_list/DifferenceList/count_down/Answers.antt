@@ -1,0 +1,19 @@
+use Rattle.std.proofs.Common.{true, arith, length, ◌≡◌, ap, ◌∙◌, refl}
+use Rattle.alarms.specs.Waits.{waits, are_ahead}
+use Rattle.alarms.proofs.WaitLemmas.{last_ahead_n, counted, counted_span}
+use Rattle.alarms.proofs.difference_list.DifferenceList.count_down.Goals as goal
+
+pub cut_last-requires : goal.cut_last-requires
+cut_last-requires c = λ more.
+    let ahead : are_ahead (waits c.self.inside.entries.items) ≡ true = ap are_ahead c.self.view_is ∙ c.requires in
+    last_ahead_n c.self.inside.entries.items (length c.self.inside.entries.items) refl more ahead
+
+pub invariant_of-self : goal.invariant_of-self
+invariant_of-self c =
+    let least = counted_span c.self.inside.entries.items (length c.self.inside.entries.items) refl in
+    rw c.cut_last.ensures (omega arith)
+
+pub returns : goal.returns
+returns c =
+    let ahead : are_ahead (waits c.self.inside.entries.items) ≡ true = ap are_ahead c.self.view_is ∙ c.requires in
+    rw (c.cut_last.ensures, ← c.self.view_is) (counted c.self.inside.entries.items (length c.self.inside.entries.items) refl ahead)

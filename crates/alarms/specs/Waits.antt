@@ -1,0 +1,134 @@
+-- OSEK/VDX OS: counters and alarm management. The running alarms of one counter, the one that expires last first.
+use Rattle.std.specs.Prelude.{ℕ, ◌+◌, ◌-◌, ◌≤◌, ◌≡◌, Bool, true, false, length, not, nat_lt, ◌==◌, ◌&&◌, ◌||◌, if◌then◌else◌, List, [], ◌∷◌, Option, Some, None, slice_index_or, slice_set}
+use Rattle.std.specs.List.{list_all, list_any}
+use Rattle.osek_base.specs.declared.limits.TheConstants.{MAX_ALARMS}
+use Rattle.osek_base.specs.State.{Expiry}
+use Rattle.alarms.specs.declared.difference_list.Entry.{Entry}
+
+-- a running alarm: how many counts are left before it expires, and its cycle
+pub record Wait : Type 0 where
+  pub alarm : ℕ
+  pub left : ℕ
+  pub cycle : ℕ
+
+-- the sum of the differences
+abbrev pub span : List Entry → ℕ
+span [] = 0
+span (e ∷ es) = e.difference + span es
+
+-- an entry that has a list after it
+abbrev pub wait_before : ℕ → Entry → Wait
+wait_before n e = record { alarm = e.alarm; left = e.difference + n; cycle = e.cycle }
+
+-- what is left of each wait: its difference and all those after it
+abbrev pub waits : List Entry → List Wait
+waits [] = []
+waits (e ∷ es) = wait_before (span es) e ∷ waits es
+
+-- what stands for an entry that isn't there
+abbrev pub no_entry : Entry
+no_entry = record { alarm = 0; difference = 0; cycle = 0 }
+
+-- an entry with a smaller difference, and a list whose entry before a place has one
+abbrev pub cut : Entry → ℕ → Entry
+cut e n = record e { difference = e.difference - n }
+
+abbrev pub cut_at : List Entry → ℕ → ℕ → List Entry
+cut_at es place n = if place == 0 then es else slice_set es (place - 1) (cut (slice_index_or es (place - 1) no_entry) n)
+
+-- an entry with a larger difference, and a list whose entry before a place has that of the entry there
+abbrev pub grown : Entry → ℕ → Entry
+grown e n = record e { difference = e.difference + n }
+
+abbrev pub grown_at : List Entry → ℕ → List Entry
+grown_at es place = if place == 0 then es else slice_set es (place - 1) (grown (slice_index_or es (place - 1) no_entry) (slice_index_or es place no_entry).difference)
+
+-- whether an entry is of an alarm
+abbrev pub is_of : ℕ → Entry → Bool
+is_of a e = e.alarm == a
+
+-- whether a wait ends before another one, or with it and is declared first
+abbrev pub is_sooner : Wait → Wait → Bool
+is_sooner t w = nat_lt w.left t.left || (w.left == t.left && nat_lt w.alarm t.alarm)
+
+-- a wait before the longest end whose waits are all sooner
+abbrev pub inserted : Wait → List Wait → List Wait
+inserted t [] = t ∷ []
+inserted t (w ∷ ws) = if list_all (is_sooner t) (w ∷ ws) then t ∷ w ∷ ws else w ∷ inserted t ws
+
+-- the waits without that of an alarm
+abbrev pub without : ℕ → List Wait → List Wait
+without a [] = []
+without a (w ∷ ws) = if w.alarm == a then ws else w ∷ without a ws
+
+-- the wait of an alarm
+abbrev pub wait_of : ℕ → List Wait → Option Wait
+wait_of a [] = None
+wait_of a (w ∷ ws) = if w.alarm == a then Some w else wait_of a ws
+
+abbrev pub left_in : Option Wait → Option ℕ
+left_in None = None
+left_in (Some w) = Some w.left
+
+-- one count less
+abbrev pub one_less : Wait → Wait
+one_less w = record w { left = w.left - 1 }
+
+-- whether no wait is over
+abbrev pub are_ahead : List Wait → Bool
+are_ahead ws = list_all (λ w. nat_lt 0 w.left) ws
+
+-- whether an alarm has a wait, and whether each alarm has at most one
+abbrev pub has : ℕ → List Wait → Bool
+has a ws = list_any (λ w. w.alarm == a) ws
+
+abbrev pub are_apart : List Wait → Bool
+are_apart [] = true
+are_apart (w ∷ ws) = not (has w.alarm ws) && are_apart ws
+
+-- how many waits are over
+abbrev pub overs : List Wait → ℕ
+overs [] = 0
+overs (w ∷ ws) = if w.left == 0 then overs ws + 1 else overs ws
+
+-- whether a wait is over, and what it becomes then: it starts again with the cycle, or the alarm goes off
+abbrev pub is_over : Option Wait → Bool
+is_over None = false
+is_over (Some w) = w.left == 0
+
+abbrev pub again : Option Wait → Option Wait
+again None = None
+again (Some w) = if w.left == 0 then (if w.cycle == 0 then None else Some (record w { left = w.cycle })) else Some w
+
+-- whether the flag of an alarm is set
+abbrev pub is_raised : ℕ → List Bool → Bool
+is_raised a flags = slice_index_or flags a false
+
+-- some alarms whose wait was over have started again, and their flags are set
+pub record IsLeft (old : List Wait) (before : List Bool) (ws : List Wait) (flags : List Bool) : Type 0 where
+  pub waits_same : (a : ℕ) → again (wait_of a ws) ≡ again (wait_of a old)
+  pub raised_same : (a : ℕ) → (is_raised a flags || is_over (wait_of a ws)) ≡ (is_raised a before || is_over (wait_of a old))
+  pub apart : are_apart ws ≡ true
+  pub few : length ws ≤ MAX_ALARMS
+
+-- a list with an alarm that expired: it starts again with its cycle, if it has one
+abbrev pub restarted : ℕ → ℕ → List Wait → List Wait
+restarted a cycle ws = if cycle == 0 then ws else inserted (record { alarm = a; left = cycle; cycle = cycle }) ws
+
+-- the wait of an alarm once a count has passed
+abbrev pub less : Option Wait → Option Wait
+less None = None
+less (Some w) = Some (one_less w)
+
+abbrev pub is_none_over : Option Wait → Bool
+is_none_over None = true
+is_none_over (Some w) = nat_lt 0 w.left
+
+-- the expiry of an alarm by a count that never wraps: the present count and what is left
+abbrev pub expiry_at : ℕ → Option Wait → Option Expiry
+expiry_at n None = None
+expiry_at n (Some w) = Some (record { count = n + w.left; cycle = w.cycle })
+
+-- whether all alarms have numbers below n
+abbrev pub are_low : ℕ → List Wait → Bool
+are_low n ws = list_all (λ w. nat_lt w.alarm n) ws

@@ -1,0 +1,70 @@
+//! A counter and its alarms.
+
+ghost use Rattle.std.specs.Prelude.{◌≡◌, ◌<◌, ◌≤◌, ◌+◌, ◌||◌, ◌%◌, ◌^◌, ℕ};
+ghost use Rattle.osek_base.specs.Alarm.{is_due_at, next_count};
+ghost use Rattle.alarms.specs.Alarms.{expired_at};
+ghost use Rattle.alarms.specs.Waits.{is_raised};
+ghost use Rattle.alarms.specs.Counters.{IsReady, count_of, expiry_in, idle};
+
+use crate::difference_list::DifferenceList;
+use crate::due_alarms::DueAlarms;
+use osek_base::{Counter, MAX_TICKS};
+
+/// A counter, its value, from 0 to MAXALLOWEDVALUE, and its running alarms.
+#[derive(Drop)]
+pub struct CounterAlarms {
+    pub counter: Counter,
+    pub value: u32,
+    pub running: DifferenceList,
+}
+
+impl Default for CounterAlarms {
+    fn default() -> Self {
+        CounterAlarms::new(Counter {
+            max_allowed_value: 1,
+            ticks_per_base: 1,
+            min_cycle: 1,
+        })
+    }
+}
+
+impl CounterAlarms {
+    /// The counter is at 0, and its alarms are off.
+    pub fn new(counter: Counter) -> Self
+        ensures { result ≡ idle counter }
+    {
+        CounterAlarms {
+            counter,
+            value: 0,
+            running: DifferenceList::new(),
+        }
+    }
+
+    /// The tick after `tick`: where the counter grows, its alarms that are due expire, and are added to `due`.
+    pub fn advance(&mut self, tick: u32, due: &mut DueAlarms)
+        requires tick { tick + 1 < MAX_TICKS }
+        requires ready { IsReady tick self.old }
+        ensures ready { IsReady (tick + 1) self.new }
+        ensures counter { self.new.counter ≡ self.old.counter }
+        ensures expiries { (a : ℕ) → expiry_in (tick + 1) self.new a ≡ expired_at (count_of (tick + 1) self.old) (expiry_in tick self.old a) }
+        ensures due { (a : ℕ) → is_raised a due.new ≡ (is_raised a due.old || is_due_at (count_of (tick + 1) self.old) (expiry_in tick self.old a)) }
+    {
+        if (tick + 1) % self.counter.ticks_per_base == 0 {
+            self.value = (self.value + 1) % (self.counter.max_allowed_value + 1);
+            self.running.advance(due);
+        }
+    }
+
+    /// How many counts there are to the next one at which the counter has the value `start`: 1 to MAXALLOWEDVALUE + 1.
+    pub fn wait_until(&self, start: u32) -> u32
+        requires round { self.now.counter.max_allowed_value < 2 ^ 31 }
+        requires own { self.now.value ≤ self.now.counter.max_allowed_value }
+        requires start { start ≤ self.now.counter.max_allowed_value }
+        ensures value { (n : ℕ) → self.now.value ≡ n % (self.now.counter.max_allowed_value + 1) → n + result ≡ next_count self.now.counter n start }
+        ensures some { 0 < result }
+    {
+        let round = self.counter.max_allowed_value + 1;
+        let passed = (self.value + 1) % round;
+        1 + (start + (round - passed)) % round
+    }
+}

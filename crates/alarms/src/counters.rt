@@ -1,0 +1,87 @@
+//! The counters of a system, with their alarms.
+
+ghost use Rattle.std.specs.Prelude.{◌≡◌, ◌<◌, ◌≤◌, ◌+◌, ◌||◌, ℕ, length, map, slice_set};
+ghost use Rattle.std.specs.List.{list_any};
+ghost use Rattle.osek_base.specs.Alarm.{is_due_at};
+ghost use Rattle.alarms.specs.Waits.{is_raised, inserted, without};
+ghost use Rattle.alarms.specs.Counters.{AreAdvanced, IsReady, count_of, counter_at, expiry_in, idle};
+
+use crate::counter_alarms::CounterAlarms;
+use crate::due_alarms::DueAlarms;
+use arrayvec::ArrayVec;
+use osek_base::{Alarm, AlarmId, Counter, MAX_ALARMS, MAX_COUNTERS, MAX_TICKS};
+
+/// The counters at 0, with no running alarm.
+pub fn idle_counters(declared: &[Counter]) -> ArrayVec<CounterAlarms, MAX_COUNTERS>
+    requires { length declared.now ≤ MAX_COUNTERS }
+    ensures { result.items ≡ map idle declared.now }
+{
+    let mut counters = ArrayVec::new();
+    for number in 0..declared.len() {
+        counters.push(CounterAlarms::new(declared[number]));
+    }
+    counters
+}
+
+/// The number of the counter of each alarm.
+pub fn counter_numbers(alarms: &[Alarm]) -> ArrayVec<u8, MAX_ALARMS>
+    requires { length alarms.now ≤ MAX_ALARMS }
+    ensures { result.items ≡ map (λ a. a.counter) alarms.now }
+{
+    let mut numbers = ArrayVec::new();
+    for place in 0..alarms.len() {
+        let alarm = &alarms[place];
+        numbers.push(alarm.counter.number());
+    }
+    numbers
+}
+
+/// The tick after `tick`: the alarms of all counters that are due expire, and are added to `due`.
+pub fn advance_each(
+    counters: &mut ArrayVec<CounterAlarms, MAX_COUNTERS>,
+    tick: u32,
+    due: &mut DueAlarms,
+)
+    requires tick { tick + 1 < MAX_TICKS }
+    requires ready { (k : ℕ) → k < length counters.old.items → IsReady tick (counter_at counters.old.items k) }
+    ensures counters { AreAdvanced tick counters.old.items counters.new.items }
+    ensures due { (a : ℕ) → is_raised a due.new ≡ (is_raised a due.old || list_any (λ k. is_due_at (count_of (tick + 1) k) (expiry_in tick k a)) counters.old.items) }
+{
+    for number in 0..counters.len() {
+        let counter = &mut counters[number];
+        counter.advance(tick, due);
+    }
+}
+
+/// An alarm of a counter starts, to expire in `wait` counts.
+pub fn start_on(
+    counters: &mut ArrayVec<CounterAlarms, MAX_COUNTERS>,
+    number: usize,
+    alarm: AlarmId,
+    wait: u32,
+    cycle: u32,
+)
+    requires number { number < length counters.old.items }
+    requires room { length (counter_at counters.old.items number).running < MAX_ALARMS }
+    ensures { counters.new.items ≡ slice_set counters.old.items number (record (counter_at counters.old.items number) {
+      running = inserted (record { alarm = alarm; left = wait; cycle = cycle }) (counter_at counters.old.items number).running;
+    }) }
+{
+    let counter = &mut counters[number];
+    counter.running.insert(alarm, wait, cycle);
+}
+
+/// An alarm of a counter goes off.
+pub fn cancel_on(
+    counters: &mut ArrayVec<CounterAlarms, MAX_COUNTERS>,
+    number: usize,
+    alarm: AlarmId,
+)
+    requires { number < length counters.old.items }
+    ensures { counters.new.items ≡ slice_set counters.old.items number (record (counter_at counters.old.items number) {
+      running = without alarm (counter_at counters.old.items number).running;
+    }) }
+{
+    let counter = &mut counters[number];
+    counter.running.cancel(alarm);
+}

@@ -1,0 +1,278 @@
+//! The running alarms of one counter.
+
+ghost use Rattle.std.specs.Prelude.{◌≡◌, ◌==◌, ◌<◌, ◌≤◌, ◌^◌, ◌+◌, ◌-◌, [], ◌∷◌, ◌++◌, ◌||◌, ℕ, length, map, is_some, drop, take, Option, Some, None, IfSome, IfNone, MatchOption, slice_index_or, true, false};
+ghost use Rattle.std.specs.List.{list_all, insert, remove, list_any};
+ghost use Rattle.alarms.specs.Waits.{span, inserted, without, wait_of, left_in, one_less, Wait, waits, wait_before, is_sooner, no_entry, cut_at, grown_at, is_of, are_ahead, are_apart, overs, is_over, again, is_raised, restarted};
+
+use crate::due_alarms::DueAlarms;
+use arrayvec::ArrayVec;
+use osek_base::{AlarmId, MAX_ALARMS};
+use std::marker::Model;
+
+/// A running alarm: how many counts it expires after the next one of the list, and its cycle in counts, 0 for once.
+#[derive(Clone, Copy, Debug, Default)]
+struct Entry {
+    alarm: AlarmId,
+    difference: u32,
+    cycle: u32,
+}
+
+/// An alarm whose wait is over, with its cycle.
+#[derive(Clone, Copy, Debug)]
+pub struct Due {
+    pub alarm: AlarmId,
+    pub cycle: u32,
+}
+
+/// The running alarms of one counter, the one that expires first at the end. Contracts see what is left of each wait.
+#[derive(Drop)]
+pub struct DifferenceList {
+    entries: ArrayVec<Entry, MAX_ALARMS>,
+}
+
+impl Model for DifferenceList {
+    ghost use Rattle.std.specs.Prelude.{List, ◌<◌, ◌^◌};
+    ghost use Rattle.alarms.specs.Waits.{Wait, waits, span};
+
+    ghost Value = { List Wait };
+
+    ghost view = { λ a. waits a.entries.items };
+
+    ghost invariant = { λ a. span a.entries.items < 2 ^ 32 };
+}
+
+impl DifferenceList {
+    /// No alarm is running.
+    pub fn new() -> Self
+        ensures { result ≡ [] }
+    {
+        DifferenceList {
+            entries: ArrayVec::new(),
+        }
+    }
+
+    /// How many alarms are running.
+    pub fn len(&self) -> usize
+        ensures value { result ≡ length self.now }
+        ensures low { result ≤ MAX_ALARMS }
+    {
+        self.entries.len()
+    }
+
+    /// An alarm starts, to expire in `wait` counts.
+    pub fn insert(&mut self, alarm: AlarmId, wait: u32, cycle: u32)
+        requires { length self.old < MAX_ALARMS }
+        ensures { self.new ≡ inserted (record { alarm = alarm; left = wait; cycle = cycle }) self.old }
+    {
+        let (place, left) = place_for(&self.entries, alarm, wait);
+        let entry = Entry {
+            alarm,
+            difference: left,
+            cycle,
+        };
+        put_in(&mut self.entries, place, entry);
+    }
+
+    /// An alarm is taken out; where it isn't in the list, nothing changes.
+    pub fn cancel(&mut self, alarm: AlarmId)
+        ensures { self.new ≡ without alarm self.old }
+    {
+        let place = place_of(&self.entries, alarm);
+        if place < self.entries.len() {
+            take_out(&mut self.entries, place);
+        }
+    }
+
+    /// How many counts an alarm has before it expires; None where it isn't in the list.
+    pub fn remaining(&self, alarm: AlarmId) -> Option<u32>
+        ensures { result ≡ left_in (wait_of alarm self.now) }
+    {
+        let place = place_of(&self.entries, alarm);
+        if place < self.entries.len() {
+            Some(span_from(&self.entries, place))
+        } else {
+            None
+        }
+    }
+
+    /// One count passes, where no wait is over.
+    pub fn count_down(&mut self)
+        requires { are_ahead self.old ≡ true }
+        ensures { self.new ≡ map one_less self.old }
+    {
+        cut_last(&mut self.entries);
+    }
+
+    /// Takes the last wait out, where it is over. None where no wait is over.
+    pub fn take_due(&mut self) -> Option<Due>
+        ensures due { IfSome result (λ d. self.old ≡ self.new ++ record { alarm = d.alarm; left = 0; cycle = d.cycle } ∷ []) }
+        ensures none { IfNone result (self.new ≡ self.old) }
+        ensures ahead { IfNone result (are_ahead self.old ≡ true) }
+    {
+        if !is_over(&self.entries) {
+            return None;
+        }
+        let last = take_last(&mut self.entries);
+        Some(Due {
+            alarm: last.alarm,
+            cycle: last.cycle,
+        })
+    }
+
+    /// The next count of the counter: one count passes, and the alarms whose wait is over are added to `due` and start
+    /// again with their cycle, or go off.
+    pub fn advance(&mut self, due: &mut DueAlarms)
+        requires ahead { are_ahead self.old ≡ true }
+        requires apart { are_apart self.old ≡ true }
+        ensures waits { (a : ℕ) → wait_of a self.new ≡ again (wait_of a (map one_less self.old)) }
+        ensures due { (a : ℕ) → is_raised a due.new ≡ (is_raised a due.old || is_over (wait_of a (map one_less self.old))) }
+        ensures apart { are_apart self.new ≡ true }
+        ensures ahead { are_ahead self.new ≡ true }
+    {
+        self.count_down();
+        self.expire(due);
+    }
+
+    /// The alarms whose wait is over are added to `due`, and start again with their cycle, or go off.
+    fn expire(&mut self, due: &mut DueAlarms)
+        requires { are_apart self.old ≡ true }
+        ensures waits { (a : ℕ) → wait_of a self.new ≡ again (wait_of a self.old) }
+        ensures due { (a : ℕ) → is_raised a due.new ≡ (is_raised a due.old || is_over (wait_of a self.old)) }
+        ensures apart { are_apart self.new ≡ true }
+        ensures ahead { are_ahead self.new ≡ true }
+    {
+        let _few = self.len();
+        while let Some(expired) = self.take_due() {
+            due.raise(expired.alarm);
+            self.restart(expired);
+        }
+    }
+
+    /// An alarm that expired starts again with its cycle, if it has one.
+    fn restart(&mut self, expired: Due)
+        requires { length self.old < MAX_ALARMS }
+        ensures { self.new ≡ restarted expired.alarm expired.cycle self.old }
+    {
+        if expired.cycle != 0 {
+            self.insert(expired.alarm, expired.cycle, expired.cycle);
+        }
+    }
+}
+
+/// The place of an alarm, or the length of the list.
+fn place_of(entries: &ArrayVec<Entry, MAX_ALARMS>, alarm: AlarmId) -> usize
+    ensures low { result ≤ length entries.now.items }
+    ensures before { list_any (is_of alarm) (take result entries.now.items) ≡ false }
+    ensures here { result < length entries.now.items → is_of alarm (slice_index_or entries.now.items result no_entry) ≡ true }
+{
+    for place in 0..entries.len() {
+        let entry = &entries[place];
+        if entry.alarm == alarm {
+            return place;
+        }
+    }
+    entries.len()
+}
+
+/// The sum of the differences from a place on.
+fn span_from(entries: &ArrayVec<Entry, MAX_ALARMS>, place: usize) -> u32
+    requires place { place ≤ length entries.now.items }
+    requires low { span entries.now.items < 2 ^ 32 }
+    ensures { result ≡ span (drop place entries.now.items) }
+{
+    let mut left = 0;
+    let mut at = entries.len();
+    while at > place {
+        at -= 1;
+        left += entries[at].difference;
+    }
+    left
+}
+
+/// Whether the last wait is over.
+fn is_over(entries: &ArrayVec<Entry, MAX_ALARMS>) -> bool
+    ensures some { result ≡ true → 0 < length entries.now.items }
+    ensures over { result ≡ true → (slice_index_or entries.now.items (length entries.now.items - 1) no_entry).difference ≡ 0 }
+    ensures ahead { result ≡ false → are_ahead (waits entries.now.items) ≡ true }
+{
+    let len = entries.len();
+    len > 0 && entries[len - 1].difference == 0
+}
+
+/// Takes the last entry out.
+fn take_last(entries: &mut ArrayVec<Entry, MAX_ALARMS>) -> Entry
+    requires { 0 < length entries.old.items }
+    ensures value { result ≡ slice_index_or entries.old.items (length entries.old.items - 1) no_entry }
+    ensures items { entries.new.items ≡ remove entries.old.items (length entries.old.items - 1) }
+{
+    let last = entries.len() - 1;
+    entries.remove(last)
+}
+
+/// The last wait is one count shorter.
+fn cut_last(entries: &mut ArrayVec<Entry, MAX_ALARMS>)
+    requires { 0 < length entries.old.items → 1 ≤ (slice_index_or entries.old.items (length entries.old.items - 1) no_entry).difference }
+    ensures { entries.new.items ≡ cut_at entries.old.items (length entries.old.items) 1 }
+{
+    let len = entries.len();
+    if len > 0 {
+        let last = &mut entries[len - 1];
+        last.difference -= 1;
+    }
+}
+
+/// Takes an entry out, whose difference the entry before it gets.
+fn take_out(entries: &mut ArrayVec<Entry, MAX_ALARMS>, place: usize)
+    requires place { place < length entries.old.items }
+    requires low { span entries.old.items < 2 ^ 32 }
+    ensures { entries.new.items ≡ remove (grown_at entries.old.items place) place }
+{
+    let difference = entries[place].difference;
+    if place > 0 {
+        let before = &mut entries[place - 1];
+        before.difference += difference;
+    }
+    entries.remove(place);
+}
+
+/// Puts an entry at a place, whose wait the entry before it no longer has to count.
+fn put_in(entries: &mut ArrayVec<Entry, MAX_ALARMS>, place: usize, entry: Entry)
+    requires place { place ≤ length entries.old.items }
+    requires room { length entries.old.items < MAX_ALARMS }
+    requires low { 0 < place → entry.difference ≤ (slice_index_or entries.old.items (place - 1) no_entry).difference }
+    ensures { entries.new.items ≡ insert (cut_at entries.old.items place entry.difference) place entry }
+{
+    if place > 0 {
+        let before = &mut entries[place - 1];
+        before.difference -= entry.difference;
+    }
+    entries.insert(place, entry);
+}
+
+/// Where an alarm that is to expire in `wait` counts goes, and what is left of its wait there.
+fn place_for(entries: &ArrayVec<Entry, MAX_ALARMS>, alarm: AlarmId, wait: u32) -> (usize, u32)
+    ensures place { result.0 ≤ length entries.now.items }
+    ensures left { result.1 + span (drop result.0 entries.now.items) ≡ wait }
+    ensures sooner { list_all (is_sooner (record { alarm = alarm; left = wait; cycle = 0 })) (waits (drop result.0 entries.now.items)) ≡ true }
+    ensures stop { 0 < result.0 → is_sooner (record { alarm = alarm; left = result.1; cycle = 0 }) (wait_before 0 (slice_index_or entries.now.items (result.0 - 1) no_entry)) ≡ false }
+{
+    let mut place = entries.len();
+    let mut left = wait;
+    while place > 0 {
+        let entry = entries[place - 1];
+        if !is_before(&entry, alarm, left) {
+            break;
+        }
+        place -= 1;
+        left -= entry.difference;
+    }
+    (place, left)
+}
+
+/// Whether an entry stays nearer to the end than an alarm with so much left.
+fn is_before(entry: &Entry, alarm: AlarmId, left: u32) -> bool
+    ensures value { result ≡ is_sooner (record { alarm = alarm; left = left; cycle = 0 }) (wait_before 0 entry.now) }
+    ensures low { result ≡ true → entry.now.difference ≤ left }
+{
+    entry.difference < left || (entry.difference == left && entry.alarm.number() < alarm.number())
+}

@@ -1,0 +1,65 @@
+//! The texts of the help and of the version.
+
+pub(crate) const OIL: &str = "The OIL file: the objects of the system";
+
+pub(crate) const ASM: &str = "The programs of its tasks and interrupt routines";
+
+pub(crate) const IRQ: &str =
+    "The arrival list: at which ticks which interrupts arrive; may be empty";
+
+pub(crate) const MODE: &str =
+    "The application mode to start in: the name of an APPMODE of the OIL file";
+
+pub(crate) const TICKS: &str = "How many ticks are run, 0 to 1000000";
+
+pub(crate) const PRIORITY: &str =
+    "The priority of the cut, 0 to 63: tasks of this priority or more are upper, the others lower";
+
+pub(crate) const ALONE: &str = "Runs the upper part by itself; what is printed is the same";
+
+pub(crate) const EXPLAIN: &str =
+    "Says behind a refusal or a denial, on standard error, where it is and what would be allowed";
+
+pub(crate) const TRACE_EXAMPLE: &str = "Example, ten ticks in the mode Normal:
+  osek_run trace system.oil programs.asm arrivals.irq Normal 10";
+
+pub(crate) const UPPER_EXAMPLE: &str =
+    "Example, ten ticks in the mode Normal, seen from priority 5 upward:
+  osek_run upper system.oil programs.asm arrivals.irq Normal 10 5";
+
+pub(crate) const CHECK_EXAMPLE: &str =
+    "Prints `accepted`, or `denied:` with the first rule that is broken, and where.
+
+Example, the cut at priority 5:
+  osek_run check system.oil programs.asm 5";
+
+pub(crate) const PARTITIONS_EXAMPLE: &str =
+    "Prints a line for each priority: `P: accepted`, or `P: denied:` with the first rule that is broken, and where.
+
+Example:
+  osek_run partitions system.oil programs.asm";
+
+pub(crate) const CLASS_EXAMPLE: &str = "Prints BCC1, BCC2, ECC1 or ECC2.
+
+Example:
+  osek_run class system.oil programs.asm";
+
+pub(crate) const HINT: &str =
+    "`--help` also tells the exit statuses, `osek_run SUBCOMMAND --help` the words of a subcommand.";
+
+pub(crate) const STATUSES: &str = "Exit status:
+  0  done; after help too
+  1  a refused input, an unreadable file, or want of memory; standard error has the line
+  2  a refused command line
+  3  a denied partition; standard output has the denial
+  4  a failed write
+
+`osek_run SUBCOMMAND --help` tells the words of a subcommand.";
+
+pub(crate) const VERSION: &str = "0.1.0";
+
+pub(crate) const LONG_VERSION: &str = "0.1.0
+Proofs: rattle-kit-13b logic dac8208d650f15bf checks them, and `rt run` builds what is proved alone.
+Proved: what `trace` writes is the schedule that the definitions give the system read; where `check`
+accepts two systems that agree from P upward, their upper parts have equal views in every run.
+Not proved: a program that was built in another way, as by `rt try`, and its command line.";

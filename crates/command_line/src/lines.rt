@@ -1,0 +1,96 @@
+//! The lines that are understood, with their help.
+
+use crate::help;
+use clap::{Arg, ArgAction, Command, value_parser};
+use osek_base::{MAX_TASK_PRIORITY, MAX_TICKS};
+use std::alloc::{AllocError, Global};
+
+fn word<'a>(alloc: Global, name: &'a str, meaning: &'a str) -> Arg<'a> {
+    Arg::new(alloc, name)
+        .required(true)
+        .action(ArgAction::Set)
+        .help(meaning)
+}
+
+fn flag<'a>(alloc: Global, name: &'a str, meaning: &'a str) -> Arg<'a> {
+    Arg::new(alloc, name)
+        .long(name)
+        .action(ArgAction::SetTrue)
+        .help(meaning)
+}
+
+/// The names of the two files that a system is made of, and whether a refusal is explained.
+fn of_system<'a>(alloc: Global, line: Command<'a>) -> Result<Command<'a>, AllocError> {
+    line.arg(word(alloc, "OIL", help::OIL))?
+        .arg(word(alloc, "ASM", help::ASM))?
+        .arg(flag(alloc, "explain", help::EXPLAIN))
+}
+
+/// What a run is of besides its system.
+fn of_run<'a>(alloc: Global, line: Command<'a>) -> Result<Command<'a>, AllocError> {
+    let ticks = word(alloc, "TICKS", help::TICKS).value_parser(value_parser!(u32).range(
+        0..=MAX_TICKS as i64,
+    ));
+    line.arg(word(alloc, "IRQ", help::IRQ))?
+        .arg(word(alloc, "MODE", help::MODE))?
+        .arg(ticks)
+}
+
+fn priority<'a>(alloc: Global) -> Arg<'a> {
+    word(alloc, "P", help::PRIORITY).value_parser(value_parser!(u8).range(
+        0..=MAX_TASK_PRIORITY as i64,
+    ))
+}
+
+fn trace_line<'a>(alloc: Global) -> Result<Command<'a>, AllocError> {
+    let line = Command::new(alloc, "trace")
+        .about("Prints the trace of a system")
+        .after_help(help::TRACE_EXAMPLE);
+    of_run(alloc, of_system(alloc, line)?)
+}
+
+fn upper_line<'a>(alloc: Global) -> Result<Command<'a>, AllocError> {
+    let line = Command::new(alloc, "upper")
+        .about("Prints the part of the trace from priority P upward")
+        .after_help(help::UPPER_EXAMPLE);
+    of_run(alloc, of_system(alloc, line)?)?
+        .arg(priority(alloc))?
+        .arg(flag(alloc, "alone", help::ALONE))
+}
+
+fn check_line<'a>(alloc: Global) -> Result<Command<'a>, AllocError> {
+    let line = Command::new(alloc, "check")
+        .about("Checks that the part from priority P upward is separable from the part below")
+        .after_help(help::CHECK_EXAMPLE);
+    of_system(alloc, line)?.arg(priority(alloc))
+}
+
+fn partitions_line<'a>(alloc: Global) -> Result<Command<'a>, AllocError> {
+    let line = Command::new(alloc, "partitions")
+        .about("Checks that at each priority, from 0 to the greatest of a task")
+        .after_help(help::PARTITIONS_EXAMPLE);
+    of_system(alloc, line)
+}
+
+fn class_line<'a>(alloc: Global) -> Result<Command<'a>, AllocError> {
+    let line = Command::new(alloc, "class")
+        .about("Prints the conformance class of a system")
+        .after_help(help::CLASS_EXAMPLE);
+    of_system(alloc, line)
+}
+
+/// The program's line with its subcommands.
+pub(crate) fn lines<'a>(alloc: Global) -> Result<Command<'a>, AllocError> {
+    Command::new(alloc, "osek_run")
+        .about("Runs a system that an OIL file and programs describe")
+        .version(help::VERSION)
+        .long_version(help::LONG_VERSION)
+        .after_help(help::HINT)
+        .after_long_help(help::STATUSES)
+        .subcommand_required(true)
+        .subcommand(trace_line(alloc)?)?
+        .subcommand(upper_line(alloc)?)?
+        .subcommand(check_line(alloc)?)?
+        .subcommand(partitions_line(alloc)?)?
+        .subcommand(class_line(alloc)?)
+}

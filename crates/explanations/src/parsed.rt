@@ -1,0 +1,14 @@
+//! The two texts of a system.
+
+use crate::code_words::CodeWord;
+use crate::source::Source;
+use oil_reader::SyntaxTree;
+
+/// The two texts of a system, and what they consist of.
+#[derive(Clone, Copy)]
+pub(crate) struct Parsed<'t, 'a> {
+    pub oil: Source<'a>,
+    pub tree: &'t SyntaxTree<'a>,
+    pub asm: Source<'a>,
+    pub words: &'t [CodeWord<'a>],
+}

@@ -1,0 +1,8 @@
+use Rattle.std.proofs.Common.{◌-◌, ◌<◌, ◌≤◌, ℕ, length, get_or, ◌≢◌}
+use Rattle.osek_base.proofs.words.line_len.Given as goal
+
+abbrev pub invariant-loop-n : goal.invariant-loop-n
+invariant-loop-n l = record { within : l.n ≤ length l.bytes; each : (i : ℕ) → i < l.n → get_or l.bytes i 0 ≢ 10 }
+
+abbrev pub decreases-loop-n : goal.decreases-loop-n
+decreases-loop-n l = length l.bytes - l.n

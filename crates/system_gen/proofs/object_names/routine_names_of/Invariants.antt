@@ -1,5 +1,0 @@
-use Rattle.std.proofs.Common.{◌≡◌, map, take}
-use Rattle.system_gen.proofs.object_names.routine_names_of.Given as goal
-
-abbrev pub invariant-loop-object : goal.invariant-loop-object
-invariant-loop-object l = l.names.items ≡ map (λ o. o.name) (take l.object-index l.objects)

@@ -1,0 +1,39 @@
+//! The first refusal of several, before which nothing is written.
+
+use crate::systems::{ENDS, ONCE};
+use crate::writers::{Narrow, WhenFull};
+use std::alloc::Global;
+use std::test::Fail;
+use tracer::{StdSink, run};
+
+/// The answer of a run of 3 ticks of `ONCE`, and how many bytes it wrote.
+fn ending(alloc: Global, asm: &str, irqs: &str, mode: &str) -> Result<String, Fail> {
+    let mut out = StdSink::new(Narrow::new(alloc, 100, 1000, WhenFull::Fails));
+    let ran = run(
+        alloc,
+        ONCE.as_bytes(),
+        asm.as_bytes(),
+        irqs.as_bytes(),
+        mode,
+        3,
+        &mut out,
+    );
+    let written = out.into_writer().into_taken().len();
+    match ran {
+        Ok(()) => Ok(format!(in alloc; "ok, {written} bytes")?),
+        Err(fault) => Ok(format!(in alloc; "{fault}, {written} bytes")?),
+    }
+}
+
+#[test]
+fn first_refusal_of_several(rt: HostRuntime) -> Result<(), Fail> {
+    for (asm, irqs, mode, wanted) in [
+        (ENDS, "", "M", "ok, 29 bytes"),
+        (ENDS, "", "N", "boot: fault 1, 0 bytes"),
+        (ENDS, "x", "N", "irq: fault 1 at line 1, 0 bytes"),
+        ("", "x", "N", "gen: fault 5 in A, 0 bytes"),
+    ] {
+        assert!(rt; ending(rt.alloc(), asm, irqs, mode)?.as_str() == wanted);
+    }
+    Ok(())
+}

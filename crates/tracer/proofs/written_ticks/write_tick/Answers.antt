@@ -1,0 +1,44 @@
+use Rattle.std.proofs.Common.{◌≡◌, ℕ, suc, ◌<◌, List, [], ◌∷◌, ◌++◌, length, take, drop, get_or, Option, refl, sym, ap, subst, ◌∙◌, append_assoc}
+use Rattle.std.proofs.Math.Seq.{drop-cons}
+use Rattle.std.proofs.lemmas.List.{take-append-drop}
+use Rattle.std.specs.Io.KnownBytes.{Appends}
+use Rattle.std.specs.List.{flat_map}
+use Rattle.osek_base.specs.declared.trace_event.TraceEvent.{TraceEvent}
+use Rattle.osek_base.specs.Names.{Names}
+use Rattle.osek_base.specs.Text.{line}
+use Rattle.tracer.specs.Lines.{record_text, tick_text, ended}
+use Rattle.tracer.specs.Sinks.{AppendsSome}
+use Rattle.tracer.proofs.SinkLemmas.{begins_longer, begins_later, on_err}
+use Rattle.tracer.proofs.written_ticks.write_tick.Goals as goal
+
+texts_append : (f : TraceEvent → List ℕ) (xs ys : List TraceEvent) → flat_map f (xs ++ ys) ≡ flat_map f xs ++ flat_map f ys
+texts_append f [] ys = refl
+texts_append f (x ∷ xs) ys = ap (λ t. f x ++ t) (texts_append f xs ys) ∙ sym (append_assoc (f x) (flat_map f xs) (flat_map f ys))
+
+-- a tick's text up to a record, that of the record, and the rest
+texts_at : (f : TraceEvent → List ℕ) (xs : List TraceEvent) (i : ℕ) (x : TraceEvent) → i < length xs → x ≡ get_or xs i x
+    → (flat_map f (take i xs) ++ f x) ++ flat_map f (drop (suc i) xs) ≡ flat_map f xs
+texts_at f xs i x h e =
+    let rest : drop i xs ≡ x ∷ drop (suc i) xs = drop-cons xs i x h ∙ ap (λ y. y ∷ drop (suc i) xs) (sym e) in
+    append_assoc (flat_map f (take i xs)) (f x) (flat_map f (drop (suc i) xs))
+    ∙ sym (texts_append f (take i xs) (x ∷ drop (suc i) xs))
+    ∙ ap (λ r. flat_map f (take i xs ++ r)) (sym rest)
+    ∙ ap (flat_map f) (take-append-drop i xs)
+
+stopped_at : (a b c : Option (List ℕ)) (names : Names) (t : ℕ) (xs : List TraceEvent) (i : ℕ) (x : TraceEvent)
+    → i < length xs → x ≡ get_or xs i x
+    → Appends a b (tick_text names t (take i xs)) → AppendsSome b c (ended (line names t x)) → AppendsSome a c (tick_text names t xs)
+stopped_at a b c names t xs i x h e p q =
+    let text = record_text names t in
+    subst (AppendsSome a c) (texts_at text xs i x h e)
+    (begins_longer a c (flat_map text (take i xs) ++ text x) (flat_map text (drop (suc i) xs))
+    (begins_later a b c (flat_map text (take i xs)) (text x) p q))
+
+pub returns-in_err-write_record-clause-beginning : goal.returns-in_err-write_record-clause-beginning
+returns-in_err-write_record-clause-beginning g c =
+    let entries = c.entries-entry-items.ensures.value in
+    on_err c.from_residual.result _
+    (stopped_at _ _ _ c.args.texts.now c.args.tick c.args.records.now c.records.entry-index c.entry-item.result
+    (rw (← entries) c.records-test.true) (rw (← entries) c.entry-item.is)
+    (rw (← entries) c.records.invariant.so_far)
+    (rw (c.event.ensures) at c.in_err-write_record.ensures.beginning))

@@ -1,0 +1,217 @@
+//! The texts of a system's instructions, made before the first tick, no part of the standards.
+
+ghost use Rattle.std.specs.Prelude.{◌≡◌, ◌<◌, ◌≤◌, ◌∷◌, ◌++◌, [], IsTrue, IfOk, IfSome, OnOk, length};
+ghost use Rattle.std.specs.List.{All};
+ghost use Rattle.std.specs.String.{string_bytes};
+ghost use Rattle.osek_base.specs.Separable.{IsOwner};
+ghost use Rattle.osek_base.specs.System.{program};
+ghost use Rattle.osek_base.specs.Text.{line};
+ghost use Rattle.tracer.specs.Lines.{IsExecutedText};
+
+use crate::line::{LineText, line_text, push_executed, push_number, push_outcome};
+use arrayvec::ArrayString;
+use osek_base::{Instr, IsrId, Names, Owner, Place, System, TaskId, TraceEvent};
+use std::alloc::{AllocError, Global};
+use std::marker::Model;
+
+/// What the lines of one instruction have between the tick and the outcome.
+#[derive(Drop)]
+struct InstructionText {
+    who: Owner,
+    place: Place,
+    what: Instr,
+    text: String,
+}
+
+impl InstructionText {
+    fn new(
+        alloc: Global,
+        names: &Names,
+        who: &Owner,
+        place: Place,
+        what: &Instr,
+    ) -> Result<Self, AllocError>
+        ensures { IfOk result (λ t. IsExecutedText names.now t.who t.place t.what (string_bytes t.text)) }
+    {
+        let mut text: LineText = ArrayString::new();
+        push_executed(&mut text, names, who, place, what);
+        let text = String::from_str(alloc, text.as_str())?;
+        Ok(InstructionText {
+            who: *who,
+            place,
+            what: *what,
+            text,
+        })
+    }
+
+    /// Whether it is of that instruction.
+    fn is_of(&self, who: &Owner, place: &Place, what: &Instr) -> bool
+        ensures who { IsTrue result → self.now.who ≡ who.now }
+        ensures place { IsTrue result → self.now.place ≡ place.now }
+        ensures what { IsTrue result → self.now.what ≡ what.now }
+    {
+        self.place == *place && self.who == *who && self.what == *what
+    }
+}
+
+fn push_text(texts: &mut Vec<InstructionText>, text: InstructionText) -> Result<(), AllocError>
+    ensures { OnOk result (texts.new.items ≡ texts.old.items ++ text ∷ []) }
+{
+    texts.push(text)?;
+    Ok(())
+}
+
+/// The text of the instruction at a place of a task's or routine's program.
+fn text_at(
+    alloc: Global,
+    system: &System,
+    who: &Owner,
+    place: usize,
+) -> Result<InstructionText, AllocError>
+    requires owner { IsOwner system.now who.now }
+    requires place { place < length (program system.now who.now) }
+    ensures { IfOk result (λ t. IsExecutedText system.now.names t.who t.place t.what (string_bytes t.text)) }
+{
+    let names = system.names();
+    let place = Place::new(place as u16);
+    let what = system.instruction_at(*who, place);
+    InstructionText::new(alloc, names, who, place, &what)
+}
+
+/// The texts of a task's or routine's program, each at its place.
+fn program_texts(
+    alloc: Global,
+    system: &System,
+    who: &Owner,
+) -> Result<Vec<InstructionText>, AllocError>
+    requires { IsOwner system.now who.now }
+    ensures { IfOk result (λ r. All (λ t. IsExecutedText system.now.names t.who t.place t.what (string_bytes t.text)) r.items) }
+{
+    let mut texts = Vec::new(alloc);
+    'places: for place in 0..system.program_len(*who) {
+        push_text(&mut texts, text_at(alloc, system, who, place)?)?;
+    }
+    Ok(texts)
+}
+
+/// The text of an instruction of a program, where it is the one at that place.
+fn text_in<'p>(
+    program: &'p [InstructionText],
+    names: &Names,
+    who: &Owner,
+    place: &Place,
+    what: &Instr,
+) -> Option<&'p str>
+    requires { All (λ t. IsExecutedText names.now t.who t.place t.what (string_bytes t.text)) program.now }
+    ensures { IfSome result (λ text. IsExecutedText names.now who.now place.now what.now text.now) }
+{
+    let text = program.get(place.number() as usize)?;
+    if text.is_of(who, place, what) {
+        Some(text.text.as_str())
+    } else {
+        None
+    }
+}
+
+fn push_program(
+    programs: &mut Vec<Vec<InstructionText>>,
+    program: Vec<InstructionText>,
+) -> Result<(), AllocError>
+    ensures { OnOk result (programs.new.items ≡ programs.old.items ++ program ∷ []) }
+{
+    programs.push(program)?;
+    Ok(())
+}
+
+/// The texts of the tasks' programs, by number.
+fn task_texts(alloc: Global, system: &System) -> Result<Vec<Vec<InstructionText>>, AllocError>
+    ensures { IfOk result (λ r. All (λ p. All (λ t. IsExecutedText system.now.names t.who t.place t.what (string_bytes t.text)) p.items) r.items) }
+{
+    let mut programs = Vec::new(alloc);
+    system.names();
+    'tasks: for number in 0..system.task_count() {
+        let who = Owner::Task(TaskId::new(number as u8));
+        push_program(&mut programs, program_texts(alloc, system, &who)?)?;
+    }
+    Ok(programs)
+}
+
+/// The texts of the routines' programs, by number.
+fn routine_texts(alloc: Global, system: &System) -> Result<Vec<Vec<InstructionText>>, AllocError>
+    ensures { IfOk result (λ r. All (λ p. All (λ t. IsExecutedText system.now.names t.who t.place t.what (string_bytes t.text)) p.items) r.items) }
+{
+    let mut programs = Vec::new(alloc);
+    system.names();
+    'routines: for number in 0..system.routine_count() {
+        let who = Owner::Routine(IsrId::new(number as u8));
+        push_program(&mut programs, program_texts(alloc, system, &who)?)?;
+    }
+    Ok(programs)
+}
+
+/// The texts of all instructions of a system. Seen as the names of its objects.
+#[derive(Drop)]
+pub struct InstructionTexts<'s> {
+    names: &'s Names,
+    tasks: Vec<Vec<InstructionText>>,
+    routines: Vec<Vec<InstructionText>>,
+}
+
+impl<'s> Model for InstructionTexts<'s> {
+    ghost use Rattle.std.specs.List.{All};
+    ghost use Rattle.std.specs.String.{string_bytes};
+    ghost use Rattle.osek_base.specs.Names.{Names};
+    ghost use Rattle.tracer.specs.Lines.{IsExecutedText};
+
+    ghost Value = { Names };
+
+    ghost view = { λ s. s.names.now };
+
+    ghost invariant = { λ s.
+        All (λ p. All (λ t. IsExecutedText s.names.now t.who t.place t.what (string_bytes t.text)) p.items) s.tasks.items
+        × All (λ p. All (λ t. IsExecutedText s.names.now t.who t.place t.what (string_bytes t.text)) p.items) s.routines.items };
+}
+
+impl<'s> InstructionTexts<'s> {
+    /// The texts of all instructions of that system.
+    pub fn new(alloc: Global, system: &'s System) -> Result<Self, AllocError>
+        ensures { IfOk result (λ t. t ≡ system.now.names) }
+    {
+        let tasks = task_texts(alloc, system)?;
+        let routines = routine_texts(alloc, system)?;
+        Ok(InstructionTexts {
+            names: system.names(),
+            tasks,
+            routines,
+        })
+    }
+
+    /// The text of an instruction, where it is the one at that place of the program.
+    fn text_of(&self, who: &Owner, place: &Place, what: &Instr) -> Option<&str>
+        ensures { IfSome result (λ text. IsExecutedText self.now who.now place.now what.now text.now) }
+    {
+        let program = match who {
+            Owner::Task(task) => self.tasks.get(task.number() as usize)?,
+            Owner::Routine(routine) => self.routines.get(routine.number() as usize)?,
+        };
+        text_in(program, self.names, who, place, what)
+    }
+
+    /// As `line_text` of the crate, for the names of the system; an instruction isn't spelled again.
+    pub fn line_text(&self, tick: u32, event: &TraceEvent, text: &mut LineText)
+        ensures same { text.new.bytes ≡ line self.now tick event.now }
+        ensures short { length text.new.bytes ≤ 231 }
+    {
+        if let TraceEvent::Executed(who, place, what, outcome) = event
+            && let Some(executed) = self.text_of(who, place, what)
+        {
+            text.clear();
+            push_number(text, tick);
+            text.push_str(" ");
+            text.push_str(executed);
+            push_outcome(text, *outcome);
+        } else {
+            line_text(self.names, tick, event, text);
+        }
+    }
+}

@@ -1,0 +1,7 @@
+.task Low
+again:  NOP
+        JMP again
+
+.task High
+        TERM
+end:    JMP end

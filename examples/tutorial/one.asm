@@ -1,0 +1,3 @@
+.task Low
+        TERM
+end:    JMP end

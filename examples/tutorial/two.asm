@@ -1,0 +1,9 @@
+.task Low
+        ACT High
+        NOP
+        TERM
+end:    JMP end
+
+.task High
+        TERM
+end:    JMP end
