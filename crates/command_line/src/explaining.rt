@@ -1,13 +1,13 @@
 //! What is written behind the line of a refusal, where it is asked for.
 
 use crate::request::{Request, RunLine};
-use explanations::{
-    LineFault, Source, explain_arrivals, explain_denial, explain_generation, explain_mode,
-    explain_oil, explain_programs,
-};
+use explanations::{explain_denial, explain_generation};
 use partition_check::NamedDenial;
 use std::alloc::Global;
 use std::io::{self, Write};
+use text_explanations::{
+    LineFault, Source, explain_arrivals, explain_mode, explain_oil, explain_programs,
+};
 use tracer::{IrqFault, RunFault};
 
 /// The bytes of a request's files. Where no run is asked for, the arrival list is empty.

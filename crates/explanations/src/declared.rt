@@ -1,20 +1,6 @@
 //! What an OIL file declares.
 
 use oil_reader::{Attribute, Kind, Object, Setting, SyntaxTree, Value};
-use std::alloc::{AllocError, Global};
-
-/// The names of the objects of a kind, in order.
-pub(crate) fn names<'a>(
-    alloc: Global,
-    tree: &SyntaxTree<'a>,
-    kind: Kind,
-) -> Result<Vec<&'a str>, AllocError> {
-    tree.objects
-        .iter()
-        .filter(|object| object.kind == kind)
-        .map(|object| object.name.text)
-        .collect(alloc)
-}
 
 /// The object of that kind and name.
 pub(crate) fn object<'t, 'a>(
@@ -22,35 +8,41 @@ pub(crate) fn object<'t, 'a>(
     kind: Kind,
     name: &str,
 ) -> Option<&'t Object<'a>> {
-    tree.objects
-        .iter()
-        .find(|object| object.kind == kind && object.name.text == name)
+    for object in &tree.objects {
+        if object.kind == kind && object.name.text == name {
+            return Some(object);
+        }
+    }
+    None
 }
 
 /// The attribute of that word.
 pub(crate) fn attribute<'t, 'a>(object: &'t Object<'a>, word: &str) -> Option<&'t Attribute<'a>> {
-    object
-        .attributes
-        .iter()
-        .find(|attribute| attribute.setting.name.text == word)
+    for attribute in &object.attributes {
+        if attribute.setting.name.text == word {
+            return Some(attribute);
+        }
+    }
+    None
 }
 
 /// The setting of that word behind the value of an attribute.
 pub(crate) fn inner<'a>(object: &Object<'a>, word: &str, inner: &str) -> Option<Setting<'a>> {
     let attribute = attribute(object, word)?;
     let block = attribute.block.as_ref()?;
-    block
-        .settings
-        .iter()
-        .copied()
-        .find(|setting| setting.name.text == inner)
+    for setting in &block.settings {
+        if setting.name.text == inner {
+            return Some(*setting);
+        }
+    }
+    None
 }
 
-/// The word of a value.
-pub(crate) fn word_of<'a>(value: Value<'a>) -> Option<&'a str> {
+/// The word of a value, empty where it is a number.
+pub(crate) fn word_of<'a>(value: Value<'a>) -> &'a str {
     match value {
-        Value::Name(word) => Some(word.text),
-        Value::Number(_) => None,
+        Value::Name(word) => word.text,
+        Value::Number(_) => "",
     }
 }
 
@@ -62,11 +54,23 @@ pub(crate) fn number_of(value: Value<'_>) -> u32 {
     }
 }
 
+/// The number that an attribute has as its value, 0 where there is none.
+pub(crate) fn number_in(object: &Object<'_>, word: &str) -> u32 {
+    match attribute(object, word) {
+        Some(attribute) => number_of(attribute.setting.value),
+        None => 0,
+    }
+}
+
 /// Whether an attribute has that word as its value.
 pub(crate) fn is_set(object: &Object<'_>, word: &str, value: &str) -> bool {
-    object.attributes.iter().any(|attribute| {
-        attribute.setting.name.text == word && word_of(attribute.setting.value) == Some(value)
-    })
+    for attribute in &object.attributes {
+        let setting = attribute.setting;
+        if setting.name.text == word && word_of(setting.value) == value {
+            return true;
+        }
+    }
+    false
 }
 
 /// Whether a resource is internal.
@@ -79,54 +83,52 @@ pub(crate) fn is_internal(tree: &SyntaxTree<'_>, name: &str) -> bool {
 
 /// Whether RES_SCHEDULER exists.
 pub(crate) fn has_scheduler(tree: &SyntaxTree<'_>) -> bool {
-    !tree.objects.iter().any(|object| object.kind == Kind::Os
-        && is_set(object, "USERESSCHEDULER", "FALSE"))
+    for object in &tree.objects {
+        if object.kind == Kind::Os && is_set(object, "USERESSCHEDULER", "FALSE") {
+            return false;
+        }
+    }
+    true
 }
 
-fn priority_of(task: &Object<'_>) -> u32 {
-    match attribute(task, "PRIORITY") {
-        Some(attribute) => number_of(attribute.setting.value),
+/// The priority of the task of that name, 0 where there is none.
+fn priority_of(tree: &SyntaxTree<'_>, name: &str) -> u32 {
+    match object(tree, Kind::Task, name) {
+        Some(task) => number_in(task, "PRIORITY"),
         None => 0,
     }
 }
 
-fn is_task(object: &Object<'_>) -> bool {
-    object.kind == Kind::Task
-}
-
 /// The ceiling of a resource: the greatest priority of the tasks that list it, or of all tasks for RES_SCHEDULER.
 fn ceiling(tree: &SyntaxTree<'_>, resource: &str) -> u32 {
-    tree.objects
-        .iter()
-        .filter(|object| is_task(*object))
-        .filter(|task| resource == "RES_SCHEDULER" || is_set(*task, "RESOURCE", resource))
-        .map(|task| priority_of(task))
-        .max()
-        .unwrap_or(0)
+    let is_scheduler = resource == "RES_SCHEDULER";
+    let mut ceiling = 0;
+    for task in &tree.objects {
+        if task.kind == Kind::Task && (is_scheduler || is_set(task, "RESOURCE", resource)) {
+            ceiling = number_in(task, "PRIORITY").max(ceiling);
+        }
+    }
+    ceiling
+}
+
+/// The name of the task that an alarm acts on, empty where there is none.
+fn target<'a>(tree: &SyntaxTree<'a>, alarm: &str) -> &'a str {
+    let Some(alarm) = object(tree, Kind::Alarm, alarm) else {
+        return "";
+    };
+    match inner(alarm, "ACTION", "TASK") {
+        Some(setting) => word_of(setting.value),
+        None => "",
+    }
 }
 
 /// By what an object is upper or lower: the priority of a task, the ceiling of a resource, the priority of the task that an
 /// alarm acts on; 0 for all else.
 pub(crate) fn level(tree: &SyntaxTree<'_>, kind: Kind, name: &str) -> u32 {
     match kind {
-        Kind::Task => match object(tree, Kind::Task, name) {
-            Some(task) => priority_of(task),
-            None => 0,
-        },
+        Kind::Task => priority_of(tree, name),
         Kind::Resource => ceiling(tree, name),
-        Kind::Alarm => {
-            let Some(alarm) = object(tree, Kind::Alarm, name) else {
-                return 0;
-            };
-            let task = match inner(alarm, "ACTION", "TASK") {
-                Some(setting) => word_of(setting.value).unwrap_or(""),
-                None => "",
-            };
-            match object(tree, Kind::Task, task) {
-                Some(task) => priority_of(task),
-                None => 0,
-            }
-        }
+        Kind::Alarm => priority_of(tree, target(tree, name)),
         _ => 0,
     }
 }

@@ -1,19 +1,16 @@
 //! Denied partitions: what is named or listed, and what would be allowed.
 
-use crate::code_words::{CodeWord, Part, code_words, mnemonics_of, owner_word};
-use crate::declared::{attribute, level, names, object, word_of};
-use crate::mnemonics::named_kind;
-use crate::notes::{write_names, write_note};
+use crate::declared::{attribute, level, object, word_of};
+use crate::instructions::{mnemonic_at, named_kind, operand_of, owner_word};
 use crate::parsed::Parsed;
-use crate::scopes::kind_word;
-use crate::source::Source;
-use crate::trees::tree_of;
-use oil_reader::{Kind, Object};
+use oil_reader::{Kind, Object, Setting, SyntaxTree};
 use osek_base::Owner;
 use partition_check::{NamedDenial, Rule};
 use std::alloc::{AllocError, Global};
 use std::io::{self, Write};
 use task_asm::{ProgramKind, tokenize};
+use text_explanations::Piece::{self, Named, Number, Text};
+use text_explanations::{CodeWord, Source, code_words, names, tree_of, write_names};
 
 /// A denial at a priority.
 #[derive(Drop)]
@@ -26,45 +23,36 @@ struct Cut<'d> {
     name: &'d str,
 }
 
-/// The names of the objects of a kind that are upper, or those that are lower.
-fn on_side<'a>(
+/// The names of the objects of a kind that a rule allows: the upper ones for upper programs, or else the lower ones.
+fn allowed<'a>(
     alloc: Global,
-    parsed: Parsed<'_, 'a>,
+    tree: &SyntaxTree<'a>,
+    cut: &Cut<'_>,
     kind: Kind,
-    p: u8,
-    is_upper: bool,
 ) -> Result<Vec<&'a str>, AllocError> {
+    let is_upper = cut.rule == Rule::UpperNames;
     let mut found = Vec::new(alloc);
-    for name in names(alloc, parsed.tree, kind)? {
-        if (level(parsed.tree, kind, name) >= p as u32) == is_upper {
+    for name in names(alloc, tree, kind)? {
+        if (level(tree, kind, name) >= cut.p as u32) == is_upper {
             found.push(name)?;
         }
     }
     Ok(found)
 }
 
-/// Writes what an object is upper or lower by.
-fn write_level<W: Write>(
-    parsed: Parsed<'_, '_>,
-    kind: Kind,
-    name: &str,
-    out: &mut W,
-) -> io::Result<()> {
-    let level = level(parsed.tree, kind, name);
-    match kind {
-        Kind::Task => write!(out, "TASK {name}, of priority {level}"),
-        Kind::Resource => write!(out, "RESOURCE {name}, of ceiling {level}"),
-        _ => write!(
-            out,
-            "{} {name}, which acts on a task of priority {level}",
-            kind_word(kind)
-        ),
-    }
+/// An object, and what it is upper or lower by.
+fn leveled<'a>(tree: &SyntaxTree<'_>, kind: Kind, name: &'a str) -> [Piece<'a>; 3] {
+    let by = match kind {
+        Kind::Task => ", of priority ",
+        Kind::Resource => ", of ceiling ",
+        _ => ", which acts on a task of priority ",
+    };
+    let level = level(tree, kind, name);
+    [Named(kind, name), Text(by), Number(level as usize)]
 }
 
 /// Explains a lower task that is NON.
 fn explain_schedule<W: Write>(
-    alloc: Global,
     parsed: Parsed<'_, '_>,
     cut: &Cut<'_>,
     task: &Object<'_>,
@@ -73,12 +61,26 @@ fn explain_schedule<W: Write>(
     let Some(schedule) = attribute(task, "SCHEDULE") else {
         return Ok(());
     };
+    let [name, by, level] = leveled(parsed.tree, Kind::Task, task.name.text);
+    let p = Number(cut.p as usize);
+    let what = [name, by, level, Text(", is below "), p, Text(" and NON")];
     let place = schedule.setting.value_place;
-    parsed.oil.begin(place, out)?;
-    write_level(parsed, Kind::Task, task.name.text, out)?;
-    writeln!(out, ", is below {} and NON", cut.p)?;
-    parsed.oil.show_word(alloc, place, out)?;
-    write_note("allowed", "FULL", out)
+    parsed
+        .oil
+        .note(place, &what, "allowed", &[Text("FULL")], out)
+}
+
+/// The first resource with an upper ceiling that a task lists.
+fn listed<'a>(tree: &SyntaxTree<'_>, task: &Object<'a>, p: u8) -> Option<Setting<'a>> {
+    for attribute in &task.attributes {
+        let setting = attribute.setting;
+        if setting.name.text == "RESOURCE"
+            && level(tree, Kind::Resource, word_of(setting.value)) >= p as u32
+        {
+            return Some(setting);
+        }
+    }
+    None
 }
 
 /// Explains a lower task that lists a resource with an upper ceiling.
@@ -89,155 +91,153 @@ fn explain_listed<W: Write>(
     task: &Object<'_>,
     out: &mut W,
 ) -> io::Result<()> {
-    for attribute in &task.attributes {
-        let setting = attribute.setting;
-        let name = word_of(setting.value).unwrap_or("");
-        let is_upper = level(parsed.tree, Kind::Resource, name) >= cut.p as u32;
-        if setting.name.text == "RESOURCE" && is_upper {
-            parsed.oil.begin(setting.value_place, out)?;
-            write_level(parsed, Kind::Task, task.name.text, out)?;
-            write!(out, ", is below {} and lists ", cut.p)?;
-            write_level(parsed, Kind::Resource, name, out)?;
-            writeln!(out)?;
-            parsed.oil.show_word(alloc, setting.value_place, out)?;
-            let lower = on_side(alloc, parsed, Kind::Resource, cut.p, false)?;
-            return write_names("allowed", &lower, out);
-        }
-    }
-    Ok(())
+    let Some(setting) = listed(parsed.tree, task, cut.p) else {
+        return Ok(());
+    };
+    let [task, by, level] = leveled(parsed.tree, Kind::Task, task.name.text);
+    let [listed, with, ceiling] = leveled(parsed.tree, Kind::Resource, word_of(setting.value));
+    let below = Text(", is below ");
+    let p = Number(cut.p as usize);
+    let what = [
+        task,
+        by,
+        level,
+        below,
+        p,
+        Text(" and lists "),
+        listed,
+        with,
+        ceiling,
+    ];
+    parsed.oil.tell(setting.value_place, &what, out)?;
+    write_names(
+        "allowed",
+        &allowed(alloc, parsed.tree, cut, Kind::Resource)?,
+        out,
+    )
 }
 
-/// The instruction at a place of a task's or routine's program: its mnemonic and its first operand.
-fn instruction<'a>(
-    alloc: Global,
-    parsed: Parsed<'_, 'a>,
-    cut: &Cut<'_>,
-) -> Result<Option<(CodeWord<'a>, Option<CodeWord<'a>>)>, AllocError> {
+/// The mnemonic of the instruction at a place of a task's or routine's program.
+fn instruction<'a>(parsed: Parsed<'_, 'a>, cut: &Cut<'_>) -> Option<CodeWord<'a>> {
     let kind = match cut.subject {
         Owner::Task(_) => ProgramKind::Task,
         Owner::Routine(_) => ProgramKind::Routine,
     };
-    let Some(owner) = owner_word(parsed.words, kind, cut.name) else {
-        return Ok(None);
-    };
-    let place = cut.place.unwrap_or(0);
-    let mnemonics = mnemonics_of(alloc, parsed.words, owner.program)?;
-    let Some(mnemonic) = mnemonics.iter().copied().nth(place as usize) else {
-        return Ok(None);
-    };
-    let operand = parsed
-        .words
-        .iter()
-        .copied()
-        .find(|word| word.place > mnemonic.place)
-        .filter(|word| matches!(word.part, Part::Operand { .. }));
-    Ok(Some((mnemonic, operand)))
-}
-
-/// What a rule on programs allows in place of an object of a kind.
-fn write_allowed<W: Write>(
-    alloc: Global,
-    parsed: Parsed<'_, '_>,
-    cut: &Cut<'_>,
-    kind: Kind,
-    out: &mut W,
-) -> io::Result<()> {
-    let is_upper = cut.rule == Rule::UpperNames;
-    let names = on_side(alloc, parsed, kind, cut.p, is_upper)?;
-    write_names("allowed", &names, out)
+    let owner = owner_word(parsed.words, kind, cut.name)?;
+    mnemonic_at(parsed.words, owner.program, cut.place.unwrap_or(0) as usize)
 }
 
 /// Explains an instruction that names an object of the other part, or RES_SCHEDULER.
-fn explain_named<W: Write>(
+fn explain_named<'a, W: Write>(
     alloc: Global,
     parsed: Parsed<'_, '_>,
-    cut: &Cut<'_>,
-    mnemonic: CodeWord<'_>,
-    operand: CodeWord<'_>,
+    cut: &Cut<'a>,
+    mnemonic: CodeWord<'a>,
+    operand: CodeWord<'a>,
     out: &mut W,
 ) -> io::Result<()> {
     let Some(kind) = named_kind(mnemonic.text, 0) else {
         return Ok(());
     };
-    parsed.asm.begin(operand.place, out)?;
-    write!(out, "{} names ", cut.name)?;
-    write_level(parsed, kind, operand.text, out)?;
+    let [named, by, level] = leveled(parsed.tree, kind, operand.text);
     let side = match cut.rule {
-        Rule::UpperNames => "below",
-        _ => "not below",
+        Rule::UpperNames => ", below ",
+        _ => ", not below ",
     };
-    writeln!(out, ", {side} {}", cut.p)?;
-    parsed.asm.show_word(alloc, operand.place, out)?;
-    write_allowed(alloc, parsed, cut, kind, out)
+    let name = Text(cut.name);
+    let p = Number(cut.p as usize);
+    let what = [name, Text(" names "), named, by, level, Text(side), p];
+    parsed.asm.tell(operand.place, &what, out)?;
+    write_names("allowed", &allowed(alloc, parsed.tree, cut, kind)?, out)
 }
 
-/// Explains an instruction that no lower program, or no routine, may have.
-fn explain_forbidden<W: Write>(
-    alloc: Global,
+/// Explains an instruction that no lower program may have.
+fn explain_lower<W: Write>(
     parsed: Parsed<'_, '_>,
     cut: &Cut<'_>,
-    mnemonic: CodeWord<'_>,
+    place: usize,
     out: &mut W,
 ) -> io::Result<()> {
-    let name = cut.name;
-    parsed.asm.begin(mnemonic.place, out)?;
-    if cut.rule == Rule::NoTaskId {
-        writeln!(out, "routine {name} asks which task runs")?;
-    } else {
-        writeln!(
-            out,
-            "{name}, below {}, turns interrupts off or on, or shuts down",
-            cut.p
-        )?;
-    }
-    parsed.asm.show_word(alloc, mnemonic.place, out)?;
-    let allowed = match cut.rule {
-        Rule::NoTaskId => "every instruction but GTID",
-        _ => "every instruction but DAI EAI SAI RAI SOI ROI SHUT",
-    };
-    write_note("allowed", allowed, out)
+    let end = Text(", turns interrupts off or on, or shuts down");
+    let what = [
+        Text(cut.name),
+        Text(", below "),
+        Number(cut.p as usize),
+        end,
+    ];
+    let allowed = Text("every instruction but DAI EAI SAI RAI SOI ROI SHUT");
+    parsed.asm.note(place, &what, "allowed", &[allowed], out)
+}
+
+/// Explains an instruction that no routine may have.
+fn explain_task_id<W: Write>(
+    parsed: Parsed<'_, '_>,
+    cut: &Cut<'_>,
+    place: usize,
+    out: &mut W,
+) -> io::Result<()> {
+    let what = [
+        Text("routine "),
+        Text(cut.name),
+        Text(" asks which task runs"),
+    ];
+    let allowed = Text("every instruction but GTID");
+    parsed.asm.note(place, &what, "allowed", &[allowed], out)
+}
+
+/// Whether a rule is on what programs name.
+fn is_on_names(rule: Rule) -> bool {
+    matches!(
+        rule,
+        Rule::NoScheduler | Rule::LowerNames | Rule::UpperNames
+    )
 }
 
 /// Explains a denial by the rules on programs.
-fn explain_program<W: Write>(
+fn explain_program<'a, W: Write>(
     alloc: Global,
-    parsed: Parsed<'_, '_>,
-    cut: &Cut<'_>,
+    parsed: Parsed<'_, 'a>,
+    cut: &Cut<'a>,
     out: &mut W,
 ) -> io::Result<()> {
-    let Some((mnemonic, operand)) = instruction(alloc, parsed, cut)? else {
+    let Some(mnemonic) = instruction(parsed, cut) else {
         return Ok(());
     };
-    match (cut.rule, operand) {
-        (Rule::NoScheduler | Rule::LowerNames | Rule::UpperNames, Some(operand)) => {
-            explain_named(alloc, parsed, cut, mnemonic, operand, out)
+    if is_on_names(cut.rule) {
+        if let Some(operand) = operand_of(parsed.words, mnemonic) {
+            return explain_named(alloc, parsed, cut, mnemonic, operand, out);
         }
-        _ => explain_forbidden(alloc, parsed, cut, mnemonic, out),
+    }
+    match cut.rule {
+        Rule::NoTaskId => explain_task_id(parsed, cut, mnemonic.place, out),
+        _ => explain_lower(parsed, cut, mnemonic.place, out),
     }
 }
 
-fn explain_cut<W: Write>(
+fn explain_cut<'a, W: Write>(
     alloc: Global,
-    parsed: Parsed<'_, '_>,
-    cut: &Cut<'_>,
+    parsed: Parsed<'_, 'a>,
+    cut: &Cut<'a>,
     out: &mut W,
 ) -> io::Result<()> {
-    let task = object(parsed.tree, Kind::Task, cut.name);
-    match (cut.rule, task) {
-        (Rule::FullPreemption, Some(task)) => explain_schedule(alloc, parsed, cut, task, out),
-        (Rule::LowerResources, Some(task)) => explain_listed(alloc, parsed, cut, task, out),
+    let Some(task) = object(parsed.tree, Kind::Task, cut.name) else {
+        return explain_program(alloc, parsed, cut, out);
+    };
+    match cut.rule {
+        Rule::FullPreemption => explain_schedule(parsed, cut, task, out),
+        Rule::LowerResources => explain_listed(alloc, parsed, cut, task, out),
         _ => explain_program(alloc, parsed, cut, out),
     }
 }
 
 /// Explains the denial, at a priority, of the system of an OIL file and its programs: what is named or listed, where, and
 /// what would be allowed. An error is a failed write, or want of memory for the explanation.
-pub fn explain_denial<W: Write>(
+pub fn explain_denial<'a, W: Write>(
     alloc: Global,
-    oil: Source<'_>,
-    asm: Source<'_>,
+    oil: Source<'a>,
+    asm: Source<'a>,
     p: u8,
-    denial: &NamedDenial,
+    denial: &'a NamedDenial,
     out: &mut W,
 ) -> io::Result<()> {
     let Some(tree) = tree_of(alloc, oil.text) else {

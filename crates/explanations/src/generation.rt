@@ -1,15 +1,11 @@
 //! Faults of generation.
 
-use crate::code_words::{code_words, mnemonics_of, owner_word};
 use crate::declared::{attribute, is_internal, is_set, object, word_of};
-use crate::notes::write_note;
+use crate::instructions::{first_of, last_mnemonic, owner_word};
 use crate::parsed::Parsed;
 use crate::references::explain_unknown_name;
-use crate::scopes::kind_word;
-use crate::source::Source;
 use crate::times::{explain_alarm, explain_counter};
-use crate::trees::tree_of;
-use oil_reader::{Attribute, Kind, Object};
+use oil_reader::{Attribute, Kind, Object, SyntaxTree};
 use osek_base::{
     MAX_ALARMS, MAX_COUNTERS, MAX_EVENTS, MAX_MODES, MAX_RESOURCES, MAX_ROUTINES, MAX_TASKS,
 };
@@ -17,6 +13,8 @@ use std::alloc::Global;
 use std::io::{self, Write};
 use system_gen::{GenFault, ObjectKind};
 use task_asm::{ProgramKind, tokenize};
+use text_explanations::Piece::{self, Named, Number, Text};
+use text_explanations::{CodeWord, Source, code_words, kind_word, tree_of};
 
 /// The kind of objects of which there are too many, and how many are allowed.
 fn limit(kind: ObjectKind) -> (Kind, usize) {
@@ -31,236 +29,207 @@ fn limit(kind: ObjectKind) -> (Kind, usize) {
     }
 }
 
+/// The object of a kind behind so many of it.
+fn object_behind<'t, 'a>(
+    tree: &'t SyntaxTree<'a>,
+    kind: Kind,
+    count: usize,
+) -> Option<&'t Object<'a>> {
+    let mut left = count;
+    for object in &tree.objects {
+        if object.kind == kind {
+            if left == 0 {
+                return Some(object);
+            }
+            left = left.saturating_sub(1);
+        }
+    }
+    None
+}
+
 /// Explains the first object that is too many.
 fn explain_limit<W: Write>(
-    alloc: Global,
     parsed: Parsed<'_, '_>,
     fault: ObjectKind,
     out: &mut W,
 ) -> io::Result<()> {
     let (kind, most) = limit(fault);
-    let mut of_kind = parsed
-        .tree
-        .objects
-        .iter()
-        .filter(|object| object.kind == kind);
-    let Some(object) = of_kind.nth(most) else {
+    let Some(object) = object_behind(parsed.tree, kind, most) else {
         return Ok(());
     };
-    parsed.oil.begin(object.place, out)?;
-    writeln!(out, "too many objects of kind {}", kind_word(kind))?;
-    parsed.oil.show_word(alloc, object.place, out)?;
-    writeln!(out, " allowed: {most}")
+    let what = [Text("too many objects of kind "), Text(kind_word(kind))];
+    parsed
+        .oil
+        .note(object.place, &what, "allowed", &[Number(most)], out)
 }
 
-/// Explains an attribute of a task, at its value.
+/// Explains an attribute, at its value.
 fn explain_attribute<W: Write>(
-    alloc: Global,
-    parsed: Parsed<'_, '_>,
+    oil: Source<'_>,
     attribute: Option<&Attribute<'_>>,
-    what: &str,
+    what: &[Piece<'_>],
     allowed: &str,
     out: &mut W,
 ) -> io::Result<()> {
-    let Some(attribute) = attribute else {
-        return Ok(());
-    };
-    let place = attribute.setting.value_place;
-    parsed.oil.begin(place, out)?;
-    writeln!(out, "{what}")?;
-    parsed.oil.show_word(alloc, place, out)?;
-    write_note("allowed", allowed, out)
+    match attribute {
+        Some(attribute) => {
+            let place = attribute.setting.value_place;
+            oil.note(place, what, "allowed", &[Text(allowed)], out)
+        }
+        None => Ok(()),
+    }
 }
 
-fn explain_activation<W: Write>(
-    alloc: Global,
-    parsed: Parsed<'_, '_>,
-    name: &str,
-    out: &mut W,
-) -> io::Result<()> {
+fn explain_activation<W: Write>(parsed: Parsed<'_, '_>, name: &str, out: &mut W) -> io::Result<()> {
     let Some(task) = object(parsed.tree, Kind::Task, name) else {
         return Ok(());
     };
-    let what = format!(in alloc; "TASK {name} lists an event and has several activations")?;
+    let what = [
+        Named(Kind::Task, name),
+        Text(" lists an event and has several activations"),
+    ];
     let found = attribute(task, "ACTIVATION");
-    explain_attribute(alloc, parsed, found, &what, "1, or no event", out)
+    explain_attribute(parsed.oil, found, &what, "1, or no event", out)
 }
 
 /// The last internal resource that a task lists.
-fn internal<'t, 'a>(parsed: Parsed<'t, 'a>, task: &'t Object<'a>) -> Option<&'t Attribute<'a>> {
+fn internal<'t, 'a>(tree: &SyntaxTree<'_>, task: &'t Object<'a>) -> Option<&'t Attribute<'a>> {
     let mut found = None;
     for attribute in &task.attributes {
-        let name = word_of(attribute.setting.value).unwrap_or("");
-        if attribute.setting.name.text == "RESOURCE" && is_internal(parsed.tree, name) {
+        let setting = attribute.setting;
+        if setting.name.text == "RESOURCE" && is_internal(tree, word_of(setting.value)) {
             found = Some(attribute);
         }
     }
     found
 }
 
-fn explain_internal<W: Write>(
-    alloc: Global,
-    parsed: Parsed<'_, '_>,
-    name: &str,
-    out: &mut W,
-) -> io::Result<()> {
+fn explain_internal<W: Write>(parsed: Parsed<'_, '_>, name: &str, out: &mut W) -> io::Result<()> {
     let Some(task) = object(parsed.tree, Kind::Task, name) else {
         return Ok(());
     };
-    let found = internal(parsed, task);
-    if is_set(task, "SCHEDULE", "NON") {
-        let what = format!(in alloc; "TASK {name} is NON and lists an internal resource")?;
-        explain_attribute(
-            alloc,
-            parsed,
-            found,
-            &what,
+    let (end, allowed) = if is_set(task, "SCHEDULE", "NON") {
+        (
+            " is NON and lists an internal resource",
             "an internal resource with FULL",
-            out,
         )
     } else {
-        let what = format!(in alloc; "TASK {name} lists a second internal resource")?;
-        explain_attribute(alloc, parsed, found, &what, "one internal resource", out)
+        (" lists a second internal resource", "one internal resource")
+    };
+    let what = [Named(Kind::Task, name), Text(end)];
+    explain_attribute(parsed.oil, internal(parsed.tree, task), &what, allowed, out)
+}
+
+/// The kind of an object that has no program, and the directive of such programs.
+fn without_program(parsed: Parsed<'_, '_>, name: &str) -> (Kind, &'static str) {
+    let is_task = object(parsed.tree, Kind::Task, name).is_some();
+    if is_task && owner_word(parsed.words, ProgramKind::Task, name).is_none() {
+        (Kind::Task, ".task ")
+    } else {
+        (Kind::Isr, ".isr ")
     }
 }
 
 /// Explains a task or routine that has no program.
-fn explain_no_program<W: Write>(
-    alloc: Global,
-    parsed: Parsed<'_, '_>,
-    name: &str,
+fn explain_no_program<'a, W: Write>(
+    parsed: Parsed<'_, 'a>,
+    name: &'a str,
     out: &mut W,
 ) -> io::Result<()> {
-    let is_task = object(parsed.tree, Kind::Task, name).is_some()
-        && owner_word(parsed.words, ProgramKind::Task, name).is_none();
-    let (kind, directive) = if is_task {
-        (Kind::Task, ".task")
-    } else {
-        (Kind::Isr, ".isr")
-    };
+    let (kind, directive) = without_program(parsed, name);
     let Some(owner) = object(parsed.tree, kind, name) else {
         return Ok(());
     };
-    parsed.oil.begin(owner.place, out)?;
-    writeln!(out, "{} {name} has no program", kind_word(kind))?;
-    parsed.oil.show_word(alloc, owner.place, out)?;
-    writeln!(out, " wanted: {directive} {name} in {}", parsed.asm.name)
+    let what = [Named(kind, name), Text(" has no program")];
+    let wanted = [
+        Text(directive),
+        Text(name),
+        Text(" in "),
+        Text(parsed.asm.name),
+    ];
+    parsed.oil.note(owner.place, &what, "wanted", &wanted, out)
 }
 
-/// Explains a program of that kind and name that can be left at its end, and tells whether it is one.
-fn explain_end<W: Write>(
-    alloc: Global,
-    parsed: Parsed<'_, '_>,
-    kind: ProgramKind,
-    name: &str,
-    out: &mut W,
-) -> io::Result<bool> {
-    let Some(owner) = owner_word(parsed.words, kind, name) else {
-        return Ok(false);
-    };
-    let mnemonics = mnemonics_of(alloc, parsed.words, owner.program)?;
-    let place = match mnemonics.last() {
-        Some(last) if last.text == "JMP" || last.text == "RETI" => return Ok(false),
-        Some(last) => last.place,
-        None => owner.place,
-    };
-    parsed.asm.begin(place, out)?;
-    writeln!(out, "the program of {name} can be left at its end")?;
-    parsed.asm.show_word(alloc, place, out)?;
-    write_note("wanted", "JMP or RETI as its last instruction", out)?;
-    Ok(true)
-}
-
-/// Explains RETI in a task's program.
-fn explain_return<W: Write>(
-    alloc: Global,
-    parsed: Parsed<'_, '_>,
-    name: &str,
-    out: &mut W,
-) -> io::Result<()> {
-    let Some(owner) = owner_word(parsed.words, ProgramKind::Task, name) else {
-        return Ok(());
-    };
-    let mnemonics = mnemonics_of(alloc, parsed.words, owner.program)?;
-    let Some(word) = mnemonics.iter().find(|word| word.text == "RETI") else {
-        return Ok(());
-    };
-    parsed.asm.begin(word.place, out)?;
-    writeln!(out, "RETI in the program of TASK {name}")?;
-    parsed.asm.show_word(alloc, word.place, out)?;
-    write_note(
-        "allowed",
-        "RETI in programs of routines; tasks end with TERM or CHAIN",
-        out,
-    )
-}
-
-fn explain_mask<W: Write>(
-    alloc: Global,
-    parsed: Parsed<'_, '_>,
-    name: &str,
-    out: &mut W,
-) -> io::Result<()> {
-    let Some(event) = object(parsed.tree, Kind::Event, name) else {
-        return Ok(());
-    };
-    let what = format!(in alloc; "no bit is free for EVENT {name}")?;
-    let found = attribute(event, "MASK");
-    explain_attribute(
-        alloc,
-        parsed,
-        found,
-        &what,
-        "a MASK written as a number",
-        out,
-    )
+/// The place of the end of a program that can be left there: of its last mnemonic, or else of its name.
+fn open_end(words: &[CodeWord<'_>], kind: ProgramKind, name: &str) -> Option<usize> {
+    let owner = owner_word(words, kind, name)?;
+    match last_mnemonic(words, owner.program) {
+        Some(last) if last.text == "JMP" || last.text == "RETI" => None,
+        Some(last) => Some(last.place),
+        None => Some(owner.place),
+    }
 }
 
 /// Explains a program that can be left at its end: that of the task of a name, or else that of the routine.
-fn explain_last<W: Write>(
-    alloc: Global,
-    parsed: Parsed<'_, '_>,
-    name: &str,
-    out: &mut W,
-) -> io::Result<()> {
-    if !explain_end(alloc, parsed, ProgramKind::Task, name, out)? {
-        explain_end(alloc, parsed, ProgramKind::Routine, name, out)?;
-    }
-    Ok(())
+fn explain_last<W: Write>(parsed: Parsed<'_, '_>, name: &str, out: &mut W) -> io::Result<()> {
+    let words = parsed.words;
+    let of_task = open_end(words, ProgramKind::Task, name);
+    let Some(place) = of_task.or(open_end(words, ProgramKind::Routine, name)) else {
+        return Ok(());
+    };
+    let what = [
+        Text("the program of "),
+        Text(name),
+        Text(" can be left at its end"),
+    ];
+    let wanted = Text("JMP or RETI as its last instruction");
+    parsed.asm.note(place, &what, "wanted", &[wanted], out)
 }
 
-fn explain_fault<W: Write>(
+/// Where RETI stands in a task's program.
+fn return_of(words: &[CodeWord<'_>], task: &str) -> Option<usize> {
+    let owner = owner_word(words, ProgramKind::Task, task)?;
+    Some(first_of(words, owner.program, "RETI")?.place)
+}
+
+/// Explains RETI in a task's program.
+fn explain_return<W: Write>(parsed: Parsed<'_, '_>, name: &str, out: &mut W) -> io::Result<()> {
+    let Some(place) = return_of(parsed.words, name) else {
+        return Ok(());
+    };
+    let what = [Text("RETI in the program of "), Named(Kind::Task, name)];
+    let allowed = Text("RETI in programs of routines; tasks end with TERM or CHAIN");
+    parsed.asm.note(place, &what, "allowed", &[allowed], out)
+}
+
+fn explain_mask<W: Write>(parsed: Parsed<'_, '_>, name: &str, out: &mut W) -> io::Result<()> {
+    let Some(event) = object(parsed.tree, Kind::Event, name) else {
+        return Ok(());
+    };
+    let what = [Text("no bit is free for "), Named(Kind::Event, name)];
+    let found = attribute(event, "MASK");
+    explain_attribute(parsed.oil, found, &what, "a MASK written as a number", out)
+}
+
+fn explain_fault<'a, W: Write>(
     alloc: Global,
-    parsed: Parsed<'_, '_>,
-    fault: &GenFault,
+    parsed: Parsed<'_, 'a>,
+    fault: &'a GenFault,
     out: &mut W,
 ) -> io::Result<()> {
+    let Parsed { oil, tree, .. } = parsed;
     match fault {
         GenFault::UnknownName(_) => explain_unknown_name(alloc, parsed, out),
-        GenFault::Limit(kind) => explain_limit(alloc, parsed, *kind, out),
-        GenFault::ExtendedActivation(name) => explain_activation(alloc, parsed, name.as_str(), out),
-        GenFault::TwoInternal(name) => explain_internal(alloc, parsed, name.as_str(), out),
-        GenFault::NoProgram(name) => explain_no_program(alloc, parsed, name.as_str(), out),
-        GenFault::LastNotJump(name) => explain_last(alloc, parsed, name.as_str(), out),
-        GenFault::RetiInTask(name) => explain_return(alloc, parsed, name.as_str(), out),
-        GenFault::Mask(name) => explain_mask(alloc, parsed, name.as_str(), out),
-        GenFault::Counter(name) => {
-            explain_counter(alloc, parsed.oil, parsed.tree, name.as_str(), out)
-        }
-        GenFault::Alarm(name) => {
-            explain_alarm(alloc, parsed.oil, parsed.tree, name.as_str(), out)
-        }
+        GenFault::Limit(kind) => explain_limit(parsed, *kind, out),
+        GenFault::ExtendedActivation(name) => explain_activation(parsed, name.as_str(), out),
+        GenFault::TwoInternal(name) => explain_internal(parsed, name.as_str(), out),
+        GenFault::NoProgram(name) => explain_no_program(parsed, name.as_str(), out),
+        GenFault::LastNotJump(name) => explain_last(parsed, name.as_str(), out),
+        GenFault::RetiInTask(name) => explain_return(parsed, name.as_str(), out),
+        GenFault::Mask(name) => explain_mask(parsed, name.as_str(), out),
+        GenFault::Counter(name) => explain_counter(oil, tree, name.as_str(), out),
+        GenFault::Alarm(name) => explain_alarm(oil, tree, name.as_str(), out),
         GenFault::Memory => Ok(()),
     }
 }
 
 /// Explains why an OIL file and its programs, each without a fault of its own, make no system. Want of memory has no
 /// explanation. An error is a failed write, or want of memory for the explanation.
-pub fn explain_generation<W: Write>(
+pub fn explain_generation<'a, W: Write>(
     alloc: Global,
-    oil: Source<'_>,
-    asm: Source<'_>,
-    fault: &GenFault,
+    oil: Source<'a>,
+    asm: Source<'a>,
+    fault: &'a GenFault,
     out: &mut W,
 ) -> io::Result<()> {
     let Some(tree) = tree_of(alloc, oil.text) else {

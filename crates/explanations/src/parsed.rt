@@ -1,8 +1,7 @@
 //! The two texts of a system.
 
-use crate::code_words::CodeWord;
-use crate::source::Source;
 use oil_reader::SyntaxTree;
+use text_explanations::{CodeWord, Source};
 
 /// The two texts of a system, and what they consist of.
 #[derive(Clone, Copy)]

@@ -1,107 +1,126 @@
 //! Names that stand for objects, in the order in which generation looks them up.
 
-use crate::code_words::{CodeWord, Part};
-use crate::declared::{has_scheduler, is_internal, names, word_of};
-use crate::mnemonics::named_kind;
-use crate::notes::{write_choice, write_note};
+use crate::declared::{has_scheduler, is_internal, object, word_of};
+use crate::instructions::named_kind;
 use crate::parsed::Parsed;
-use crate::scopes::kind_word;
-use crate::source::Source;
-use oil_reader::{Attribute, Kind, Object, Setting, SyntaxTree};
+use oil_reader::{Attribute, Kind, Object, Setting, SyntaxTree, Value};
 use std::alloc::{AllocError, Global};
 use std::io::{self, Write};
 use task_asm::ProgramKind;
+use text_explanations::Piece::{self, Named, Text};
+use text_explanations::{CodeWord, Part, Source, names, write_choice, write_names};
 
 /// A name that stands for an object of a kind, and its place.
-#[derive(Clone, Copy, Debug)]
-pub(crate) struct Reference<'a> {
-    pub kind: Kind,
-    pub name: &'a str,
-    pub place: usize,
+#[derive(Clone, Copy)]
+struct Reference<'a> {
+    kind: Kind,
+    name: &'a str,
+    place: usize,
 }
 
-/// Adds the value of a setting, where it has that word.
-fn push_named<'a>(
+/// What a setting of that word names, where no object of the kind has the name.
+fn unknown<'a>(
+    tree: &SyntaxTree<'_>,
     setting: Setting<'a>,
     word: &str,
     kind: Kind,
-    found: &mut Vec<Reference<'a>>,
-) -> Result<(), AllocError> {
-    if setting.name.text == word {
-        if let Some(name) = word_of(setting.value) {
-            found.push(Reference {
+) -> Option<Reference<'a>> {
+    match setting.value {
+        Value::Name(name) if setting.name.text == word => {
+            if object(tree, kind, name.text).is_some() {
+                return None;
+            }
+            Some(Reference {
                 kind,
-                name,
+                name: name.text,
                 place: setting.value_place,
-            })?;
+            })
         }
+        _ => None,
     }
-    Ok(())
 }
 
-/// Adds what attributes of that word name.
-fn push_outer<'a>(
+/// The first unknown name in attributes of that word.
+fn unknown_outer<'a>(
+    tree: &SyntaxTree<'_>,
     object: &Object<'a>,
     word: &str,
     kind: Kind,
-    found: &mut Vec<Reference<'a>>,
-) -> Result<(), AllocError> {
+) -> Option<Reference<'a>> {
     for attribute in &object.attributes {
-        push_named(attribute.setting, word, kind, found)?;
+        let found = unknown(tree, attribute.setting, word, kind);
+        if found.is_some() {
+            return found;
+        }
     }
-    Ok(())
+    None
 }
 
-fn push_block<'a>(
+/// The first unknown name in settings of that word in the block of an attribute.
+fn unknown_in_block<'a>(
+    tree: &SyntaxTree<'_>,
     attribute: &Attribute<'a>,
     word: &str,
     kind: Kind,
-    found: &mut Vec<Reference<'a>>,
-) -> Result<(), AllocError> {
-    if let Some(block) = &attribute.block {
-        for setting in &block.settings {
-            push_named(*setting, word, kind, found)?;
+) -> Option<Reference<'a>> {
+    for setting in &attribute.block.as_ref()?.settings {
+        let found = unknown(tree, *setting, word, kind);
+        if found.is_some() {
+            return found;
         }
     }
-    Ok(())
+    None
 }
 
-/// Adds what settings of that word in the blocks of an object name.
-fn push_inner<'a>(
+/// The first unknown name in settings of that word in the blocks of an object.
+fn unknown_inner<'a>(
+    tree: &SyntaxTree<'_>,
     object: &Object<'a>,
     word: &str,
     kind: Kind,
-    found: &mut Vec<Reference<'a>>,
-) -> Result<(), AllocError> {
+) -> Option<Reference<'a>> {
     for attribute in &object.attributes {
-        push_block(attribute, word, kind, found)?;
+        let found = unknown_in_block(tree, attribute, word, kind);
+        if found.is_some() {
+            return found;
+        }
     }
-    Ok(())
+    None
 }
 
-/// The names in an OIL file that stand for objects: those of tasks, then those of alarms.
-fn references<'a>(alloc: Global, tree: &SyntaxTree<'a>) -> Result<Vec<Reference<'a>>, AllocError> {
-    let mut found = Vec::new(alloc);
-    for task in &tree.objects {
-        if task.kind == Kind::Task {
-            push_inner(task, "APPMODE", Kind::AppMode, &mut found)?;
-            push_outer(task, "RESOURCE", Kind::Resource, &mut found)?;
-            push_outer(task, "EVENT", Kind::Event, &mut found)?;
+/// The first unknown name of a task.
+fn unknown_of_task<'a>(tree: &SyntaxTree<'_>, task: &Object<'a>) -> Option<Reference<'a>> {
+    unknown_inner(tree, task, "APPMODE", Kind::AppMode)
+        .or(unknown_outer(tree, task, "RESOURCE", Kind::Resource))
+        .or(unknown_outer(tree, task, "EVENT", Kind::Event))
+}
+
+/// The first unknown name of an alarm.
+fn unknown_of_alarm<'a>(tree: &SyntaxTree<'_>, alarm: &Object<'a>) -> Option<Reference<'a>> {
+    unknown_outer(tree, alarm, "COUNTER", Kind::Counter)
+        .or(unknown_inner(tree, alarm, "TASK", Kind::Task))
+        .or(unknown_inner(tree, alarm, "EVENT", Kind::Event))
+        .or(unknown_inner(tree, alarm, "APPMODE", Kind::AppMode))
+}
+
+/// The first unknown name of the tasks, or else of the alarms, whichever kind is asked for.
+fn unknown_of<'a>(tree: &SyntaxTree<'a>, kind: Kind) -> Option<Reference<'a>> {
+    for object in &tree.objects {
+        if object.kind == kind {
+            let found = match kind {
+                Kind::Task => unknown_of_task(tree, object),
+                _ => unknown_of_alarm(tree, object),
+            };
+            if found.is_some() {
+                return found;
+            }
         }
     }
-    for alarm in &tree.objects {
-        if alarm.kind == Kind::Alarm {
-            push_outer(alarm, "COUNTER", Kind::Counter, &mut found)?;
-            push_inner(alarm, "TASK", Kind::Task, &mut found)?;
-            push_inner(alarm, "EVENT", Kind::Event, &mut found)?;
-            push_inner(alarm, "APPMODE", Kind::AppMode, &mut found)?;
-        }
-    }
-    Ok(found)
+    None
 }
 
 /// The kind of object that a word of a program text stands for, where it stands for one.
-fn kind_of(word: &CodeWord<'_>) -> Option<Kind> {
+fn kind_of(word: CodeWord<'_>) -> Option<Kind> {
     match word.part {
         Part::Owner(ProgramKind::Task) => Some(Kind::Task),
         Part::Owner(ProgramKind::Routine) => Some(Kind::Isr),
@@ -116,7 +135,34 @@ fn kind_of(word: &CodeWord<'_>) -> Option<Kind> {
     }
 }
 
-/// The names of the objects that an operand of a kind may name.
+/// Whether a program may name an object of that kind and name.
+fn is_known(tree: &SyntaxTree<'_>, kind: Kind, name: &str) -> bool {
+    if kind != Kind::Resource {
+        return object(tree, kind, name).is_some();
+    }
+    if name == "RES_SCHEDULER" && has_scheduler(tree) {
+        return true;
+    }
+    object(tree, kind, name).is_some() && !is_internal(tree, name)
+}
+
+/// The first name in programs that stands for nothing.
+fn unknown_in_code<'a>(tree: &SyntaxTree<'_>, words: &[CodeWord<'a>]) -> Option<Reference<'a>> {
+    for word in words {
+        if let Some(kind) = kind_of(*word) {
+            if !is_known(tree, kind, word.text) {
+                return Some(Reference {
+                    kind,
+                    name: word.text,
+                    place: word.place,
+                });
+            }
+        }
+    }
+    None
+}
+
+/// The names of the objects of a kind that programs may name.
 fn known_in_code<'a>(
     alloc: Global,
     tree: &SyntaxTree<'a>,
@@ -134,7 +180,7 @@ fn known_in_code<'a>(
     Ok(known)
 }
 
-/// Explains a name that stands for nothing.
+/// Explains a name that stands for nothing, where these do.
 fn explain_reference<W: Write>(
     alloc: Global,
     source: Source<'_>,
@@ -144,36 +190,19 @@ fn explain_reference<W: Write>(
     out: &mut W,
 ) -> io::Result<()> {
     let Reference { kind, name, place } = reference;
-    source.begin(place, out)?;
-    if kind == Kind::Resource && is_internal(tree, name) {
-        writeln!(out, "RESOURCE {name} is internal, so no program names it")?;
+    let object = Named(kind, name);
+    let what: [Piece<'_>; 2] = if kind == Kind::Resource && is_internal(tree, name) {
+        [object, Text(" is internal, so no program names it")]
     } else {
-        writeln!(out, "there is no {} {name}", kind_word(kind))?;
-    }
-    source.show_word(alloc, place, out)?;
+        [Text("there is no "), object]
+    };
+    source.tell(place, &what, out)?;
     write_choice(alloc, name, known, out)?;
-    if name == "RES_SCHEDULER" {
-        let why = "no task lists it, and programs name it unless USERESSCHEDULER is FALSE";
-        write_note("RES_SCHEDULER", why, out)?;
+    if name != "RES_SCHEDULER" {
+        return Ok(());
     }
-    Ok(())
-}
-
-/// Explains the first name of the OIL file that stands for nothing, and tells whether there is one.
-fn explain_in_oil<W: Write>(
-    alloc: Global,
-    oil: Source<'_>,
-    tree: &SyntaxTree<'_>,
-    out: &mut W,
-) -> io::Result<bool> {
-    for reference in references(alloc, tree)? {
-        let known = names(alloc, tree, reference.kind)?;
-        if !known.contains(&reference.name) {
-            explain_reference(alloc, oil, tree, reference, &known, out)?;
-            return Ok(true);
-        }
-    }
-    Ok(false)
+    let why = "no task lists it, and programs name it unless USERESSCHEDULER is FALSE";
+    write_names("RES_SCHEDULER", &[why], out)
 }
 
 /// Explains the first name of the OIL file or of the programs that stands for nothing.
@@ -182,27 +211,14 @@ pub(crate) fn explain_unknown_name<W: Write>(
     parsed: Parsed<'_, '_>,
     out: &mut W,
 ) -> io::Result<()> {
-    let Parsed {
-        oil,
-        tree,
-        asm,
-        words,
-    } = parsed;
-    if explain_in_oil(alloc, oil, tree, out)? {
+    let tree = parsed.tree;
+    if let Some(found) = unknown_of(tree, Kind::Task).or(unknown_of(tree, Kind::Alarm)) {
+        let known = names(alloc, tree, found.kind)?;
+        return explain_reference(alloc, parsed.oil, tree, found, &known, out);
+    }
+    let Some(found) = unknown_in_code(tree, parsed.words) else {
         return Ok(());
-    }
-    for word in words {
-        if let Some(kind) = kind_of(word) {
-            let known = known_in_code(alloc, tree, kind)?;
-            if !known.contains(&word.text) {
-                let reference = Reference {
-                    kind,
-                    name: word.text,
-                    place: word.place,
-                };
-                return explain_reference(alloc, asm, tree, reference, &known, out);
-            }
-        }
-    }
-    Ok(())
+    };
+    let known = known_in_code(alloc, tree, found.kind)?;
+    explain_reference(alloc, parsed.asm, tree, found, &known, out)
 }

@@ -1,10 +1,10 @@
 //! Values of counters and alarms that generation refuses.
 
-use crate::declared::{attribute, inner, is_set, number_of, object, word_of};
-use crate::source::Source;
-use oil_reader::{Attribute, Kind, Object, Setting, SyntaxTree};
-use std::alloc::Global;
+use crate::declared::{attribute, inner, number_in, number_of, object, word_of};
+use oil_reader::{Kind, Object, Setting, SyntaxTree};
 use std::io::{self, Write};
+use text_explanations::Piece::{Named, Number, Text};
+use text_explanations::Source;
 
 /// The greatest MAXALLOWEDVALUE.
 const TOP_VALUE: u32 = 2_147_483_647;
@@ -13,50 +13,50 @@ const TOP_VALUE: u32 = 2_147_483_647;
 #[derive(Clone, Copy)]
 struct Limits {
     most: u32,
-    base: u32,
     cycle: u32,
-}
-
-fn value_of(counter: &Object<'_>, word: &str) -> u32 {
-    match attribute(counter, word) {
-        Some(attribute) => number_of(attribute.setting.value),
-        None => 0,
-    }
 }
 
 fn limits_of(counter: &Object<'_>) -> Limits {
     Limits {
-        most: value_of(counter, "MAXALLOWEDVALUE"),
-        base: value_of(counter, "TICKSPERBASE"),
-        cycle: value_of(counter, "MINCYCLE"),
+        most: number_in(counter, "MAXALLOWEDVALUE"),
+        cycle: number_in(counter, "MINCYCLE"),
     }
 }
 
-/// Explains a value that is out of its range: `OWNER: WORD is from LEAST to MOST`.
-fn explain_value<W: Write>(
-    alloc: Global,
+/// Explains a value that is out of its range.
+fn explain_value<'a, W: Write>(
     source: Source<'_>,
-    owner: &Object<'_>,
-    setting: Setting<'_>,
+    owner: &Object<'a>,
+    setting: Setting<'a>,
     range: (u32, u32),
     out: &mut W,
 ) -> io::Result<()> {
     let (least, most) = range;
     let word = setting.name.text;
-    let number = number_of(setting.value);
-    source.begin(setting.value_place, out)?;
-    writeln!(out, "{word} of {} can't be {number}", owner.name.text)?;
-    source.show_word(alloc, setting.value_place, out)?;
-    if word == "CYCLETIME" {
-        writeln!(out, " allowed: 0, or {least} to {most}")
-    } else {
-        writeln!(out, " allowed: {least} to {most}")
-    }
+    let number = Number(number_of(setting.value) as usize);
+    let what = [
+        Text(word),
+        Text(" of "),
+        Text(owner.name.text),
+        Text(" can't be "),
+        number,
+    ];
+    let zero = match word {
+        "CYCLETIME" => "0, or ",
+        _ => "",
+    };
+    let allowed = [
+        Text(zero),
+        Number(least as usize),
+        Text(" to "),
+        Number(most as usize),
+    ];
+    source.note(setting.value_place, &what, "allowed", &allowed, out)
 }
 
 /// The attribute of a counter that is out of its range, and the range.
 fn wrong_value(counter: &Object<'_>) -> (&'static str, (u32, u32)) {
-    let Limits { most, base, cycle } = limits_of(counter);
+    let Limits { most, cycle } = limits_of(counter);
     if most == 0 || most > TOP_VALUE {
         ("MAXALLOWEDVALUE", (1, TOP_VALUE))
     } else if cycle == 0 || cycle > most {
@@ -68,7 +68,6 @@ fn wrong_value(counter: &Object<'_>) -> (&'static str, (u32, u32)) {
 
 /// Explains a counter with values that can't be.
 pub(crate) fn explain_counter<W: Write>(
-    alloc: Global,
     source: Source<'_>,
     tree: &SyntaxTree<'_>,
     name: &str,
@@ -79,7 +78,7 @@ pub(crate) fn explain_counter<W: Write>(
     };
     let (word, range) = wrong_value(counter);
     match attribute(counter, word) {
-        Some(attribute) => { explain_value(alloc, source, counter, attribute.setting, range, out) }
+        Some(attribute) => explain_value(source, counter, attribute.setting, range, out),
         None => Ok(()),
     }
 }
@@ -87,12 +86,12 @@ pub(crate) fn explain_counter<W: Write>(
 /// The counter of an alarm.
 fn counter_of<'t, 'a>(tree: &'t SyntaxTree<'a>, alarm: &Object<'a>) -> Option<&'t Object<'a>> {
     let attribute = attribute(alarm, "COUNTER")?;
-    object(tree, Kind::Counter, word_of(attribute.setting.value)?)
+    object(tree, Kind::Counter, word_of(attribute.setting.value))
 }
 
 /// The time of an alarm that is out of its range, and the range.
 fn wrong_time<'a>(alarm: &Object<'a>, counter: &Object<'a>) -> Option<(Setting<'a>, (u32, u32))> {
-    let Limits { most, cycle, .. } = limits_of(counter);
+    let Limits { most, cycle } = limits_of(counter);
     let start = inner(alarm, "AUTOSTART", "ALARMTIME")?;
     let time = number_of(start.value);
     if time == 0 || time > most {
@@ -107,31 +106,36 @@ fn wrong_time<'a>(alarm: &Object<'a>, counter: &Object<'a>) -> Option<(Setting<'
 }
 
 /// Explains an alarm that sets an event of a basic task.
-fn explain_basic<W: Write>(
-    alloc: Global,
-    source: Source<'_>,
-    alarm: &Object<'_>,
+fn explain_basic<'a, W: Write>(
+    source: Source<'a>,
+    alarm: &Object<'a>,
     out: &mut W,
 ) -> io::Result<()> {
     let Some(task) = inner(alarm, "ACTION", "TASK") else {
         return Ok(());
     };
-    let name = source.word(task.value_place);
-    source.begin(task.value_place, out)?;
-    writeln!(
+    let place = task.value_place;
+    let alarm = Named(Kind::Alarm, alarm.name.text);
+    let task = Named(Kind::Task, source.word(place));
+    let what = [
+        alarm,
+        Text(" sets an event of "),
+        task,
+        Text(", which lists none"),
+    ];
+    source.note(
+        place,
+        &what,
+        "allowed",
+        &[Text("a task that lists an event")],
         out,
-        "ALARM {} sets an event of TASK {name}, which lists none",
-        alarm.name.text
-    )?;
-    source.show_word(alloc, task.value_place, out)?;
-    writeln!(out, " allowed: a task that lists an event")
+    )
 }
 
 /// Explains an alarm with times that its counter doesn't have, or that sets an event of a basic task.
-pub(crate) fn explain_alarm<W: Write>(
-    alloc: Global,
-    source: Source<'_>,
-    tree: &SyntaxTree<'_>,
+pub(crate) fn explain_alarm<'a, W: Write>(
+    source: Source<'a>,
+    tree: &SyntaxTree<'a>,
     name: &str,
     out: &mut W,
 ) -> io::Result<()> {
@@ -143,7 +147,7 @@ pub(crate) fn explain_alarm<W: Write>(
         None => None,
     };
     match wrong {
-        Some((setting, range)) => explain_value(alloc, source, alarm, setting, range, out),
-        None => explain_basic(alloc, source, alarm, out),
+        Some((setting, range)) => explain_value(source, alarm, setting, range, out),
+        None => explain_basic(source, alarm, out),
     }
 }

@@ -203,6 +203,9 @@ module _ (S : System) (s : State) (settled : IsSettled S s) (known : AllByRecurs
       let_go (JobCalls j) h = releases_is (JobCalls j) h
       let_go (RoutineCalls a) h = refl
       let_go NobodyCalls h = refl
+  effect_kept c calls ready (Service.LoadShared o n) = refl
+  effect_kept c calls ready (Service.StoreShared None n v) = refl
+  effect_kept c calls ready (Service.StoreShared (Some r) n v) = refl
   effect_kept c calls ready (Service.SetEvent None m) = refl
   effect_kept c calls ready (Service.SetEvent (Some t) m) = same_objects (jobs_of t s.jobs) ∙ set_is t m ready
     where

@@ -16,7 +16,7 @@ use Rattle.osek_base.specs.Ceiling.{top_priority}
 use Rattle.osek_base.specs.State.{Job, JobId, State, same_id, jobs_of, waits}
 use Rattle.osek_base.specs.Priority.{dynamic_priority}
 use Rattle.osek_base.specs.Activation.{is_full}
-use Rattle.osek_base.specs.Service.{Caller, JobCalls, RoutineCalls, NobodyCalls, by_routine, holds_any, is_own_task, is_basic_caller, caller_may_take, holds, is_above_ceiling, is_resource, got_last, is_suspended, is_outranked, refusals, results, running_task, task_state, state_number}
+use Rattle.osek_base.specs.Service.{Caller, JobCalls, RoutineCalls, NobodyCalls, by_routine, holds_any, is_own_task, is_basic_caller, caller_may_take, holds, is_above_ceiling, is_resource, got_last, caller_holds, is_suspended, is_outranked, refusals, results, running_task, task_state, state_number}
 use Rattle.osek_base.proofs.ForemostLemmas.{best, fits, bounded_best}
 use Rattle.run_laws.proofs.Lists.{Pairs, EitherWay, all_weaker, all_kept, found, pairs_weaker, either_way}
 use Rattle.run_laws.proofs.Foremost.{AreApart, same_self, equal, only}
@@ -24,7 +24,7 @@ use Rattle.run_laws.proofs.Known.{IsCaller, IsRunningCaller}
 use Rattle.run_laws.proofs.Single.{IsSoundJob, IsSoundPair}
 use Rattle.kept_state.specs.Kept.{Slot, unbegun, slot_with, slot_of, slots_of, is_queued, task_in, queue, kept}
 use Rattle.kept_state.specs.Moves.{highest}
-use Rattle.kept_state.specs.KeptService.{kept_caller, by_routine_in, holds_any_in, is_own_in, is_basic_in, may_take_in, is_above_ceiling_in, got_last_in, is_full_in, is_suspended_in, holds_in, is_held_in, is_above, is_outranked_in, running_number, task_state_in, refusals_in, results_in}
+use Rattle.kept_state.specs.KeptService.{kept_caller, by_routine_in, holds_any_in, is_own_in, is_basic_in, may_take_in, is_above_ceiling_in, got_last_in, caller_holds_in, is_full_in, is_suspended_in, holds_in, is_held_in, is_above, is_outranked_in, running_number, task_state_in, refusals_in, results_in}
 use Rattle.kept_state.proofs.Parts.{IsOldest}
 use Rattle.kept_state.proofs.Settled.{IsSettled}
 use Rattle.kept_state.proofs.JobMoves.{IsFresh, IsLater, others_later, no_jobs}
@@ -215,6 +215,12 @@ module _ (S : System) (s : State) (settled : IsSettled S s) (known : AllByRecurs
   got_is (RoutineCalls a) r calls = refl
   got_is NobodyCalls r calls = refl
 
+  caller_holds_is : (c : Caller) (r : ResId) → IsCaller s c
+      → caller_holds c r ≡ caller_holds_in (kept S s) (kept_caller c) r
+  caller_holds_is (JobCalls j) r calls = ap (holds_in r) (sym (caller_slot j calls).1)
+  caller_holds_is (RoutineCalls a) r calls = refl
+  caller_holds_is NobodyCalls r calls = refl
+
   count_is : (js : List Job) → length js ≡ (slot_of js).count
   count_is [] = refl
   count_is (j ∷ js) = refl
@@ -278,6 +284,14 @@ module _ (S : System) (s : State) (settled : IsSettled S s) (known : AllByRecurs
   refusals_kept c calls (Service.ReleaseResource (Some r)) = λ i.
       (routine_is c i, Status.Access) ∷ (ceiling_is c r i, Status.Access) ∷
       (not (got_is c r calls i), Status.NoFunc) ∷ []
+  refusals_kept c calls (Service.LoadShared None n) = refl
+  refusals_kept c calls (Service.LoadShared (Some r) n) = λ i.
+      (routine_is c i, Status.Access) ∷ (same_resource ResId.Scheduler r, Status.Access) ∷
+      (not (caller_holds_is c r calls i), Status.Access) ∷ []
+  refusals_kept c calls (Service.StoreShared None n v) = refl
+  refusals_kept c calls (Service.StoreShared (Some r) n v) = λ i.
+      (routine_is c i, Status.Access) ∷ (same_resource ResId.Scheduler r, Status.Access) ∷
+      (not (caller_holds_is c r calls i), Status.Access) ∷ []
   refusals_kept c calls (Service.SetEvent None m) = refl
   refusals_kept c calls (Service.SetEvent (Some t) m) =
       λ i. (not (is_extended S t), Status.Access) ∷ (suspended_is t i, Status.State) ∷ []
@@ -303,6 +317,11 @@ module _ (S : System) (s : State) (settled : IsSettled S s) (known : AllByRecurs
   results_kept Service.GetTaskId = ap Results.One (number_is s.running)
   results_kept (Service.GetTaskState (Some t)) = λ i. Results.One (state_number (state_is t i))
   results_kept (Service.GetTaskState None) = refl
+  results_kept (Service.LoadShared o n) =
+      elim o as (λ o. results S s (Service.LoadShared o n) ≡ results_in S (kept S s) (Service.LoadShared o n)) [
+        | None ↦ refl
+        | Some r ↦ refl
+      ]
   results_kept (Service.GetEvent o) =
       elim o as
       (λ o. results S s (Service.GetEvent o) ≡ results_in S (kept S s) (Service.GetEvent o)) [ None ↦ refl | Some t ↦ refl ]

@@ -1,4 +1,4 @@
--- The words of windows: what is kept of tasks, interrupts and alarms neither reads nor changes them.
+-- The words of tasks and routines: what is kept beside them, words of resources too, neither reads nor changes them.
 use Rattle.std.proofs.Common.{◌≡◌, ℕ, suc, Bool, true, false, cond, nat_le, [], ◌∷◌, refl, ◌∙◌, ap, ap₂}
 use Rattle.std.specs.Prelude.{Option, Some, None, slice_index, bit_or}
 use Rattle.osek_base.specs.declared.instr.Service.{Service}
@@ -89,6 +89,9 @@ module _ (S : System) (w : Words) where
   effect_words d o (Service.GetResource (Some r)) = caller_words d (slot_gets r) o
   effect_words d o (Service.ReleaseResource None) = refl
   effect_words d o (Service.ReleaseResource (Some r)) = caller_words d slot_releases o
+  effect_words d o (Service.LoadShared r n) = refl
+  effect_words d o (Service.StoreShared None n v) = refl
+  effect_words d o (Service.StoreShared (Some r) n v) = refl
   effect_words d o (Service.SetEvent None m) = refl
   effect_words d o (Service.SetEvent (Some t) m) = set_words t (bit_or (slice_index o.masks t) m) o
   effect_words d o (Service.ClearEvent m) = cleared_words d m o

@@ -31,6 +31,7 @@ pub record Kept : Type 0 where
   pub alarms : List (Option Expiry)
   pub words : Words
   pub masks : List ℕ
+  pub shared : List (List ℕ)
   pub tick : ℕ
   pub over : Bool
 
@@ -100,6 +101,7 @@ kept S s =
       alarms = s.alarms;
       words = s.words;
       masks = s.masks;
+      shared = s.shared;
       tick = s.tick;
       over = s.over;
     }

@@ -11,7 +11,7 @@ use Rattle.osek_base.specs.System.{System, priority_of, activation_of, is_extend
 use Rattle.osek_base.specs.Ceiling.{ceiling, top_priority}
 use Rattle.osek_base.specs.Instruction.{Context}
 use Rattle.osek_base.specs.State.{State, interrupts_off}
-use Rattle.osek_base.specs.Service.{Caller, JobCalls, RoutineCalls, NobodyCalls, Reply, may_take, is_resource, refusals, first_refusal, results, invalid_task, state_number, is_met, meets, effect, answer}
+use Rattle.osek_base.specs.Service.{Caller, JobCalls, RoutineCalls, NobodyCalls, Reply, may_take, is_resource, refusals, first_refusal, results, invalid_task, state_number, is_met, meets, effect, answer, word_stored}
 use Rattle.kept_state.specs.Kept.{Kept, Slot, kept}
 use Rattle.kept_state.specs.Moves.{highest, slot_changed, ended_in, activated_in, released_in}
 
@@ -41,6 +41,7 @@ bare o =
       alarms = o.alarms;
       words = o.words;
       masks = o.masks;
+      shared = o.shared;
       tick = o.tick;
       over = o.over;
     }
@@ -74,15 +75,19 @@ abbrev pub got_last_in : Kept → KeptCaller → ResId → Bool
 got_last_in o (ByTask t) r = is_resource (last_of (o.slots t).held) r
 got_last_in o _ r = false
 
+-- whether a task's slot holds a resource
+abbrev pub holds_in : ResId → Slot → Bool
+holds_in r a = list_any (same_resource r) a.held
+
+abbrev pub caller_holds_in : Kept → KeptCaller → ResId → Bool
+caller_holds_in o (ByTask t) r = holds_in r (o.slots t)
+caller_holds_in o _ r = false
+
 abbrev pub is_full_in : System → Kept → ℕ → Bool
 is_full_in S o t = nat_le (activation_of S t) (o.slots t).count
 
 abbrev pub is_suspended_in : Kept → ℕ → Bool
 is_suspended_in o t = (o.slots t).count == 0
-
--- whether a task's slot holds a resource
-abbrev pub holds_in : ResId → Slot → Bool
-holds_in r a = list_any (same_resource r) a.held
 
 abbrev pub is_held_in : System → Kept → ResId → Bool
 is_held_in S o r = list_any (λ t. holds_in r (o.slots t)) (below (length S.tasks))
@@ -119,6 +124,12 @@ refusals_in S d o (Service.GetResource (Some r)) =
 refusals_in S d o (Service.ReleaseResource (Some r)) =
     (by_routine_in d, Status.Access) ∷ (is_above_ceiling_in S d r, Status.Access)
     ∷ (not (got_last_in o d r), Status.NoFunc) ∷ []
+refusals_in S d o (Service.LoadShared (Some r) i) =
+    (by_routine_in d, Status.Access) ∷ (same_resource ResId.Scheduler r, Status.Access)
+    ∷ (not (caller_holds_in o d r), Status.Access) ∷ []
+refusals_in S d o (Service.StoreShared (Some r) i v) =
+    (by_routine_in d, Status.Access) ∷ (same_resource ResId.Scheduler r, Status.Access)
+    ∷ (not (caller_holds_in o d r), Status.Access) ∷ []
 refusals_in S d o (Service.SetEvent (Some t) m) =
     (not (is_extended S t), Status.Access) ∷ (is_suspended_in o t, Status.State) ∷ []
 refusals_in S d o (Service.ClearEvent m) = (by_routine_in d, Status.CallLevel) ∷ (is_basic_in S d, Status.Access) ∷ []
@@ -180,6 +191,7 @@ effect_in S d o (Service.ChainTask (Some t)) = activated_in S t (caller_ended_in
 effect_in S d o Service.Schedule = if is_outranked_in S o d then with_caller_in d slot_given_up o else o
 effect_in S d o (Service.GetResource (Some r)) = with_caller_in d (slot_gets r) o
 effect_in S d o (Service.ReleaseResource (Some r)) = with_caller_in d slot_releases o
+effect_in S d o (Service.StoreShared (Some r) i v) = record o { shared = word_stored r i v o.shared }
 effect_in S d o (Service.SetEvent (Some t) m) = event_set_in S t m o
 effect_in S d o (Service.ClearEvent m) = events_cleared_in d m o
 effect_in S d o (Service.WaitEvent m) = event_awaited_in d m o

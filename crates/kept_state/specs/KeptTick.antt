@@ -11,7 +11,7 @@ use Rattle.osek_base.specs.declared.trace_event.Outcome.{Outcome}
 use Rattle.osek_base.specs.declared.trace_event.Source.{Source}
 use Rattle.osek_base.specs.System.{System, alarm, instruction_at}
 use Rattle.osek_base.specs.Instruction.{Context, Done, next, plain}
-use Rattle.osek_base.specs.State.{Active, fresh_context, words_after}
+use Rattle.osek_base.specs.State.{Active, fresh_context, no_shared, words_after}
 use Rattle.osek_base.specs.Alarm.{due_alarms, alarms_advanced}
 use Rattle.osek_base.specs.Service.{controlled}
 use Rattle.osek_base.specs.Tick.{action_call, error_record, flagged, routine_choice, at_values, moved, answered, shutdown_record, Step, tick}
@@ -141,6 +141,7 @@ still_in S =
       alarms = replicate (length S.alarms) None;
       words = λ owner index. 0;
       masks = replicate (length S.tasks) 0;
+      shared = replicate (length S.resources) no_shared;
       tick = 0;
       over = false;
     }

@@ -3,6 +3,7 @@ use Rattle.osek_base.specs.Proper.{IsProper}
 use Rattle.run_laws.proofs.SingleTick.{starts_singly}
 use Rattle.run_laws.proofs.Excluding.{excludes}
 use Rattle.run_laws.proofs.Blocking.{blocks_once}
+use Rattle.run_laws.proofs.Protection.{protects}
 use Rattle.kernel.specs.Run.{Run, IsLawful}
 
 pub lawful : (r : Run) → IsProper r.system → IsLawful r
@@ -10,4 +11,5 @@ lawful r proper = record {
   single_start = λ n. starts_singly r.system r.mode r.arrivals n proper;
   exclusion = λ n. excludes r.system r.mode r.arrivals n proper;
   single_blocking = λ n. blocks_once r.system r.mode r.arrivals n proper;
+  protection = λ n. protects r.system r.mode r.arrivals n proper;
 }

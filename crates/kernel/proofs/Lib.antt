@@ -3,6 +3,9 @@ pub mod ArrivalLemmas
 pub mod PhaseLemmas
 pub mod ExecutionLemmas
 pub mod RunLemmas
+pub mod StampLemmas
+pub mod ReadyLemmas
+pub mod WakeLemmas
 pub mod AlarmLemmas
 pub mod StartLemmas
 pub mod TickLemmas

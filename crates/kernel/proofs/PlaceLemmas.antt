@@ -4,6 +4,7 @@ use Rattle.std.specs.Prelude.{Some, None}
 use Rattle.std.proofs.lemmas.Bool.{ltb-true, cases_lt}
 use Rattle.std.proofs.lemmas.List.{get_or_past}
 use Rattle.osek_base.specs.declared.ids.Owner.{Owner}
+use Rattle.osek_base.specs.declared.ids.ResId.{ResId}
 use Rattle.osek_base.specs.declared.instr.Instr.{Instr}
 use Rattle.osek_base.specs.declared.instr.Plain.{Plain}
 use Rattle.osek_base.specs.declared.instr.Control.{Control}
@@ -92,6 +93,13 @@ module _ (S : System) (owner : Owner) (x : Context) (k : KnownPlace S owner x.pl
   known_call (Service.GetTaskState (Some t)) h = ltb-true _ _ h
   known_call (Service.GetResource r) h = tt
   known_call (Service.ReleaseResource r) h = tt
+  known_call (Service.LoadShared None y) h = tt
+  known_call (Service.LoadShared (Some (ResId.Declared r)) y) h = ltb-true _ _ (and_split _ _ (and_split _ _ h).0).0
+  known_call (Service.LoadShared (Some ResId.Scheduler) y) h = tt
+  known_call (Service.StoreShared None y z) h = tt
+  known_call (Service.StoreShared (Some (ResId.Declared r)) y z) h =
+      ltb-true _ _ (and_split _ _ (and_split _ _ (and_split _ _ h).0).0).0
+  known_call (Service.StoreShared (Some ResId.Scheduler) y z) h = tt
   known_call (Service.SetEvent None m) h = tt
   known_call (Service.SetEvent (Some t) m) h = ltb-true _ _ (and_split _ _ h).0
   known_call (Service.ClearEvent m) h = tt

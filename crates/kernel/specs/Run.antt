@@ -12,13 +12,14 @@ use Rattle.osek_base.specs.State.{Expiry, Words}
 use Rattle.osek_base.specs.Alarm.{is_due_at}
 use Rattle.osek_base.specs.Tick.{Step, tick}
 use Rattle.osek_base.specs.ArrivalList.{are_in_order}
-use Rattle.osek_base.specs.Laws.{StartsSingly, Excludes, BlocksOnce}
+use Rattle.osek_base.specs.Laws.{StartsSingly, Excludes, BlocksOnce, Protects}
 use Rattle.osek_base.specs.Proper.{IsProper}
 use Rattle.osek_base.specs.Trace.{Run as RunSoFar, arriving, run, with_earlier}
 use Rattle.kept_state.specs.Kept.{kept}
 use Rattle.kept_state.specs.Moves.{KeptRecorded}
 use Rattle.kept_state.specs.KeptTick.{boot_in, executed_in}
 use Rattle.machine.specs.Windows.{word}
+use Rattle.machine.specs.Code.{Programs, programs_of}
 use Rattle.services.specs.declared.caller.Execution.{Execution}
 use Rattle.services.specs.Objects.{Objects, kept_of, kept_in}
 use Rattle.services.specs.Calls.{caller_as}
@@ -50,11 +51,13 @@ abbrev pub record_at : System → ℕ → List Arrival → ℕ → List TraceEve
 record_at S mode arrivals t = (step_at S mode arrivals t).events
 
 -- what holds up to every tick: of one task no job but the oldest is begun; a resource that a job may take and is refused
--- is held by that job itself; and each time that a job becomes ready, it has at most one blocker
+-- is held by that job itself; each time that a job becomes ready, it has at most one blocker; and while a job holds a
+-- resource, its words change only by that job's own STR
 pub record IsLawful (r : Run) : Type 0 where
   pub single_start : (n : ℕ) → StartsSingly r.system r.mode r.arrivals n
   pub exclusion : (n : ℕ) → Excludes r.system r.mode r.arrivals n
   pub single_blocking : (n : ℕ) → BlocksOnce r.system r.mode r.arrivals n
+  pub protection : (n : ℕ) → Protects r.system r.mode r.arrivals n
 
 -- each arrival is of a routine of the system
 abbrev pub AreKnown : System → List Arrival → Type 0
@@ -74,10 +77,12 @@ AreAhead alarms = list_all (λ e. not (is_due_at 0 e)) alarms ≡ true
 abbrev pub at_tick : Objects → ℕ → Objects
 at_tick o t = record o { tick = t }
 
--- what a kernel keeps after so many ticks: what is kept of the state of the run, with the number of the next tick
-pub record IsKept (S : System) (mode : ℕ) (arrivals : List Arrival) (ticks cursor : ℕ) (o : Objects) (words : List ℕ) (opening : List TraceEvent) : Type 0 where
+-- what a kernel keeps after so many ticks: what is kept of the state of the run, with the number of the next tick, and the
+-- programs of the system
+pub record IsKept (S : System) (mode : ℕ) (arrivals : List Arrival) (ticks cursor : ℕ) (o : Objects) (words : List ℕ) (code : Programs) (opening : List TraceEvent) : Type 0 where
   pub system : o.system ≡ S
   pub proper : IsProper S
+  pub programs : code ≡ programs_of S
   pub known : AreKnown S arrivals
   pub left : AreLeft arrivals cursor ticks
   pub tick : o.tick ≡ ticks - 1

@@ -7,6 +7,7 @@ ghost use Rattle.osek_base.specs.State.{Words};
 ghost use Rattle.osek_base.specs.Tick.{shutdown_record};
 ghost use Rattle.run_laws.proofs.Formed.{IsPlaced};
 ghost use Rattle.machine.specs.Windows.{word};
+ghost use Rattle.machine.specs.Code.{programs_of};
 ghost use Rattle.kept_state.specs.KeptTick.{execute_phase_in};
 ghost use Rattle.kept_state.specs.Standing.{MayServe};
 ghost use Rattle.services.specs.Objects.{kept_in, kept_of};
@@ -14,7 +15,7 @@ ghost use Rattle.services.specs.Calls.{Executes};
 ghost use Rattle.kernel.specs.Run.{IsNext, executed_by, next_of, ends_routine, control_context};
 
 use crate::alarm_phase::record_error;
-use machine::{Cpu, Windows, exec_plain};
+use machine::{Code, Cpu, Windows, exec_plain};
 use osek_base::{
     Control, Instr, MAX_RECORDS, MAX_TICKS, Outcome, Plain, Register, Service, Source, System,
     TickRecord, TraceEvent,
@@ -27,10 +28,12 @@ use services::{Call, Core, Execution};
 pub fn execute_phase<Q: ReadyQueues>(
     core: &mut Core<'_, Q>,
     windows: &mut Windows,
+    code: &Code,
     system: &System,
     record_of_tick: &mut TickRecord,
 )
     requires proper { IsProper system.now }
+    requires code { code.now ≡ programs_of system.now }
     requires system { core.old.system ≡ system.now }
     requires serves { MayServe system.now (kept_in core.old) }
     requires all { core.old.suspended_all < MAX_TICKS }
@@ -43,7 +46,9 @@ pub fn execute_phase<Q: ReadyQueues>(
 {
     match core.execution() {
         None => record_of_tick.push(TraceEvent::Idle),
-        Some(mut execution) => execute(core, windows, system, &mut execution, record_of_tick),
+        Some(mut execution) => {
+            execute(core, windows, code, system, &mut execution, record_of_tick)
+        }
     }
 }
 
@@ -51,11 +56,13 @@ pub fn execute_phase<Q: ReadyQueues>(
 fn execute<Q: ReadyQueues>(
     core: &mut Core<'_, Q>,
     windows: &mut Windows,
+    code: &Code,
     system: &System,
     execution: &mut Execution,
     record_of_tick: &mut TickRecord,
 )
     requires proper { IsProper system.now }
+    requires code { code.now ≡ programs_of system.now }
     requires system { core.old.system ≡ system.now }
     requires serves { MayServe system.now (kept_in core.old) }
     requires all { core.old.suspended_all < MAX_TICKS }
@@ -68,7 +75,7 @@ fn execute<Q: ReadyQueues>(
     ensures events { record_of_tick.new ≡ record_of_tick.old ++ (executed_by system.now execution.old (next_of system.now execution.old) (word windows.old) core.old).events }
     ensures few { length record_of_tick.new ≤ length record_of_tick.old + 2 }
 {
-    let instr = system.instruction_at(execution.owner, execution.cpu.place());
+    let instr = next_instruction(code, system, execution);
     match &instr {
         Instr::Plain(plain) => {
             execute_plain(core, windows, system, execution, plain, record_of_tick)
@@ -80,6 +87,15 @@ fn execute<Q: ReadyQueues>(
             execute_control(core, system, execution, control, record_of_tick)
         }
     }
+}
+
+/// The instruction that who executes comes to.
+fn next_instruction(code: &Code, _system: &System, execution: &Execution) -> Instr
+    requires code { code.now ≡ programs_of _system.now }
+    requires placed { IsPlaced _system.now execution.now.owner execution.now.cpu }
+    ensures { IsNext _system.now execution.now result }
+{
+    code.fetch(execution.owner, execution.cpu.place())
 }
 
 /// A plain instruction.

@@ -1,10 +1,10 @@
 //! OSEK/VDX OS: system start-up; application modes. The kernel: boot, and ticks.
 
-ghost use Rattle.std.specs.Prelude.{◌≡◌, ◌<◌, ◌≤◌, ◌+◌, ◌++◌, ◌↔◌, [], false, Some, None, IfOk, length};
+ghost use Rattle.std.specs.Prelude.{◌≡◌, ◌<◌, ◌≤◌, ◌+◌, ◌++◌, ◌↔◌, [], false, Some, None, IfOk, slice_index, length};
 ghost use Rattle.osek_base.specs.Names.{number_of};
 ghost use Rattle.osek_base.specs.Proper.{IsProper};
 ghost use Rattle.services.specs.Levels.{level_lists};
-ghost use Rattle.osek_base.specs.State.{Words};
+ghost use Rattle.osek_base.specs.State.{Words, shared_window};
 ghost use Rattle.kept_state.specs.Kept.{kept};
 ghost use Rattle.kept_state.specs.KeptTick.{last_phase_in};
 ghost use Rattle.kept_state.specs.Moves.{rescheduled};
@@ -16,9 +16,10 @@ use crate::alarm_phase::alarm_phase;
 use crate::arrival_phase::arrival_phase;
 use crate::boot::{BootFault, booted};
 use crate::execute_phase::execute_phase;
-use machine::Windows;
+use machine::{Code, Windows};
 use osek_base::{
-    Arrivals, MAX_RECORDS, MAX_TICKS, ModeId, Owner, System, TickRecord, WINDOW_WORDS,
+    Arrivals, MAX_RECORDS, MAX_TICKS, ModeId, Owner, ResourceNumber, SHARED_WORDS, System,
+    TickRecord, WINDOW_WORDS,
 };
 use ready_queues::ReadyQueues;
 use services::Core;
@@ -36,6 +37,7 @@ pub struct Kernel<'s, Q: ReadyQueues> {
     ticks: u32,
     core: Core<'s, Q>,
     windows: Windows,
+    code: Code,
     opening: TickRecord,
 }
 
@@ -51,7 +53,7 @@ impl<'s, Q: ReadyQueues> Model for Kernel<'s, Q> {
       ticks = k.ticks;
     } };
 
-    ghost invariant = { λ k. IsKept k.system.now k.mode k.arrivals k.ticks k.arrived k.core k.windows k.opening };
+    ghost invariant = { λ k. IsKept k.system.now k.mode k.arrivals k.ticks k.arrived k.core k.windows k.code k.opening };
 }
 
 /// Puts in the records that stand before a tick's own: those of boot in tick 0, else none.
@@ -75,7 +77,7 @@ fn mode_of(system: &System, name: &str) -> Option<ModeId>
 }
 
 impl<'s, Q: ReadyQueues> Kernel<'s, Q> {
-    /// Boots a system in the application mode of that name.
+    /// Boots a system in the application mode of that name. Its programs are packed here, once.
     pub fn boot(
         alloc: Global,
         system: &'s System,
@@ -92,6 +94,7 @@ impl<'s, Q: ReadyQueues> Kernel<'s, Q> {
         };
         let mut opening = TickRecord::new();
         let core = booted(alloc, system, mode, &mut opening)?;
+        let code = Code::of(alloc, system)?;
         Ok(Kernel {
             system,
             mode,
@@ -100,6 +103,7 @@ impl<'s, Q: ReadyQueues> Kernel<'s, Q> {
             ticks: 0,
             core,
             windows: Windows::new(),
+            code,
             opening,
         })
     }
@@ -117,6 +121,15 @@ impl<'s, Q: ReadyQueues> Kernel<'s, Q> {
         ensures { result ≡ (run_of self.now).state.words owner index }
     {
         self.windows.word(owner, index as u8)
+    }
+
+    /// The word of a standard resource's window.
+    pub fn shared_word(&self, resource: ResourceNumber, index: u32) -> u32
+        requires resource { resource < length self.now.system.resources }
+        requires index { index < SHARED_WORDS }
+        ensures { result ≡ slice_index (shared_window (run_of self.now).state.shared resource) index }
+    {
+        self.core.shared_word(resource, index)
     }
 
     /// The ready queues: for each level the tasks that are ready and don't run, oldest first.
@@ -158,6 +171,7 @@ impl<'s, Q: ReadyQueues> Kernel<'s, Q> {
         execute_phase(
             &mut self.core,
             &mut self.windows,
+            &self.code,
             self.system,
             record_of_tick,
         );

@@ -1,2 +1,3 @@
 mod WindowLemmas
 pub mod ExecutionLemmas
+pub mod CodeLemmas

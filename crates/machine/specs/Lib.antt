@@ -1,2 +1,4 @@
 pub mod Windows
 pub mod Execution
+pub mod Packing
+pub mod Code

@@ -103,6 +103,12 @@ impl Cpu {
             Service::GetTaskState(task) => Service::GetTaskState(task),
             Service::GetResource(resource) => Service::GetResource(resource),
             Service::ReleaseResource(resource) => Service::ReleaseResource(resource),
+            Service::LoadShared(resource, index) => {
+                Service::LoadShared(resource, self.value(index))
+            }
+            Service::StoreShared(resource, index, new) => {
+                Service::StoreShared(resource, self.value(index), self.value(new))
+            }
             Service::SetEvent(task, mask) => Service::SetEvent(task, mask),
             Service::ClearEvent(mask) => Service::ClearEvent(mask),
             Service::GetEvent(task) => Service::GetEvent(task),

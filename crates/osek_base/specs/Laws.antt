@@ -1,16 +1,16 @@
 -- The theorems over whole runs, as public contracts cite them.
-use Rattle.std.specs.Prelude.{ℕ, ◌≡◌, ◌<◌, ◌≤◌, not, List, drop, Some, IsTrue, length}
-use Rattle.std.specs.List.{list_all, Contains}
+use Rattle.std.specs.Prelude.{ℕ, ◌≡◌, ◌<◌, ◌≤◌, Bool, false, not, ◌&&◌, ◌==◌, List, [], ◌∷◌, ◌++◌, drop, Some, IsTrue, IsFalse, length}
+use Rattle.std.specs.List.{list_all, list_any, Contains}
 use Rattle.osek_base.specs.Types.{ResId, Owner, Service, Instr, Status, Results, Outcome, TraceEvent}
 use Rattle.osek_base.specs.System.{System, mode_count}
-use Rattle.osek_base.specs.State.{Job, JobId, jobs_of}
+use Rattle.osek_base.specs.State.{Job, JobId, jobs_of, shared_window}
 use Rattle.osek_base.specs.Service.{may_take}
 use Rattle.osek_base.specs.Tick.{Step}
 use Rattle.osek_base.specs.Trace.{Arrival, boot, run}
 use Rattle.osek_base.specs.Separable.{Separable}
 use Rattle.osek_base.specs.Agree.{Agree, upper_core, upper_part}
 use Rattle.osek_base.specs.View.{view}
-use Rattle.osek_base.specs.Blocker.{executing_job, is_ready_from, blockers}
+use Rattle.osek_base.specs.Blocker.{executing_job, executes, is_ready_from, blockers}
 use Rattle.osek_base.specs.GoodState.{IsGood, IsShaped}
 use Rattle.osek_base.specs.Proper.{IsProper}
 
@@ -50,6 +50,44 @@ abbrev pub BlocksOnce : System → ℕ → List Arrival → ℕ → Type 0
 BlocksOnce S mode arrivals n =
     (u : ℕ) (job : JobId) → IsTrue (is_ready_from S (boot S mode).state (run S mode arrivals n).steps u job)
     → length (blockers S (run S mode arrivals n).steps u job) ≤ 1
+
+-- ---- shared data
+
+abbrev pub is_get : ℕ → Service ℕ → Bool
+is_get r (Service.GetResource (Some (ResId.Declared q))) = q == r
+is_get r _ = false
+
+abbrev pub is_release : ℕ → Service ℕ → Bool
+is_release r (Service.ReleaseResource (Some (ResId.Declared q))) = q == r
+is_release r _ = false
+
+abbrev pub is_store : ℕ → Service ℕ → Bool
+is_store r (Service.StoreShared (Some (ResId.Declared q)) i v) = q == r
+is_store r _ = false
+
+-- whether a record tells of a service that passes the test and was answered E_OK
+abbrev pub tells : (Service ℕ → Bool) → TraceEvent → Bool
+tells test (TraceEvent.Executed who place (Instr.Service call) (Outcome.Answer Status.Ok found)) = test call
+tells test _ = false
+
+-- whether in a step the job of that id calls such a service, which is answered E_OK
+abbrev pub does : (Service ℕ → Bool) → JobId → Step → Bool
+does test n step = executes n step && list_any (tells test) step.events
+
+-- the window of a resource after some steps, of which there is one at least
+abbrev pub shared_after : ℕ → Step → List Step → List ℕ
+shared_after r step [] = shared_window step.after.shared r
+shared_after r step (next ∷ rest) = shared_after r next rest
+
+-- protection: from a job's GetResource until its ReleaseResource, each answered E_OK, the words of the resource change only
+-- by that job's own STR
+abbrev pub Protects : System → ℕ → List Arrival → ℕ → Type 0
+Protects S mode arrivals n =
+    (r : ℕ) (job : JobId) (earlier between : List Step) (got next : Step)
+    → (run S mode arrivals n).steps ≡ earlier ++ got ∷ between ++ next ∷ []
+    → IsTrue (does (is_get r) job got) → IsFalse (list_any (does (is_release r) job) between)
+    → IsFalse (does (is_store r) job next)
+    → shared_window next.after.shared r ≡ shared_after r got between
 
 -- every state of a run of a proper system is good, and has its shape
 abbrev pub StaysGood : Type 0

@@ -24,6 +24,7 @@ pub mod Separable
 pub mod Agree
 pub mod View
 pub mod Blocker
+pub mod BlockingText
 pub mod GoodState
 pub mod Classes
 pub mod Proper

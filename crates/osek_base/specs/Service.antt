@@ -5,7 +5,7 @@ use Rattle.osek_base.specs.Types.{ResId, Service, Control, Status, Results, Task
 use Rattle.osek_base.specs.Lists.{is_empty, last_of, without_last, same_resource}
 use Rattle.osek_base.specs.System.{System, lists_resource, is_extended, counter_of}
 use Rattle.osek_base.specs.Ceiling.{ceiling}
-use Rattle.osek_base.specs.State.{Job, JobId, Active, Expiry, State, interrupts_off, same_id, jobs_of, with_job, waits}
+use Rattle.osek_base.specs.State.{Job, JobId, Active, Expiry, State, interrupts_off, same_id, jobs_of, with_job, waits, shared_word, with_shared}
 use Rattle.osek_base.specs.Priority.{static_priority, dynamic_priority}
 use Rattle.osek_base.specs.Activation.{is_full, activated, released, ended}
 use Rattle.osek_base.specs.Alarm.{count, expiry, next_count, is_bad_cycle, with_alarm}
@@ -70,6 +70,11 @@ abbrev pub got_last : Caller → ResId → Bool
 got_last (JobCalls j) r = is_resource (last_of j.held) r
 got_last _ r = false
 
+-- whether the caller is a job that holds the resource
+abbrev pub caller_holds : Caller → ResId → Bool
+caller_holds (JobCalls j) r = holds j r
+caller_holds _ r = false
+
 -- whether a task has no job
 abbrev pub is_suspended : State → ℕ → Bool
 is_suspended s t = is_empty (jobs_of t s.jobs)
@@ -99,6 +104,12 @@ refusals S c s (Service.GetResource (Some r)) =
 refusals S c s (Service.ReleaseResource None) = (true, Status.Id) ∷ []
 refusals S c s (Service.ReleaseResource (Some r)) =
     (by_routine c, Status.Access) ∷ (is_above_ceiling S c r, Status.Access) ∷ (not (got_last c r), Status.NoFunc) ∷ []
+refusals S c s (Service.LoadShared None i) = (true, Status.Id) ∷ []
+refusals S c s (Service.LoadShared (Some r) i) =
+    (by_routine c, Status.Access) ∷ (same_resource ResId.Scheduler r, Status.Access) ∷ (not (caller_holds c r), Status.Access) ∷ []
+refusals S c s (Service.StoreShared None i v) = (true, Status.Id) ∷ []
+refusals S c s (Service.StoreShared (Some r) i v) =
+    (by_routine c, Status.Access) ∷ (same_resource ResId.Scheduler r, Status.Access) ∷ (not (caller_holds c r), Status.Access) ∷ []
 refusals S c s (Service.SetEvent None m) = (true, Status.Id) ∷ []
 refusals S c s (Service.SetEvent (Some t) m) =
     (not (is_extended S t), Status.Access) ∷ (is_suspended s t, Status.State) ∷ []
@@ -158,9 +169,15 @@ abbrev pub remaining : ℕ → Option Expiry → ℕ
 remaining n None = 0
 remaining n (Some e) = e.count - n
 
+-- the word of a resource's window, of which RES_SCHEDULER has none
+abbrev pub word_of : List (List ℕ) → ResId → ℕ → ℕ
+word_of shared (ResId.Declared r) i = shared_word shared r i
+word_of shared ResId.Scheduler i = 0
+
 abbrev pub results : System → State → Service ℕ → Results
 results S s Service.GetTaskId = Results.One (running_task s.running)
 results S s (Service.GetTaskState (Some t)) = Results.One (state_number (task_state s t))
+results S s (Service.LoadShared (Some r) i) = Results.One (word_of s.shared r i)
 results S s (Service.GetEvent (Some t)) = Results.One (slice_index s.masks t)
 results S s (Service.GetAlarm (Some a)) = Results.One (remaining (count S s a) (expiry s a))
 results S s (Service.GetAlarmBase (Some a)) =
@@ -234,6 +251,11 @@ event_awaited (JobCalls j) m s =
     else record s { jobs = with_job j.id (waiting_for m) s.jobs }
 event_awaited _ m s = s
 
+-- the windows of resources, of which one gets a word
+abbrev pub word_stored : ResId → ℕ → ℕ → List (List ℕ) → List (List ℕ)
+word_stored (ResId.Declared r) i v shared = with_shared shared r i v
+word_stored ResId.Scheduler i v shared = shared
+
 abbrev pub effect : System → Caller → State → Service ℕ → State
 effect S c s (Service.ActivateTask (Some t)) = activated S t s
 effect S c s Service.TerminateTask = caller_ended c s
@@ -241,6 +263,7 @@ effect S c s (Service.ChainTask (Some t)) = activated S t (caller_ended c s)
 effect S c s Service.Schedule = if is_outranked S c s.jobs then with_caller c given_up s else s
 effect S c s (Service.GetResource (Some r)) = with_caller c (gets r) s
 effect S c s (Service.ReleaseResource (Some r)) = with_caller c releases s
+effect S c s (Service.StoreShared (Some r) i v) = record s { shared = word_stored r i v s.shared }
 effect S c s (Service.SetEvent (Some t) m) = event_set t m s
 effect S c s (Service.ClearEvent m) = events_cleared c m s
 effect S c s (Service.WaitEvent m) = event_awaited c m s
@@ -253,9 +276,9 @@ effect S c s _ = s
 
 -- ---- the service
 
--- a service changes jobs, masks and alarms, and nothing else of the state
+-- a service changes jobs, masks, alarms and shared words, and nothing else of the state
 abbrev pub with_objects_of : State → State → State
-with_objects_of s e = record s { jobs = e.jobs; made = e.made; masks = e.masks; alarms = e.alarms }
+with_objects_of s e = record s { jobs = e.jobs; made = e.made; masks = e.masks; alarms = e.alarms; shared = e.shared }
 
 abbrev pub answer : Option Status → Status
 answer None = Status.Ok

@@ -74,6 +74,9 @@ service_text names Service.GetTaskId = codes "GTID"
 service_text names (Service.GetTaskState t) = written (codes "GTST") (task_text names t ∷ [])
 service_text names (Service.GetResource r) = written (codes "GETR") (resource_text names r ∷ [])
 service_text names (Service.ReleaseResource r) = written (codes "RELR") (resource_text names r ∷ [])
+service_text names (Service.LoadShared r x) = written (codes "LDR") (resource_text names r ∷ register_text x ∷ [])
+service_text names (Service.StoreShared r x y) =
+    written (codes "STR") (resource_text names r ∷ register_text x ∷ register_text y ∷ [])
 service_text names (Service.SetEvent t m) = written (codes "SETE") (task_text names t ∷ mask_text m ∷ [])
 service_text names (Service.ClearEvent m) = written (codes "CLRE") (mask_text m ∷ [])
 service_text names (Service.GetEvent t) = written (codes "GETE") (task_text names t ∷ [])

@@ -101,6 +101,8 @@ executor s = caller_of s.active s.running s.jobs
 abbrev pub at_values : Context → Service ℕ → Service ℕ
 at_values x (Service.SetRelAlarm a increment cycle) = Service.SetRelAlarm a (value x increment) (value x cycle)
 at_values x (Service.SetAbsAlarm a start cycle) = Service.SetAbsAlarm a (value x start) (value x cycle)
+at_values x (Service.LoadShared r i) = Service.LoadShared r (value x i)
+at_values x (Service.StoreShared r i v) = Service.StoreShared r (value x i) (value x v)
 at_values x call = call
 
 abbrev pub moved : Context → Active → Active

@@ -54,6 +54,11 @@ pub enum Service<V> {
     GetTaskState(Option<TaskId>),
     GetResource(Option<ResId>),
     ReleaseResource(Option<ResId>),
+    /// LDR, no part of the standard: reads the word of the resource's window whose index, mod 16, is the value.
+    LoadShared(Option<ResId>, V),
+    /// STR, no part of the standard: the word of the resource's window whose index, mod 16, is the first value becomes the
+    /// second.
+    StoreShared(Option<ResId>, V, V),
     SetEvent(Option<TaskId>, u32),
     ClearEvent(u32),
     GetEvent(Option<TaskId>),

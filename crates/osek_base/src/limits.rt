@@ -45,6 +45,9 @@ pub const REGISTERS: usize = 8;
 /// How many words there are in the window of a task or a routine.
 pub const WINDOW_WORDS: usize = 64;
 
+/// How many words there are in the window of a standard resource.
+pub const SHARED_WORDS: usize = 16;
+
 /// How many interrupt requests an arrival list has at most.
 pub const MAX_ARRIVALS: usize = 65_536;
 

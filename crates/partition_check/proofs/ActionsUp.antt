@@ -61,7 +61,13 @@ pub activated_lower_up : (S : System) (p : ℕ) → IsCounterpart S p → (t : �
 unfolding activated
 activated_lower_up S p both t s inside low =
     let unseen : IsUnseen S p s (activated S t s) = activated_unseen S p t s (later_tasks S p both t inside low) low in
-    λ i. record (up S p s) { jobs = unseen.jobs i; made = unseen.made i; masks = unseen.masks i; alarms = unseen.alarms i }
+    λ i. record (up S p s) {
+      jobs = unseen.jobs i;
+      made = unseen.made i;
+      masks = unseen.masks i;
+      alarms = unseen.alarms i;
+      shared = unseen.shared i;
+    }
 
 pub activated_layered : (S : System) (p t : ℕ) (s : State) → t < length S.tasks → IsLayered S p s → IsLayered S p (activated S t s)
 unfolding activated
@@ -71,6 +77,7 @@ activated_layered S p t s inside layered =
       made = after.made;
       masks = after.masks;
       alarms = after.alarms;
+      shared = after.shared;
       jobs = after.jobs;
       running = layered.running;
       quiet = layered.quiet;

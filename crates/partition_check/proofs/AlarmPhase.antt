@@ -73,6 +73,7 @@ pub advanced_layered : (S : System) (p : ℕ) (s : State) → IsLayered S p s �
 advanced_layered S p s layered = record {
   made = layered.made;
   masks = layered.masks;
+  shared = layered.shared;
   alarms = length-map (below (length S.alarms)) (advanced S s) ∙ length_below (length S.alarms);
   jobs = layered.jobs;
   running = layered.running;

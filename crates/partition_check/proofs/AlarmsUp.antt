@@ -51,7 +51,7 @@ read_at f (y ∷ xs) zero x d e = let same : y ≡ x = grind arith in ap f same
 read_at f (y ∷ xs) (suc k) x d e = read_at f xs k x d e
 
 -- a function that changes at the element of place k alone
-change_at : {X Y : Type 0} (f g : X → Y) (xs : List X) (k : ℕ) (x : X) (v : Y) → slice_get xs k ≡ Some x → g x ≡ v
+pub change_at : {X Y : Type 0} (f g : X → Y) (xs : List X) (k : ℕ) (x : X) (v : Y) → slice_get xs k ≡ Some x → g x ≡ v
     → ((i : ℕ) (y : X) → slice_get xs i ≡ Some y → (i ≡ k → ⊥) → g y ≡ f y) → map g xs ≡ set (map f xs) k v
 change_at f g [] k x v e here others = absurd (grind arith)
 change_at f g (y ∷ xs) zero x v e here others =

@@ -3,17 +3,18 @@ use Rattle.std.proofs.Common.{◌≡◌, ℕ, suc, ◌<◌, ◌≤◌, Bool, tru
 use Rattle.std.proofs.Math.Path.{fun_ext}
 use Rattle.std.specs.Prelude.{Option, None}
 use Rattle.std.specs.List.{filter, AllByRecursion}
-use Rattle.std.proofs.lemmas.List.{length-map, length-replicate, take-replicate, get_or-map}
+use Rattle.std.proofs.lemmas.List.{length-map, length-replicate, take-replicate, get_or-map, get_or-replicate}
+use Rattle.std.proofs.lemmas.Simd.{splat_is_map}
 use Rattle.osek_base.specs.declared.trace_event.TraceEvent.{TraceEvent}
 use Rattle.osek_base.specs.Lists.{below, is_in}
 use Rattle.osek_base.specs.System.{System, Task, Alarm, alarm, no_alarm, start_in, starts_in}
-use Rattle.osek_base.specs.State.{State, Expiry, Words, still}
+use Rattle.osek_base.specs.State.{State, Expiry, Words, still, no_shared, shared_window}
 use Rattle.osek_base.specs.Alarm.{expiry}
 use Rattle.osek_base.specs.Activation.{activated}
 use Rattle.osek_base.specs.Reschedule.{hooked, reschedule}
 use Rattle.osek_base.specs.Trace.{boot, all_activated, starting_tasks, starting_alarms, first_expiry}
 use Rattle.osek_base.specs.Upper.{is_upper_task, is_upper_alarm, is_upper_owner}
-use Rattle.osek_base.specs.Agree.{recounted, upper_alarms, upper_routine, upper_core}
+use Rattle.osek_base.specs.Agree.{recounted, is_upper_declared, upper_resources, upper_alarms, upper_routine, upper_core}
 use Rattle.partition_check.proofs.UpperState.{up, upper_count, up_word}
 use Rattle.partition_check.proofs.Falling.{kept_short, kept_same, map_kept, map_twice}
 use Rattle.partition_check.proofs.CoreFacts.{lt_true, lt_false}
@@ -52,6 +53,14 @@ module _ (S : System) (p : ℕ) (mode : ℕ) where
       go true = refl
       go false = refl
 
+  no_shared_up : (both : IsCounterpart S p)
+      → map (shared_window (begun S mode).shared) (upper_resources S p)
+      ≡ replicate (length (upper_core S p).resources) no_shared
+  no_shared_up both =
+      map_kept (shared_window (begun S mode).shared) (λ r. no_shared) (is_upper_declared S p) (length S.resources)
+      (λ r inside. get_or-replicate (length S.resources) r no_shared [] inside)
+      ∙ sym (splat_is_map (upper_resources S p) (length (upper_core S p).resources) no_shared (sym both.resource_count))
+
   no_jobs : (both : IsCounterpart S p) → take {A = ℕ} (upper_count S p) (replicate (length S.tasks) 0) ≡ replicate (length (upper_core S p).tasks) 0
   no_jobs both =
       take-replicate (upper_count S p) (length S.tasks) 0 both.within ∙ ap (λ n. replicate n 0) (sym both.task_count)
@@ -61,12 +70,14 @@ module _ (S : System) (p : ℕ) (mode : ℕ) where
       let zeros = no_jobs both in
       let flags : replicate (length S.routines) false ≡ replicate (length (upper_core S p).routines) false =
       ap (λ n. replicate n false) (sym (length-map S.routines (upper_routine S p))) in
+      let windows = no_shared_up both in
       λ i. record (begun (upper_core S p) mode) {
         made = zeros i;
         pending = flags i;
         alarms = starts_up i;
         words = no_words i;
         masks = zeros i;
+        shared = windows i;
       }
 
   begun_layered : IsLayered S p (begun S mode)
@@ -74,6 +85,7 @@ module _ (S : System) (p : ℕ) (mode : ℕ) where
     made = length-replicate (length S.tasks) 0;
     masks = length-replicate (length S.tasks) 0;
     alarms = length-map S.alarms (λ a. first_expiry (start_in mode a.autostart));
+    shared = length-replicate (length S.resources) no_shared;
     jobs = tt;
     running = λ id e. absurd (grind arith);
     quiet = λ id e low idle. refl;

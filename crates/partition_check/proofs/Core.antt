@@ -8,13 +8,13 @@ use Rattle.osek_base.specs.declared.task.Schedule.{Schedule}
 use Rattle.osek_base.specs.Names.{name_at}
 use Rattle.osek_base.specs.System.{System, Routine, Alarm, task, alarm, counter, counter_of, no_alarm, no_counter, no_routine, lists_resource}
 use Rattle.osek_base.specs.Ceiling.{declared_ceiling, internal_ceiling, internal_ceiling_by, is_internal}
-use Rattle.osek_base.specs.Agree.{rank, is_upper_declared, renumbered, upper_routine, upper_alarms, upper_core, recounted}
+use Rattle.osek_base.specs.Agree.{rank, is_upper_declared, renumbered, upper_routine, upper_resources, upper_alarms, upper_core, recounted, resource}
 use Rattle.osek_base.specs.Upper.{is_upper_task, is_upper_alarm}
 use Rattle.osek_base.specs.Proper.{IsProper}
 use Rattle.osek_base.specs.Separable.{Separable}
 use Rattle.partition_check.proofs.Ranks.{kept_at, at_map}
 use Rattle.partition_check.proofs.Falling.{in_Contains, find_in}
-use Rattle.partition_check.proofs.CoreFacts.{within, few, split, task_count, tasks, task_names, internal, ceilings, same_renumbered, lists_same, resource_names}
+use Rattle.partition_check.proofs.CoreFacts.{within, few, split, task_count, tasks, task_names, internal, ceilings, same_renumbered, lists_same, resource_names, resource_place, standard_same}
 use Rattle.partition_check.proofs.Shared.{IsCounterpart, IsLow}
 
 -- ---- lower tasks
@@ -113,6 +113,9 @@ counterpart S p proper separable =
       same = same_renumbered S p;
       lists = lists_same S p proper;
       resource_names = resource_names S p proper;
+      resource_count = length-map (upper_resources S p) (resource S);
+      resource_at = resource_place S p proper;
+      standard = standard_same S p proper lower;
       routine_programs = routine_program S p S.routines;
       alarm_count = recounted_length 0 (map (alarm S) (upper_alarms S p)) ∙ length-map (upper_alarms S p) (alarm S);
       alarm_at = alarm_place S p;

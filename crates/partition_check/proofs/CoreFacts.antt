@@ -1,7 +1,7 @@
 -- The upper core beside its system: tasks, ceilings, and what tasks list.
-use Rattle.std.proofs.Common.{◌≡◌, ℕ, ◌<◌, ◌≤◌, Bool, true, false, ◌||◌, nat_lt, nat_le, List, [], ◌∷◌, map, length, refl, sym, ◌∙◌, ap, ap₂, arith}
+use Rattle.std.proofs.Common.{◌≡◌, ℕ, ◌<◌, ◌≤◌, Bool, true, false, not, ◌||◌, nat_lt, nat_le, List, [], ◌∷◌, map, length, refl, sym, ◌∙◌, ap, ap₂, subst, arith}
 use Rattle.std.specs.Prelude.{Some, slice_get, slice_index_or}
-use Rattle.std.specs.List.{list_all, AllByRecursion}
+use Rattle.std.specs.List.{filter, list_all, AllByRecursion}
 use Rattle.std.proofs.lemmas.List.{length-map}
 use Rattle.osek_base.specs.declared.limits.TheConstants.{MAX_TASKS, MAX_TASK_PRIORITY}
 use Rattle.osek_base.specs.declared.ids.ResId.{ResId}
@@ -13,10 +13,14 @@ use Rattle.osek_base.specs.System.{System, Task, task, no_task, priority_of, lis
 use Rattle.osek_base.specs.Ceiling.{declared_ceiling, top_priority, ceiling, internal_ceiling, internal_ceiling_by, is_internal, is_internal_property}
 use Rattle.osek_base.specs.Agree.{kept, rank, is_upper_declared, renumbered_resource, upper_task, upper_tasks, upper_resources, upper_core, resource}
 use Rattle.osek_base.specs.Upper.{is_upper_task}
+use Rattle.osek_base.specs.View.{upper_standard}
 use Rattle.osek_base.specs.Proper.{IsProper, is_proper_task, are_falling, are_proper_resources}
 use Rattle.partition_check.proofs.UpperState.{upper_count}
 use Rattle.partition_check.proofs.Ranks.{clash, rank_same, rank_within, kept_at, below_at, at_map, IsFirstly, first_kept, first_split}
 use Rattle.partition_check.proofs.Falling.{and_split, all_at, greatest_first, ceiling_kept, top_kept, kept_short, kept_same, map_kept, map_below, falling_pair, ceiling_covers, each_in, in_Contains, find_renumbered}
+use Rattle.partition_check.proofs.Renumbering.{filter_ranked}
+use Rattle.partition_check.proofs.ListsUp.{filter_swap}
+use Rattle.partition_check.proofs.Picked.{all_kept, each_ranked}
 use Rattle.partition_check.proofs.Shared.{is_visible}
 
 pub lt_true : (a b : ℕ) → a < b → nat_lt a b ≡ true
@@ -112,17 +116,20 @@ module _ (S : System) (p : ℕ) (proper : IsProper S) where
       all_at (λ n. nat_lt n (length S.resources)) (task S t).resources place.0 r known place.1 in
       true_lt r (length S.resources) (ap (λ n. nat_lt n (length S.resources)) (sym place.2) ∙ small)
 
+  pub resource_place : (r : ℕ) → r < length S.resources → is_upper_declared S p r ≡ true
+      → slice_get (upper_resources S p) (rank (is_upper_declared S p) r) ≡ Some r
+  resource_place r h pass = kept_at (is_upper_declared S p) (length S.resources) r h pass
+
   pub resource_names : (r : ℕ) → r < length S.resources → is_upper_declared S p r ≡ true
       → name_at (upper_core S p).names.resources (rank (is_upper_declared S p) r) ≡ name_at S.names.resources r
   resource_names r h pass =
-      at_map (name_at S.names.resources) (upper_resources S p) (rank (is_upper_declared S p) r) r []
-      (kept_at (is_upper_declared S p) (length S.resources) r h pass)
+      at_map (name_at S.names.resources) (upper_resources S p) (rank (is_upper_declared S p) r) r [] (resource_place r h pass)
 
   pub internal_same : (r : ℕ) → r < length S.resources → is_upper_declared S p r ≡ true
       → is_internal (upper_core S p) (rank (is_upper_declared S p) r) ≡ is_internal S r
   internal_same r h pass =
       ap is_internal_property (at_map (resource S) (upper_resources S p) (rank (is_upper_declared S p) r) r Property.Standard
-      (kept_at (is_upper_declared S p) (length S.resources) r h pass))
+      (resource_place r h pass))
 
   -- ---- ceilings
 
@@ -156,6 +163,28 @@ module _ (S : System) (p : ℕ) (proper : IsProper S) where
         ∙ ap (λ ns. greatest (map (priority_of S) ns)) (kept_same (λ t. lists_resource (upper_core S p) t new) (λ t. lists_resource S t r) (upper_count S p) (λ t h. lists_same t r h pass))
         ∙ ap (λ ns. greatest (map (priority_of S) ns)) (sym (kept_short (λ t. lists_resource S t r) (upper_count S p) (length S.tasks) within (λ t more inside. unlisted t r pass more inside)))
         ∙ sym (ceiling_kept S r)
+
+    -- all resources of the core are upper
+    pub upper_same : (r : ℕ) → r < length (upper_core S p).resources → is_upper_declared (upper_core S p) p r ≡ true
+    upper_same r h =
+        each_ranked (λ i. is_upper_declared (upper_core S p) p i ≡ true) (is_upper_declared S p) (length S.resources)
+        (λ a inside pass. ap (nat_le p) (declared_same a pass) ∙ pass)
+        r (subst (λ n. r < n) (length-map (upper_resources S p) (resource S)) h)
+
+    pub resource_numbers : upper_resources (upper_core S p) p ≡ below (rank (is_upper_declared S p) (length S.resources))
+    resource_numbers =
+        all_kept (is_upper_declared (upper_core S p) p) (length (upper_core S p).resources) upper_same
+        ∙ ap below (length-map (upper_resources S p) (resource S))
+
+    -- those that a job may get are the same
+    pub standard_same : upper_standard (upper_core S p) p ≡ map (rank (is_upper_declared S p)) (upper_standard S p)
+    standard_same =
+        ap (filter (λ r. not (is_internal (upper_core S p) r))) resource_numbers
+        ∙ filter_ranked (λ r. not (is_internal S r)) (λ r. not (is_internal (upper_core S p) r))
+        (is_upper_declared S p) (length S.resources)
+        (λ a inside pass. ap not (internal_same a inside pass))
+        ∙ ap (map (rank (is_upper_declared S p)))
+        (filter_swap (is_upper_declared S p) (λ r. not (is_internal S r)) (below (length S.resources)))
 
     pub ceilings : (r : ResId) → 0 < upper_count S p → is_visible S p r ≡ true
         → ceiling (upper_core S p) (renumbered_resource S p r) ≡ ceiling S r

@@ -54,6 +54,10 @@ pub kept_made : (S : System) (s : State) → (reschedule S s).state.made ≡ s.m
 unfolding reschedule
 kept_made S s = refl
 
+pub kept_shared : (S : System) (s : State) → (reschedule S s).state.shared ≡ s.shared
+unfolding reschedule
+kept_shared S s = refl
+
 pub kept_masks : (S : System) (s : State) → (reschedule S s).state.masks ≡ s.masks
 unfolding reschedule
 kept_masks S s = refl
@@ -126,6 +130,7 @@ module _ (S : System) (p : ℕ) (both : IsCounterpart S p) (below : IsLow S p) (
     made = ap length (kept_made S s) ∙ layered.made;
     masks = ap length (kept_masks S s) ∙ layered.masks;
     alarms = ap length (kept_alarms S s) ∙ layered.alarms;
+    shared = ap length (kept_shared S s) ∙ layered.shared;
     jobs = jobs_layered (may_dispatch s) refl;
     running = running_known (may_dispatch s) refl;
     quiet = still_quiet (may_dispatch s) refl;

@@ -19,7 +19,8 @@ use Rattle.partition_check.proofs.ListsUp.{map_append, take_set}
 use Rattle.partition_check.proofs.PriorityUp.{first_tasks}
 use Rattle.partition_check.proofs.JobsUp.{jobs_of_up, jobs_of_empty_up, new_up, jobs_but_up, with_job_up, released_jobs_up, without_last_map}
 use Rattle.partition_check.proofs.AlarmsUp.{with_alarm_up}
-use Rattle.partition_check.proofs.RefusalsUp.{upper_task_named, upper_alarm_named, extended_up, outranked_up, count_up}
+use Rattle.partition_check.proofs.SharedUp.{word_stored_up}
+use Rattle.partition_check.proofs.RefusalsUp.{upper_task_named, upper_alarm_named, visible_named, extended_up, outranked_up, count_up}
 
 -- ---- a choice of states
 
@@ -165,6 +166,10 @@ module _ (S : System) (p : ℕ) (both : IsCounterpart S p) where
   effect_up below s c (Service.ReleaseResource None) layered upper named = refl
   effect_up below s c (Service.ReleaseResource (Some r)) layered upper named =
       with_caller_up S p c releases releases s (λ k. refl) (releases_up S p)
+  effect_up below s c (Service.LoadShared o i) layered upper named = refl
+  effect_up below s c (Service.StoreShared None i v) layered upper named = refl
+  effect_up below s c (Service.StoreShared (Some r) i v) layered upper named =
+      word_stored_up S p both s r i v named.known layered.shared (visible_named S p r named.names)
   effect_up below s c (Service.SetEvent None m) layered upper named = refl
   effect_up below s c (Service.SetEvent (Some t) m) layered upper named =
       let high : is_upper_task S p t ≡ true = upper_task_named S p t named.names in

@@ -60,6 +60,7 @@ with_context_layered S p (JobCalls j) x s layered = record {
   made = layered.made;
   masks = layered.masks;
   alarms = layered.alarms;
+  shared = layered.shared;
   jobs = moved_layered S p j.id x s.jobs layered.jobs;
   running = layered.running;
   quiet = layered.quiet;
@@ -68,6 +69,7 @@ with_context_layered S p (RoutineCalls a) x s layered = record {
   made = layered.made;
   masks = layered.masks;
   alarms = layered.alarms;
+  shared = layered.shared;
   jobs = layered.jobs;
   running = layered.running;
   quiet = λ id e low idle. layered.quiet id e low (was_none x s.active idle);
@@ -76,6 +78,7 @@ with_context_layered S p NobodyCalls x s layered = record {
   made = layered.made;
   masks = layered.masks;
   alarms = layered.alarms;
+  shared = layered.shared;
   jobs = layered.jobs;
   running = layered.running;
   quiet = layered.quiet;
@@ -86,6 +89,7 @@ words_layered S p words s layered = record {
   made = layered.made;
   masks = layered.masks;
   alarms = layered.alarms;
+  shared = layered.shared;
   jobs = layered.jobs;
   running = layered.running;
   quiet = layered.quiet;
@@ -96,6 +100,8 @@ words_layered S p words s layered = record {
 pub at_names : (x : Context) (call : Service ℕ) → service_names call ≡ service_names (at_values x call)
 at_names x (Service.SetRelAlarm a i c) = refl
 at_names x (Service.SetAbsAlarm a i c) = refl
+at_names x (Service.LoadShared r i) = refl
+at_names x (Service.StoreShared r i v) = refl
 at_names x call = refl
 
 pub at_known : (S : System) (x : Context) (call : Service ℕ) → IsKnownObject S (service_names call) → IsKnownObject S (service_names (at_values x call))
@@ -105,30 +111,40 @@ pub at_lower : (S : System) (p : ℕ) (x : Context) (call : Service ℕ)
     → names_lower S p (Instr.Service (at_values x call)) ≡ names_lower S p (Instr.Service call)
 at_lower S p x (Service.SetRelAlarm a i c) = refl
 at_lower S p x (Service.SetAbsAlarm a i c) = refl
+at_lower S p x (Service.LoadShared r i) = refl
+at_lower S p x (Service.StoreShared r i v) = refl
 at_lower S p x call = refl
 
 pub at_upper : (S : System) (p : ℕ) (x : Context) (call : Service ℕ)
     → names_upper S p (Instr.Service (at_values x call)) ≡ names_upper S p (Instr.Service call)
 at_upper S p x (Service.SetRelAlarm a i c) = refl
 at_upper S p x (Service.SetAbsAlarm a i c) = refl
+at_upper S p x (Service.LoadShared r i) = refl
+at_upper S p x (Service.StoreShared r i v) = refl
 at_upper S p x call = refl
 
 pub at_scheduler : (x : Context) (call : Service ℕ)
     → names_scheduler (Instr.Service (at_values x call)) ≡ names_scheduler (Instr.Service call)
 at_scheduler x (Service.SetRelAlarm a i c) = refl
 at_scheduler x (Service.SetAbsAlarm a i c) = refl
+at_scheduler x (Service.LoadShared r i) = refl
+at_scheduler x (Service.StoreShared r i v) = refl
 at_scheduler x call = refl
 
 pub at_asks : (x : Context) (call : Service ℕ)
     → asks_task_id (Instr.Service (at_values x call)) ≡ asks_task_id (Instr.Service call)
 at_asks x (Service.SetRelAlarm a i c) = refl
 at_asks x (Service.SetAbsAlarm a i c) = refl
+at_asks x (Service.LoadShared r i) = refl
+at_asks x (Service.StoreShared r i v) = refl
 at_asks x call = refl
 
 at_renumbered : (S : System) (p : ℕ) (x : Context) (call : Service ℕ)
     → at_values x (renumbered_service S p call) ≡ renumbered_service S p (at_values x call)
 at_renumbered S p x (Service.SetRelAlarm a i c) = refl
 at_renumbered S p x (Service.SetAbsAlarm a i c) = refl
+at_renumbered S p x (Service.LoadShared r i) = refl
+at_renumbered S p x (Service.StoreShared r i v) = refl
 at_renumbered S p x call = refl
 
 -- ---- control instructions
@@ -152,6 +168,7 @@ controlled_layered S p Control.ReturnFromInterrupt s busy layered = record {
   made = layered.made;
   masks = layered.masks;
   alarms = layered.alarms;
+  shared = layered.shared;
   jobs = layered.jobs;
   running = layered.running;
   quiet = λ id e low idle. refl;
@@ -160,6 +177,7 @@ controlled_layered S p _ s busy layered = record {
   made = layered.made;
   masks = layered.masks;
   alarms = layered.alarms;
+  shared = layered.shared;
   jobs = layered.jobs;
   running = layered.running;
   quiet = λ id e low idle. absurd (busy id e low idle);

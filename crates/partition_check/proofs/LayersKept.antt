@@ -11,7 +11,7 @@ use Rattle.osek_base.specs.System.{System, is_extended}
 use Rattle.osek_base.specs.State.{Job, JobId, State, Expiry, same_id, jobs_of, jobs_but, with_job}
 use Rattle.osek_base.specs.Activation.{activated, new_job, released, ended, woken}
 use Rattle.osek_base.specs.Alarm.{with_alarm}
-use Rattle.osek_base.specs.Service.{Caller, JobCalls, RoutineCalls, NobodyCalls, with_caller, caller_ended, is_outranked, given_up, gets, releases, waiting_for, meets, is_met, released_by, with_events, events_cleared, event_awaited, effect, changed, reply_to, service, unmasked_service}
+use Rattle.osek_base.specs.Service.{Caller, JobCalls, RoutineCalls, NobodyCalls, with_caller, caller_ended, is_outranked, given_up, gets, releases, waiting_for, meets, is_met, released_by, with_events, events_cleared, event_awaited, word_stored, effect, changed, reply_to, service, unmasked_service}
 use Rattle.osek_base.specs.Upper.{service_names}
 use Rattle.osek_base.specs.Separable.{names_upper, names_scheduler}
 use Rattle.partition_check.proofs.UpperState.{is_upper_id, is_upper_job}
@@ -25,6 +25,7 @@ pub record IsLaid (S : System) (p : ℕ) (s : State) : Type 0 where
   pub made : length s.made ≡ length S.tasks
   pub masks : length s.masks ≡ length S.tasks
   pub alarms : length s.alarms ≡ length S.alarms
+  pub shared : length s.shared ≡ length S.resources
   pub jobs : AllByRecursion (IsLayeredJob S p) s.jobs
 
 -- a job that gets a resource is of the resource's layer
@@ -77,7 +78,8 @@ module _ (S : System) (p : ℕ) where
   -- ---- changes of states
 
   with_jobs : (s : State) (jobs : List Job) → IsLaid S p s → AllByRecursion (IsLayeredJob S p) jobs → IsLaid S p (record s { jobs = jobs })
-  with_jobs s jobs laid all = record { made = laid.made; masks = laid.masks; alarms = laid.alarms; jobs = all }
+  with_jobs s jobs laid all =
+      record { made = laid.made; masks = laid.masks; alarms = laid.alarms; shared = laid.shared; jobs = all }
 
   cond_laid : (b : Bool) (s z : State) → IsLaid S p s → IsLaid S p z → IsLaid S p (cond b s z)
   cond_laid true s z x y = x
@@ -101,11 +103,34 @@ module _ (S : System) (p : ℕ) where
 
   with_events_laid : (t m : ℕ) (s : State) → IsLaid S p s → IsLaid S p (with_events t m s)
   with_events_laid t m s laid =
-      record { made = laid.made; masks = length-set s.masks t m ∙ laid.masks; alarms = laid.alarms; jobs = laid.jobs }
+      record {
+        made = laid.made;
+        masks = length-set s.masks t m ∙ laid.masks;
+        alarms = laid.alarms;
+        shared = laid.shared;
+        jobs = laid.jobs;
+      }
 
   with_alarm_laid : (s : State) (a : ℕ) (e : Option Expiry) → IsLaid S p s → IsLaid S p (with_alarm s a e)
   with_alarm_laid s a e laid =
-      record { made = laid.made; masks = laid.masks; alarms = length-set s.alarms a e ∙ laid.alarms; jobs = laid.jobs }
+      record {
+        made = laid.made;
+        masks = laid.masks;
+        alarms = length-set s.alarms a e ∙ laid.alarms;
+        shared = laid.shared;
+        jobs = laid.jobs;
+      }
+
+  stored_laid : (r : ResId) (i v : ℕ) (s : State) → IsLaid S p s → IsLaid S p (record s { shared = word_stored r i v s.shared })
+  stored_laid (ResId.Declared r) i v s laid =
+      record {
+        made = laid.made;
+        masks = laid.masks;
+        alarms = laid.alarms;
+        shared = length-set s.shared r _ ∙ laid.shared;
+        jobs = laid.jobs;
+      }
+  stored_laid ResId.Scheduler i v s laid = laid
 
   length_cond : (b : Bool) (xs ys : List ℕ) (n : ℕ) → length xs ≡ n → length ys ≡ n → length (cond b xs ys) ≡ n
   length_cond true xs ys n x y = x
@@ -119,6 +144,7 @@ module _ (S : System) (p : ℕ) where
         masks = length_cond (is_extended S t && is_empty (jobs_of t s.jobs)) (set s.masks t 0) s.masks (length S.tasks)
             (length-set s.masks t 0 ∙ laid.masks) laid.masks;
         alarms = laid.alarms;
+        shared = laid.shared;
         jobs = all_append (IsLayeredJob S p) s.jobs (new_job (record { task = t; serial = slice_index s.made t }) ∷ []) laid.jobs
             (new_laid (record { task = t; serial = slice_index s.made t }) inside, tt);
       }
@@ -170,6 +196,9 @@ module _ (S : System) (p : ℕ) where
   effect_laid s c (Service.GetResource (Some r)) known may laid = got_laid c r s may laid
   effect_laid s c (Service.ReleaseResource None) known may laid = laid
   effect_laid s c (Service.ReleaseResource (Some r)) known may laid = with_caller_laid c releases s releases_laid laid
+  effect_laid s c (Service.LoadShared o i) known may laid = laid
+  effect_laid s c (Service.StoreShared None i v) known may laid = laid
+  effect_laid s c (Service.StoreShared (Some r) i v) known may laid = stored_laid r i v s laid
   effect_laid s c (Service.SetEvent None m) known may laid = laid
   effect_laid s c (Service.SetEvent (Some t) m) known may laid =
       released_by_laid (bit_or (slice_index s.masks t) m) (jobs_of t s.jobs) (with_events t (bit_or (slice_index s.masks t) m) s)
@@ -189,7 +218,14 @@ module _ (S : System) (p : ℕ) where
   -- ---- the service
 
   pub laid_of : (s : State) → IsLayered S p s → IsLaid S p s
-  laid_of s layered = record { made = layered.made; masks = layered.masks; alarms = layered.alarms; jobs = layered.jobs }
+  laid_of s layered =
+      record {
+        made = layered.made;
+        masks = layered.masks;
+        alarms = layered.alarms;
+        shared = layered.shared;
+        jobs = layered.jobs;
+      }
 
   changed_laid : (s : State) (c : Caller) (call : Service ℕ) (o : Option Status) → IsKnownObject S (service_names call) → MayGet S p c call
       → IsLaid S p s → IsLaid S p (changed S c s call o)
@@ -204,6 +240,7 @@ module _ (S : System) (p : ℕ) where
         made = after.made;
         masks = after.masks;
         alarms = after.alarms;
+        shared = after.shared;
         jobs = after.jobs;
         running = layered.running;
         quiet = layered.quiet;

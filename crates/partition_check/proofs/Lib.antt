@@ -14,6 +14,7 @@ mod Core
 mod ListsUp
 mod JobsUp
 mod AlarmsUp
+mod SharedUp
 mod PriorityUp
 mod RefusalsUp
 mod ResultsUp

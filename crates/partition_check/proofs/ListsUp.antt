@@ -208,6 +208,11 @@ pub all_weaken : {X : Type 0} (P Q : X → Type 0) (xs : List X) → ((x : X) �
 all_weaken P Q [] h all = tt
 all_weaken P Q (x ∷ xs) h all = (h x all.0, all_weaken P Q xs h all.1)
 
+pub all_both : {X : Type 0} (P Q : X → Type 0) (xs : List X) → AllByRecursion P xs → AllByRecursion Q xs
+    → AllByRecursion (λ x. P x × Q x) xs
+all_both P Q [] a b = tt
+all_both P Q (x ∷ xs) a b = ((a.0, b.0), all_both P Q xs a.1 b.1)
+
 -- ---- a place
 
 module _ {X : Type 0} where

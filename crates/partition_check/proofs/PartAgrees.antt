@@ -10,14 +10,14 @@ use Rattle.osek_base.specs.Lists.{below}
 use Rattle.osek_base.specs.System.{System, Task, Alarm, alarm, counter, counter_of, no_alarm, routine}
 use Rattle.osek_base.specs.Ceiling.{declared_ceiling}
 use Rattle.osek_base.specs.Upper.{is_upper_task, is_upper_alarm, action_task}
-use Rattle.osek_base.specs.Agree.{Agree, HasUpperTasks, rank, is_upper_declared, renumbered, upper_routine, upper_resources, upper_alarms, upper_part, uncounted, resource}
+use Rattle.osek_base.specs.Agree.{Agree, HasUpperTasks, rank, is_upper_declared, renumbered, upper_routine, upper_alarms, upper_part, uncounted}
 use Rattle.osek_base.specs.Proper.{IsProper, is_proper_action, is_proper_alarm}
 use Rattle.osek_base.specs.Separable.{Separable, NoInstruction, asks_task_id}
 use Rattle.osek_base.specs.Laws.{IsItsUpperPart}
 use Rattle.partition_check.proofs.UpperState.{upper_count}
 use Rattle.partition_check.proofs.Ranks.{at_map}
 use Rattle.partition_check.proofs.Falling.{and_split, all_at}
-use Rattle.partition_check.proofs.CoreFacts.{true_lt, lt_true, within, split, is_upper, task_count, tasks, task_names, declared_same}
+use Rattle.partition_check.proofs.CoreFacts.{true_lt, lt_true, within, split, is_upper, task_count, tasks, task_names, declared_same, upper_same, resource_numbers}
 use Rattle.partition_check.proofs.Core.{listed_low, alarm_place, routine_program}
 use Rattle.partition_check.proofs.Renumbering.{map_ranked}
 use Rattle.partition_check.proofs.Isolated.{isolated}
@@ -41,6 +41,8 @@ asks_same S p (Instr.Service Service.GetTaskId) = refl
 asks_same S p (Instr.Service (Service.GetTaskState t)) = refl
 asks_same S p (Instr.Service (Service.GetResource r)) = refl
 asks_same S p (Instr.Service (Service.ReleaseResource r)) = refl
+asks_same S p (Instr.Service (Service.LoadShared r x)) = refl
+asks_same S p (Instr.Service (Service.StoreShared r x y)) = refl
 asks_same S p (Instr.Service (Service.SetEvent t m)) = refl
 asks_same S p (Instr.Service (Service.ClearEvent m)) = refl
 asks_same S p (Instr.Service (Service.GetEvent t)) = refl
@@ -113,10 +115,7 @@ module _ (S : System) (p : ℕ) (proper : IsProper S) where
     all_upper =
         record {
           tasks = task_high;
-          resources = λ r h.
-              each_ranked (λ i. is_upper_declared (upper_part S p) p i ≡ true) (is_upper_declared S p) (length S.resources)
-              (λ a inside high. ap (nat_le p) (ceiling_same a high) ∙ high)
-              r (subst (λ n. r < n) (length-map (upper_resources S p) (resource S)) h);
+          resources = upper_same S p proper (listed_low S p separable);
           alarms = λ a h.
               each_ranked (λ i. is_upper_alarm (upper_part S p) p i ≡ true) (is_upper_alarm S p) (length S.alarms)
               alarm_high_at
@@ -132,11 +131,6 @@ module _ (S : System) (p : ℕ) (proper : IsProper S) where
 
     -- ---- it agrees with its system
 
-    resource_numbers : upper_resources (upper_part S p) p ≡ below (rank (is_upper_declared S p) (length S.resources))
-    resource_numbers =
-        all_kept (is_upper_declared (upper_part S p) p) (length (upper_part S p).resources) all_upper.resources
-        ∙ ap below (length-map (upper_resources S p) (resource S))
-
     alarm_numbers : upper_alarms (upper_part S p) p ≡ below (rank (is_upper_alarm S p) (length S.alarms))
     alarm_numbers =
         all_kept (is_upper_alarm (upper_part S p) p) (length (upper_part S p).alarms) all_upper.alarms
@@ -150,7 +144,7 @@ module _ (S : System) (p : ℕ) (proper : IsProper S) where
           routines = ap (λ (T : System). T.routines) (sym twice);
           resources = ap (λ (T : System). T.resources) (sym twice);
           ceilings =
-              sym (ap (map (declared_ceiling (upper_part S p))) resource_numbers
+              sym (ap (map (declared_ceiling (upper_part S p))) (resource_numbers S p proper (listed_low S p separable))
               ∙ map_ranked (declared_ceiling S) (declared_ceiling (upper_part S p)) (is_upper_declared S p) (length S.resources)
               (λ a inside high. ceiling_same a high));
           alarms = ap (λ (T : System). map uncounted T.alarms) (sym twice);

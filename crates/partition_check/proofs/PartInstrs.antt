@@ -85,6 +85,16 @@ module _ (S : System) (p : ℕ) (proper : IsProper S) where
   service_new (Service.ReleaseResource None) h e = refl
   service_new (Service.ReleaseResource (Some (ResId.Declared r))) h e = got_new r h (not_false _ e)
   service_new (Service.ReleaseResource (Some ResId.Scheduler)) h e = h
+  service_new (Service.LoadShared None x) h e = h
+  service_new (Service.LoadShared (Some (ResId.Declared r)) x) h e =
+      let both = and_split _ _ h in and_join _ _ (got_new r both.0 (not_false _ e)) both.1
+  service_new (Service.LoadShared (Some ResId.Scheduler) x) h e = h
+  service_new (Service.StoreShared None x y) h e = h
+  service_new (Service.StoreShared (Some (ResId.Declared r)) x y) h e =
+      let both = and_split _ _ h in
+      let front = and_split _ _ both.0 in
+      and_join _ _ (and_join _ _ (got_new r front.0 (not_false _ e)) front.1) both.1
+  service_new (Service.StoreShared (Some ResId.Scheduler) x y) h e = h
   service_new (Service.SetEvent None m) h e = h
   service_new (Service.SetEvent (Some t) m) h e =
       let both = and_split _ _ h in and_join _ _ (task_new t both.0 (not_false _ e)) both.1

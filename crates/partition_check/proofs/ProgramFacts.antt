@@ -62,6 +62,14 @@ proper_known S (Service.GetResource (Some ResId.Scheduler)) h = tt
 proper_known S (Service.ReleaseResource None) h = tt
 proper_known S (Service.ReleaseResource (Some (ResId.Declared r))) h = true_lt r (length S.resources) (and_split _ _ h).0
 proper_known S (Service.ReleaseResource (Some ResId.Scheduler)) h = tt
+proper_known S (Service.LoadShared None x) h = tt
+proper_known S (Service.LoadShared (Some (ResId.Declared r)) x) h =
+    true_lt r (length S.resources) (and_split _ _ (and_split _ _ h).0).0
+proper_known S (Service.LoadShared (Some ResId.Scheduler) x) h = tt
+proper_known S (Service.StoreShared None x y) h = tt
+proper_known S (Service.StoreShared (Some (ResId.Declared r)) x y) h =
+    true_lt r (length S.resources) (and_split _ _ (and_split _ _ (and_split _ _ h).0).0).0
+proper_known S (Service.StoreShared (Some ResId.Scheduler) x y) h = tt
 proper_known S (Service.SetEvent None m) h = tt
 proper_known S (Service.SetEvent (Some t) m) h = true_lt t (length S.tasks) (and_split _ _ h).0
 proper_known S (Service.ClearEvent m) h = tt

@@ -12,7 +12,7 @@ use Rattle.osek_base.specs.State.{Job, State, waits, same_id}
 use Rattle.osek_base.specs.Priority.{static_priority, dynamic_priority}
 use Rattle.osek_base.specs.Activation.{is_full}
 use Rattle.osek_base.specs.Alarm.{count, is_bad_cycle}
-use Rattle.osek_base.specs.Service.{Caller, JobCalls, RoutineCalls, NobodyCalls, by_routine, holds_any, is_own_task, is_basic_caller, may_take, caller_may_take, holds, is_above_ceiling, is_resource, got_last, is_suspended, in_use, refusals, is_outranked}
+use Rattle.osek_base.specs.Service.{Caller, JobCalls, RoutineCalls, NobodyCalls, by_routine, holds_any, is_own_task, is_basic_caller, may_take, caller_may_take, holds, is_above_ceiling, is_resource, got_last, caller_holds, is_suspended, in_use, refusals, is_outranked}
 use Rattle.osek_base.specs.Upper.{TheResource, is_upper_task, is_upper_resource, is_upper_alarm}
 use Rattle.osek_base.specs.Separable.{is_scheduler_object}
 use Rattle.osek_base.specs.Agree.{rank, renumbered_resource, renumbered_service, is_upper_declared, upper_core}
@@ -126,6 +126,12 @@ module _ (S : System) (p : ℕ) (both : IsCounterpart S p) where
       → list_any (same_resource (renumbered_resource S p r)) (map (renumbered_resource S p) held) ≡ list_any (same_resource r) held
   any_same_up [] r all seen = refl
   any_same_up (q ∷ held) r all seen = ap₂ (λ a b. a || b) (both.same r q seen all.0) (any_same_up held r all.1 seen)
+
+  caller_holds_up : (s : State) (c : Caller) (r : ResId) → IsUpperCaller S p s c → is_visible S p r ≡ true
+      → caller_holds (up_caller S p c) (renumbered_resource S p r) ≡ caller_holds c r
+  caller_holds_up s (JobCalls j) r upper seen = any_same_up j.held r (held_visible S p j upper.0 upper.1) seen
+  caller_holds_up s (RoutineCalls a) r upper seen = refl
+  caller_holds_up s NobodyCalls r upper seen = refl
 
   -- the same resource is seen the same
   same_seen : (r q : ResId) → same_resource r q ≡ true → is_visible S p r ≡ is_visible S p q
@@ -252,6 +258,18 @@ module _ (S : System) (p : ℕ) (both : IsCounterpart S p) where
       let last : got_last (up_caller S p c) (renumbered_resource S p r) ≡ got_last c r = got_last_up s c r upper seen in
       λ i. (routine i, Status.Access) ∷ (above i, Status.Access) ∷ (not (last i), Status.NoFunc) ∷ []
 
+  -- the words of a resource are refused, to be read or to be written
+  shared_refusals : (s : State) (c : Caller) (r : ResId) (i : ℕ) → IsUpperCaller S p s c → is_visible S p r ≡ true
+      → refusals (upper_core S p) (up_caller S p c) (up S p s) (Service.LoadShared (Some (renumbered_resource S p r)) i)
+      ≡ refusals S c s (Service.LoadShared (Some r) i)
+  shared_refusals s c r i upper seen =
+      let routine : by_routine (up_caller S p c) ≡ by_routine c = by_routine_up S p c in
+      let scheduler : same_resource ResId.Scheduler (renumbered_resource S p r) ≡ same_resource ResId.Scheduler r =
+      both.same ResId.Scheduler r refl seen in
+      let held : caller_holds (up_caller S p c) (renumbered_resource S p r) ≡ caller_holds c r =
+      caller_holds_up s c r upper seen in
+      λ n. (routine n, Status.Access) ∷ (scheduler n, Status.Access) ∷ (not (held n), Status.Access) ∷ []
+
   event_refusals : (s : State) (t : ℕ) → t < length S.tasks → is_upper_task S p t ≡ true
       → refusals (upper_core S p) NobodyCalls (up S p s) (Service.GetEvent (Some t)) ≡ refusals S NobodyCalls s (Service.GetEvent (Some t))
   event_refusals s t inside high =
@@ -292,6 +310,12 @@ module _ (S : System) (p : ℕ) (both : IsCounterpart S p) where
   refusals_up s c (Service.GetResource (Some r)) layered upper named = take_refusals s c r layered upper (visible_named S p r named.names)
   refusals_up s c (Service.ReleaseResource None) layered upper named = refl
   refusals_up s c (Service.ReleaseResource (Some r)) layered upper named = release_refusals s c r upper (visible_named S p r named.names)
+  refusals_up s c (Service.LoadShared None i) layered upper named = refl
+  refusals_up s c (Service.LoadShared (Some r) i) layered upper named =
+      shared_refusals s c r i upper (visible_named S p r named.names)
+  refusals_up s c (Service.StoreShared None i v) layered upper named = refl
+  refusals_up s c (Service.StoreShared (Some r) i v) layered upper named =
+      shared_refusals s c r i upper (visible_named S p r named.names)
   refusals_up s c (Service.SetEvent None m) layered upper named = refl
   refusals_up s c (Service.SetEvent (Some t) m) layered upper named = event_refusals s t named.known (upper_task_named S p t named.names)
   refusals_up s c (Service.ClearEvent m) layered upper named =

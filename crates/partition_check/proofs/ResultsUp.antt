@@ -20,8 +20,9 @@ use Rattle.partition_check.proofs.Shared.{IsCounterpart, IsUpperCaller, IsUpperC
 use Rattle.partition_check.proofs.ListsUp.{true≢false}
 use Rattle.partition_check.proofs.PriorityUp.{first_tasks}
 use Rattle.partition_check.proofs.JobsUp.{jobs_of_wait_up}
-use Rattle.partition_check.proofs.RefusalsUp.{upper_task_named, upper_alarm_named, suspended_up, count_up}
+use Rattle.partition_check.proofs.RefusalsUp.{upper_task_named, upper_alarm_named, visible_named, suspended_up, count_up}
 use Rattle.partition_check.proofs.AlarmsUp.{expiry_up}
+use Rattle.partition_check.proofs.SharedUp.{word_up}
 
 -- a routine isn't told which task runs (IsUpperCall), and nobody is either
 abbrev pub IsTold : Caller → Service ℕ → Type 0
@@ -79,6 +80,10 @@ module _ (S : System) (p : ℕ) (both : IsCounterpart S p) where
       ap (λ z. Results.One (state_number z)) (task_state_up s t (first_tasks S p both t named.known high) high)
   results_up s c (Service.GetResource o) upper named told = refl
   results_up s c (Service.ReleaseResource o) upper named told = refl
+  results_up s c (Service.LoadShared None i) upper named told = refl
+  results_up s c (Service.LoadShared (Some r) i) upper named told =
+      ap Results.One (word_up S p both s r i named.known (visible_named S p r named.names))
+  results_up s c (Service.StoreShared o i v) upper named told = refl
   results_up s c (Service.SetEvent o m) upper named told = refl
   results_up s c (Service.ClearEvent m) upper named told = refl
   results_up s c (Service.GetEvent None) upper named told = refl

@@ -3,22 +3,24 @@ use Rattle.std.proofs.Common.{◌≡◌, ℕ, ◌+◌, ◌<◌, ◌≤◌, Bool,
 use Rattle.std.proofs.lemmas.List.{take-set-le}
 use Rattle.std.specs.Prelude.{Option, Some, None, ◌==◌, slice_index, bit_or, bit_and, bit_xor}
 use Rattle.std.specs.List.{AllByRecursion}
+use Rattle.osek_base.specs.declared.ids.ResId.{ResId}
 use Rattle.osek_base.specs.declared.instr.Service.{Service}
 use Rattle.osek_base.specs.declared.status.Status.{Status}
 use Rattle.osek_base.specs.Lists.{is_empty}
 use Rattle.osek_base.specs.System.{System, is_extended}
-use Rattle.osek_base.specs.State.{Job, JobId, State, Expiry, jobs_of}
+use Rattle.osek_base.specs.State.{Job, JobId, State, Expiry, jobs_of, shared_window}
 use Rattle.osek_base.specs.Activation.{activated, released, ended}
 use Rattle.osek_base.specs.Alarm.{expiry, with_alarm}
-use Rattle.osek_base.specs.Service.{Caller, JobCalls, RoutineCalls, NobodyCalls, with_caller, is_outranked, given_up, gets, releases, waiting_for, meets, is_met, released_by, with_events, event_set, effect, changed, reply_to, service, unmasked_service}
+use Rattle.osek_base.specs.Service.{Caller, JobCalls, RoutineCalls, NobodyCalls, with_caller, is_outranked, given_up, gets, releases, waiting_for, meets, is_met, released_by, with_events, event_set, word_stored, effect, changed, reply_to, service, unmasked_service}
 use Rattle.osek_base.specs.Upper.{is_upper_task, is_upper_alarm}
-use Rattle.osek_base.specs.Agree.{upper_alarms}
+use Rattle.osek_base.specs.Agree.{is_upper_declared, upper_resources, upper_alarms}
 use Rattle.partition_check.proofs.UpperState.{up, up_jobs, is_upper_id, is_upper_job, upper_count}
 use Rattle.partition_check.proofs.Shared.{IsCounterpart, IsLayered, IsLowerCaller, IsLowerCall}
 use Rattle.partition_check.proofs.ListsUp.{all_pass, all_weaken}
 use Rattle.partition_check.proofs.PriorityUp.{later_tasks}
 use Rattle.partition_check.proofs.JobsUp.{new_unseen, jobs_but_unseen, with_job_unseen, released_jobs_unseen}
 use Rattle.partition_check.proofs.AlarmsUp.{alarms_unseen}
+use Rattle.partition_check.proofs.SharedUp.{shared_unseen}
 use Rattle.partition_check.proofs.LayersKept.{any_unmasked_layered}
 
 -- what a service may change looks the same from above
@@ -27,10 +29,11 @@ pub record IsUnseen (S : System) (p : ℕ) (s e : State) : Type 0 where
   pub made : take (upper_count S p) e.made ≡ take (upper_count S p) s.made
   pub masks : take (upper_count S p) e.masks ≡ take (upper_count S p) s.masks
   pub alarms : map (expiry e) (upper_alarms S p) ≡ map (expiry s) (upper_alarms S p)
+  pub shared : map (shared_window e.shared) (upper_resources S p) ≡ map (shared_window s.shared) (upper_resources S p)
 
 module _ (S : System) (p : ℕ) where
   unseen_refl : (s : State) → IsUnseen S p s s
-  unseen_refl s = record { jobs = refl; made = refl; masks = refl; alarms = refl }
+  unseen_refl s = record { jobs = refl; made = refl; masks = refl; alarms = refl; shared = refl }
 
   unseen_trans : (s z e : State) → IsUnseen S p s z → IsUnseen S p z e → IsUnseen S p s e
   unseen_trans s z e a b =
@@ -39,6 +42,7 @@ module _ (S : System) (p : ℕ) where
         made = b.made ∙ a.made;
         masks = b.masks ∙ a.masks;
         alarms = b.alarms ∙ a.alarms;
+        shared = b.shared ∙ a.shared;
       }
 
   unseen_cond : (b : Bool) (s z e : State) → IsUnseen S p s z → IsUnseen S p s e → IsUnseen S p s (cond b z e)
@@ -46,26 +50,29 @@ module _ (S : System) (p : ℕ) where
   unseen_cond false s z e x y = y
 
   unseen_jobs : (s : State) (jobs : List Job) → up_jobs S p jobs ≡ up_jobs S p s.jobs → IsUnseen S p s (record s { jobs = jobs })
-  unseen_jobs s jobs same = record { jobs = same; made = refl; masks = refl; alarms = refl }
+  unseen_jobs s jobs same = record { jobs = same; made = refl; masks = refl; alarms = refl; shared = refl }
 
   -- ---- changes of jobs
 
   ended_unseen : (n : JobId) (s : State) → is_upper_id S p n ≡ false → IsUnseen S p s (ended n s)
-  ended_unseen n s low = record { jobs = jobs_but_unseen S p n s.jobs low; made = refl; masks = refl; alarms = refl }
+  ended_unseen n s low =
+      record { jobs = jobs_but_unseen S p n s.jobs low; made = refl; masks = refl; alarms = refl; shared = refl }
 
   released_unseen : (n : JobId) (s : State) → is_upper_id S p n ≡ false → IsUnseen S p s (released n s)
   unfolding released
-  released_unseen n s low = record { jobs = released_jobs_unseen S p n s.jobs low; made = refl; masks = refl; alarms = refl }
+  released_unseen n s low =
+      record { jobs = released_jobs_unseen S p n s.jobs low; made = refl; masks = refl; alarms = refl; shared = refl }
 
   with_caller_unseen : (j : Job) (f : Job → Job) (s : State) → is_upper_job S p j ≡ false → ((k : Job) → (f k).id ≡ k.id)
       → IsUnseen S p s (with_caller (JobCalls j) f s)
-  with_caller_unseen j f s low keeps = record { jobs = with_job_unseen S p j.id f s.jobs low keeps; made = refl; masks = refl; alarms = refl }
+  with_caller_unseen j f s low keeps =
+      record { jobs = with_job_unseen S p j.id f s.jobs low keeps; made = refl; masks = refl; alarms = refl; shared = refl }
 
   -- ---- events, where k tasks are upper and t is none of them
 
   with_events_unseen : (t m : ℕ) (s : State) → upper_count S p ≤ t → IsUnseen S p s (with_events t m s)
   with_events_unseen t m s later =
-      record { jobs = refl; made = refl; masks = take-set-le (upper_count S p) s.masks t m later; alarms = refl }
+      record { jobs = refl; made = refl; masks = take-set-le (upper_count S p) s.masks t m later; alarms = refl; shared = refl }
 
   released_by_unseen : (events t : ℕ) (jobs : List Job) (s : State) → is_upper_task S p t ≡ false
       → AllByRecursion (λ j. j.id.task ≡ t) jobs → IsUnseen S p s (released_by events jobs s)
@@ -101,17 +108,30 @@ module _ (S : System) (p : ℕ) where
         masks = cond_same (is_extended S t && is_empty (jobs_of t s.jobs)) (set s.masks t 0) s.masks (upper_count S p)
             (take-set-le (upper_count S p) s.masks t 0 later);
         alarms = refl;
+        shared = refl;
       }
 
   with_alarm_unseen : (s : State) (a : ℕ) (e : Option Expiry) → is_upper_alarm S p a ≡ false → IsUnseen S p s (with_alarm s a e)
-  with_alarm_unseen s a e low = record { jobs = refl; made = refl; masks = refl; alarms = alarms_unseen S p s a e low }
+  with_alarm_unseen s a e low =
+      record { jobs = refl; made = refl; masks = refl; alarms = alarms_unseen S p s a e low; shared = refl }
+
+  stored_unseen : (r i v : ℕ) (s : State) → is_upper_declared S p r ≡ false
+      → IsUnseen S p s (record s { shared = word_stored (ResId.Declared r) i v s.shared })
+  stored_unseen r i v s low =
+      record { jobs = refl; made = refl; masks = refl; alarms = refl; shared = shared_unseen S p s.shared r i v low }
 
   -- ---- the state
 
   reply_unseen : (s : State) (c : Caller) (call : Service ℕ) (o : Option Status)
       → IsUnseen S p s (changed S c s call o) → up S p (reply_to S c s call o).state ≡ up S p s
   reply_unseen s c call o unseen =
-      λ i. record (up S p s) { jobs = unseen.jobs i; made = unseen.made i; masks = unseen.masks i; alarms = unseen.alarms i }
+      λ i. record (up S p s) {
+        jobs = unseen.jobs i;
+        made = unseen.made i;
+        masks = unseen.masks i;
+        alarms = unseen.alarms i;
+        shared = unseen.shared i;
+      }
 
   unless_refused : (s : State) (c : Caller) (call : Service ℕ) (o : Option Status) → IsUnseen S p s (effect S c s call) → IsUnseen S p s (changed S c s call o)
   unless_refused s c call None unseen = unseen
@@ -147,6 +167,10 @@ module _ (S : System) (p : ℕ) (both : IsCounterpart S p) where
   effect_unseen s j (Service.GetResource (Some r)) lower named = with_caller_unseen S p j (gets r) s lower.1 (λ k. refl)
   effect_unseen s j (Service.ReleaseResource None) lower named = unseen_refl S p s
   effect_unseen s j (Service.ReleaseResource (Some r)) lower named = with_caller_unseen S p j releases s lower.1 (λ k. refl)
+  effect_unseen s j (Service.LoadShared o i) lower named = unseen_refl S p s
+  effect_unseen s j (Service.StoreShared None i v) lower named = unseen_refl S p s
+  effect_unseen s j (Service.StoreShared (Some (ResId.Declared r)) i v) lower named = stored_unseen S p r i v s named.names
+  effect_unseen s j (Service.StoreShared (Some ResId.Scheduler) i v) lower named = unseen_refl S p s
   effect_unseen s j (Service.SetEvent None m) lower named = unseen_refl S p s
   effect_unseen s j (Service.SetEvent (Some t) m) lower named =
       event_set_unseen S p t m s (later_tasks S p both t named.known named.names) named.names

@@ -16,8 +16,8 @@ use Rattle.osek_base.specs.Service.{Caller, JobCalls, RoutineCalls, NobodyCalls,
 use Rattle.osek_base.specs.Text.{line}
 use Rattle.osek_base.specs.Upper.{Object, TheTask, TheResource, TheAlarm, is_upper_task, is_upper_alarm, service_names}
 use Rattle.osek_base.specs.Separable.{names_scheduler, names_upper, names_lower, asks_task_id}
-use Rattle.osek_base.specs.Agree.{rank, is_upper_declared, renumbered, renumbered_resource, upper_task, upper_alarms, upper_core}
-use Rattle.osek_base.specs.View.{view_records}
+use Rattle.osek_base.specs.Agree.{rank, is_upper_declared, renumbered, renumbered_resource, upper_task, upper_resources, upper_alarms, upper_core}
+use Rattle.osek_base.specs.View.{view_records, upper_standard}
 use Rattle.partition_check.proofs.UpperState.{up, up_job, is_upper_id, is_upper_job, upper_count}
 
 -- ---- resources as seen from above
@@ -49,6 +49,11 @@ pub record IsCounterpart (S : System) (p : ℕ) : Type 0 where
       → lists_resource (upper_core S p) t (rank (is_upper_declared S p) r) ≡ lists_resource S t r
   pub resource_names : (r : ℕ) → r < length S.resources → is_upper_declared S p r ≡ true
       → name_at (upper_core S p).names.resources (rank (is_upper_declared S p) r) ≡ name_at S.names.resources r
+  -- upper resources stand at their new numbers, and those that a job may get are the same
+  pub resource_count : length (upper_core S p).resources ≡ length (upper_resources S p)
+  pub resource_at : (r : ℕ) → r < length S.resources → is_upper_declared S p r ≡ true
+      → slice_get (upper_resources S p) (rank (is_upper_declared S p) r) ≡ Some r
+  pub standard : upper_standard (upper_core S p) p ≡ map (rank (is_upper_declared S p)) (upper_standard S p)
   -- routines have their programs
   pub routine_programs : (i : ℕ) → program (upper_core S p) (Owner.Routine i) ≡ map (renumbered S p) (program S (Owner.Routine i))
   -- upper alarms act as before, each by a counter like its own
@@ -79,6 +84,7 @@ pub record IsLayered (S : System) (p : ℕ) (s : State) : Type 0 where
   pub made : length s.made ≡ length S.tasks
   pub masks : length s.masks ≡ length S.tasks
   pub alarms : length s.alarms ≡ length S.alarms
+  pub shared : length s.shared ≡ length S.resources
   pub jobs : AllByRecursion (IsLayeredJob S p) s.jobs
   pub running : (id : JobId) → s.running ≡ Some id → id.task < length S.tasks
   -- while a lower job runs, interrupts are on or a routine is active

@@ -63,6 +63,12 @@ module _ (S : System) (p : ℕ) (both : IsCounterpart S p) where
   service_same (Service.GetTaskState t) upper = ap (λ (x : List ℕ). written (codes "GTST") (x ∷ [])) (task_same t (record { known = upper.known; names = upper.names }))
   service_same (Service.GetResource r) upper = ap (λ (x : List ℕ). written (codes "GETR") (x ∷ [])) (resource_same r (record { known = upper.known; names = upper.names }))
   service_same (Service.ReleaseResource r) upper = ap (λ (x : List ℕ). written (codes "RELR") (x ∷ [])) (resource_same r (record { known = upper.known; names = upper.names }))
+  service_same (Service.LoadShared r x) upper =
+      ap (λ (z : List ℕ). written (codes "LDR") (z ∷ register_text x ∷ []))
+      (resource_same r (record { known = upper.known; names = upper.names }))
+  service_same (Service.StoreShared r x y) upper =
+      ap (λ (z : List ℕ). written (codes "STR") (z ∷ register_text x ∷ register_text y ∷ []))
+      (resource_same r (record { known = upper.known; names = upper.names }))
   service_same (Service.SetEvent t m) upper = ap (λ (x : List ℕ). written (codes "SETE") (x ∷ mask_text m ∷ [])) (task_same t (record { known = upper.known; names = upper.names }))
   service_same (Service.ClearEvent m) upper = refl
   service_same (Service.GetEvent t) upper = ap (λ (x : List ℕ). written (codes "GETE") (x ∷ [])) (task_same t (record { known = upper.known; names = upper.names }))

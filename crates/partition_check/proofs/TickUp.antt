@@ -1,5 +1,5 @@
 -- One tick in the system and in its upper core.
-use Rattle.std.proofs.Common.{◌≡◌, ℕ, ◌+◌, Bool, true, false, cond, List, [], ◌∷◌, ◌++◌, map, length, refl, sym, ◌∙◌, ap, ap₂, subst, arith}
+use Rattle.std.proofs.Common.{◌≡◌, ℕ, ◌+◌, ◌<◌, Bool, true, false, cond, not, List, [], ◌∷◌, ◌++◌, map, length, refl, sym, ◌∙◌, ap, ap₂, subst, arith}
 use Rattle.std.specs.List.{filter, AllByRecursion}
 use Rattle.std.proofs.lemmas.List.{length-map, map-append}
 use Rattle.osek_base.specs.declared.limits.TheConstants.{WINDOW_WORDS}
@@ -7,25 +7,27 @@ use Rattle.osek_base.specs.declared.ids.Owner.{Owner}
 use Rattle.osek_base.specs.declared.trace_event.TraceEvent.{TraceEvent}
 use Rattle.osek_base.specs.Lists.{below}
 use Rattle.osek_base.specs.System.{System}
-use Rattle.osek_base.specs.State.{State}
+use Rattle.osek_base.specs.Ceiling.{is_internal}
+use Rattle.osek_base.specs.State.{State, shared_window}
 use Rattle.osek_base.specs.Reschedule.{Recorded, reschedule}
 use Rattle.osek_base.specs.Tick.{Step, and_then, silent, alarm_phase, arrival_phase, start_phase, execute_phase, last_phase, before_execution, from_execution, tick}
 use Rattle.osek_base.specs.Trace.{with_earlier}
-use Rattle.osek_base.specs.View.{sight, window}
+use Rattle.osek_base.specs.View.{sight, window, upper_standard}
 use Rattle.osek_base.specs.Upper.{is_upper_task, is_upper_owner, upper_owners}
-use Rattle.osek_base.specs.Agree.{upper_routine, upper_core}
+use Rattle.osek_base.specs.Agree.{rank, is_upper_declared, upper_resources, upper_routine, upper_core}
 use Rattle.osek_base.specs.Proper.{IsProper}
 use Rattle.osek_base.specs.Separable.{Separable}
 use Rattle.partition_check.proofs.UpperState.{up, upper_count}
 use Rattle.partition_check.proofs.UpperPhases.{start_up}
-use Rattle.partition_check.proofs.ListsUp.{all_pass}
-use Rattle.partition_check.proofs.Falling.{kept_short, kept_same}
+use Rattle.partition_check.proofs.ListsUp.{map_same, all_filter, all_pass, all_both, all_weaken}
+use Rattle.partition_check.proofs.Falling.{kept_short, kept_same, map_twice}
 use Rattle.partition_check.proofs.CoreFacts.{lt_false}
 use Rattle.partition_check.proofs.PriorityUp.{upper_tasks_first}
 use Rattle.partition_check.proofs.Dispatch.{still_upper, lines_append, lines_none}
 use Rattle.partition_check.proofs.DispatchUp.{reschedule_layered, dispatch_up, dispatch_lines}
 use Rattle.partition_check.proofs.Quiet.{arrival_layered, start_layered, ticked_layered}
-use Rattle.partition_check.proofs.AlarmActs.{AreAlike, alarms_alike}
+use Rattle.partition_check.proofs.AlarmActs.{AreAlike, all_below, alarms_alike}
+use Rattle.partition_check.proofs.SharedUp.{window_up}
 use Rattle.partition_check.proofs.ExecutedUp.{own_words}
 use Rattle.partition_check.proofs.ExecuteUp.{execute_alike}
 use Rattle.partition_check.proofs.Shared.{IsCounterpart, IsLow, IsLayered, SameLines}
@@ -129,6 +131,30 @@ module _ (S : System) (p : ℕ) (both : IsCounterpart S p) (low : IsLow S p) (pr
       ∙ sym (map-append (window (up S p s)) (map Owner.Task ts) (map Owner.Routine ns))
       ∙ ap (map (window (up S p s))) (sym same_owners)
 
+  -- a resource that is there, and upper
+  abbrev is_there : ℕ → Type 0
+  is_there r = (r < length S.resources) × (is_upper_declared S p r ≡ true)
+
+  standard_there : AllByRecursion is_there (upper_standard S p)
+  standard_there =
+      all_filter is_there (λ r. not (is_internal S r)) (upper_resources S p)
+      (all_both (λ r. r < length S.resources) (λ r. is_upper_declared S p r ≡ true) (upper_resources S p)
+      (all_filter (λ r. r < length S.resources) (is_upper_declared S p) (below (length S.resources))
+      (all_below (length S.resources)))
+      (all_pass (is_upper_declared S p) (below (length S.resources))))
+
+  shared_up : (s : State)
+      → map (shared_window s.shared) (upper_standard S p)
+      ≡ map (shared_window (up S p s).shared) (upper_standard (upper_core S p) p)
+  shared_up s =
+      let new : ℕ → ℕ = rank (is_upper_declared S p) in
+      let theirs : ℕ → List ℕ = shared_window (up S p s).shared in
+      sym (ap (map theirs) both.standard
+      ∙ map_twice theirs new (upper_standard S p)
+      ∙ map_same (λ r. theirs (new r)) (shared_window s.shared) (upper_standard S p)
+      (all_weaken is_there (λ r. theirs (new r) ≡ shared_window s.shared r) (upper_standard S p)
+      (λ r known. window_up S p both s r known.0 known.1) standard_there))
+
   pub tick_number : (A : System) (arrived : List ℕ) (s : State) → (tick A arrived s).number ≡ s.tick
   unfolding tick
   tick_number A arrived s = refl
@@ -142,4 +168,7 @@ module _ (S : System) (p : ℕ) (both : IsCounterpart S p) (low : IsLow S p) (pr
       let windows =
       windows_up (tick S arrived s).after
       ∙ ap (λ t. map (window t) (upper_owners (upper_core S p) p)) alike.state in
-      λ i. record { lines = lines i; windows = windows i }
+      let shared =
+      shared_up (tick S arrived s).after
+      ∙ ap (λ (t : State). map (shared_window t.shared) (upper_standard (upper_core S p) p)) alike.state in
+      λ i. record { lines = lines i; windows = windows i; shared = shared i }

@@ -74,6 +74,15 @@ module _ (S : System) (p : ℕ) (proper : IsProper S) (whole : IsWhole S p) wher
   service_same (Service.ReleaseResource (Some (ResId.Declared r))) h =
       ap (λ n. Service.ReleaseResource (Some (ResId.Declared n))) (same_resource_number r (and_split _ _ h).0)
   service_same (Service.ReleaseResource (Some ResId.Scheduler)) h = refl
+  service_same (Service.LoadShared None x) h = refl
+  service_same (Service.LoadShared (Some (ResId.Declared r)) x) h =
+      ap (λ n. Service.LoadShared (Some (ResId.Declared n)) x) (same_resource_number r (and_split _ _ (and_split _ _ h).0).0)
+  service_same (Service.LoadShared (Some ResId.Scheduler) x) h = refl
+  service_same (Service.StoreShared None x y) h = refl
+  service_same (Service.StoreShared (Some (ResId.Declared r)) x y) h =
+      ap (λ n. Service.StoreShared (Some (ResId.Declared n)) x y)
+      (same_resource_number r (and_split _ _ (and_split _ _ (and_split _ _ h).0).0).0)
+  service_same (Service.StoreShared (Some ResId.Scheduler) x y) h = refl
   service_same (Service.SetEvent t m) h = refl
   service_same (Service.ClearEvent m) h = refl
   service_same (Service.GetEvent t) h = refl

@@ -78,6 +78,8 @@ fn named_by(service: &Service<Register>) -> Option<Object>
         Service::GetEvent(task) => named_task(*task),
         Service::GetResource(resource) => named_resource(resource),
         Service::ReleaseResource(resource) => named_resource(resource),
+        Service::LoadShared(resource, _) => named_resource(resource),
+        Service::StoreShared(resource, _, _) => named_resource(resource),
         Service::SetRelAlarm(alarm, _, _) => named_alarm(*alarm),
         Service::SetAbsAlarm(alarm, _, _) => named_alarm(*alarm),
         Service::CancelAlarm(alarm) => named_alarm(*alarm),

@@ -6,6 +6,8 @@ mod assembler;
 #[cfg(test)]
 mod hostile_texts;
 #[cfg(test)]
-mod printer;
+mod oil_faults;
 #[cfg(test)]
-mod reader;
+mod oil_files;
+#[cfg(test)]
+mod printer;

@@ -28,11 +28,11 @@ module _ (b : Option JobId) where
   abbrev pub AreBy : List JobId → Type 0
   AreBy ids = AllByRecursion (λ m. b ≡ Some m) ids
 
-  distinct_by : (ids : List JobId) → AreBy ids → AreBy (distinct ids)
+  pub distinct_by : (ids : List JobId) → AreBy ids → AreBy (distinct ids)
   distinct_by [] all = tt
   distinct_by (m ∷ ids) all = (all.0, all_kept (λ k. b ≡ Some k) (λ k. not (same_id k m)) (distinct ids) (distinct_by ids all.1))
 
-  none_else : (m : JobId) (ids : List JobId) → b ≡ Some m → AreBy ids → filter (λ k. not (same_id k m)) ids ≡ []
+  pub none_else : (m : JobId) (ids : List JobId) → b ≡ Some m → AreBy ids → filter (λ k. not (same_id k m)) ids ≡ []
   none_else m [] e all = refl
   none_else m (k ∷ ids) e all = go (same_id k m) same (none_else m ids e all.1)
     where
@@ -143,12 +143,19 @@ module _ (S : System) (proper : IsProper S) where
   not_executing w (RoutineCalls a) h = tt
   not_executing w NobodyCalls h = tt
 
-  abbrev pub shown : Watch → List Step → List JobId
-  shown w xs = filter_map (lower_executor S w.id) (take_while (λ step. not (executes w.id step)) xs)
+  -- the steps before the job's next instruction
+  abbrev pub until : JobId → List Step → List Step
+  until n xs = take_while (λ step. not (executes n step)) xs
+
+  -- in some steps nobody else blocks a job, and until it executes it is there
+  abbrev pub IsHeldBy : Option JobId → JobId → List Step → Type 0
+  IsHeldBy b n xs =
+      AreBy b (filter_map (lower_executor S n) xs) × AllByRecursion (λ x. HasReadyJob n x.executing.jobs) xs
 
   -- one step, and what follows where the watched job doesn't execute
   from_step : (w : Watch) (s : State) (x : Step) (xs : List Step) → IsRunState S s → IsStepFrom S s x → IsWatchedState S proper (Some w) x.executing
-      → (IsRunState S x.after → IsWatchedState S proper (Some w) x.after → AreBy w.by (shown w xs)) → AreBy w.by (shown w (x ∷ xs))
+      → (IsRunState S x.after → IsWatchedState S proper (Some w) x.after → IsHeldBy w.by w.id (until w.id xs))
+      → IsHeldBy w.by w.id (until w.id (x ∷ xs))
   from_step w s x xs good step watched later = go (executes w.id x) refl
     where
       next_good : IsRunState S x.after
@@ -161,18 +168,23 @@ module _ (S : System) (proper : IsProper S) where
           (subst (λ z. IsOther (Some w) (executor z)) step.executing (not_executing w (executor x.executing) e))
           (subst (IsWatchedState S proper (Some w)) step.executing watched))
 
-      go : (b : Bool) → executes w.id x ≡ b → AreBy w.by (filter_map (lower_executor S w.id) (take (cond (not b) (1 + prefix_len (λ y. not (executes w.id y)) xs) 0) (x ∷ xs)))
-      go true e = tt
+      go : (b : Bool) → executes w.id x ≡ b
+          → IsHeldBy w.by w.id (take (cond (not b) (1 + prefix_len (λ y. not (executes w.id y)) xs) 0) (x ∷ xs))
+      go true e = (tt, tt)
       go false e =
-          subst (λ n. AreBy w.by (filter_map (lower_executor S w.id) (take n (x ∷ xs)))) (one_more (prefix_len (λ y. not (executes w.id y)) xs))
-          (cons_by w.by (lower_executor S w.id x) (shown w xs) (step_by w x watched) (later next_good (next_watched e)))
+          let rest = later next_good (next_watched e) in
+          subst (λ n. IsHeldBy w.by w.id (take n (x ∷ xs))) (one_more (prefix_len (λ y. not (executes w.id y)) xs)) (
+            cons_by w.by (lower_executor S w.id x) (filter_map (lower_executor S w.id) (until w.id xs)) (step_by w x watched) rest.0,
+            (watched.here, rest.1),
+          )
         where
           one_more : (n : ℕ) → suc n ≡ 1 + n
           one_more n = omega arith
 
   -- from a state on
-  from_state : (w : Watch) (s : State) (xs : List Step) → IsChain S s xs → IsRunState S s → IsWatchedState S proper (Some w) s → AreBy w.by (shown w xs)
-  from_state w s [] chain good watched = tt
+  from_state : (w : Watch) (s : State) (xs : List Step) → IsChain S s xs → IsRunState S s → IsWatchedState S proper (Some w) s
+      → IsHeldBy w.by w.id (until w.id xs)
+  from_state w s [] chain good watched = (tt, tt)
   from_state w s (x ∷ xs) chain good watched =
       from_step w s x xs good chain.0 (subst (IsWatchedState S proper (Some w)) (sym chain.0.executing) (before_watched S proper (Some w) chain.0.arrived s good watched))
       (from_state w x.after xs chain.1)
@@ -202,21 +214,23 @@ module _ (S : System) (proper : IsProper S) where
       go (Some j) e some ready = ready_found n new.jobs j e (unwait (waits j) ready)
 
   abbrev pub BlockedOnce : JobId → List Step → Type 0
-  BlockedOnce n xs = length (distinct (filter_map (lower_executor S n) (take_while (λ step. not (executes n step)) xs))) ≤ 1
+  BlockedOnce n xs = (b : Option JobId) × IsHeldBy b n (until n xs)
 
   after_state : (n : JobId) (s : State) (xs : List Step) → IsChain S s xs → IsPlainState S proper s → HasReadyJob n s.jobs → BlockedOnce n xs
   after_state n s xs chain plain_state here =
       let watch = watch_from S proper s plain_state.good plain_state.watched n here in
-      at_most_one watch.0 (shown (record { id = n; by = watch.0 }) xs) (from_state (record { id = n; by = watch.0 }) s xs chain plain_state.good watch.1)
+      (watch.0, from_state (record { id = n; by = watch.0 }) s xs chain plain_state.good watch.1)
 
   at_step : (n : JobId) (s : State) (x : Step) (xs : List Step) → IsStepFrom S s x → IsChain S x.after xs → IsPlainState S proper s → HasReadyJob n x.executing.jobs → BlockedOnce n (x ∷ xs)
   at_step n s x xs step chain plain_state here =
       let good : IsRunState S x.executing = subst (IsRunState S) (sym step.executing) (before_executing S proper step.arrived s plain_state.good).good in
       let none : IsWatchedState S proper None x.executing =
       subst (IsWatchedState S proper None) (sym step.executing) (before_watched S proper None step.arrived s plain_state.good plain_state.watched) in
-      let watch = watch_from S proper x.executing good none n here in
-      at_most_one watch.0 (shown (record { id = n; by = watch.0 }) (x ∷ xs))
-      (from_step (record { id = n; by = watch.0 }) s x xs plain_state.good step watch.1 (from_state (record { id = n; by = watch.0 }) x.after xs chain))
+      let watch = watch_from S proper x.executing good none n here in (
+        watch.0,
+        from_step (record { id = n; by = watch.0 }) s x xs plain_state.good step watch.1
+            (from_state (record { id = n; by = watch.0 }) x.after xs chain),
+      )
 
   next_plain : (s : State) (x : Step) → IsStepFrom S s x → IsPlainState S proper s → IsPlainState S proper x.after
   next_plain s x step plain_state = subst (IsPlainState S proper) (sym step.after) (tick_plain S proper step.arrived s step.going plain_state)
@@ -237,7 +251,8 @@ module _ (S : System) (proper : IsProper S) where
       after_state n x.after xs chain.1 (next_plain s x chain.0 plain_state) (ready_in x.executing x.after n h)
   ready_after n s (x ∷ xs) (suc u) chain plain_state h = ready_after n x.after xs u chain.1 (next_plain s x chain.0 plain_state) h
 
-  steps_block : (n : JobId) (s : State) (xs : List Step) (u : ℕ) → IsChain S s xs → IsPlainState S proper s → is_ready_from S s xs u n ≡ true → length (blockers S xs u n) ≤ 1
+  steps_block : (n : JobId) (s : State) (xs : List Step) (u : ℕ) → IsChain S s xs → IsPlainState S proper s → is_ready_from S s xs u n ≡ true
+      → BlockedOnce n (drop u xs)
   steps_block n s xs zero chain plain_state h = go (either_true (becomes_ready (still S) s n) (becomes_ready_in s (slice_get xs 0) n) h)
     where
       go : (becomes_ready (still S) s n ≡ true) ⊎ (becomes_ready_in s (slice_get xs 0) n ≡ true) → BlockedOnce n (drop 0 xs)
@@ -250,8 +265,16 @@ module _ (S : System) (proper : IsProper S) where
       go (inl after) = ready_after n s xs u chain plain_state after
       go (inr later) = ready_at n (state_after s (slice_get xs u)) s xs (suc u) chain plain_state later
 
+-- in every run, from where a job becomes ready
+pub run_blocks : (S : System) (mode : ℕ) (arrivals : List Arrival) (n u : ℕ) (job : JobId) (proper : IsProper S)
+    → is_ready_from S (boot S mode).state (run S mode arrivals n).steps u job ≡ true
+    → BlockedOnce S proper job (drop u (run S mode arrivals n).steps)
+run_blocks S mode arrivals n u job proper ready =
+    steps_block S proper job (boot S mode).state (run S mode arrivals n).steps u (run_chained S proper mode arrivals n).chain
+    (boot_plain S proper mode (boot_ordered S proper mode)) ready
+
 -- single blocking, in every run
 pub blocks_once : (S : System) (mode : ℕ) (arrivals : List Arrival) (n : ℕ) → IsProper S → BlocksOnce S mode arrivals n
 blocks_once S mode arrivals n proper u job ready =
-    steps_block S proper job (boot S mode).state (run S mode arrivals n).steps u (run_chained S proper mode arrivals n).chain
-    (boot_plain S proper mode (boot_ordered S proper mode)) ready
+    let held = run_blocks S mode arrivals n u job proper ready in
+    at_most_one held.0 (filter_map (lower_executor S job) (until S proper job (drop u (run S mode arrivals n).steps))) held.1.0

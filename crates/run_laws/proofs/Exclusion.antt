@@ -25,7 +25,7 @@ use Rattle.run_laws.proofs.RankedTick.{IsExecuting}
 
 -- ---- ceilings
 
-same_resources : (r q : ResId) → same_resource r q ≡ true → r ≡ q
+pub same_resources : (r q : ResId) → same_resource r q ≡ true → r ≡ q
 same_resources (ResId.Declared m) (ResId.Declared n) h = ap ResId.Declared (equal m n h)
 same_resources (ResId.Declared m) ResId.Scheduler h = clash (sym h)
 same_resources ResId.Scheduler (ResId.Declared n) h = clash (sym h)
@@ -49,7 +49,7 @@ held_contains r (q ∷ held) h = go (same_resource r q) refl h (held_contains r 
     go true e k rest = (0, omega arith, sym (same_resources r q e))
     go false e k rest = let at = rest k in (suc at.0, (let less = at.1 in omega arith), at.2)
 
-held_some : (r : ResId) (held : List ResId) → list_any (same_resource r) held ≡ true → is_empty held ≡ false
+pub held_some : (r : ResId) (held : List ResId) → list_any (same_resource r) held ≡ true → is_empty held ≡ false
 held_some r [] h = clash (sym h)
 held_some r (q ∷ held) h = refl
 

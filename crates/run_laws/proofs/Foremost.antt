@@ -21,11 +21,11 @@ same_ids a b h =
     let serial : a.serial ≡ b.serial = equal a.serial b.serial both.1 in
     λ i. record { task = task i; serial = serial i }
 
-both_true : (a b : Bool) → a ≡ true → b ≡ true → (a && b) ≡ true
+pub both_true : (a b : Bool) → a ≡ true → b ≡ true → (a && b) ≡ true
 both_true true b h k = k
 both_true false b h k = clash (sym h)
 
-self_equal : (n : ℕ) → (n == n) ≡ true
+pub self_equal : (n : ℕ) → (n == n) ≡ true
 self_equal n = grind arith
 
 pub same_self : (a : JobId) → same_id a a ≡ true

@@ -186,6 +186,9 @@ module _ (S : System) (proper : IsProper S) where
   effect_formed s c (Service.ReleaseResource None) calls known none formed = formed
   effect_formed s c (Service.ReleaseResource (Some r)) calls known none formed =
       with_caller_formed c releases s (λ k. refl) (λ k h. record { task = h.task; context = h.context }) formed
+  effect_formed s c (Service.LoadShared o i) calls known none formed = formed
+  effect_formed s c (Service.StoreShared None i v) calls known none formed = formed
+  effect_formed s c (Service.StoreShared (Some r) i v) calls known none formed = record { masks = formed.masks; alarms = formed.alarms; jobs = formed.jobs; limited = formed.limited }
   effect_formed s c (Service.SetEvent None m) calls known none formed = formed
   effect_formed s c (Service.SetEvent (Some t) m) calls known none formed =
       released_by_formed (bit_or (slice_index s.masks t) m) (jobs_of t s.jobs) (with_events t (bit_or (slice_index s.masks t) m) s)

@@ -16,6 +16,13 @@ pub mod Good
 pub mod Records
 pub mod Exclusion
 pub mod Excluding
+pub mod Holding
+pub mod HoldingService
+pub mod HoldingTick
+pub mod Protection
 pub mod Watched
 pub mod WatchedTick
 pub mod Blocking
+pub mod Stamps
+pub mod Counting
+pub mod Between

@@ -238,6 +238,9 @@ module _ (S : System) (s : State) (single : IsSingle S s) (ordered : IsOrdered S
   effect_left c (Service.GetResource (Some r)) calls may none = got c r calls may
   effect_left c (Service.ReleaseResource None) calls may none = unchanged
   effect_left c (Service.ReleaseResource (Some r)) calls may none = let_go c calls may
+  effect_left c (Service.LoadShared o i) calls may none = unchanged
+  effect_left c (Service.StoreShared None i v) calls may none = unchanged
+  effect_left c (Service.StoreShared (Some r) i v) calls may none = record { ranked = ordered.ranked; ready = inl ordered.ready }
   effect_left c (Service.SetEvent None m) calls may none = unchanged
   effect_left c (Service.SetEvent (Some t) m) calls may none = set_left t m
   effect_left c (Service.ClearEvent m) calls may none = cleared c m

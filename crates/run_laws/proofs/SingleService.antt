@@ -174,6 +174,9 @@ module _ (S : System) (s : State) (single : IsSingle S s) where
   effect_single c (Service.GetResource (Some r)) proper calls known none = gets_single c r calls
   effect_single c (Service.ReleaseResource None) proper calls known none = single
   effect_single c (Service.ReleaseResource (Some r)) proper calls known none = releases_single c
+  effect_single c (Service.LoadShared o i) proper calls known none = single
+  effect_single c (Service.StoreShared None i v) proper calls known none = single
+  effect_single c (Service.StoreShared (Some r) i v) proper calls known none = single
   effect_single c (Service.SetEvent None m) proper calls known none = single
   effect_single c (Service.SetEvent (Some t) m) proper calls known none = set_single t m
   effect_single c (Service.ClearEvent m) proper calls known none = cleared_single c m

@@ -254,6 +254,9 @@ module _ (S : System) (w : Option Watch) where
     effect_watched c (Service.GetResource (Some r)) calls other = by_caller c (gets r) (λ k. refl) calls other
     effect_watched c (Service.ReleaseResource None) calls other = watched
     effect_watched c (Service.ReleaseResource (Some r)) calls other = by_caller c releases (λ k. refl) calls other
+    effect_watched c (Service.LoadShared o i) calls other = watched
+    effect_watched c (Service.StoreShared None i v) calls other = watched
+    effect_watched c (Service.StoreShared (Some r) i v) calls other = watched
     effect_watched c (Service.SetEvent None m) calls other = watched
     effect_watched c (Service.SetEvent (Some t) m) calls other = set_watched t m
     effect_watched c (Service.ClearEvent m) calls other = cleared_watched c m

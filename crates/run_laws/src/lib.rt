@@ -5,4 +5,4 @@
 
 mod runs;
 
-pub use runs::{blocks_once, excludes, starts_singly, stays_good};
+pub use runs::{blocks_once, excludes, protects, starts_singly, stays_good};

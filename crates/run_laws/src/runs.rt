@@ -1,7 +1,7 @@
 //! The laws, one function each.
 
 ghost use Rattle.osek_base.specs.Laws.{StaysGood};
-ghost use Rattle.run_laws.specs.Runs.{AlwaysBlocksOnce, AlwaysExcludes, AlwaysStartsSingly};
+ghost use Rattle.run_laws.specs.Runs.{AlwaysBlocksOnce, AlwaysExcludes, AlwaysProtects, AlwaysStartsSingly};
 
 /// Of one task no job but the oldest is begun, in every state of every run of a proper system.
 pub fn starts_singly()
@@ -22,4 +22,10 @@ pub fn excludes()
 /// Each time that a job becomes ready, it has at most one blocker, in every run of a proper system.
 pub fn blocks_once()
     ensures { AlwaysBlocksOnce }
+{}
+
+/// From a job's `GetResource` until its `ReleaseResource`, each answered E_OK, the words of the
+/// resource change only by that job's own `StoreShared`, in every run of a proper system.
+pub fn protects()
+    ensures { AlwaysProtects }
 {}

@@ -4,6 +4,7 @@ use Rattle.std.specs.Prelude.{List, Option, Some, None}
 use Rattle.osek_base.specs.declared.instr.Service.{Service}
 use Rattle.osek_base.specs.declared.task.Counter.{Counter}
 use Rattle.osek_base.specs.declared.status.Status.{Status}
+use Rattle.osek_base.specs.State.{State}
 use Rattle.osek_base.specs.Service.{NobodyCalls, changed}
 use Rattle.alarms.specs.Alarms.{AlarmTable, after_call, refusal, state_of, status_of}
 use Rattle.kept_state.specs.KeptService.{caller_in, changed_in, unmasked_in}
@@ -27,5 +28,22 @@ cancelled_kept cs o a t e =
     go : (x : Option Status)
         → kept_in (record o { alarms = (changed o.system NobodyCalls (state_of o.system (table cs o)) (Service.CancelAlarm (Some a)) x).alarms })
         ≡ changed_in o.system (caller_in (kept_in o)) (kept_in o) (Service.CancelAlarm (Some a)) x
+    go None = refl
+    go (Some refusal) = refl
+
+pub set_kept : (cs : List Counter) (o : Objects) (a x y : ℕ) (t : AlarmTable)
+    → t ≡ after_call o.system (table cs o) (Service.SetRelAlarm (Some a) x y)
+    → kept_in (record o { alarms = t.expiries; tick = t.tick }) ≡ (unmasked o (Service.SetRelAlarm (Some a) x y)).state
+unfolding unmasked_in
+set_kept cs o a x y t e =
+    ap (λ (u : AlarmTable). kept_in (record o { alarms = u.expiries; tick = u.tick })) e
+    ∙ go (refusal o.system (table cs o) (Service.SetRelAlarm (Some a) x y))
+  where
+    before : State
+    before = state_of o.system (table cs o)
+
+    go : (r : Option Status)
+        → kept_in (record o { alarms = (changed o.system NobodyCalls before (Service.SetRelAlarm (Some a) x y) r).alarms })
+        ≡ changed_in o.system (caller_in (kept_in o)) (kept_in o) (Service.SetRelAlarm (Some a) x y) r
     go None = refl
     go (Some refusal) = refl

@@ -63,6 +63,8 @@ effect_alike S d o (Service.GetResource (Some r)) = changed d (slot_gets r) o
 effect_alike S d o (Service.GetResource None) = record { running = refl; active = refl }
 effect_alike S d o (Service.ReleaseResource (Some r)) = changed d slot_releases o
 effect_alike S d o (Service.ReleaseResource None) = record { running = refl; active = refl }
+effect_alike S d o (Service.StoreShared (Some r) i v) = record { running = refl; active = refl }
+effect_alike S d o (Service.StoreShared None i v) = record { running = refl; active = refl }
 effect_alike S d o (Service.SetEvent (Some t) m) = set S t (bit_or (slice_index o.masks t) m) o
 effect_alike S d o (Service.SetEvent None m) = record { running = refl; active = refl }
 effect_alike S d o (Service.ClearEvent m) = cleared d m o

@@ -1,6 +1,7 @@
 -- OSEK/VDX OS: specification of operating system services. Calls with a status and without, and who executes.
 use Rattle.std.specs.Prelude.{ℕ, ◌≡◌, ◌<◌, Option, Some, None, length}
 use Rattle.osek_base.specs.declared.ids.Owner.{Owner}
+use Rattle.osek_base.specs.declared.ids.ResId.{ResId}
 use Rattle.osek_base.specs.declared.instr.Service.{Service}
 use Rattle.osek_base.specs.declared.status.Status.{Status}
 use Rattle.osek_base.specs.declared.trace_event.Results.{Results}
@@ -22,6 +23,11 @@ abbrev pub IsAlarmOperand : System → Option ℕ → Type 0
 IsAlarmOperand S None = Unit {0}
 IsAlarmOperand S (Some a) = a < length S.alarms
 
+-- a resource whose words are asked for is declared, or refused
+abbrev pub IsSharedOperand : System → Option ResId → Type 0
+IsSharedOperand S (Some (ResId.Declared r)) = r < length S.resources
+IsSharedOperand S _ = Unit {0}
+
 -- the operands of a service exist
 abbrev pub IsKnown : System → Service ℕ → Type 0
 IsKnown S (Service.ActivateTask t) = IsTaskOperand S t
@@ -29,6 +35,8 @@ IsKnown S (Service.ChainTask t) = IsTaskOperand S t
 IsKnown S (Service.GetTaskState t) = IsTaskOperand S t
 IsKnown S (Service.SetEvent t m) = IsTaskOperand S t
 IsKnown S (Service.GetEvent t) = IsTaskOperand S t
+IsKnown S (Service.LoadShared r i) = IsSharedOperand S r
+IsKnown S (Service.StoreShared r i v) = IsSharedOperand S r
 IsKnown S (Service.SetRelAlarm a x y) = IsAlarmOperand S a
 IsKnown S (Service.SetAbsAlarm a x y) = IsAlarmOperand S a
 IsKnown S (Service.CancelAlarm a) = IsAlarmOperand S a

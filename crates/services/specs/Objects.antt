@@ -1,5 +1,5 @@
 -- OSEK/VDX OS: system services. What services read and change of a running system, with queues and control blocks by
--- number: all that is kept of a state but the words of windows.
+-- number: all that is kept of a state but the words of tasks and routines.
 use Rattle.std.specs.Prelude.{ℕ, ◌≡◌, ◌<◌, Bool, List, [], Option, slice_index_or, length}
 use Rattle.osek_base.specs.System.{System, activation_of}
 use Rattle.osek_base.specs.Ceiling.{top_priority}
@@ -9,8 +9,8 @@ use Rattle.alarms.specs.Alarms.{AlarmTable, IsTableOf}
 use Rattle.kept_state.specs.Kept.{Kept, Slot, unbegun, kept}
 use Rattle.kept_state.specs.Standing.{IsStanding, Fits, room_for}
 
--- the queues by level, the slots by task, the running task, also where its job has ended, which gone says; the system,
--- and how many jobs there is room for
+-- the queues by level, the slots by task, the running task, also where its job has ended, which gone says; the windows of
+-- resources; the system, and how many jobs there is room for
 pub record Objects : Type 0 where
   pub system : System
   pub room : ℕ
@@ -25,6 +25,7 @@ pub record Objects : Type 0 where
   pub suspended_os : ℕ
   pub alarms : List (Option Expiry)
   pub masks : List ℕ
+  pub shared : List (List ℕ)
   pub tick : ℕ
   pub over : Bool
 
@@ -35,7 +36,7 @@ by_level queues l = slice_index_or queues l []
 abbrev pub by_task : List Slot → ℕ → Slot
 by_task slots t = slice_index_or slots t (unbegun 0)
 
--- what is kept, with the words of the windows
+-- what is kept, with the words of tasks and routines
 abbrev pub kept_of : Words → Objects → Kept
 kept_of words o =
     record {
@@ -51,6 +52,7 @@ kept_of words o =
       alarms = o.alarms;
       words = words;
       masks = o.masks;
+      shared = o.shared;
       tick = o.tick;
       over = o.over;
     }
@@ -69,11 +71,13 @@ pub record HasBounds (S : System) : Type 0 where
   pub activation : (t : ℕ) → t < length S.tasks → activation_of S t < 255
 
 -- the lists have the lengths of the system's, and the alarms are the system's
-pub record IsSized (S : System) (blocks : List Slot) (events : List ℕ) (flags : List Bool) (table : AlarmTable) (places : ℕ) : Type 0 where
+pub record IsSized (S : System) (blocks : List Slot) (events : List ℕ) (flags : List Bool) (windows : List (List ℕ))
+    (table : AlarmTable) (places : ℕ) : Type 0 where
   pub bounds : HasBounds S
   pub slots : length blocks ≡ length S.tasks
   pub masks : length events ≡ length S.tasks
   pub pending : length flags ≡ length S.routines
+  pub shared : length windows ≡ length S.resources
   pub alarms : IsTableOf S table
   pub room : places ≡ room_for S
 

@@ -3,7 +3,7 @@
 ghost use Rattle.std.specs.Prelude.{◌≡◌, ◌<◌, MatchOption, IfSome, is_some, length};
 ghost use Rattle.osek_base.specs.Instruction.{Context};
 ghost use Rattle.run_laws.proofs.Formed.{IsPlaced};
-ghost use Rattle.kept_state.specs.KeptService.{ByNobody, by_routine_in, caller_in, holds_any_in, is_above_ceiling_in, is_basic_in, is_outranked_in, is_own_in, may_take_in, got_last_in, running_number, with_caller_in, caller_ended_in, slot_given_up};
+ghost use Rattle.kept_state.specs.KeptService.{ByNobody, by_routine_in, caller_in, holds_any_in, is_above_ceiling_in, is_basic_in, is_outranked_in, is_own_in, may_take_in, got_last_in, caller_holds_in, running_number, with_caller_in, caller_ended_in, slot_given_up};
 ghost use Rattle.kept_state.specs.KeptTick.{with_context_in};
 ghost use Rattle.services.specs.Objects.{kept_in, AreFit};
 ghost use Rattle.services.specs.Calls.{calling_task, caller_as, Executes, MayGoOn};
@@ -117,6 +117,20 @@ impl<'s, Q: ReadyQueues> Objects<'s, Q> {
             Some(task) => {
                 let slot = &self.slots[task.number() as usize];
                 slot.got_last(resource)
+            }
+        }
+    }
+
+    /// Whether the caller is a job that holds a resource.
+    pub fn caller_holds(&self, resource: &ResId) -> bool
+        requires { AreFit self.now }
+        ensures { result ≡ caller_holds_in (kept_in self.now) (caller_in (kept_in self.now)) resource.now }
+    {
+        match self.calling_task() {
+            None => false,
+            Some(task) => {
+                let slot = &self.slots[task.number() as usize];
+                slot.holds(resource)
             }
         }
     }

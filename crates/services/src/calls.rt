@@ -122,6 +122,14 @@ impl<'s, Q: ReadyQueues> Objects<'s, Q> {
                 None => Answer::plain(Status::Id),
                 Some(resource) => Answer::plain(self.release_resource(resource)),
             },
+            Service::LoadShared(resource, index) => match &resource {
+                None => Answer::plain(Status::Id),
+                Some(resource) => self.load_shared(resource, index),
+            },
+            Service::StoreShared(resource, index, new) => match &resource {
+                None => Answer::plain(Status::Id),
+                Some(resource) => Answer::plain(self.store_shared(resource, index, new)),
+            },
             Service::SetEvent(task, mask) => match task {
                 None => Answer::plain(Status::Id),
                 Some(task) => Answer::plain(self.set_event(task, mask)),

@@ -1,5 +1,5 @@
-//! OSEK/VDX OS: system services, over a ready list by level. The tasks, interrupts, alarms and events of a running system,
-//! and the services on them, by the chapters of the standard.
+//! OSEK/VDX OS: system services, over a ready list by level. The tasks, interrupts, alarms, events and shared words of a
+//! running system, and the services on them, by the chapters of the standard.
 #![tactic(auto)]
 
 mod alarm_services;
@@ -12,6 +12,8 @@ mod objects;
 mod os_core;
 mod ready_list;
 mod resource_services;
+mod shared_services;
+mod shared_window;
 mod slot;
 mod task_services;
 

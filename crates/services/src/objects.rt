@@ -2,6 +2,7 @@
 
 ghost use Rattle.std.specs.Prelude.{◌≡◌, ◌<◌, IfOk, replicate, slice_index, slice_set, length};
 ghost use Rattle.osek_base.specs.Proper.{IsProper};
+ghost use Rattle.osek_base.specs.State.{no_shared};
 ghost use Rattle.osek_base.specs.Trace.{starting_alarms};
 ghost use Rattle.kept_state.specs.Kept.{unbegun};
 ghost use Rattle.kept_state.specs.KeptService.{is_full_in, is_suspended_in};
@@ -11,6 +12,7 @@ ghost use Rattle.services.specs.Objects.{kept_in};
 
 use crate::interrupts::Active;
 use crate::ready_list::ReadyList;
+use crate::shared_window::SharedWindow;
 use crate::slot::Slot;
 use alarms::Alarms;
 use osek_base::{ModeId, System, TaskId};
@@ -18,8 +20,8 @@ use ready_queues::ReadyQueues;
 use std::alloc::{AllocError, Global};
 use std::marker::Model;
 
-/// The tasks with their ready list, the interrupts, the alarms and the events of a running system. A step of a service may
-/// leave them standing for no state until the next step.
+/// The tasks with their ready list, the interrupts, the alarms, the events and the shared words of a running system. A step
+/// of a service may leave them standing for no state until the next step.
 #[derive(Drop)]
 pub struct Objects<'s, Q: ReadyQueues> {
     pub system: &'s System,
@@ -34,6 +36,7 @@ pub struct Objects<'s, Q: ReadyQueues> {
     pub suspended_os: u32,
     pub alarms: Alarms,
     pub masks: Vec<u32>,
+    pub shared: Vec<SharedWindow>,
     pub over: bool,
 }
 
@@ -56,11 +59,12 @@ impl<'s, Q: ReadyQueues> Model for Objects<'s, Q> {
       suspended_os = c.suspended_os;
       alarms = c.alarms.expiries;
       masks = c.masks.items;
+      shared = c.shared.items;
       tick = c.alarms.tick;
       over = c.over;
     } };
 
-    ghost invariant = { λ c. IsSized c.system.now c.slots.items c.masks.items c.pending.items c.alarms c.ready.room };
+    ghost invariant = { λ c. IsSized c.system.now c.slots.items c.masks.items c.pending.items c.shared.items c.alarms c.ready.room };
 }
 
 /// The sum of the ACTIVATION values.
@@ -86,8 +90,20 @@ fn blocks(alloc: Global, count: usize) -> Result<Vec<Slot>, AllocError>
     Ok(slots)
 }
 
+/// A window for each resource.
+fn windows(alloc: Global, count: usize) -> Result<Vec<SharedWindow>, AllocError>
+    ensures { IfOk result (λ windows. windows.items ≡ replicate count no_shared) }
+{
+    let mut windows = Vec::with_capacity(alloc, count)?;
+    for _made in 0..count {
+        windows.push(SharedWindow::new())?;
+    }
+    Ok(windows)
+}
+
 impl<'s, Q: ReadyQueues> Objects<'s, Q> {
-    /// No job, no routine, interrupts on, alarms off, masks 0, with room for as many jobs as the tasks may have.
+    /// No job, no routine, interrupts on, alarms off, masks and shared words 0, with room for as many jobs as the tasks may
+    /// have.
     pub fn new(alloc: Global, system: &'s System) -> Result<Self, AllocError>
         ensures proper { IsProper system.now }
         ensures system { IfOk result (λ o. o.system ≡ system.now) }
@@ -108,6 +124,7 @@ impl<'s, Q: ReadyQueues> Objects<'s, Q> {
             suspended_os: 0,
             alarms: Alarms::new(system),
             masks: vec![in alloc; 0; tasks]?,
+            shared: windows(alloc, system.resource_count())?,
             over: false,
         })
     }

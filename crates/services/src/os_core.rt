@@ -1,8 +1,8 @@
 //! OSEK/VDX OS: system services. The core of a kernel: the objects of a running system, which stand for a state of it.
 
-ghost use Rattle.std.specs.Prelude.{◌≡◌, ◌<◌, ◌≤◌, ◌+◌, ◌++◌, IfOk, IfSome, MatchOption, Some, false, true, slice_set, length};
+ghost use Rattle.std.specs.Prelude.{◌≡◌, ◌<◌, ◌≤◌, ◌+◌, ◌++◌, IfOk, IfSome, MatchOption, Some, false, true, slice_index, slice_set, length};
 ghost use Rattle.osek_base.specs.declared.instr.Service.{Service};
-ghost use Rattle.osek_base.specs.State.{Words};
+ghost use Rattle.osek_base.specs.State.{Words, shared_window};
 ghost use Rattle.osek_base.specs.Alarm.{due_alarms, alarms_advanced};
 ghost use Rattle.osek_base.specs.Trace.{starting_alarms};
 ghost use Rattle.run_laws.proofs.Formed.{IsPlaced};
@@ -20,16 +20,16 @@ use crate::objects::Objects;
 use arrayvec::ArrayVec;
 use machine::Cpu;
 use osek_base::{
-    AlarmId, IsrId, MAX_ALARMS, MAX_RECORDS, MAX_TICKS, ModeId, Owner, Status, System, TaskId,
-    TickRecord,
+    AlarmId, IsrId, MAX_ALARMS, MAX_RECORDS, MAX_TICKS, ModeId, Owner, ResourceNumber,
+    SHARED_WORDS, Status, System, TaskId, TickRecord,
 };
 use ready_queues::ReadyQueues;
 use std::alloc::{AllocError, Global};
 use std::marker::Model;
 
-/// The tasks, interrupts, alarms and events of a running system, over ready queues of any kind. It stands for a good state
-/// of the definitions: one that has the same list of ready tasks by level, and the same in all else that is kept. Contracts
-/// see what is kept but the words of windows.
+/// The tasks, interrupts, alarms, events and shared words of a running system, over ready queues of any kind. It stands for
+/// a good state of the definitions: one that has the same list of ready tasks by level, and the same in all else that is
+/// kept. Contracts see what is kept but the words of tasks and routines.
 #[derive(Drop)]
 pub struct Core<'s, Q: ReadyQueues> {
     objects: Objects<'s, Q>,
@@ -46,7 +46,8 @@ impl<'s, Q: ReadyQueues> Model for Core<'s, Q> {
 }
 
 impl<'s, Q: ReadyQueues> Core<'s, Q> {
-    /// No job, no routine, interrupts on, alarms off, masks 0, with room for as many jobs as the tasks may have.
+    /// No job, no routine, interrupts on, alarms off, masks and shared words 0, with room for as many jobs as the tasks may
+    /// have.
     pub fn new(alloc: Global, system: &'s System) -> Result<Self, AllocError>
         ensures system { IfOk result (λ c. c.system ≡ system.now) }
         ensures kept { IfOk result (λ c. kept_in c ≡ still_in system.now) }
@@ -69,6 +70,15 @@ impl<'s, Q: ReadyQueues> Core<'s, Q> {
         ensures { level_lists (Q.queues result.now) ≡ self.now.queues }
     {
         self.objects.ready.queues()
+    }
+
+    /// The word of a resource's window.
+    pub fn shared_word(&self, resource: ResourceNumber, index: u32) -> u32
+        requires resource { resource < length self.now.system.resources }
+        requires index { index < SHARED_WORDS }
+        ensures { result ≡ slice_index (shared_window self.now.shared resource) index }
+    {
+        self.objects.shared_word(resource, index)
     }
 
     /// Whether the run is over, by ShutdownOS.

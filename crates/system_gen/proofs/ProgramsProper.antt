@@ -125,6 +125,10 @@ module _ (f : Configuration) (k : Known) (S : System) (known : AreKnown f k S) w
   service_proper (NamedService.GetTaskState task) e t = task_known task e
   service_proper (NamedService.GetResource resource) e t = resource_known resource e
   service_proper (NamedService.ReleaseResource resource) e t = resource_known resource e
+  service_proper (NamedService.LoadShared resource index) e t = and_from _ _ (resource_known resource e) t
+  service_proper (NamedService.StoreShared resource index word) e t =
+      let h = and_parts _ _ t in
+      and_from _ _ (and_from _ _ (resource_known resource e) h.0) h.1
   service_proper (NamedService.SetEvent task events) e t =
       let h = none_of (unknown_operand k.declared.tasks task) (unknown_in k.declared.events events) e in
       and_from _ _ (task_known task h.0) (events_proper events h.1 t)

@@ -23,6 +23,8 @@ abbrev pub is_typed_service : NamedService → Bool
 is_typed_service (NamedService.SetEvent task events) = not (is_empty events)
 is_typed_service (NamedService.ClearEvent events) = not (is_empty events)
 is_typed_service (NamedService.WaitEvent events) = not (is_empty events)
+is_typed_service (NamedService.LoadShared resource index) = is_register index
+is_typed_service (NamedService.StoreShared resource index word) = is_register index && is_register word
 is_typed_service (NamedService.SetRelAlarm alarm increment cycle) = is_register increment && is_register cycle
 is_typed_service (NamedService.SetAbsAlarm alarm start cycle) = is_register start && is_register cycle
 is_typed_service _ = true

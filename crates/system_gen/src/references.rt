@@ -249,6 +249,15 @@ fn check_service(
         | NamedService::GetEvent(task) => check_operand(&declared.tasks, task),
         NamedService::GetResource(resource) | NamedService::ReleaseResource(resource) =>
             check_resource_operand(declared, file, resource),
+        NamedService::LoadShared(resource, index) => {
+            exists(*index);
+            check_resource_operand(declared, file, resource)
+        }
+        NamedService::StoreShared(resource, index, word) => {
+            exists(*index);
+            exists(*word);
+            check_resource_operand(declared, file, resource)
+        }
         NamedService::SetEvent(task, events) => {
             check_operand(&declared.tasks, task)?;
             check_names(&declared.events, events.names())

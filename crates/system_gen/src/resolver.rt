@@ -92,6 +92,15 @@ impl<'d, 'a, 'm> Resolver<'d, 'a, 'm> {
             NamedService::ReleaseResource(resource) => Service::ReleaseResource(
                 self.resource_operand(resource),
             ),
+            NamedService::LoadShared(resource, index) => Service::LoadShared(
+                self.resource_operand(resource),
+                *index,
+            ),
+            NamedService::StoreShared(resource, index, word) => Service::StoreShared(
+                self.resource_operand(resource),
+                *index,
+                *word,
+            ),
             NamedService::SetEvent(task, events) => Service::SetEvent(
                 self.task_operand(task),
                 self.union(events.names()),

@@ -16,7 +16,7 @@ use Rattle.task_asm.specs.declared.program.NamedInstr.{NamedInstr}
 use Rattle.task_asm.specs.declared.operands.Refusal.{Refusal}
 use Rattle.task_asm.specs.declared.operands.Label.{Label as TheLabel}
 use Rattle.task_asm.specs.declared.operands.Title.{Title}
-use Rattle.task_asm.specs.declared.operands.Written.{Written as TheWritten}
+use Rattle.task_asm.specs.declared.instructions.Written.{Written as TheWritten}
 use Rattle.task_asm.specs.declared.operands.Refusal.TheVariants as refusal
 use Rattle.task_asm.specs.declared.tokens.Sign.{Sign}
 use Rattle.task_asm.specs.declared.tokens.Sign.TheVariants as sign
@@ -176,6 +176,9 @@ three_registers ts = after (a_register ts) (λ a rest. after (next_register rest
 abbrev pub object_and_events : Tokens → Option (Option (List ℕ) × List (List ℕ))
 object_and_events ts = after (an_object ts) (λ o rest. after (next_events rest) (λ es rest. ended rest (o, es)))
 
+abbrev pub object_and_register : Tokens → Option (Option (List ℕ) × ℕ)
+object_and_register ts = after (an_object ts) (λ o rest. after (next_register rest) (λ a rest. ended rest (o, a)))
+
 abbrev pub object_and_registers : Tokens → Option (Option (List ℕ) × ℕ × ℕ)
 object_and_registers ts = after (an_object ts) (λ o rest. after (next_register rest) (λ a rest.
     after (next_register rest) (λ b rest. ended rest (o, a, b))))
@@ -212,6 +215,8 @@ service_instruction ServiceMnemonic.GetTaskId ts = ended ts NamedService.GetTask
 service_instruction ServiceMnemonic.GetTaskState ts = option_map NamedService.GetTaskState (one_object ts)
 service_instruction ServiceMnemonic.GetResource ts = option_map NamedService.GetResource (one_object ts)
 service_instruction ServiceMnemonic.ReleaseResource ts = option_map NamedService.ReleaseResource (one_object ts)
+service_instruction ServiceMnemonic.LoadShared ts = option_map (λ o. NamedService.LoadShared o.0 o.1) (object_and_register ts)
+service_instruction ServiceMnemonic.StoreShared ts = option_map (λ o. NamedService.StoreShared o.0 o.1 o.2) (object_and_registers ts)
 service_instruction ServiceMnemonic.SetEvent ts = option_map (λ o. NamedService.SetEvent o.0 o.1) (object_and_events ts)
 service_instruction ServiceMnemonic.ClearEvent ts = option_map NamedService.ClearEvent (only_events ts)
 service_instruction ServiceMnemonic.GetEvent ts = option_map NamedService.GetEvent (one_object ts)

@@ -44,6 +44,8 @@ service_mnemonic w =
     else (if bytes_eq w (codes "GTST") then Some ServiceMnemonic.GetTaskState
     else (if bytes_eq w (codes "GETR") then Some ServiceMnemonic.GetResource
     else (if bytes_eq w (codes "RELR") then Some ServiceMnemonic.ReleaseResource
+    else (if bytes_eq w (codes "LDR") then Some ServiceMnemonic.LoadShared
+    else (if bytes_eq w (codes "STR") then Some ServiceMnemonic.StoreShared
     else (if bytes_eq w (codes "SETE") then Some ServiceMnemonic.SetEvent
     else (if bytes_eq w (codes "CLRE") then Some ServiceMnemonic.ClearEvent
     else (if bytes_eq w (codes "GETE") then Some ServiceMnemonic.GetEvent
@@ -53,7 +55,7 @@ service_mnemonic w =
     else (if bytes_eq w (codes "CANA") then Some ServiceMnemonic.CancelAlarm
     else (if bytes_eq w (codes "GALM") then Some ServiceMnemonic.GetAlarm
     else (if bytes_eq w (codes "GBAS") then Some ServiceMnemonic.GetAlarmBase
-    else None))))))))))))))))
+    else None))))))))))))))))))
 
 -- the services without a status
 abbrev pub control_mnemonic : List ℕ → Option ControlMnemonic

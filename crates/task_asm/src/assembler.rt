@@ -11,8 +11,8 @@ ghost use Rattle.task_asm.specs.Walk.{found_target, targets_of, programs_with, f
 use crate::checks::first_fault;
 use crate::entries::{Entry, Item, read_entries};
 use crate::fault::AsmFault;
+use crate::instructions::Written;
 use crate::labels::Labels;
-use crate::operands::Written;
 use crate::program::{NamedInstr, NamedLine, NamedProgram};
 use crate::tokens::tokenize;
 use osek_base::{MAX_INSTRUCTIONS, Place, Plain};

@@ -21,8 +21,9 @@ ghost use Rattle.task_asm.specs.Lines.{written_value};
 
 use crate::entries::{Entry, Item};
 use crate::fault::AsmFault;
+use crate::instructions::Written;
 use crate::labels::Labels;
-use crate::operands::{Title, Written};
+use crate::operands::Title;
 use crate::program::ProgramKind;
 use osek_base::MAX_INSTRUCTIONS;
 use std::alloc::{AllocError, Global};

@@ -4,8 +4,9 @@ ghost use Rattle.std.specs.Prelude.{◌≡◌, ◌≤◌, IfOk, MatchOption, Som
 ghost use Rattle.task_asm.specs.Tokens.{lexemes_of, lexeme_of};
 ghost use Rattle.task_asm.specs.Entries.{Reads, Item, item_value, head, line_len, label_at, is_line_end};
 
+use crate::instructions::Written;
 use crate::mnemonic::Mnemonic;
-use crate::operands::{Line, Refusal, Title, Written};
+use crate::operands::{Operands, Refusal, Title};
 use crate::program::ProgramKind;
 use crate::tokens::{Placed, Sign, Token};
 use std::alloc::{AllocError, Global};
@@ -86,7 +87,7 @@ fn head<'a>(alloc: Global, token: &Placed<'a>, line: &[Placed<'a>]) -> Result<It
     match token.token {
         Token::Word(word) => match Mnemonic::of(word) {
             Some(mnemonic) => {
-                let mut operands = Line::new(line);
+                let mut operands = Operands::new(line);
                 match operands.instruction(alloc, mnemonic) {
                     Ok(written) => Ok(Item::Instruction(Some(written))),
                     Err(Refusal::Operand) => Ok(Item::Instruction(None)),
@@ -96,7 +97,7 @@ fn head<'a>(alloc: Global, token: &Placed<'a>, line: &[Placed<'a>]) -> Result<It
             None => Ok(Item::Unknown),
         },
         Token::Directive(kind) => {
-            let mut operands = Line::new(line);
+            let mut operands = Operands::new(line);
             Ok(Item::Program(kind, operands.title()))
         }
         _ => Ok(Item::Unknown),

@@ -5,6 +5,7 @@ mod assembler;
 mod checks;
 mod entries;
 mod fault;
+mod instructions;
 mod labels;
 mod mnemonic;
 mod operands;

@@ -1,8 +1,7 @@
-//! Program texts: the operands of a line, and the instruction that they make with their mnemonic.
+//! Program texts: the operands of a line.
 
 ghost use Rattle.std.specs.Prelude.{◌≡◌, ◌≤◌, option_map, length};
 ghost use Rattle.task_asm.specs.declared.tokens.Sign.TheVariants as sign;
-ghost use Rattle.task_asm.specs.declared.mnemonic.PlainMnemonic.{PlainMnemonic};
 ghost use Rattle.task_asm.specs.Lines.{
   Takes,
   TakesSurely,
@@ -10,7 +9,6 @@ ghost use Rattle.task_asm.specs.Lines.{
   TakesToken,
   Answers,
   TakesLabel,
-  AnswersWritten,
   TakesPlus,
   LabelAnswers,
   register_number,
@@ -22,7 +20,6 @@ ghost use Rattle.task_asm.specs.Lines.{
   a_label,
   a_name,
   an_object,
-  is_plus,
   events,
   next_register,
   next_number,
@@ -37,20 +34,14 @@ ghost use Rattle.task_asm.specs.Lines.{
   register_and_number,
   three_registers,
   object_and_events,
+  object_and_register,
   object_and_registers,
-  plain_instruction,
-  service_instruction,
-  control_instruction,
-  instruction,
-  ready,
-  written_value,
   one_title,
 };
 
-use crate::mnemonic::{ControlMnemonic, Mnemonic, PlainMnemonic, ServiceMnemonic};
-use crate::program::{EventNames, NamedInstr, NamedService};
+use crate::program::EventNames;
 use crate::tokens::{Placed, Sign, Token};
-use osek_base::{Comparison, Control, Name, Plain, Register};
+use osek_base::{Name, Register};
 use std::alloc::{AllocError, Global};
 
 /// Why the operands of a line could not be read: they are others than the mnemonic wants, or memory was refused.
@@ -84,17 +75,9 @@ pub struct Title {
     pub name: Name,
 }
 
-/// An instruction as it stands in a line: finished, or a jump whose label is still to be found.
-#[derive(Debug, Drop)]
-pub enum Written<'a> {
-    Ready(NamedInstr),
-    Jump(Label<'a>),
-    JumpIf(Comparison, Register, Register, Label<'a>),
-}
-
 /// The tokens of a line behind its mnemonic that are still to be read.
 #[derive(Drop)]
-pub struct Line<'t, 'a> {
+pub struct Operands<'t, 'a> {
     tokens: &'t [Placed<'a>],
     next: usize,
     ghost in_range: { next ≤ length tokens.now },
@@ -131,20 +114,14 @@ fn object_in(word: &str) -> Option<Option<Name>>
     }
 }
 
-fn ready<'a>(plain: Plain) -> Written<'a>
-    ensures { written_value result ≡ ready plain }
-{
-    Written::Ready(NamedInstr::Plain(plain))
-}
-
-impl<'t, 'a> Line<'t, 'a> {
+impl<'t, 'a> Operands<'t, 'a> {
     ghost use Rattle.task_asm.specs.Rest.{rest_of};
     ghost use Rattle.task_asm.specs.Tokens.{lexemes_of};
 
     pub fn new(tokens: &'t [Placed<'a>]) -> Self
         ensures { rest_of result ≡ lexemes_of tokens.now }
     {
-        Line { tokens, next: 0 }
+        Operands { tokens, next: 0 }
     }
 
     fn token(&mut self) -> Result<Placed<'a>, Refusal>
@@ -158,7 +135,7 @@ impl<'t, 'a> Line<'t, 'a> {
         Ok(token)
     }
 
-    fn end(&mut self) -> Result<(), Refusal>
+    pub(crate) fn end(&mut self) -> Result<(), Refusal>
         ensures { AnswersSurely (ended (rest_of self.old) tt) result }
     {
         match self.token() {
@@ -176,7 +153,7 @@ impl<'t, 'a> Line<'t, 'a> {
         }
     }
 
-    fn register(&mut self) -> Result<Register, Refusal>
+    pub(crate) fn register(&mut self) -> Result<Register, Refusal>
         ensures { Takes (a_register (rest_of self.old)) result (rest_of self.new) }
     {
         match self.token()?.token {
@@ -225,7 +202,7 @@ impl<'t, 'a> Line<'t, 'a> {
         }
     }
 
-    fn next_register(&mut self) -> Result<Register, Refusal>
+    pub(crate) fn next_register(&mut self) -> Result<Register, Refusal>
         ensures { Takes (next_register (rest_of self.old)) result (rest_of self.new) }
     {
         self.mark(Sign::Comma)?;
@@ -239,7 +216,7 @@ impl<'t, 'a> Line<'t, 'a> {
         self.number()
     }
 
-    fn one_number(&mut self) -> Result<u32, Refusal>
+    pub(crate) fn one_number(&mut self) -> Result<u32, Refusal>
         ensures { Answers (one_number (rest_of self.old)) result }
     {
         let number = self.number()?;
@@ -247,7 +224,7 @@ impl<'t, 'a> Line<'t, 'a> {
         Ok(number)
     }
 
-    fn one_object(&mut self) -> Result<Option<Name>, Refusal>
+    pub(crate) fn one_object(&mut self) -> Result<Option<Name>, Refusal>
         ensures { Answers (one_object (rest_of self.old)) result }
     {
         let object = self.object()?;
@@ -255,7 +232,7 @@ impl<'t, 'a> Line<'t, 'a> {
         Ok(object)
     }
 
-    fn two_registers(&mut self) -> Result<(Register, Register), Refusal>
+    pub(crate) fn two_registers(&mut self) -> Result<(Register, Register), Refusal>
         ensures { Answers (two_registers (rest_of self.old)) result }
     {
         let first = self.register()?;
@@ -264,7 +241,7 @@ impl<'t, 'a> Line<'t, 'a> {
         Ok((first, second))
     }
 
-    fn register_and_number(&mut self) -> Result<(Register, u32), Refusal>
+    pub(crate) fn register_and_number(&mut self) -> Result<(Register, u32), Refusal>
         ensures { Answers (register_and_number (rest_of self.old)) result }
     {
         let register = self.register()?;
@@ -273,7 +250,7 @@ impl<'t, 'a> Line<'t, 'a> {
         Ok((register, number))
     }
 
-    fn three_registers(&mut self) -> Result<(Register, Register, Register), Refusal>
+    pub(crate) fn three_registers(&mut self) -> Result<(Register, Register, Register), Refusal>
         ensures { Answers (three_registers (rest_of self.old)) result }
     {
         let first = self.register()?;
@@ -283,7 +260,18 @@ impl<'t, 'a> Line<'t, 'a> {
         Ok((first, second, third))
     }
 
-    fn object_and_registers(&mut self) -> Result<(Option<Name>, Register, Register), Refusal>
+    pub(crate) fn object_and_register(&mut self) -> Result<(Option<Name>, Register), Refusal>
+        ensures { Answers (object_and_register (rest_of self.old)) result }
+    {
+        let object = self.object()?;
+        let register = self.next_register()?;
+        self.end()?;
+        Ok((object, register))
+    }
+
+    pub(crate) fn object_and_registers(
+        &mut self,
+    ) -> Result<(Option<Name>, Register, Register), Refusal>
         ensures { Answers (object_and_registers (rest_of self.old)) result }
     {
         let object = self.object()?;
@@ -293,14 +281,14 @@ impl<'t, 'a> Line<'t, 'a> {
         Ok((object, first, second))
     }
 
-    fn next_label(&mut self) -> Result<Label<'a>, Refusal>
+    pub(crate) fn next_label(&mut self) -> Result<Label<'a>, Refusal>
         ensures { TakesLabel (next_label (rest_of self.old)) result (rest_of self.new) }
     {
         self.mark(Sign::Comma)?;
         self.label()
     }
 
-    fn one_label(&mut self) -> Result<Label<'a>, Refusal>
+    pub(crate) fn one_label(&mut self) -> Result<Label<'a>, Refusal>
         ensures { LabelAnswers (one_label (rest_of self.old)) result }
     {
         let label = self.label()?;
@@ -308,21 +296,11 @@ impl<'t, 'a> Line<'t, 'a> {
         Ok(label)
     }
 
-    fn jump_if(&mut self, test: Comparison) -> Result<Written<'a>, Refusal>
-        ensures { AnswersWritten (plain_instruction (PlainMnemonic.JumpIf test) (rest_of self.old)) result }
-    {
-        let left = self.register()?;
-        let right = self.next_register()?;
-        let label = self.next_label()?;
-        self.end()?;
-        Ok(Written::JumpIf(test, left, right, label))
-    }
-
     /// Takes a `+`, where one stands next, and says whether it did.
     fn plus(&mut self) -> bool
         ensures { TakesPlus (rest_of self.old) result (rest_of self.new) }
     {
-        let mut ahead = Line {
+        let mut ahead = Operands {
             tokens: self.tokens,
             next: self.next,
         };
@@ -355,7 +333,7 @@ impl<'t, 'a> Line<'t, 'a> {
         self.events(alloc)
     }
 
-    fn only_events(&mut self, alloc: Global) -> Result<EventNames, Refusal>
+    pub(crate) fn only_events(&mut self, alloc: Global) -> Result<EventNames, Refusal>
         ensures { Answers (only_events (rest_of self.old)) result }
     {
         let events = self.events(alloc)?;
@@ -363,126 +341,16 @@ impl<'t, 'a> Line<'t, 'a> {
         Ok(events)
     }
 
-    fn object_and_events(&mut self, alloc: Global) -> Result<(Option<Name>, EventNames), Refusal>
+    pub(crate) fn object_and_events(
+        &mut self,
+        alloc: Global,
+    ) -> Result<(Option<Name>, EventNames), Refusal>
         ensures { Answers (object_and_events (rest_of self.old)) result }
     {
         let object = self.object()?;
         let events = self.next_events(alloc)?;
         self.end()?;
         Ok((object, events))
-    }
-
-    fn plain(&mut self, mnemonic: PlainMnemonic) -> Result<Written<'a>, Refusal>
-        ensures { AnswersWritten (plain_instruction mnemonic (rest_of self.old)) result }
-    {
-        match mnemonic {
-            PlainMnemonic::Nop => {
-                self.end()?;
-                Ok(ready(Plain::Nop))
-            }
-            PlainMnemonic::Li => {
-                let (to, number) = self.register_and_number()?;
-                Ok(ready(Plain::Li(to, number)))
-            }
-            PlainMnemonic::Mov => {
-                let (to, from) = self.two_registers()?;
-                Ok(ready(Plain::Mov(to, from)))
-            }
-            PlainMnemonic::Compute(operation) => {
-                let (to, left, right) = self.three_registers()?;
-                Ok(ready(Plain::Compute(operation, to, left, right)))
-            }
-            PlainMnemonic::Ld => {
-                let (to, address) = self.two_registers()?;
-                Ok(ready(Plain::Ld(to, address)))
-            }
-            PlainMnemonic::St => {
-                let (address, from) = self.two_registers()?;
-                Ok(ready(Plain::St(address, from)))
-            }
-            PlainMnemonic::Jmp => {
-                let label = self.one_label()?;
-                Ok(Written::Jump(label))
-            }
-            PlainMnemonic::JumpIf(test) => self.jump_if(test),
-        }
-    }
-
-    /// The service, which has no operands.
-    fn bare(&mut self, service: NamedService) -> Result<NamedService, Refusal>
-        ensures { Answers (ended (rest_of self.old) service) result }
-    {
-        self.end()?;
-        Ok(service)
-    }
-
-    fn service(&mut self, alloc: Global, mnemonic: ServiceMnemonic) -> Result<NamedService, Refusal>
-        ensures { Answers (service_instruction mnemonic (rest_of self.old)) result }
-    {
-        Ok(match mnemonic {
-            ServiceMnemonic::ActivateTask => NamedService::ActivateTask(self.one_object()?),
-            ServiceMnemonic::TerminateTask => self.bare(NamedService::TerminateTask)?,
-            ServiceMnemonic::ChainTask => NamedService::ChainTask(self.one_object()?),
-            ServiceMnemonic::Schedule => self.bare(NamedService::Schedule)?,
-            ServiceMnemonic::GetTaskId => self.bare(NamedService::GetTaskId)?,
-            ServiceMnemonic::GetTaskState => NamedService::GetTaskState(self.one_object()?),
-            ServiceMnemonic::GetResource => NamedService::GetResource(self.one_object()?),
-            ServiceMnemonic::ReleaseResource => NamedService::ReleaseResource(self.one_object()?),
-            ServiceMnemonic::SetEvent => {
-                let (task, events) = self.object_and_events(alloc)?;
-                NamedService::SetEvent(task, events)
-            }
-            ServiceMnemonic::ClearEvent => NamedService::ClearEvent(self.only_events(alloc)?),
-            ServiceMnemonic::GetEvent => NamedService::GetEvent(self.one_object()?),
-            ServiceMnemonic::WaitEvent => NamedService::WaitEvent(self.only_events(alloc)?),
-            ServiceMnemonic::SetRelAlarm => {
-                let (alarm, increment, cycle) = self.object_and_registers()?;
-                NamedService::SetRelAlarm(alarm, increment, cycle)
-            }
-            ServiceMnemonic::SetAbsAlarm => {
-                let (alarm, start, cycle) = self.object_and_registers()?;
-                NamedService::SetAbsAlarm(alarm, start, cycle)
-            }
-            ServiceMnemonic::CancelAlarm => NamedService::CancelAlarm(self.one_object()?),
-            ServiceMnemonic::GetAlarm => NamedService::GetAlarm(self.one_object()?),
-            ServiceMnemonic::GetAlarmBase => NamedService::GetAlarmBase(self.one_object()?),
-        })
-    }
-
-    fn control(&mut self, mnemonic: ControlMnemonic) -> Result<Control, Refusal>
-        ensures { Answers (control_instruction mnemonic (rest_of self.old)) result }
-    {
-        if let ControlMnemonic::ShutdownOs = mnemonic {
-            return Ok(Control::ShutdownOs(self.one_number()?));
-        }
-        self.end()?;
-        Ok(match mnemonic {
-            ControlMnemonic::DisableAllInterrupts => Control::DisableAllInterrupts,
-            ControlMnemonic::EnableAllInterrupts => Control::EnableAllInterrupts,
-            ControlMnemonic::SuspendAllInterrupts => Control::SuspendAllInterrupts,
-            ControlMnemonic::ResumeAllInterrupts => Control::ResumeAllInterrupts,
-            ControlMnemonic::SuspendOsInterrupts => Control::SuspendOsInterrupts,
-            ControlMnemonic::ResumeOsInterrupts => Control::ResumeOsInterrupts,
-            ControlMnemonic::ReturnFromInterrupt => Control::ReturnFromInterrupt,
-            ControlMnemonic::ShutdownOs => unreachable!(),
-        })
-    }
-
-    /// The instruction that the tokens make with their mnemonic, if they are just its operands.
-    pub fn instruction(&mut self, alloc: Global, mnemonic: Mnemonic) -> Result<Written<'a>, Refusal>
-        ensures { AnswersWritten (instruction mnemonic (rest_of self.old)) result }
-    {
-        match mnemonic {
-            Mnemonic::Plain(mnemonic) => self.plain(mnemonic),
-            Mnemonic::Service(mnemonic) => {
-                let service = self.service(alloc, mnemonic)?;
-                Ok(Written::Ready(NamedInstr::Service(service)))
-            }
-            Mnemonic::Control(mnemonic) => {
-                let control = self.control(mnemonic)?;
-                Ok(Written::Ready(NamedInstr::Control(control)))
-            }
-        }
     }
 
     /// The one word of a line.

@@ -64,6 +64,10 @@ pub enum NamedService {
     GetResource(Option<Name>),
     /// The name may be RES_SCHEDULER.
     ReleaseResource(Option<Name>),
+    /// A resource, which may be RES_SCHEDULER, and the register of the index.
+    LoadShared(Option<Name>, Register),
+    /// A resource, which may be RES_SCHEDULER, the register of the index and that of the new word.
+    StoreShared(Option<Name>, Register, Register),
     /// A task and events.
     SetEvent(Option<Name>, EventNames),
     ClearEvent(EventNames),

@@ -235,6 +235,19 @@ fn write_service(text: &mut InstrText, service: &Service<Register>, names: &Name
         Service::ReleaseResource(resource) => {
             write_one(text, "RELR", &resource_text(names, resource))
         }
+        Service::LoadShared(resource, index) => write_two(
+            text,
+            "LDR",
+            &resource_text(names, resource),
+            &register_text(index),
+        ),
+        Service::StoreShared(resource, index, word) => write_three(
+            text,
+            "STR",
+            &resource_text(names, resource),
+            &register_text(index),
+            &register_text(word),
+        ),
         Service::SetEvent(task, mask) => {
             write_two(text, "SETE", &task_text(names, task), &mask_text(mask))
         }

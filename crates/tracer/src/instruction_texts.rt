@@ -10,7 +10,7 @@ ghost use Rattle.tracer.specs.Lines.{IsExecutedText};
 
 use crate::line::{LineText, line_text, push_executed, push_number, push_outcome};
 use arrayvec::ArrayString;
-use osek_base::{Instr, IsrId, Names, Owner, Place, System, TaskId, TraceEvent};
+use osek_base::{Instr, IsrId, Names, Owner, Place, Register, Service, System, TaskId, TraceEvent};
 use std::alloc::{AllocError, Global};
 use std::marker::Model;
 
@@ -50,7 +50,51 @@ impl InstructionText {
         ensures place { IsTrue result → self.now.place ≡ place.now }
         ensures what { IsTrue result → self.now.what ≡ what.now }
     {
-        self.place == *place && self.who == *who && self.what == *what
+        self.place == *place && self.who == *who && is_same(&self.what, what)
+    }
+}
+
+/// Whether two instructions are the same.
+fn is_same(one: &Instr, other: &Instr) -> bool
+    ensures { IsTrue result → one.now ≡ other.now }
+{
+    match (one, other) {
+        (Instr::Plain(one), Instr::Plain(other)) => one == other,
+        (Instr::Service(one), Instr::Service(other)) => is_same_service(one, other),
+        (Instr::Control(one), Instr::Control(other)) => one == other,
+        _ => false,
+    }
+}
+
+/// Whether two services are the same, operand by operand: the derived `==` has too many cases for the prover.
+fn is_same_service(one: &Service<Register>, other: &Service<Register>) -> bool
+    ensures { IsTrue result → one.now ≡ other.now }
+{
+    match (one, other) {
+        (Service::TerminateTask, Service::TerminateTask)
+        | (Service::Schedule, Service::Schedule)
+        | (Service::GetTaskId, Service::GetTaskId) => true,
+        (Service::ActivateTask(t), Service::ActivateTask(u))
+        | (Service::ChainTask(t), Service::ChainTask(u))
+        | (Service::GetTaskState(t), Service::GetTaskState(u))
+        | (Service::GetEvent(t), Service::GetEvent(u)) => t == u,
+        (Service::GetResource(r), Service::GetResource(s))
+        | (Service::ReleaseResource(r), Service::ReleaseResource(s)) => r == s,
+        (Service::LoadShared(r, x), Service::LoadShared(s, y)) => r == s && x == y,
+        (Service::StoreShared(r, x, v), Service::StoreShared(s, y, w)) => {
+            r == s && x == y && v == w
+        }
+        (Service::SetEvent(t, m), Service::SetEvent(u, n)) => t == u && m == n,
+        (Service::ClearEvent(m), Service::ClearEvent(n))
+        | (Service::WaitEvent(m), Service::WaitEvent(n)) => m == n,
+        (Service::SetRelAlarm(a, x, v), Service::SetRelAlarm(b, y, w))
+        | (Service::SetAbsAlarm(a, x, v), Service::SetAbsAlarm(b, y, w)) => {
+            a == b && x == y && v == w
+        }
+        (Service::CancelAlarm(a), Service::CancelAlarm(b))
+        | (Service::GetAlarm(a), Service::GetAlarm(b))
+        | (Service::GetAlarmBase(a), Service::GetAlarmBase(b)) => a == b,
+        _ => false,
     }
 }
 

@@ -80,7 +80,7 @@ fn write_view<S: Sink>(
     }
 }
 
-/// Runs a system for some ticks, at most 1,000,000, and writes the view at p, 0 to 31: the trace as far as it is of tasks of
+/// Runs a system for some ticks, at most 1,000,000, and writes the view at p, 0 to 63: the trace as far as it is of tasks of
 /// priority p or more, of routines, and of alarms that act on such tasks. All is as in `run`, but that the partition at p is
 /// checked before the arrival list is read: where it is denied, the answer is the first denial, and nothing is written.
 ///

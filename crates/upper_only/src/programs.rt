@@ -36,6 +36,12 @@ impl UpperPart<'_> {
             Service::ReleaseResource(resource) => {
                 Service::ReleaseResource(self.resource_operand(resource))
             }
+            Service::LoadShared(resource, index) => {
+                Service::LoadShared(self.resource_operand(resource), *index)
+            }
+            Service::StoreShared(resource, index, value) => {
+                Service::StoreShared(self.resource_operand(resource), *index, *value)
+            }
             Service::SetRelAlarm(alarm, increment, cycle) => {
                 Service::SetRelAlarm(self.alarm_operand(*alarm), *increment, *cycle)
             }

@@ -1,9 +1,9 @@
 -- OSEK/VDX OS: resource management. Worked runs with resources, RES_SCHEDULER and internal resources.
-use Rattle.std.specs.Prelude.{[], ◌∷◌, Some, codes}
+use Rattle.std.specs.Prelude.{[], ◌∷◌, Some, None, true, codes}
 use Rattle.osek_base.specs.declared.task.Property.{Property}
 use Rattle.osek_base.specs.declared.ids.ResId.TheVariants.{Declared, Scheduler}
 use Rattle.osek_base.specs.System.{System}
-use Rattle.worked_runs.specs.Worked.{quiet, one_mode, task, autostarted, listing_resources, IsWorkedRun, HasBlockers, nop, act, term, sched, getr, relr}
+use Rattle.worked_runs.specs.Worked.{quiet, one_mode, task, autostarted, listing_resources, IsWorkedRun, TellsBlockers, HasBlockers, nop, li, act, term, sched, getr, relr, ldr, str, sai}
 
 -- nested resources
 abbrev pub nested_resources : System
@@ -33,6 +33,21 @@ RunNestedResources =
     ∷ codes "7 A 6 RELR R = 0"
     ∷ codes "8 B 0 TERM = 0"
     ∷ codes "9 A 7 TERM = 0"
+    ∷ [])
+
+abbrev pub BlockingNestedResources : Type 0
+BlockingNestedResources =
+    TellsBlockers nested_resources [] 10
+    (codes "0 A 0 GETR R = 0 ! 0"
+    ∷ codes "1 A 1 GETR S = 0"
+    ∷ codes "2 A 2 RELR R = 5"
+    ∷ codes "3 A 3 ACT B = 0"
+    ∷ codes "4 A 4 ACT C = 0"
+    ∷ codes "5 A 5 RELR S = 0"
+    ∷ codes "6 C 0 TERM = 0 ! 1"
+    ∷ codes "7 A 6 RELR R = 0 ! 0"
+    ∷ codes "8 B 0 TERM = 0 ! 1"
+    ∷ codes "9 A 7 TERM = 0 ! 0"
     ∷ [])
 
 abbrev pub BlockersNestedResourcesAt0 : Type 0
@@ -125,4 +140,61 @@ RunResScheduler =
     ∷ codes "3 A 3 RELR RES_SCHEDULER = 0"
     ∷ codes "4 B 0 TERM = 0"
     ∷ codes "5 A 4 TERM = 0"
+    ∷ [])
+
+-- two tasks share the words of a resource: the one that doesn't hold it may not write, the index counts mod 16
+abbrev pub shared_words : System
+shared_words =
+    record quiet {
+      names = record one_mode { tasks = codes "B" ∷ codes "A" ∷ []; resources = codes "R" ∷ [] };
+      tasks =
+          listing_resources (0 ∷ []) (task 2 (getr (Some (Declared 0)) ∷ li 2 1 ∷ ldr (Some (Declared 0)) 2
+          ∷ relr (Some (Declared 0)) ∷ term ∷ []))
+          ∷ listing_resources (0 ∷ []) (autostarted (task 1 (li 1 17 ∷ li 2 7 ∷ str (Some (Declared 0)) 1 2
+          ∷ getr (Some (Declared 0)) ∷ str (Some (Declared 0)) 1 2 ∷ act (Some 0) ∷ relr (Some (Declared 0)) ∷ term ∷ [])))
+          ∷ [];
+      resources = Property.Standard ∷ [];
+    }
+
+abbrev pub RunSharedWords : Type 0
+RunSharedWords =
+    IsWorkedRun shared_words [] 13
+    (codes "0 A 0 LI r1, 17 -> 17"
+    ∷ codes "1 A 1 LI r2, 7 -> 7"
+    ∷ codes "2 A 2 STR R, r1, r2 = 1"
+    ∷ codes "3 A 3 GETR R = 0"
+    ∷ codes "4 A 4 STR R, r1, r2 = 0"
+    ∷ codes "5 A 5 ACT B = 0"
+    ∷ codes "6 A 6 RELR R = 0"
+    ∷ codes "7 B 0 GETR R = 0"
+    ∷ codes "8 B 1 LI r2, 1 -> 1"
+    ∷ codes "9 B 2 LDR R, r2 = 0 : 7"
+    ∷ codes "10 B 3 RELR R = 0"
+    ∷ codes "11 B 4 TERM = 0"
+    ∷ codes "12 A 7 TERM = 0"
+    ∷ [])
+
+-- RES_SCHEDULER has no words, though the caller holds it, and neither has INVALID; interrupts being off comes first
+abbrev pub shared_refused : System
+shared_refused =
+    record quiet {
+      names = record one_mode { tasks = codes "A" ∷ []; resources = codes "R" ∷ [] };
+      tasks =
+          listing_resources (0 ∷ []) (autostarted (task 1 (getr (Some Scheduler) ∷ str (Some Scheduler) 0 0
+          ∷ ldr None 0 ∷ ldr (Some (Declared 0)) 0 ∷ relr (Some Scheduler) ∷ sai ∷ str None 0 0 ∷ term ∷ [])))
+          ∷ [];
+      resources = Property.Standard ∷ [];
+      use_res_scheduler = true;
+    }
+
+abbrev pub RunSharedRefused : Type 0
+RunSharedRefused =
+    IsWorkedRun shared_refused [] 7
+    (codes "0 A 0 GETR RES_SCHEDULER = 0"
+    ∷ codes "1 A 1 STR RES_SCHEDULER, r0, r0 = 1"
+    ∷ codes "2 A 2 LDR INVALID, r0 = 3"
+    ∷ codes "3 A 3 LDR R, r0 = 1"
+    ∷ codes "4 A 4 RELR RES_SCHEDULER = 0"
+    ∷ codes "5 A 5 SAI"
+    ∷ codes "6 A 6 STR INVALID, r0, r0 = 32"
     ∷ [])

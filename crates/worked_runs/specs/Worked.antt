@@ -1,5 +1,6 @@
 -- Short words for the worked runs: instructions by their mnemonics, objects with usual attributes, and what a run is.
 use Rattle.std.specs.Prelude.{ℕ, ◌≡◌, true, false, IsTrue, List, [], ◌∷◌, ◌++◌, Option, Some, None, length, codes}
+use Rattle.std.specs.List.{flat_map}
 use Rattle.osek_base.specs.declared.ids.ResId.{ResId}
 use Rattle.osek_base.specs.declared.instr.Operation.{Operation}
 use Rattle.osek_base.specs.declared.instr.Comparison.{Comparison}
@@ -17,6 +18,7 @@ use Rattle.osek_base.specs.State.{JobId}
 use Rattle.osek_base.specs.declared.arrivals.Arrival.{Arrival}
 use Rattle.osek_base.specs.Trace.{boot, run}
 use Rattle.osek_base.specs.Text.{lines}
+use Rattle.osek_base.specs.BlockingText.{blocking_lines}
 use Rattle.osek_base.specs.Blocker.{is_ready_from, blockers}
 
 -- ---- instructions
@@ -65,6 +67,12 @@ getr r = Instr.Service (Service.GetResource r)
 
 abbrev pub relr : Option ResId → Instr
 relr r = Instr.Service (Service.ReleaseResource r)
+
+abbrev pub ldr : Option ResId → ℕ → Instr
+ldr r x = Instr.Service (Service.LoadShared r x)
+
+abbrev pub str : Option ResId → ℕ → ℕ → Instr
+str r x y = Instr.Service (Service.StoreShared r x y)
 
 abbrev pub sete : Option ℕ → ℕ → Instr
 sete t mask = Instr.Service (Service.SetEvent t mask)
@@ -174,6 +182,10 @@ quiet =
 pub record IsWorkedRun (S : System) (arrivals : List Arrival) (n : ℕ) (ls : List (List ℕ)) : Type 0 where
   pub proper : IsProper S
   pub told : lines S.names (run S 0 arrivals n) ≡ ls
+
+-- the lines with the numbers of blockers
+abbrev pub TellsBlockers : System → List Arrival → ℕ → List (List ℕ) → Type 0
+TellsBlockers S arrivals n ls = flat_map (blocking_lines S 0 arrivals) (run S 0 arrivals n).steps ≡ ls
 
 -- in those ticks a job becomes ready before the instruction of tick u, and has that many blockers from then on
 pub record HasBlockers (S : System) (arrivals : List Arrival) (n u : ℕ) (job : JobId) (count : ℕ) : Type 0 where

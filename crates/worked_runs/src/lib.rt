@@ -8,7 +8,7 @@ ghost use Rattle.worked_runs.specs.ClassRuns.{ProperExtendedSingle, ClassExtende
 ghost use Rattle.worked_runs.specs.EventRuns.{RunReleasedIsNewest, ClassReleasedIsNewest, RunEvents};
 ghost use Rattle.worked_runs.specs.InterruptRuns.{RunInterruptsOff, RunRoutinesAlone, RunNestedSuspension, RunRoutineRefused};
 ghost use Rattle.worked_runs.specs.PartitionRuns.{RunLowerEnds, ViewLowerEnds, AloneLowerEnds, CheckLowerEndsAt5, CheckLowerEndsAt6, CoreLowerEnds, WindowsLowerEnds, RunLowerGoesRound, ViewLowerGoesRound, AloneLowerGoesRound, CheckLowerGoesRound, CoreLowerGoesRound, WindowsLowerGoesRound, ProperLowerTakesScheduler, CheckLowerTakesScheduler, ProperRoutineAsksTask, CheckRoutineAsksTask, ProperLowerNonPreemptable, CheckLowerNonPreemptable, ProperSharedInternal, CheckSharedInternal, ProperLowerSuspends, CheckLowerSuspends, ProperLowerNamesUpper, CheckLowerNamesUpper, ProperUpperNamesLower, CheckUpperNamesLower, ProperTwoBreaches, CheckTwoBreaches, ProperMixed, CheckMixed, CoreMixed, WindowsMixed};
-ghost use Rattle.worked_runs.specs.ResourceRuns.{RunNestedResources, BlockersNestedResourcesAt0, BlockersNestedResourcesAt5, BlockersNestedResourcesAt4, BlockersNestedResourcesAt6, BlockersNestedResourcesAt8, RunNoEndWhileHolding, RunSchedule, RunResScheduler};
+ghost use Rattle.worked_runs.specs.ResourceRuns.{RunNestedResources, BlockingNestedResources, BlockersNestedResourcesAt0, BlockersNestedResourcesAt5, BlockersNestedResourcesAt4, BlockersNestedResourcesAt6, BlockersNestedResourcesAt8, RunNoEndWhileHolding, RunSchedule, RunResScheduler, RunSharedWords, RunSharedRefused};
 ghost use Rattle.worked_runs.specs.TaskRuns.{RunOneTask, ClassOneTask, RunActivationOrder, ClassActivationOrder, RunPreemptedIsOldest, RunHighestPriority, RunChainToItself, RunNonPreemptable, RunBasicTaskRefused, RunPlain, RunWrapping, RunShutdown};
 
 /// Tasks: activation, preemption, ends, chaining, Schedule, plain instructions and a shutdown.
@@ -30,6 +30,7 @@ pub fn tasks()
 /// Resources, RES_SCHEDULER and internal resources, with the blockers of each job that becomes ready.
 pub fn resources()
     ensures run_nested_resources { RunNestedResources }
+    ensures blocking_nested_resources { BlockingNestedResources }
     ensures blockers_nested_resources_at0 { BlockersNestedResourcesAt0 }
     ensures blockers_nested_resources_at5 { BlockersNestedResourcesAt5 }
     ensures blockers_nested_resources_at4 { BlockersNestedResourcesAt4 }
@@ -38,6 +39,8 @@ pub fn resources()
     ensures run_no_end_while_holding { RunNoEndWhileHolding }
     ensures run_schedule { RunSchedule }
     ensures run_res_scheduler { RunResScheduler }
+    ensures run_shared_words { RunSharedWords }
+    ensures run_shared_refused { RunSharedRefused }
 {}
 
 /// Events.

@@ -13,6 +13,10 @@ pub returns-clause-run_nested_resources : goal.returns-clause-run_nested_resourc
 unfolding digits reschedule activated released service unmasked_service alarm_phase start_phase execute_phase tick boot run first_denial
 returns-clause-run_nested_resources c = record { proper = record { limits = refl; named = refl; names = refl; objects = refl }; told = refl }
 
+pub returns-clause-blocking_nested_resources : goal.returns-clause-blocking_nested_resources
+unfolding digits reschedule activated released service unmasked_service alarm_phase start_phase execute_phase tick boot run first_denial
+returns-clause-blocking_nested_resources c = refl
+
 pub returns-clause-blockers_nested_resources_at0 : goal.returns-clause-blockers_nested_resources_at0
 unfolding digits reschedule activated released service unmasked_service alarm_phase start_phase execute_phase tick boot run first_denial
 returns-clause-blockers_nested_resources_at0 c = record { ready = refl; blocked = refl }
@@ -44,3 +48,11 @@ returns-clause-run_schedule c = record { proper = record { limits = refl; named 
 pub returns-clause-run_res_scheduler : goal.returns-clause-run_res_scheduler
 unfolding digits reschedule activated released service unmasked_service alarm_phase start_phase execute_phase tick boot run first_denial
 returns-clause-run_res_scheduler c = record { proper = record { limits = refl; named = refl; names = refl; objects = refl }; told = refl }
+
+pub returns-clause-run_shared_words : goal.returns-clause-run_shared_words
+unfolding digits reschedule activated released service unmasked_service alarm_phase start_phase execute_phase tick boot run first_denial
+returns-clause-run_shared_words c = record { proper = record { limits = refl; named = refl; names = refl; objects = refl }; told = refl }
+
+pub returns-clause-run_shared_refused : goal.returns-clause-run_shared_refused
+unfolding digits reschedule activated released service unmasked_service alarm_phase start_phase execute_phase tick boot run first_denial
+returns-clause-run_shared_refused c = record { proper = record { limits = refl; named = refl; names = refl; objects = refl }; told = refl }

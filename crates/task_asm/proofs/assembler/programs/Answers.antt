@@ -3,7 +3,7 @@ use Rattle.std.proofs.Common.{◌++◌, ◌∷◌, [], ◌∙◌, sym, ap, subst
 use Rattle.task_asm.specs.Programs.{Program}
 use Rattle.task_asm.specs.declared.program.NamedInstr.{NamedInstr}
 use Rattle.task_asm.specs.declared.operands.Title.{Title}
-use Rattle.task_asm.specs.declared.operands.Written.{Written as TheWritten}
+use Rattle.task_asm.specs.declared.instructions.Written.{Written as TheWritten}
 use Rattle.task_asm.specs.declared.entries.Item.{Item as TheItem}
 use Rattle.task_asm.specs.Entries.{Entry, item_value}
 use Rattle.task_asm.proofs.ProgramLemmas.{Built, at_title, at_no_title, at_faulty, at_label, at_unknown}

@@ -1,7 +1,7 @@
 -- An entry adds the place that it names.
 use Rattle.std.proofs.Common.{◌≡◌, ◌∙◌, ◌++◌, ◌∷◌, [], ℕ, Option, sym, ap}
 use Rattle.std.proofs.lemmas.List.{take_rest}
-use Rattle.task_asm.specs.declared.operands.Written.{Written as TheWritten}
+use Rattle.task_asm.specs.declared.instructions.Written.{Written as TheWritten}
 use Rattle.task_asm.specs.declared.entries.Item.{Item as TheItem}
 use Rattle.task_asm.specs.Entries.{Entry, item_value}
 use Rattle.task_asm.proofs.TargetLemmas.{aim_program, aim_instruction, aim_faulty, aim_label, aim_unknown}

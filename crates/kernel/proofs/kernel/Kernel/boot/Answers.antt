@@ -19,6 +19,7 @@ invariant_of-result g c =
     record {
       system = s.system;
       proper = proper;
+      programs = c.in_ok-code.ensures;
       known = c.requires;
       left = all_left c.args.arrivals (sym (ap is_arrival_list c.arrivals.view_is) ∙ c.arrivals.invariant);
       tick = let at = number_begun S proper c.in-Some.mode c.args.arrivals w o none s.kept in omega (arith, at);

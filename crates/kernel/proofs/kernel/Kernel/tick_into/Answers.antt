@@ -115,6 +115,7 @@ invariant_of-self g c =
     record {
       system = c.last_phase.ensures.system ∙ system_ex;
       proper = v.proper;
+      programs = v.programs;
       known = v.known;
       left = subst (λ (xs : List Arrival). AreLeft xs c.arrival_phase-self-inside.result (k.ticks + 1)) c.list.ensures.value c.arrival_phase-self-inside.ensures.left;
       tick = omega (arith, at);

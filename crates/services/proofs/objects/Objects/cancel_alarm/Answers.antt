@@ -23,6 +23,7 @@ returns-clause-status g c =
       suspended_os = c.self.inside.suspended_os;
       alarms = c.self.inside.alarms.expiries;
       masks = c.self.inside.masks.items;
+      shared = c.self.inside.shared.items;
       tick = c.self.inside.alarms.tick;
       over = c.self.inside.over;
     }) c.args.alarm)

@@ -1,5 +1,6 @@
 use Rattle.std.proofs.Common.{rules, ◌≡◌, ◌∙◌, None, false, ap, length, replicate}
 use Rattle.std.proofs.lemmas.List.{length-replicate}
+use Rattle.osek_base.specs.State.{no_shared}
 use Rattle.kept_state.specs.Kept.{unbegun}
 use Rattle.services.specs.Objects.{by_task, no_words}
 use Rattle.services.proofs.BoundLemmas.{bounds_of}
@@ -11,11 +12,13 @@ invariant_of-result g c =
     let made : c.in_ok-blocks.field-0.items ≡ replicate c.task_count-tasks.result (unbegun 0) = c.in_ok-blocks.ensures in
     let flags : c.in_ok-vec.field-0.items ≡ replicate (length c.args.system.now.routines) false = search rules in
     let events : c.in_ok-vec-2.field-0.items ≡ replicate (length c.args.system.now.tasks) 0 = search rules in
+    let windows : c.in_ok-windows.field-0.items ≡ replicate c.resource_count.result no_shared = c.in_ok-windows.ensures in
     record {
       bounds = bounds_of c.args.system.now c.task_count-tasks.ensures.proper;
       slots = ap length made ∙ length-replicate c.task_count-tasks.result (unbegun 0) ∙ c.task_count-tasks.ensures.value;
       masks = ap length events ∙ length-replicate (length c.args.system.now.tasks) 0;
       pending = ap length flags ∙ length-replicate (length c.args.system.now.routines) false;
+      shared = ap length windows ∙ length-replicate c.resource_count.result no_shared ∙ c.resource_count.ensures.value;
       alarms = search rules;
       room = c.in_ok-with_room.ensures.room ∙ c.room_for.ensures;
     }
@@ -27,6 +30,8 @@ returns-clause-kept g c =
     let none = ap by_task made ∙ no_slots c.task_count-tasks.result in
     let flags : c.in_ok-vec.field-0.items ≡ replicate (length S.routines) false = search rules in
     let events : c.in_ok-vec-2.field-0.items ≡ replicate (length S.tasks) 0 = search rules in
+    let windows : c.in_ok-windows.field-0.items ≡ replicate (length S.resources) no_shared =
+    c.in_ok-windows.ensures ∙ ap (λ n. replicate n no_shared) c.resource_count.ensures.value in
     let off : c.new.result.expiries ≡ replicate (length S.alarms) None = search rules in
     let start : c.new.result.tick ≡ 0 = search rules in
     λ i. record {
@@ -42,6 +47,7 @@ returns-clause-kept g c =
       alarms = off i;
       words = no_words;
       masks = events i;
+      shared = windows i;
       tick = start i;
       over = false;
     }

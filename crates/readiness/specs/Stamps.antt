@@ -1,0 +1,22 @@
+-- Since which tick each job of a task is ready, where it hasn't executed since. No part of the standards.
+use Rattle.std.specs.Prelude.{ℕ, List, [], ◌∷◌, Option, Some, None}
+
+-- the oldest job gets a stamp where it has none
+abbrev pub stamp_oldest : ℕ → List (Option ℕ) → List (Option ℕ)
+stamp_oldest u [] = []
+stamp_oldest u (None ∷ later) = Some u ∷ later
+stamp_oldest u (Some v ∷ later) = Some v ∷ later
+
+-- the oldest job's stamp, and it has none any more
+abbrev pub stamp_of_oldest : List (Option ℕ) → Option ℕ
+stamp_of_oldest [] = None
+stamp_of_oldest (p ∷ later) = p
+
+abbrev pub spent_oldest : List (Option ℕ) → List (Option ℕ)
+spent_oldest [] = []
+spent_oldest (p ∷ later) = None ∷ later
+
+-- the oldest job ends
+abbrev pub without_oldest : List (Option ℕ) → List (Option ℕ)
+without_oldest [] = []
+without_oldest (p ∷ later) = later

@@ -1,0 +1,71 @@
+//! Since which tick each job is ready, by task.
+
+ghost use Rattle.std.specs.Prelude.{◌≡◌, ◌<◌, ◌≤◌, [], ◌∷◌, ◌++◌, Some, length, replicate, slice_set, slice_index_or};
+ghost use Rattle.readiness.specs.Stamps.{stamp_oldest, stamp_of_oldest, spent_oldest, without_oldest};
+
+use crate::task_stamps::TaskStamps;
+use arrayvec::ArrayVec;
+use osek_base::{MAX_ACTIVATION, MAX_TASKS, TaskId};
+use std::marker::Model;
+
+/// The stamps of the jobs of each task.
+#[derive(Drop)]
+pub struct JobStamps {
+    tasks: ArrayVec<TaskStamps, MAX_TASKS>,
+}
+
+impl Model for JobStamps {
+    ghost use Rattle.std.specs.Prelude.{ℕ, List, Option};
+
+    ghost Value = { List (List (Option ℕ)) };
+
+    ghost view = { λ s. s.tasks.items };
+}
+
+impl JobStamps {
+    /// No job of any task.
+    pub fn new(count: usize) -> Self
+        requires { count ≤ MAX_TASKS }
+        ensures { result ≡ replicate count [] }
+    {
+        let mut tasks = ArrayVec::new();
+        for _made in 0..count {
+            tasks.push(TaskStamps::new());
+        }
+        JobStamps { tasks }
+    }
+
+    /// A job of a task more, ready from a tick on: it is the newest.
+    pub fn add(&mut self, task: TaskId, tick: u32)
+        requires task { task < length self.old }
+        requires room { length (slice_index_or self.old task []) < MAX_ACTIVATION }
+        ensures { self.new ≡ slice_set self.old task (slice_index_or self.old task [] ++ Some tick ∷ []) }
+    {
+        self.tasks[task.number() as usize].add(tick);
+    }
+
+    /// The oldest job of a task ends, if there is one.
+    pub fn end(&mut self, task: TaskId)
+        requires { task < length self.old }
+        ensures { self.new ≡ slice_set self.old task (without_oldest (slice_index_or self.old task [])) }
+    {
+        self.tasks[task.number() as usize].end();
+    }
+
+    /// The oldest job of a task is ready from a tick on, where it has no stamp.
+    pub fn stamp(&mut self, task: TaskId, tick: u32)
+        requires { task < length self.old }
+        ensures { self.new ≡ slice_set self.old task (stamp_oldest tick (slice_index_or self.old task [])) }
+    {
+        self.tasks[task.number() as usize].stamp(tick);
+    }
+
+    /// The oldest job of a task executes: its stamp is taken.
+    pub fn take(&mut self, task: TaskId) -> Option<u32>
+        requires { task < length self.old }
+        ensures stamp { result ≡ stamp_of_oldest (slice_index_or self.old task []) }
+        ensures after { self.new ≡ slice_set self.old task (spent_oldest (slice_index_or self.old task [])) }
+    {
+        self.tasks[task.number() as usize].take()
+    }
+}

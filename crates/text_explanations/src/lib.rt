@@ -1,0 +1,27 @@
+//! Explanations of refused texts (OIL files, program texts, arrival lists), no part of the standards: where it is, what is
+//! wrong there, and what would be allowed. Each is written behind the fixed line of the refusal. What the explanations of
+//! whole systems need too is public.
+#![tactic(auto)]
+
+mod allowed_values;
+mod mnemonics;
+mod notes;
+mod oil_faults;
+mod oil_objects;
+mod oil_texts;
+mod pieces;
+mod programs;
+mod refused_lines;
+mod scopes;
+mod source;
+mod trees;
+mod words;
+
+pub use notes::{write_choice, write_names};
+pub use oil_faults::explain_oil;
+pub use pieces::{Piece, kind_word};
+pub use programs::explain_programs;
+pub use refused_lines::{LineFault, explain_arrivals, explain_mode};
+pub use source::Source;
+pub use trees::{names, tree_of};
+pub use words::{CodeWord, Part, code_words};

@@ -1,0 +1,106 @@
+//! Refused lines of an arrival list, and unknown modes.
+
+use crate::notes::write_choice;
+use crate::pieces::Piece::Text;
+use crate::source::Source;
+use crate::trees::{names, tree_of};
+use oil_reader::Kind;
+use std::alloc::Global;
+use std::io::{self, Write};
+
+/// The place at which a line, counted from 1, begins.
+fn place_of(text: &[u8], line: usize) -> usize {
+    let mut number: usize = 1;
+    for (place, byte) in text.iter().enumerate() {
+        if number >= line {
+            return place;
+        }
+        if *byte == b'\n' {
+            number = number.saturating_add(1);
+        }
+    }
+    text.len()
+}
+
+/// Why a line of an arrival list is refused.
+#[derive(Clone, Copy, Debug, PartialEq, Eq)]
+pub enum LineFault {
+    /// The line isn't a tick, one space and a name.
+    Syntax,
+    /// No routine has the name.
+    UnknownIsr,
+    /// The tick is below that of the line before.
+    Order,
+    /// The line is one too many.
+    TooMany,
+    /// The tick is too great.
+    TickRange,
+}
+
+/// What is wrong with a line, and what is allowed there.
+fn told(fault: LineFault) -> (&'static str, &'static str) {
+    match fault {
+        LineFault::Syntax => (
+            "the line isn't a tick, one space and a name",
+            "TICK ISR, as 7 Brake; no blank line, no space at the end",
+        ),
+        LineFault::UnknownIsr => ("there is no ISR of that name", "its name"),
+        LineFault::Order => (
+            "the tick is below that of the line before",
+            "ticks that don't fall from line to line",
+        ),
+        LineFault::TooMany => ("the list is too long", "65536 lines"),
+        LineFault::TickRange => ("the tick is too great", "0 to 999999"),
+    }
+}
+
+/// The place of the name on a line, behind its space.
+fn name_place(source: Source<'_>, place: usize) -> usize {
+    let digits = source.word(place).len();
+    place.saturating_add(digits).saturating_add(1)
+}
+
+/// Writes which objects of a kind an OIL file has, and the one that is nearest to a name.
+fn write_named<W: Write>(
+    alloc: Global,
+    oil: Source<'_>,
+    kind: Kind,
+    name: &str,
+    out: &mut W,
+) -> io::Result<()> {
+    match tree_of(alloc, oil.text) {
+        Some(tree) => write_choice(alloc, name, &names(alloc, &tree, kind)?, out),
+        None => Ok(()),
+    }
+}
+
+/// Explains a refused line, counted from 1, of an arrival list for the system of an OIL file. An error is a failed write, or
+/// want of memory for the explanation.
+pub fn explain_arrivals<W: Write>(
+    alloc: Global,
+    oil: Source<'_>,
+    irq: Source<'_>,
+    line: usize,
+    fault: LineFault,
+    out: &mut W,
+) -> io::Result<()> {
+    let place = place_of(irq.text, line);
+    let (what, allowed) = told(fault);
+    if fault != LineFault::UnknownIsr {
+        return irq.note(place, &[Text(what)], "allowed", &[Text(allowed)], out);
+    }
+    let name = name_place(irq, place);
+    irq.tell(name, &[Text(what)], out)?;
+    write_named(alloc, oil, Kind::Isr, irq.word(name), out)
+}
+
+/// Explains a mode that an OIL file doesn't have. An error is a failed write, or want of memory for the explanation.
+pub fn explain_mode<W: Write>(
+    alloc: Global,
+    oil: Source<'_>,
+    mode: &str,
+    out: &mut W,
+) -> io::Result<()> {
+    writeln!(out, "{}: there is no APPMODE {mode}", oil.name)?;
+    write_named(alloc, oil, Kind::AppMode, mode, out)
+}

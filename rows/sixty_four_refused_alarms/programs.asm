@@ -1,0 +1,6 @@
+.task A
+y: NOP
+JMP y
+.task X
+TERM
+z: JMP z
