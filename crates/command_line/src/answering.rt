@@ -12,7 +12,7 @@ use std::convert::AsStr;
 use std::io::{self, Write};
 use system_gen::class_of;
 use thiserror::Error;
-use tracer::{RunFault, StdSink, read_system, run, run_upper};
+use tracer::{RunFault, StdSink, read_system, run, run_blocking, run_upper};
 
 /// Exit status: the line is answered, also one that asks for help.
 pub const DONE: u8 = 0;
@@ -123,17 +123,22 @@ fn write_partitions<O: Write>(system: &System, out: &mut O) -> Result<Verdict, R
     Ok(Verdict::Done)
 }
 
-/// Writes the trace of a run.
+/// Writes the trace of a run, with or without the numbers of blockers.
 fn write_trace<O: Write>(
     alloc: Global,
     texts: &Texts,
     line: RunLine<'_>,
+    blocking: bool,
     out: &mut O,
 ) -> Result<Verdict, RunFault> {
     let Texts { oil, asm, irq } = texts;
     let ticks = line.ticks.min(MAX_TICKS);
     let mut sink = StdSink::new(&mut *out);
-    run(alloc, oil, asm, irq, line.mode, ticks, &mut sink)?;
+    if blocking {
+        run_blocking(alloc, oil, asm, irq, line.mode, ticks, &mut sink)?;
+    } else {
+        run(alloc, oil, asm, irq, line.mode, ticks, &mut sink)?;
+    }
     Ok(Verdict::Done)
 }
 
@@ -164,7 +169,7 @@ fn write_answer<O: Write>(
     out: &mut O,
 ) -> Result<Verdict, RunFault> {
     match question {
-        Question::Trace(line) => write_trace(alloc, texts, line, out),
+        Question::Trace { line, blocking } => write_trace(alloc, texts, line, blocking, out),
         Question::Upper {
             line,
             priority,

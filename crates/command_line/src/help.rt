@@ -17,11 +17,17 @@ pub(crate) const PRIORITY: &str =
 
 pub(crate) const ALONE: &str = "Runs the upper part by itself; what is printed is the same";
 
+pub(crate) const BLOCKING: &str =
+    "Prints ` ! N` behind a job's first instruction since it became ready: N jobs of lower priority executed meanwhile";
+
 pub(crate) const EXPLAIN: &str =
     "Says behind a refusal or a denial, on standard error, where it is and what would be allowed";
 
 pub(crate) const TRACE_EXAMPLE: &str = "Example, ten ticks in the mode Normal:
-  osek_run trace system.oil programs.asm arrivals.irq Normal 10";
+  osek_run trace system.oil programs.asm arrivals.irq Normal 10
+
+With the numbers of blockers:
+  osek_run trace --blocking system.oil programs.asm arrivals.irq Normal 10";
 
 pub(crate) const UPPER_EXAMPLE: &str =
     "Example, ten ticks in the mode Normal, seen from priority 5 upward:

@@ -17,8 +17,11 @@ pub struct RunLine<'a> {
 /// What is asked of a system.
 #[derive(Clone, Copy, Debug)]
 pub enum Question<'a> {
-    /// The trace of a run.
-    Trace(RunLine<'a>),
+    /// The trace of a run, with or without the numbers of blockers.
+    Trace {
+        line: RunLine<'a>,
+        blocking: bool,
+    },
     /// The view of a run at a priority: of the system, or of its upper part by itself.
     Upper {
         line: RunLine<'a>,
@@ -39,7 +42,7 @@ impl<'a> Question<'a> {
     /// What the run is of, where one is asked for.
     pub fn run_line(&self) -> Option<RunLine<'a>> {
         match *self {
-            Question::Trace(line) | Question::Upper { line, .. } => Some(line),
+            Question::Trace { line, .. } | Question::Upper { line, .. } => Some(line),
             Question::Check { .. } | Question::Partitions | Question::Class => None,
         }
     }
@@ -85,7 +88,10 @@ fn asked<'a>(subcommand: &str, matches: &ArgMatches<'a>) -> Question<'a> {
         },
         "partitions" => Question::Partitions,
         "class" => Question::Class,
-        _ => Question::Trace(run_line(matches)),
+        _ => Question::Trace {
+            line: run_line(matches),
+            blocking: matches.get_flag("blocking"),
+        },
     }
 }
 

@@ -10,7 +10,7 @@ use std::alloc::{AllocError, Global};
 use std::io::{self, Write};
 use task_asm::{ProgramKind, tokenize};
 use text_explanations::Piece::{self, Named, Number, Text};
-use text_explanations::{CodeWord, Source, code_words, names, tree_of, write_names};
+use text_explanations::{CodeWord, Source, code_words, names, tree_of, write_first_names};
 
 /// A denial at a priority.
 #[derive(Drop)]
@@ -110,7 +110,7 @@ fn explain_listed<W: Write>(
         ceiling,
     ];
     parsed.oil.tell(setting.value_place, &what, out)?;
-    write_names(
+    write_first_names(
         "allowed",
         &allowed(alloc, parsed.tree, cut, Kind::Resource)?,
         out,
@@ -148,7 +148,7 @@ fn explain_named<'a, W: Write>(
     let p = Number(cut.p as usize);
     let what = [name, Text(" names "), named, by, level, Text(side), p];
     parsed.asm.tell(operand.place, &what, out)?;
-    write_names("allowed", &allowed(alloc, parsed.tree, cut, kind)?, out)
+    write_first_names("allowed", &allowed(alloc, parsed.tree, cut, kind)?, out)
 }
 
 /// Explains an instruction that no lower program may have.

@@ -2,12 +2,10 @@
 
 use crate::declared::{attribute, inner, number_in, number_of, object, word_of};
 use oil_reader::{Kind, Object, Setting, SyntaxTree};
+use osek_base::MAX_COUNTS;
 use std::io::{self, Write};
 use text_explanations::Piece::{Named, Number, Text};
 use text_explanations::Source;
-
-/// The greatest MAXALLOWEDVALUE.
-const TOP_VALUE: u32 = 2_147_483_647;
 
 /// The values of a counter.
 #[derive(Clone, Copy)]
@@ -57,8 +55,8 @@ fn explain_value<'a, W: Write>(
 /// The attribute of a counter that is out of its range, and the range.
 fn wrong_value(counter: &Object<'_>) -> (&'static str, (u32, u32)) {
     let Limits { most, cycle } = limits_of(counter);
-    if most == 0 || most > TOP_VALUE {
-        ("MAXALLOWEDVALUE", (1, TOP_VALUE))
+    if most == 0 || most > MAX_COUNTS {
+        ("MAXALLOWEDVALUE", (1, MAX_COUNTS))
     } else if cycle == 0 || cycle > most {
         ("MINCYCLE", (1, most))
     } else {

@@ -31,20 +31,6 @@ use Rattle.kept_state.proofs.Words.{with_words, reply_with, unmasked_words}
 use Rattle.services.specs.Objects.{Objects, kept_of, kept_in}
 use Rattle.kernel.specs.Run.{AreAhead}
 
--- the task on which an alarm acts exists
-abbrev pub acting_task : Action → ℕ
-acting_task (Action.ActivateTask t) = t
-acting_task (Action.SetEvent t m) = t
-
-task_known : (S : System) (action : Action) → is_proper_action S action ≡ true → acting_task action < length S.tasks
-task_known S (Action.ActivateTask t) h = true_lt t (length S.tasks) h
-task_known S (Action.SetEvent t m) h = true_lt t (length S.tasks) (and_split _ _ (and_split _ _ h).0).0
-
-pub acts_task : (S : System) (a : ℕ) (action : Action) → IsProper S → a < length S.alarms → (alarm S a).action ≡ action
-    → acting_task action < length S.tasks
-acts_task S a action proper inside is =
-    task_known S action (subst (λ v. is_proper_action S v ≡ true) is (and_split _ _ (and_split _ _ (proper_alarm_at S a proper inside)).0).1)
-
 -- an alarm acts by the service of its action
 module _ (S : System) (a : ℕ) (w : Words) (o : Objects) (action : Action) (is : (alarm S a).action ≡ action) where
   acts_by : alarm_acts_in S a (kept_of w o) ≡ alarm_reply_in S a (reply_with w (unmasked_in S ByNobody (kept_in o) (action_call action)))
@@ -152,7 +138,7 @@ module _ (S : System) (s : State) (first : s.tick ≡ 0) (size : length s.alarms
   not_due : (a : ℕ) → is_due S s a ≡ false
   not_due a = ap (λ n. is_due_at n (expiry s a)) (at_zero a) ∙ none_at s.alarms a ahead
 
-  nothing_due : due_alarms S s ≡ []
+  pub nothing_due : due_alarms S s ≡ []
   nothing_due = filter_none (is_due S s) (length S.alarms) not_due
 
   same_expiry : (a : ℕ) → cond (is_due S s a) (renewed (expiry s a)) (expiry s a) ≡ expiry s a

@@ -3,10 +3,13 @@ pub mod ArrivalLemmas
 pub mod PhaseLemmas
 pub mod ExecutionLemmas
 pub mod RunLemmas
-pub mod StampLemmas
-pub mod ReadyLemmas
-pub mod WakeLemmas
 pub mod AlarmLemmas
+pub mod StampingLemmas
+pub mod BegunLemmas
 pub mod StartLemmas
 pub mod TickLemmas
+pub mod NumberLemmas
+pub mod KeepingLemmas
+pub mod BootStamps
 pub mod LawLemmas
+pub mod SeenLemmas

@@ -18,9 +18,10 @@ use Rattle.kept_state.proofs.InRuns.{ready_between_ticks, before_alike, serves_i
 use Rattle.kept_state.proofs.Nesting.{few_nested}
 use Rattle.kept_state.proofs.Ticked.{ticks, boots}
 use Rattle.services.specs.Objects.{Objects, kept_of, kept_in, no_words}
-use Rattle.kernel.specs.Run.{AreAhead, at_tick, record_at}
+use Rattle.kernel.specs.Run.{AreAhead, at_tick}
+use Rattle.blocking_laws.specs.Steps.{record_at}
 use Rattle.osek_base.proofs.FrameLemmas.{tick_tick}
-use Rattle.kernel.proofs.RunLemmas.{run_more, run_tick, tick_zero}
+use Rattle.blocking_laws.proofs.StepLemmas.{run_more, run_tick, tick_zero}
 use Rattle.kernel.proofs.StartLemmas.{alarms_begun, starting_ahead}
 
 -- ---- with the words of windows
@@ -115,7 +116,7 @@ module _ (S : System) (proper : IsProper S) (mode : ℕ) (arrivals : List Arriva
   over = ap (λ (k : Kept). k.over) same
 
   module _ (next : Objects) (before : kept_of w next ≡ (before_execution_in S (arriving arrivals n) (kept_of w (at_tick o n))).state) where
-    before_run : kept_of w next ≡ kept S (before_execution S (arriving arrivals n) (run S mode arrivals n).state).state
+    pub before_run : kept_of w next ≡ kept S (before_execution S (arriving arrivals n) (run S mode arrivals n).state).state
     before_run =
         before ∙ ap (λ k. (before_execution_in S (arriving arrivals n) k).state) same
         ∙ sym (ap (λ (r : KeptRecorded). r.state) (before_alike S mode arrivals n (arriving arrivals n) proper))
@@ -193,7 +194,7 @@ run_zero S mode arrivals = refl
 -- what is kept before the first tick
 module _ (S : System) (proper : IsProper S) (mode : ℕ) (arrivals : List Arrival) (w : Words) (o : Objects) (none : w ≡ no_words)
     (same : kept_in o ≡ (boot_in S mode).state) where
-  begun_is : kept_of w o ≡ kept S (run S mode arrivals 0).state
+  pub begun_is : kept_of w o ≡ kept S (run S mode arrivals 0).state
   begun_is =
       ap (λ v. kept_of v o) none ∙ same ∙ sym (ap (λ (r : KeptRecorded). r.state) (boots S mode proper))
       ∙ sym (ap (λ (r : Run). kept S r.state) (run_zero S mode arrivals))

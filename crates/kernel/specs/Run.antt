@@ -1,5 +1,5 @@
 -- OSEK/VDX OS: system start-up. A run of a system, as far as it has come.
-use Rattle.std.specs.Prelude.{ℕ, ◌≡◌, ◌<◌, ◌≤◌, ◌-◌, Bool, true, false, not, ◌||◌, nat_le, if◌then◌else◌, List, drop, Option, length}
+use Rattle.std.specs.Prelude.{ℕ, ◌≡◌, ◌<◌, ◌≤◌, Bool, true, false, not, ◌||◌, nat_le, if◌then◌else◌, List, drop, Option, length}
 use Rattle.std.specs.List.{All, list_all}
 use Rattle.osek_base.specs.declared.limits.TheConstants.{MAX_TICKS}
 use Rattle.osek_base.specs.declared.arrivals.Arrival.{Arrival}
@@ -13,13 +13,9 @@ use Rattle.osek_base.specs.Alarm.{is_due_at}
 use Rattle.osek_base.specs.Tick.{Step, tick}
 use Rattle.osek_base.specs.ArrivalList.{are_in_order}
 use Rattle.osek_base.specs.Laws.{StartsSingly, Excludes, BlocksOnce, Protects}
-use Rattle.osek_base.specs.Proper.{IsProper}
 use Rattle.osek_base.specs.Trace.{Run as RunSoFar, arriving, run, with_earlier}
-use Rattle.kept_state.specs.Kept.{kept}
 use Rattle.kept_state.specs.Moves.{KeptRecorded}
 use Rattle.kept_state.specs.KeptTick.{boot_in, executed_in}
-use Rattle.machine.specs.Windows.{word}
-use Rattle.machine.specs.Code.{Programs, programs_of}
 use Rattle.services.specs.declared.caller.Execution.{Execution}
 use Rattle.services.specs.Objects.{Objects, kept_of, kept_in}
 use Rattle.services.specs.Calls.{caller_as}
@@ -38,17 +34,6 @@ run_of r = run r.system r.mode r.arrivals r.ticks
 -- whether no tick follows: after ShutdownOS, or when 1,000,000 ticks are done
 abbrev pub is_over : Run → Bool
 is_over r = nat_le MAX_TICKS r.ticks || (run_of r).state.over
-
--- the step that follows, with the records of boot where it is the first
-abbrev pub next_step : System → List Arrival → RunSoFar → Step
-next_step S arrivals r = with_earlier r.unwritten (tick S (arriving arrivals r.state.tick) r.state)
-
--- the step of a tick, and its records
-abbrev pub step_at : System → ℕ → List Arrival → ℕ → Step
-step_at S mode arrivals t = next_step S arrivals (run S mode arrivals t)
-
-abbrev pub record_at : System → ℕ → List Arrival → ℕ → List TraceEvent
-record_at S mode arrivals t = (step_at S mode arrivals t).events
 
 -- what holds up to every tick: of one task no job but the oldest is begun; a resource that a job may take and is refused
 -- is held by that job itself; each time that a job becomes ready, it has at most one blocker; and while a job holds a
@@ -76,23 +61,6 @@ AreAhead alarms = list_all (λ e. not (is_due_at 0 e)) alarms ≡ true
 -- the objects at a tick: their own number is that of the last one
 abbrev pub at_tick : Objects → ℕ → Objects
 at_tick o t = record o { tick = t }
-
--- what a kernel keeps after so many ticks: what is kept of the state of the run, with the number of the next tick, and the
--- programs of the system
-pub record IsKept (S : System) (mode : ℕ) (arrivals : List Arrival) (ticks cursor : ℕ) (o : Objects) (words : List ℕ) (code : Programs) (opening : List TraceEvent) : Type 0 where
-  pub system : o.system ≡ S
-  pub proper : IsProper S
-  pub programs : code ≡ programs_of S
-  pub known : AreKnown S arrivals
-  pub left : AreLeft arrivals cursor ticks
-  pub tick : o.tick ≡ ticks - 1
-  pub limit : ticks ≤ MAX_TICKS
-  pub kept : kept_of (word words) (at_tick o ticks) ≡ kept S (run S mode arrivals ticks).state
-  pub ahead : ticks ≡ 0 → AreAhead o.alarms
-  -- the records of boot stand in tick 0 alone
-  pub unwritten : opening ≡ (run S mode arrivals ticks).unwritten
-  pub few : length opening ≤ 3
-  pub none_later : 1 ≤ ticks → length opening ≤ 0
 
 -- the instruction at the place of who executes, and what it comes to
 abbrev pub next_of : System → Execution → Instr

@@ -8,12 +8,16 @@ ghost use Rattle.kept_state.specs.KeptTick.{alarm_acts_in, alarm_phase_in};
 ghost use Rattle.kept_state.specs.Standing.{runner_waits};
 ghost use Rattle.services.specs.Objects.{kept_in, kept_of};
 ghost use Rattle.kernel.specs.Run.{AreAhead, at_tick};
+ghost use Rattle.blocking_laws.specs.Looks.{alarm_looked, alarm_phase_looked};
+ghost use Rattle.kernel.specs.Looking.{AreCounted, acts_on};
 
+use crate::stamping::{looked_at, seen};
 use arrayvec::ArrayVec;
 use osek_base::{
     Action, AlarmId, Instr, MAX_ALARMS, MAX_RECORDS, MAX_TICKS, Service, Source, Status, System,
-    TickRecord, TraceEvent,
+    TaskId, TickRecord, TraceEvent,
 };
+use readiness::JobStamps;
 use ready_queues::ReadyQueues;
 use services::Core;
 
@@ -21,11 +25,14 @@ use services::Core;
 pub fn alarm_phase<Q: ReadyQueues>(
     core: &mut Core<'_, Q>,
     system: &System,
+    stamps: &mut JobStamps,
     tick: u32,
     record_of_tick: &mut TickRecord,
 )
     requires proper { IsProper system.now }
     requires system { core.old.system ≡ system.now }
+    requires stamps { length stamps.old ≡ length system.now.tasks }
+    requires counted { AreCounted stamps.old (kept_in core.old) }
     requires tick { core.old.tick ≡ tick - 1 }
     requires limit { tick < MAX_TICKS }
     requires size { length core.old.alarms ≡ length system.now.alarms }
@@ -37,16 +44,26 @@ pub fn alarm_phase<Q: ReadyQueues>(
     ensures kept { (w : Words) → kept_of w core.new ≡ (alarm_phase_in system.now (kept_of w (at_tick core.old tick))).state }
     ensures events { (w : Words) → record_of_tick.new ≡ record_of_tick.old ++ (alarm_phase_in system.now (kept_of w (at_tick core.old tick))).events }
     ensures few { length record_of_tick.new ≤ MAX_ALARMS }
+    ensures stamps { stamps.new ≡ alarm_phase_looked system.now tick (kept_in (at_tick core.old tick)) stamps.old }
+    ensures sized { length stamps.new ≡ length stamps.old }
 {
     if 0 < tick {
-        advance(core, system, record_of_tick);
+        advance(core, system, stamps, tick, record_of_tick);
     }
 }
 
 /// The next tick begins: counters advance, and the due alarms act in declaration order.
-fn advance<Q: ReadyQueues>(core: &mut Core<'_, Q>, system: &System, record_of_tick: &mut TickRecord)
+fn advance<Q: ReadyQueues>(
+    core: &mut Core<'_, Q>,
+    system: &System,
+    stamps: &mut JobStamps,
+    tick: u32,
+    record_of_tick: &mut TickRecord,
+)
     requires proper { IsProper system.now }
     requires system { core.old.system ≡ system.now }
+    requires stamps { length stamps.old ≡ length system.now.tasks }
+    requires counted { AreCounted stamps.old (kept_in core.old) }
     requires last { core.old.tick + 1 < MAX_TICKS }
     requires ready { runner_waits (kept_in core.old) ≡ false }
     requires room { length record_of_tick.old ≤ 0 }
@@ -54,12 +71,55 @@ fn advance<Q: ReadyQueues>(core: &mut Core<'_, Q>, system: &System, record_of_ti
     ensures kept { (w : Words) → kept_of w core.new ≡ (alarm_phase_in system.now (kept_of w (at_tick core.old (core.old.tick + 1)))).state }
     ensures events { (w : Words) → record_of_tick.new ≡ record_of_tick.old ++ (alarm_phase_in system.now (kept_of w (at_tick core.old (core.old.tick + 1)))).events }
     ensures few { length record_of_tick.new ≤ MAX_ALARMS }
+    ensures stamps { stamps.new ≡ alarm_phase_looked system.now tick (kept_in (at_tick core.old (core.old.tick + 1))) stamps.old }
+    ensures sized { length stamps.new ≡ length stamps.old }
 {
     let mut due: ArrayVec<AlarmId, MAX_ALARMS> = ArrayVec::new();
     core.advance(&mut due);
     for number in 0..due.len() {
-        alarm_acts(core, system, due[number], record_of_tick);
+        alarm_seen(core, system, due[number], stamps, tick, record_of_tick);
     }
+}
+
+/// The task on which an alarm acts.
+fn acting_task(system: &System, alarm: AlarmId) -> TaskId
+    requires { alarm < length system.now.alarms }
+    ensures { result ≡ acts_on system.now alarm }
+{
+    match system.action_of(alarm) {
+        Action::ActivateTask(task) => task,
+        Action::SetEvent(task, _) => task,
+    }
+}
+
+/// An alarm acts, and the task on which it acts is looked at before and after.
+fn alarm_seen<Q: ReadyQueues>(
+    core: &mut Core<'_, Q>,
+    system: &System,
+    alarm: AlarmId,
+    stamps: &mut JobStamps,
+    tick: u32,
+    record_of_tick: &mut TickRecord,
+)
+    requires proper { IsProper system.now }
+    requires system { core.old.system ≡ system.now }
+    requires alarm { alarm < length system.now.alarms }
+    requires ready { runner_waits (kept_in core.old) ≡ false }
+    requires room { length record_of_tick.old < MAX_RECORDS }
+    requires stamps { length stamps.old ≡ length system.now.tasks }
+    requires counted { AreCounted stamps.old (kept_in core.old) }
+    ensures system { core.new.system ≡ core.old.system }
+    ensures ready { runner_waits (kept_in core.new) ≡ false }
+    ensures kept { (w : Words) → kept_of w core.new ≡ (alarm_acts_in system.now alarm (kept_of w core.old)).state }
+    ensures events { (w : Words) → record_of_tick.new ≡ record_of_tick.old ++ (alarm_acts_in system.now alarm (kept_of w core.old)).events }
+    ensures few { length record_of_tick.new ≤ length record_of_tick.old + 1 }
+    ensures stamps { stamps.new ≡ alarm_looked system.now tick alarm (kept_in core.old) stamps.old }
+    ensures sized { length stamps.new ≡ length stamps.old }
+    ensures counted { AreCounted stamps.new (kept_in core.new) }
+{
+    let before = seen(core, acting_task(system, alarm));
+    alarm_acts(core, system, alarm, record_of_tick);
+    looked_at(core, stamps, &before, tick);
 }
 
 /// An alarm acts: it activates a task, or sets events. A refusal is an error record of the alarm, and changes nothing.

@@ -1,14 +1,17 @@
 //! OSEK/VDX OS: system start-up; application modes. What stands before the first tick.
 
-ghost use Rattle.std.specs.Prelude.{◌≡◌, ◌≤◌, [], IfOk, length};
+ghost use Rattle.std.specs.Prelude.{ℕ, ◌≡◌, ◌<◌, ◌≤◌, ◌==◌, [], Some, false, IfOk, length, replicate};
 ghost use Rattle.osek_base.specs.Proper.{IsProper};
 ghost use Rattle.osek_base.specs.Reschedule.{hooked};
 ghost use Rattle.osek_base.specs.Trace.{starting_tasks};
 ghost use Rattle.kept_state.specs.KeptTick.{all_activated_in, begun_in};
 ghost use Rattle.services.specs.Objects.{kept_in};
 ghost use Rattle.kernel.specs.Run.{IsStarted};
+ghost use Rattle.blocking_laws.specs.Looks.{stamps_at};
+ghost use Rattle.kernel.specs.Looking.{AreBegun};
 
-use osek_base::{ModeId, System, TaskId, TickRecord, TraceEvent};
+use osek_base::{MAX_ACTIVATION, ModeId, System, TaskId, TickRecord, TraceEvent};
+use readiness::JobStamps;
 use ready_queues::ReadyQueues;
 use services::Core;
 use std::alloc::{AllocError, Global};
@@ -72,6 +75,34 @@ fn started<'s, Q: ReadyQueues>(
         }
     }
     Ok(core)
+}
+
+/// The stamps of the jobs with which a system begins: all of them are ready from tick 0 on.
+pub fn begun_stamps<Q: ReadyQueues>(core: &Core<'_, Q>, system: &System) -> JobStamps
+    requires { core.now.system ≡ system.now }
+    ensures { AreBegun (length system.now.tasks) (kept_in core.now) result }
+{
+    let count = system.task_count();
+    let mut stamps = JobStamps::new(count);
+    for number in 0..count {
+        let task = TaskId::new(number as u8);
+        add_jobs(&mut stamps, task, core.job_count(task));
+    }
+    stamps
+}
+
+/// So many jobs of a task that has none are ready from tick 0 on.
+fn add_jobs(stamps: &mut JobStamps, task: TaskId, count: u8)
+    requires task { task < length stamps.old }
+    requires none { length (stamps_at stamps.old task) ≡ 0 }
+    requires few { count ≤ MAX_ACTIVATION }
+    ensures others { (t : ℕ) → (task == t) ≡ false → stamps_at stamps.new t ≡ stamps_at stamps.old t }
+    ensures own { stamps_at stamps.new task ≡ replicate count (Some 0) }
+    ensures sized { length stamps.new ≡ length stamps.old }
+{
+    for _made in 0..count {
+        stamps.add(task, 0);
+    }
 }
 
 /// Records the start-up, where StartupHook is on.

@@ -13,13 +13,17 @@ ghost use Rattle.kept_state.specs.Standing.{MayServe};
 ghost use Rattle.services.specs.Objects.{kept_in, kept_of};
 ghost use Rattle.services.specs.Calls.{Executes};
 ghost use Rattle.kernel.specs.Run.{IsNext, executed_by, next_of, ends_routine, control_context};
+ghost use Rattle.blocking_laws.specs.Looks.{named_by};
+ghost use Rattle.kernel.specs.Looking.{AreCounted, executed_by_looked, executed_looked};
 
 use crate::alarm_phase::record_error;
+use crate::stamping::{executed_since, seen_if};
 use machine::{Code, Cpu, Windows, exec_plain};
 use osek_base::{
-    Control, Instr, MAX_RECORDS, MAX_TICKS, Outcome, Plain, Register, Service, Source, System,
-    TickRecord, TraceEvent,
+    Control, Instr, MAX_INSTRUCTIONS, MAX_RECORDS, MAX_TICKS, Outcome, Plain, Register, Service,
+    Source, System, TaskId, TickRecord, TraceEvent,
 };
+use readiness::JobStamps;
 use ready_queues::ReadyQueues;
 use services::{Call, Core, Execution};
 
@@ -30,6 +34,8 @@ pub fn execute_phase<Q: ReadyQueues>(
     windows: &mut Windows,
     code: &Code,
     system: &System,
+    stamps: &mut JobStamps,
+    tick: u32,
     record_of_tick: &mut TickRecord,
 )
     requires proper { IsProper system.now }
@@ -38,27 +44,40 @@ pub fn execute_phase<Q: ReadyQueues>(
     requires serves { MayServe system.now (kept_in core.old) }
     requires all { core.old.suspended_all < MAX_TICKS }
     requires os { core.old.suspended_os < MAX_TICKS }
+    requires stamps { length stamps.old ≡ length system.now.tasks }
+    requires counted { AreCounted stamps.old (kept_in core.old) }
     requires room { length record_of_tick.old + 2 ≤ MAX_RECORDS }
     ensures system { core.new.system ≡ core.old.system }
     ensures kept { kept_of (word windows.new) core.new ≡ (execute_phase_in system.now (kept_of (word windows.old) core.old)).state }
     ensures events { record_of_tick.new ≡ record_of_tick.old ++ (execute_phase_in system.now (kept_of (word windows.old) core.old)).events }
     ensures few { length record_of_tick.new ≤ length record_of_tick.old + 2 }
+    ensures stamps { stamps.new ≡ executed_looked system.now tick (kept_of (word windows.old) core.old) stamps.old }
+    ensures sized { length stamps.new ≡ length stamps.old }
 {
     match core.execution() {
         None => record_of_tick.push(TraceEvent::Idle),
-        Some(mut execution) => {
-            execute(core, windows, code, system, &mut execution, record_of_tick)
-        }
+        Some(mut execution) => execute(
+            core,
+            windows,
+            code,
+            system,
+            &mut execution,
+            stamps,
+            tick,
+            record_of_tick,
+        ),
     }
 }
 
-/// The next instruction of who executes.
+/// The next instruction of who executes. The task on which it acts is looked at before and after.
 fn execute<Q: ReadyQueues>(
     core: &mut Core<'_, Q>,
     windows: &mut Windows,
     code: &Code,
     system: &System,
     execution: &mut Execution,
+    stamps: &mut JobStamps,
+    tick: u32,
     record_of_tick: &mut TickRecord,
 )
     requires proper { IsProper system.now }
@@ -69,14 +88,63 @@ fn execute<Q: ReadyQueues>(
     requires os { core.old.suspended_os < MAX_TICKS }
     requires who { Executes (kept_in core.old) execution.old.owner execution.old.cpu }
     requires placed { IsPlaced system.now execution.old.owner execution.old.cpu }
+    requires stamps { length stamps.old ≡ length system.now.tasks }
+    requires counted { AreCounted stamps.old (kept_in core.old) }
     requires room { length record_of_tick.old + 2 ≤ MAX_RECORDS }
     ensures system { core.new.system ≡ core.old.system }
     ensures kept { kept_of (word windows.new) core.new ≡ (executed_by system.now execution.old (next_of system.now execution.old) (word windows.old) core.old).state }
     ensures events { record_of_tick.new ≡ record_of_tick.old ++ (executed_by system.now execution.old (next_of system.now execution.old) (word windows.old) core.old).events }
     ensures few { length record_of_tick.new ≤ length record_of_tick.old + 2 }
+    ensures stamps { stamps.new ≡ executed_by_looked tick (next_of system.now execution.old) (kept_in core.old) (kept_in core.new) stamps.old }
+    ensures sized { length stamps.new ≡ length stamps.old }
 {
     let instr = next_instruction(code, system, execution);
-    match &instr {
+    let before = seen_if(core, acting_task(&instr));
+    let running = core.running();
+    let gone = core.is_gone();
+    execute_instr(core, windows, system, execution, &instr, record_of_tick);
+    executed_since(core, stamps, &before, &running, gone, tick);
+}
+
+/// The task on which an instruction acts.
+fn acting_task(instr: &Instr) -> Option<TaskId>
+    ensures { result ≡ named_by instr.now }
+{
+    match instr {
+        Instr::Service(service) => match service {
+            Service::ActivateTask(task) => *task,
+            Service::ChainTask(task) => *task,
+            Service::SetEvent(task, _) => *task,
+            _ => None,
+        },
+        _ => None,
+    }
+}
+
+/// An instruction of who executes.
+fn execute_instr<Q: ReadyQueues>(
+    core: &mut Core<'_, Q>,
+    windows: &mut Windows,
+    system: &System,
+    execution: &mut Execution,
+    instr: &Instr,
+    record_of_tick: &mut TickRecord,
+)
+    requires proper { IsProper system.now }
+    requires system { core.old.system ≡ system.now }
+    requires serves { MayServe system.now (kept_in core.old) }
+    requires all { core.old.suspended_all < MAX_TICKS }
+    requires os { core.old.suspended_os < MAX_TICKS }
+    requires who { Executes (kept_in core.old) execution.old.owner execution.old.cpu }
+    requires placed { IsPlaced system.now execution.old.owner execution.old.cpu }
+    requires instruction { IsNext system.now execution.old instr.now }
+    requires room { length record_of_tick.old + 2 ≤ MAX_RECORDS }
+    ensures system { core.new.system ≡ core.old.system }
+    ensures kept { kept_of (word windows.new) core.new ≡ (executed_by system.now execution.old instr.now (word windows.old) core.old).state }
+    ensures events { record_of_tick.new ≡ record_of_tick.old ++ (executed_by system.now execution.old instr.now (word windows.old) core.old).events }
+    ensures few { length record_of_tick.new ≤ length record_of_tick.old + 2 }
+{
+    match instr {
         Instr::Plain(plain) => {
             execute_plain(core, windows, system, execution, plain, record_of_tick)
         }
@@ -209,7 +277,7 @@ fn execute_control<Q: ReadyQueues>(
 
 /// Where who executes a service without a status goes on: behind it, but not at the end of a routine.
 fn behind(control: &Control, cpu: Cpu) -> Cpu
-    requires { ends_routine control.now ≡ false → cpu.place + 1 < 1024 }
+    requires { ends_routine control.now ≡ false → cpu.place + 1 < MAX_INSTRUCTIONS }
     ensures { result ≡ control_context control.now cpu }
 {
     let mut next = cpu;

@@ -1,6 +1,7 @@
 //! OSEK/VDX OS: system start-up; application modes. The kernel: boot, and ticks.
 
-ghost use Rattle.std.specs.Prelude.{◌≡◌, ◌<◌, ◌≤◌, ◌+◌, ◌++◌, ◌↔◌, [], false, Some, None, IfOk, slice_index, length};
+ghost use Rattle.std.specs.Prelude.{◌≡◌, ◌<◌, ◌≤◌, ◌+◌, ◌-◌, ◌++◌, ◌↔◌, [], false, Some, None, IfOk, slice_index, length};
+ghost use Rattle.osek_base.specs.BlockingText.{blockers_at};
 ghost use Rattle.osek_base.specs.Names.{number_of};
 ghost use Rattle.osek_base.specs.Proper.{IsProper};
 ghost use Rattle.services.specs.Levels.{level_lists};
@@ -10,17 +11,22 @@ ghost use Rattle.kept_state.specs.KeptTick.{last_phase_in};
 ghost use Rattle.kept_state.specs.Moves.{rescheduled};
 ghost use Rattle.services.specs.Objects.{by_level, kept_in, kept_of};
 ghost use Rattle.kernel.specs.declared.boot.BootFault.{BootFault};
-ghost use Rattle.kernel.specs.Run.{AreKnown, IsLawful, is_over, record_at, run_of};
+ghost use Rattle.kernel.specs.Run.{AreKnown, IsLawful, is_over, run_of};
+ghost use Rattle.blocking_laws.specs.Steps.{record_at};
+ghost use Rattle.blocking_laws.specs.Looks.{last_looked, reschedule_looked};
 
 use crate::alarm_phase::alarm_phase;
 use crate::arrival_phase::arrival_phase;
-use crate::boot::{BootFault, booted};
+use crate::blocking::begin;
+use crate::boot::{BootFault, begun_stamps, booted};
 use crate::execute_phase::execute_phase;
+use crate::stamping::reschedule;
 use machine::{Code, Windows};
 use osek_base::{
     Arrivals, MAX_RECORDS, MAX_TICKS, ModeId, Owner, ResourceNumber, SHARED_WORDS, System,
     TickRecord, WINDOW_WORDS,
 };
+use readiness::{JobStamps, LastTicks};
 use ready_queues::ReadyQueues;
 use services::Core;
 use std::alloc::Global;
@@ -35,14 +41,18 @@ pub struct Kernel<'s, Q: ReadyQueues> {
     arrivals: Arrivals,
     arrived: usize,
     ticks: u32,
-    core: Core<'s, Q>,
+    pub(crate) core: Core<'s, Q>,
     windows: Windows,
     code: Code,
     opening: TickRecord,
+    stamps: JobStamps,
+    behind: LastTicks,
+    blockers: Option<u32>,
 }
 
 impl<'s, Q: ReadyQueues> Model for Kernel<'s, Q> {
-    ghost use Rattle.kernel.specs.Run.{Run, IsKept};
+    ghost use Rattle.kernel.specs.Keeping.{IsKept};
+    ghost use Rattle.kernel.specs.Run.{Run};
 
     ghost Value = { Run };
 
@@ -53,7 +63,7 @@ impl<'s, Q: ReadyQueues> Model for Kernel<'s, Q> {
       ticks = k.ticks;
     } };
 
-    ghost invariant = { λ k. IsKept k.system.now k.mode k.arrivals k.ticks k.arrived k.core k.windows k.code k.opening };
+    ghost invariant = { λ k. IsKept k.system.now k.mode k.arrivals k.ticks k.arrived k.core k.windows k.code k.opening k.stamps k.behind k.blockers };
 }
 
 /// Puts in the records that stand before a tick's own: those of boot in tick 0, else none.
@@ -95,6 +105,7 @@ impl<'s, Q: ReadyQueues> Kernel<'s, Q> {
         let mut opening = TickRecord::new();
         let core = booted(alloc, system, mode, &mut opening)?;
         let code = Code::of(alloc, system)?;
+        let stamps = begun_stamps(&core, system);
         Ok(Kernel {
             system,
             mode,
@@ -105,6 +116,9 @@ impl<'s, Q: ReadyQueues> Kernel<'s, Q> {
             windows: Windows::new(),
             code,
             opening,
+            stamps,
+            behind: LastTicks::new(),
+            blockers: None,
         })
     }
 
@@ -139,6 +153,15 @@ impl<'s, Q: ReadyQueues> Kernel<'s, Q> {
         self.core.queues()
     }
 
+    /// The number of blockers of the job that executed in the last tick, where that was its first instruction since it became
+    /// ready.
+    pub fn blockers(&self) -> Option<u32>
+        requires { 1 ≤ self.now.ticks }
+        ensures { result ≡ blockers_at self.now.system self.now.mode self.now.arrivals (self.now.ticks - 1) }
+    {
+        self.blockers
+    }
+
     /// Does one tick, and answers its records. It takes no memory and never fails.
     pub fn tick(&mut self) -> TickRecord
         requires { is_over self.old ≡ false }
@@ -159,45 +182,74 @@ impl<'s, Q: ReadyQueues> Kernel<'s, Q> {
         ensures lawful { IsLawful self.new }
     {
         put_first(&mut self.opening, self.ticks, record_of_tick);
-        alarm_phase(&mut self.core, self.system, self.ticks, record_of_tick);
+        alarm_phase(
+            &mut self.core,
+            self.system,
+            &mut self.stamps,
+            self.ticks,
+            record_of_tick,
+        );
         self.arrived = arrival_phase(
             &mut self.core,
             self.arrivals.list(),
             self.arrived,
             self.ticks,
         );
-        self.core.reschedule(record_of_tick);
+        reschedule(&mut self.core, &mut self.stamps, self.ticks, record_of_tick);
         self.core.start_routine();
+        self.blockers = begin(
+            &self.core,
+            self.system,
+            &mut self.stamps,
+            &mut self.behind,
+            self.ticks,
+        );
+        self.ticks += 1;
         execute_phase(
             &mut self.core,
             &mut self.windows,
             &self.code,
             self.system,
+            &mut self.stamps,
+            self.ticks,
             record_of_tick,
         );
-        last_phase(&mut self.core, record_of_tick);
-        self.ticks += 1;
+        last_phase(&mut self.core, &mut self.stamps, self.ticks, record_of_tick);
     }
 }
 
 /// The task that is to run becomes the running one, which is left out after ShutdownOS.
-fn last_phase<Q: ReadyQueues>(core: &mut Core<'_, Q>, record_of_tick: &mut TickRecord)
-    requires { length record_of_tick.old + 2 ≤ MAX_RECORDS }
+fn last_phase<Q: ReadyQueues>(
+    core: &mut Core<'_, Q>,
+    stamps: &mut JobStamps,
+    tick: u32,
+    record_of_tick: &mut TickRecord,
+)
+    requires room { length record_of_tick.old + 2 ≤ MAX_RECORDS }
+    requires stamps { length stamps.old ≡ length core.old.system.tasks }
     ensures system { core.new.system ≡ core.old.system }
     ensures kept { (w : Words) → kept_of w core.new ≡ (last_phase_in core.old.system (kept_of w core.old)).state }
     ensures events { (w : Words) → record_of_tick.new ≡ record_of_tick.old ++ (last_phase_in core.old.system (kept_of w core.old)).events }
+    ensures stamps { stamps.new ≡ last_looked core.old.system tick (kept_in core.old) stamps.old }
 {
     if !core.is_over() {
-        dispatch_again(core, record_of_tick);
+        dispatch_again(core, stamps, tick, record_of_tick);
     }
 }
 
 /// After an instruction the task that is to run becomes the running one.
-fn dispatch_again<Q: ReadyQueues>(core: &mut Core<'_, Q>, record_of_tick: &mut TickRecord)
-    requires { length record_of_tick.old + 2 ≤ MAX_RECORDS }
+fn dispatch_again<Q: ReadyQueues>(
+    core: &mut Core<'_, Q>,
+    stamps: &mut JobStamps,
+    tick: u32,
+    record_of_tick: &mut TickRecord,
+)
+    requires room { length record_of_tick.old + 2 ≤ MAX_RECORDS }
+    requires stamps { length stamps.old ≡ length core.old.system.tasks }
     ensures system { core.new.system ≡ core.old.system }
     ensures kept { kept_in core.new ≡ (rescheduled core.old.system (kept_in core.old)).state }
     ensures events { record_of_tick.new ≡ record_of_tick.old ++ (rescheduled core.old.system (kept_in core.old)).events }
+    ensures stamps { stamps.new ≡ reschedule_looked core.old.system tick (kept_in core.old) stamps.old }
 {
-    core.reschedule(record_of_tick);
+    reschedule(core, stamps, tick, record_of_tick);
 }

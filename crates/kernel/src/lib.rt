@@ -3,9 +3,12 @@
 
 mod alarm_phase;
 mod arrival_phase;
+mod blocking;
 mod boot;
 mod execute_phase;
 mod kernel;
+mod seen;
+mod stamping;
 
 pub use boot::BootFault;
 pub use kernel::Kernel;

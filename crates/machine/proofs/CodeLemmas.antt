@@ -1,13 +1,13 @@
 -- The words of a program, and what they mean.
-use Rattle.std.proofs.Common.{ℕ, ◌≡◌, ◌+◌, ◌<◌, ◌≤◌, List, [], ◌∷◌, ◌++◌, map, take, length, sym, ◌∙◌, ap, ap₂, refl, arith}
-use Rattle.std.specs.Prelude.{Option, Some, slice_get, slice_index_or}
+use Rattle.std.proofs.Common.{ℕ, Bool, true, false, ◌≡◌, ◌+◌, ◌<◌, ◌≤◌, List, [], ◌∷◌, ◌++◌, map, take, length, sym, ◌∙◌, ap, ap₂, refl, arith}
+use Rattle.std.specs.Prelude.{Option, Some, None, ◌==◌, if◌then◌else◌, slice_get, slice_index_or}
 use Rattle.std.specs.Option.{unwrap_or}
 use Rattle.std.proofs.lemmas.List.{map_more, map-append, length-map, take_all}
-use Rattle.std.proofs.lemmas.Option.{get_or_from_slice_get, slice_get_read}
+use Rattle.std.proofs.lemmas.Option.{none-some, get_or_from_slice_get, slice_get_read}
 use Rattle.std.proofs.Math.ListN.{get_or-map}
 use Rattle.osek_base.specs.declared.instr.Instr.{Instr}
 use Rattle.osek_base.specs.declared.instr.Plain.{Plain}
-use Rattle.machine.specs.Packing.{unpacked}
+use Rattle.machine.specs.Packing.{packed, unpacked, fields_in, instr_at}
 use Rattle.osek_base.specs.declared.ids.Owner.{Owner}
 use Rattle.osek_base.specs.System.{System, Task, Routine, no_task, no_routine, program}
 use Rattle.machine.specs.Code.{Programs, meant, instrs_of, program_in, programs_of}
@@ -46,6 +46,14 @@ meant_at words p n k w h is at low read =
     ap unpacked (sym there) ∙ sym (get_or-map unpacked words n 0) ∙ ap (λ xs. slice_index_or xs n (Some nop)) h
     ∙ get_or-map Some (instrs_of words) n nop
     ∙ ap₂ (λ (xs : List Instr) (m : ℕ). Some (slice_index_or xs m nop)) is at
+
+-- a word that means an instruction tells it
+pub decoded : (w : ℕ) (i : Instr) → unpacked w ≡ Some i → instr_at (fields_in w) ≡ i
+decoded w i h = go (packed (instr_at (fields_in w)) == w) (instr_at (fields_in w)) h
+  where
+    go : (b : Bool) (v : Instr) → (if b then Some v else None) ≡ Some i → v ≡ i
+    go true v is = ap (λ o. unwrap_or o nop) is
+    go false v is = absurd (none-some i is)
 
 -- behind the last place all are meant
 pub all_meant : (words : List ℕ) (p : List Instr) (k : ℕ) → meant words ≡ map Some (take k p) → length p ≤ k

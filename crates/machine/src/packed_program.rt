@@ -5,7 +5,7 @@ ghost use Rattle.osek_base.specs.System.{instruction_in};
 ghost use Rattle.machine.specs.Code.{meant};
 
 use crate::packing::pack;
-use crate::unpacking::unpack;
+use crate::unpacking::decode;
 use osek_base::{Instr, Place, Program};
 use std::alloc::{AllocError, Global};
 use std::marker::Model;
@@ -45,9 +45,6 @@ impl PackedProgram {
         requires { place < length self.now }
         ensures { result ≡ instruction_in self.now place }
     {
-        let Some(instr) = unpack(self.words[place.number() as usize]) else {
-            unreachable!()
-        };
-        instr
+        decode(self.words[place.number() as usize])
     }
 }

@@ -5,6 +5,7 @@ ghost use Rattle.machine.specs.Packing.{
   alarm_at,
   comparison_at,
   control_at,
+  fields_in,
   instr_at,
   operation_at,
   packed,
@@ -30,12 +31,19 @@ pub fn unpack(word: u64) -> Option<Instr>
     ensures value { result ≡ unpacked word }
     ensures packed { IfSome result (λ i. packed i ≡ word) }
 {
-    let instr = instr_at(&Fields::in_word(word));
+    let instr = decode(word);
     if pack(&instr) == word {
         Some(instr)
     } else {
         None
     }
+}
+
+/// The instruction that a word tells, where it is known to be the word of one: what isn't used is not looked at.
+pub fn decode(word: u64) -> Instr
+    ensures { result ≡ instr_at (fields_in word) }
+{
+    instr_at(&Fields::in_word(word))
 }
 
 /// What fields tell, whatever stands in those that aren't used; 0 for a number beyond its limit.

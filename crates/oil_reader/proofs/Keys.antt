@@ -1,9 +1,14 @@
 -- The keys of the objects before one tell whether it stands a second time.
-use Rattle.std.proofs.Common.{◌≡◌, ℕ, ◌+◌, ◌<◌, List, [], ◌∷◌, ◌++◌, length, take, drop, get_or, Option, Bool, true, false, cond, not, ◌||◌, ◌&&◌, ◌==◌, refl, sym, ap, ◌∙◌, subst, Bor, HashSet}
-use Rattle.std.specs.HashSet.{contains}
+use Rattle.std.proofs.Common.{◌≡◌, ℕ, ◌+◌, ◌<◌, List, [], ◌∷◌, ◌++◌, length, take, drop, get_or, Option, Bool, true, false, cond, not, ◌||◌, ◌&&◌, ◌==◌, refl, sym, ap, ◌∙◌, subst, Bor, BTreeSet, Ordering}
+use Rattle.std.specs.BTreeSet.{contains}
+use Rattle.std.specs.BTreeMap.{is_at}
+use Rattle.std.specs.Ordering.{is_eq, nat_cmp, ordering_then}
+use Rattle.std.specs.Cmp.{unsigned_tied}
+use Rattle.std.specs.Cmp.Lexicographic.{slice_cmp}
 use Rattle.std.specs.List.{list_any}
 use Rattle.std.specs.Str.{bytes_eq}
 use Rattle.std.proofs.lemmas.List.{drop_more, take_more, map_push}
+use Rattle.std.proofs.lemmas.Map.Text.{is_eq-slice_cmp}
 use Rattle.oil_reader.specs.declared.fault.OilFault.{OilFault}
 use Rattle.oil_reader.specs.declared.fault.OilFault.TheVariants as fault
 use Rattle.oil_reader.specs.declared.syntax.Object as code_object
@@ -20,13 +25,32 @@ Key = ℕ × Bor (List ℕ)
 abbrev pub same_key : Key → Key → Bool
 same_key a b = (a.0 == b.0) && bytes_eq a.1.now b.1.now
 
+-- the order of keys
+abbrev pub key_cmp : Key → Key → Ordering
+key_cmp a b = ordering_then (nat_cmp a.0 b.0) (slice_cmp nat_cmp a.1.now b.1.now)
+
+pub both_equal : (a b : Ordering) → is_eq (ordering_then a b) ≡ (is_eq a && is_eq b)
+both_equal Ordering.Less b = refl
+both_equal Ordering.Equal b = refl
+both_equal Ordering.Greater b = refl
+
+pub equal_numbers : (a b : ℕ) → is_eq (nat_cmp a b) ≡ (a == b)
+equal_numbers a b = unsigned_tied a b
+
+-- keys that stand at one place of the order are the same
+at_key : (a b : Key) → is_at (key_cmp a) b ≡ same_key a b
+at_key a b =
+    both_equal (nat_cmp a.0 b.0) (slice_cmp nat_cmp a.1.now b.1.now)
+    ∙ ap (λ (t : Bool). t && is_eq (slice_cmp nat_cmp a.1.now b.1.now)) (equal_numbers a.0 b.0)
+    ∙ ap (λ (t : Bool). (a.0 == b.0) && t) (is_eq-slice_cmp a.1.now b.1.now)
+
 -- an object has the key
 abbrev pub has_key : Key → Object → Bool
 has_key q x = (kind_number x.kind == q.0) && bytes_eq (key_name x) q.1.now
 
 -- the keys of a set are those of the objects
-abbrev pub AreKeysOf : {S : Type 0} → HashSet Key S → List Object → Type 0
-AreKeysOf seen before = (q : Key) → contains same_key seen q ≡ list_any (has_key q) before
+abbrev pub AreKeysOf : BTreeSet Key → List Object → Type 0
+AreKeysOf seen before = (q : Key) → contains key_cmp seen q ≡ list_any (has_key q) before
 
 pub any_end : {X : Type 0} (test : X → Bool) (xs : List X) (x : X) → list_any test (xs ++ x ∷ []) ≡ cond (test x) true (list_any test xs)
 any_end test [] x = end_of (test x)
@@ -43,18 +67,19 @@ any_end test (y ∷ xs) x = or_end (test y) (test x) (list_any test xs) (list_an
     or_end false false c d e = e
 
 -- the key of one more
-keys_end : {S : Type 0} (old new : HashSet Key S) (k : Key) (before : List Object) (x : Object) → AreKeysOf old before → k.0 ≡ kind_number x.kind → k.1.now ≡ key_name x
-    → ((q : Key) → contains same_key new q ≡ cond (same_key k q) true (contains same_key old q)) → AreKeysOf new (before ++ x ∷ [])
+keys_end : (old new : BTreeSet Key) (k : Key) (before : List Object) (x : Object) → AreKeysOf old before → k.0 ≡ kind_number x.kind → k.1.now ≡ key_name x
+    → ((q : Key) → contains key_cmp new q ≡ cond (is_at (key_cmp k) q) true (contains key_cmp old q)) → AreKeysOf new (before ++ x ∷ [])
 keys_end old new k before x are kind_is name_is updates q =
     updates q
+    ∙ ap (λ (b : Bool). cond b true (contains key_cmp old q)) (at_key k q)
     ∙ ap (λ (b : Bool). cond (same_key k q) true b) (are q)
     ∙ ap (λ (j : ℕ). cond ((j == q.0) && bytes_eq k.1.now q.1.now) true (list_any (has_key q) before)) kind_is
     ∙ ap (λ (n : List ℕ). cond ((kind_number x.kind == q.0) && bytes_eq n q.1.now) true (list_any (has_key q) before)) name_is
     ∙ sym (any_end (has_key q) before x)
 
-pub keys_more : {S : Type 0} (old new : HashSet Key S) (k : Key) (xs : List code_object.Object) (i : ℕ) (d : code_object.Object) → i < length xs → d ≡ get_or xs i d → AreKeysOf old (objects_of (take i xs))
+pub keys_more : (old new : BTreeSet Key) (k : Key) (xs : List code_object.Object) (i : ℕ) (d : code_object.Object) → i < length xs → d ≡ get_or xs i d → AreKeysOf old (objects_of (take i xs))
     → k.0 ≡ kind_number d.kind → k.1.now ≡ key_name (object_of d)
-    → ((q : Key) → contains same_key new q ≡ cond (same_key k q) true (contains same_key old q)) → AreKeysOf new (objects_of (take (i + 1) xs))
+    → ((q : Key) → contains key_cmp new q ≡ cond (is_at (key_cmp k) q) true (contains key_cmp old q)) → AreKeysOf new (objects_of (take (i + 1) xs))
 keys_more old new k xs i d inside is are kind_is name_is updates =
     let taken : objects_of (take (i + 1) xs) ≡ objects_of (take i xs) ++ object_of d ∷ [] =
     ap objects_of (take_more xs i d inside) ∙ map_push object_of (take i xs) (get_or xs i d) ∙ ap (λ (y : code_object.Object). objects_of (take i xs) ++ object_of y ∷ []) (sym is) in
@@ -76,7 +101,7 @@ pub any_same : {X : Type 0} (f g : X → Bool) → ((x : X) → f x ≡ g x) →
 any_same f g each [] = refl
 any_same f g each (x ∷ xs) = ap (λ (b : Bool). b || list_any f xs) (each x) ∙ ap (λ (b : Bool). g x || b) (any_same f g each xs)
 
-pub stood_is : {S : Type 0} (seen : HashSet Key S) (k : Key) (before : List Object) (x : Object) → AreKeysOf seen before → k.0 ≡ kind_number x.kind → k.1.now ≡ key_name x → contains same_key seen k ≡ stood before x
+pub stood_is : (seen : BTreeSet Key) (k : Key) (before : List Object) (x : Object) → AreKeysOf seen before → k.0 ≡ kind_number x.kind → k.1.now ≡ key_name x → contains key_cmp seen k ≡ stood before x
 stood_is seen k before x are kind_is name_is =
     are k
     ∙ ap (λ (j : ℕ). list_any (λ y. (kind_number y.kind == j) && bytes_eq (key_name y) k.1.now) before) kind_is

@@ -13,7 +13,7 @@ use crate::fault::OilFault;
 use crate::syntax::{Attribute, Kind, Object, Setting, SyntaxTree, Value};
 use crate::table::{AttributeName, Presence, attributes_of};
 use std::alloc::{AllocError, Global};
-use std::collections::HashSet;
+use std::collections::BTreeSet;
 
 /// The attribute of that word, where it is allowed.
 fn attribute_named(allowed: &[AttributeName], name: &str) -> Option<AttributeName>
@@ -99,8 +99,8 @@ fn settings_fault(
 ) -> Result<Option<OilFault>, AllocError>
     ensures { IfOk result (λ found. found ≡ first_of_all None (settings_faults allowed.now [] (settings_of settings.now))) }
 {
-    let mut names = HashSet::new(alloc);
-    let mut values = HashSet::new(alloc);
+    let mut names = BTreeSet::new(alloc);
+    let mut values = BTreeSet::new(alloc);
     let mut found = None;
     for setting in settings {
         let is_new_name = names.insert(setting.name.text)?;
@@ -288,7 +288,7 @@ fn has_kind(kind: Kind, objects: &[Object<'_>]) -> bool
 fn second_fault(alloc: Global, objects: &[Object<'_>]) -> Result<Option<OilFault>, AllocError>
     ensures { IfOk result (λ found. found ≡ first_of_all None (seconds [] (objects_of objects.now))) }
 {
-    let mut seen = HashSet::new(alloc);
+    let mut seen = BTreeSet::new(alloc);
     let mut found = None;
     for object in objects {
         let is_new = seen.insert(key_of(object))?;

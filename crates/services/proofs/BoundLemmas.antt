@@ -1,6 +1,6 @@
 -- Bounds of a proper system, and of what fits one.
 use Rattle.std.proofs.Common.{◌≡◌, ℕ, zero, suc, ◌-◌, ◌<◌, ◌≤◌, inl, inr, Bool, true, false, not, ◌&&◌, cond, List, [], ◌∷◌, map, length, refl, ◌∙◌, ap, arith}
-use Rattle.std.specs.Prelude.{Option, Some, None, is_some, ◌==◌}
+use Rattle.std.specs.Prelude.{Option, Some, None, IfSome, is_some, ◌==◌}
 use Rattle.std.specs.List.{AllByRecursion}
 use Rattle.std.proofs.lemmas.Bool.{cases_lt, leb-true}
 use Rattle.osek_base.specs.declared.limits.TheConstants.{MAX_TASK_PRIORITY, MAX_ACTIVATION}
@@ -35,10 +35,13 @@ top_low S proper =
     let low = falling_low MAX_TASK_PRIORITY S.tasks (and_split _ _ (and_split _ _ (and_split _ _ (and_split _ _ (and_split _ _ proper.objects).0).0).0).0).0 in
     omega (arith, low)
 
-activation_low : (S : System) → IsProper S → (t : ℕ) → t < length S.tasks → activation_of S t < 255
-activation_low S proper t inside =
+pub activation_few : (S : System) → IsProper S → (t : ℕ) → t < length S.tasks → activation_of S t ≤ MAX_ACTIVATION
+activation_few S proper t inside =
     let here = and_split _ _ (and_split _ _ (and_split _ _ (and_split _ _ (proper_at S t proper inside)).0).0).0 in
-    few (activation_of S t) (leb-true (activation_of S t) MAX_ACTIVATION (and_split _ _ (and_split _ _ here.0).0).1)
+    leb-true (activation_of S t) MAX_ACTIVATION (and_split _ _ (and_split _ _ here.0).0).1
+
+activation_low : (S : System) → IsProper S → (t : ℕ) → t < length S.tasks → activation_of S t < 255
+activation_low S proper t inside = few (activation_of S t) (activation_few S proper t inside)
   where
     few : (n : ℕ) → n ≤ MAX_ACTIVATION → n < 255
     few n low = omega (arith, low)
@@ -78,6 +81,19 @@ module _ (S : System) (o : Kept) (fits : Fits S o) where
       go None er g eg k = absurd (grind arith)
       go (Some u) er true eg k = absurd (grind arith)
       go (Some u) er false eg k = fits.beside eg (ap is_some er)
+
+  ready_known : (t : ℕ) (waits : Bool) → t < length S.tasks → IfSome (cond waits None (Some t)) (λ u. u < length S.tasks)
+  ready_known t true inside = tt
+  ready_known t false inside = inside
+
+  -- a contender is a task of the system
+  pub contender_known : IfSome (contender o) (λ t. t < length S.tasks)
+  contender_known = go o.running o.gone fits.running
+    where
+      go : (r : Option ℕ) (g : Bool) → IfSome r (λ t. t < length S.tasks) → IfSome (contender_of r g o.slots) (λ t. t < length S.tasks)
+      go None g inside = tt
+      go (Some u) true inside = tt
+      go (Some u) false inside = ready_known u (is_some (o.slots u).waits_for) inside
 
 pub ended_queues : (d : KeptCaller) (o : Kept) → (caller_ended_in d o).queues ≡ o.queues
 ended_queues (ByTask t) o = refl

@@ -1,6 +1,7 @@
 -- The routine that starts, by one routine more before those that were looked at.
 use Rattle.std.proofs.Common.{◌≡◌, ℕ, zero, suc, ◌+◌, ◌-◌, ◌<◌, ◌≤◌, Bool, true, false, nat_le, cond, List, [], ◌∷◌, ◌++◌, drop, get_or, length, refl, sym, ◌∙◌, ap, subst, arith, inl, inr}
 use Rattle.std.specs.Prelude.{Option, Some, None}
+use Rattle.std.specs.List.{find}
 use Rattle.std.proofs.Math.Seq.{drop-cons}
 use Rattle.std.proofs.Math.ListN.{drop_of_length-le}
 use Rattle.std.proofs.Math.Numerals.{add-one}
@@ -103,3 +104,15 @@ drop_before n k above within =
 
 pub below_none : (n : ℕ) → drop n (below n) ≡ []
 below_none n = let e : length (below n) ≤ n = omega (arith, length-below n) in drop_of_length-le (below n) e
+
+-- ---- the first number that passes
+
+module _ (p : ℕ → Bool) (n k : ℕ) where
+  pub first_here : k < n → p k ≡ true → find p (drop k (below n)) ≡ Some k
+  first_here low passes = ap (find p) (below_before n k low) ∙ rw passes refl
+
+  pub first_later : k < n → p k ≡ false → find p (drop k (below n)) ≡ find p (drop (k + 1) (below n))
+  first_later low fails = ap (find p) (below_before n k low) ∙ rw fails refl
+
+  pub first_nowhere : k ≡ n → find p (drop k (below n)) ≡ None
+  first_nowhere e = ap (λ j. find p (drop j (below n))) e ∙ ap (find p) (below_none n)

@@ -1,8 +1,9 @@
 -- What stands for a state of a run stands for one after each step.
-use Rattle.std.proofs.Common.{◌≡◌, ℕ, ◌+◌, ◌<◌, true, false, length, refl, sym, ◌∙◌, ap, subst}
+use Rattle.std.proofs.Common.{◌≡◌, ℕ, ◌+◌, ◌<◌, ◌≤◌, true, false, length, refl, sym, ◌∙◌, ap, subst, arith}
 use Rattle.std.specs.Prelude.{Option, Some, None, IfSome, slice_set}
 use Rattle.std.specs.Option.{option_map}
 use Rattle.osek_base.specs.declared.ids.Owner.{Owner}
+use Rattle.osek_base.specs.declared.limits.TheConstants.{MAX_ACTIVATION}
 use Rattle.osek_base.specs.declared.instr.Service.{Service}
 use Rattle.osek_base.specs.System.{System}
 use Rattle.osek_base.specs.Proper.{IsProper}
@@ -24,7 +25,8 @@ use Rattle.kept_state.proofs.Fitting.{fits_where_standing}
 use Rattle.kept_state.proofs.Standing.{still_stands, started_stands, activate_stands, set_event_stands, service_stands, control_stands, reschedule_stands, advance_stands, flag_stands, start_stands, job_move_stands, routine_move_stands}
 use Rattle.kept_state.proofs.Words.{with_words, unmasked_words, service_words, control_words, context_words, start_phase_words, rescheduled_words}
 use Rattle.services.specs.declared.calls.Call.{Call}
-use Rattle.services.specs.Objects.{Objects, StandsFor, Stands, AreFit, kept_in, kept_of}
+use Rattle.services.specs.Objects.{Objects, StandsFor, Stands, AreFit, by_task, kept_in, kept_of}
+use Rattle.services.proofs.BoundLemmas.{activation_few}
 use Rattle.services.specs.Calls.{IsKnown, IsKnownCall, MayGoOn, IsRoutineOrNone, caller_as, call_in}
 
 -- no words matter to a step
@@ -63,6 +65,13 @@ fit_where_stands o (s, stands) =
       beside = fits.beside;
       woken = fits.woken;
     }
+
+-- no task has more jobs than any may have
+pub few_jobs : (o : Objects) → Stands o → (t : ℕ) → t < length o.system.tasks → (by_task o.slots t).count ≤ MAX_ACTIVATION
+few_jobs o (s, stands) t inside =
+    let counted = (fit_where_stands o (s, stands)).counted t in
+    let few = activation_few o.system stands.standing.proper t inside in
+    omega (arith, counted, few)
 
 pub stands_new : (c : Objects) (S : System) → IsProper S → c.system ≡ S → kept_in c ≡ still_in S → Stands c
 stands_new c S proper system new =

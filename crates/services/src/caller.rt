@@ -149,6 +149,18 @@ impl<'s, Q: ReadyQueues> Objects<'s, Q> {
         }
     }
 
+    /// The running task, also where its job has ended.
+    pub fn running(&self) -> Option<TaskId>
+        requires { AreFit self.now }
+        ensures value { result ≡ self.now.running }
+        ensures known { IfSome result (λ t. t < length self.now.system.tasks) }
+    {
+        match &self.running {
+            None => None,
+            Some(task) => Some(*task),
+        }
+    }
+
     /// The running task's number, as GetTaskID answers it.
     pub fn running_task(&self) -> u32
         ensures { result ≡ running_number self.now.running }

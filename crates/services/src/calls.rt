@@ -112,7 +112,7 @@ impl<'s, Q: ReadyQueues> Objects<'s, Q> {
             Service::GetTaskId => Answer::one(self.running_task()),
             Service::GetTaskState(task) => match task {
                 None => Answer::plain(Status::Id),
-                Some(task) => Answer::one(self.task_state(task)),
+                Some(task) => Answer::one(self.state_number(task)),
             },
             Service::GetResource(resource) => match &resource {
                 None => Answer::plain(Status::Id),

@@ -53,7 +53,7 @@ impl<'s, Q: ReadyQueues> Objects<'s, Q> {
     }
 
     /// The running task, if its job stands and doesn't wait.
-    fn contender(&self) -> Option<TaskId>
+    pub fn contender(&self) -> Option<TaskId>
         requires { AreFit self.now }
         ensures { result ≡ contender (kept_in self.now) }
     {

@@ -10,6 +10,7 @@ mod event_services;
 mod interrupts;
 mod objects;
 mod os_core;
+mod readers;
 mod ready_list;
 mod resource_services;
 mod shared_services;

@@ -1,6 +1,6 @@
 //! OSEK/VDX OS: system services. The objects of a running system that services read and change.
 
-ghost use Rattle.std.specs.Prelude.{◌≡◌, ◌<◌, IfOk, replicate, slice_index, slice_set, length};
+ghost use Rattle.std.specs.Prelude.{◌≡◌, ◌<◌, IfOk, is_some, replicate, slice_index, slice_set, length};
 ghost use Rattle.osek_base.specs.Proper.{IsProper};
 ghost use Rattle.osek_base.specs.State.{no_shared};
 ghost use Rattle.osek_base.specs.Trace.{starting_alarms};
@@ -8,7 +8,7 @@ ghost use Rattle.kept_state.specs.Kept.{unbegun};
 ghost use Rattle.kept_state.specs.KeptService.{is_full_in, is_suspended_in};
 ghost use Rattle.kept_state.specs.KeptTick.{still_in};
 ghost use Rattle.kept_state.specs.Standing.{room_for};
-ghost use Rattle.services.specs.Objects.{kept_in};
+ghost use Rattle.services.specs.Objects.{by_task, kept_in};
 
 use crate::interrupts::Active;
 use crate::ready_list::ReadyList;
@@ -153,6 +153,24 @@ impl<'s, Q: ReadyQueues> Objects<'s, Q> {
     {
         let slot = &self.slots[task.number() as usize];
         slot.count() == 0
+    }
+
+    /// How many jobs a task has.
+    pub fn job_count(&self, task: TaskId) -> u8
+        requires { task < length self.now.system.tasks }
+        ensures { result ≡ (by_task self.now.slots task).count }
+    {
+        let slot = &self.slots[task.number() as usize];
+        slot.count()
+    }
+
+    /// Whether the oldest job of a task waits for an event.
+    pub fn waits(&self, task: TaskId) -> bool
+        requires { task < length self.now.system.tasks }
+        ensures { result ≡ is_some (by_task self.now.slots task).waits_for }
+    {
+        let slot = &self.slots[task.number() as usize];
+        slot.waits()
     }
 
     /// A task's events, as a mask.

@@ -1,6 +1,6 @@
 //! OSEK/VDX OS: system services. The core of a kernel: the objects of a running system, which stand for a state of it.
 
-ghost use Rattle.std.specs.Prelude.{◌≡◌, ◌<◌, ◌≤◌, ◌+◌, ◌++◌, IfOk, IfSome, MatchOption, Some, false, true, slice_index, slice_set, length};
+ghost use Rattle.std.specs.Prelude.{◌≡◌, ◌<◌, ◌≤◌, ◌+◌, ◌++◌, IfOk, IfSome, MatchOption, Some, false, true, is_some, slice_index, slice_set, length};
 ghost use Rattle.osek_base.specs.declared.instr.Service.{Service};
 ghost use Rattle.osek_base.specs.State.{Words, shared_window};
 ghost use Rattle.osek_base.specs.Alarm.{due_alarms, alarms_advanced};
@@ -8,11 +8,11 @@ ghost use Rattle.osek_base.specs.Trace.{starting_alarms};
 ghost use Rattle.run_laws.proofs.Formed.{IsPlaced};
 ghost use Rattle.kept_state.specs.KeptService.{ByNobody, bare, caller_in, unmasked_in};
 ghost use Rattle.kept_state.specs.KeptTick.{start_phase_in, still_in, with_context_in};
-ghost use Rattle.kept_state.specs.Moves.{rescheduled};
+ghost use Rattle.kept_state.specs.Moves.{contender, rescheduled};
 ghost use Rattle.kept_state.specs.Standing.{MayServe, runner_waits};
 ghost use Rattle.services.specs.Levels.{level_lists};
 ghost use Rattle.services.specs.Objects.{kept_in, kept_of};
-ghost use Rattle.services.specs.Calls.{IsKnownCall, Executes, MayGoOn, IsSameCaller, call_in, caller_as};
+ghost use Rattle.services.specs.Calls.{IsKnownCall, Executes, MayGoOn, IsSameCaller, call_in, caller_as, calling_task};
 
 use crate::caller::Execution;
 use crate::calls::{Answer, Call};
@@ -20,8 +20,8 @@ use crate::objects::Objects;
 use arrayvec::ArrayVec;
 use machine::Cpu;
 use osek_base::{
-    AlarmId, IsrId, MAX_ALARMS, MAX_RECORDS, MAX_TICKS, ModeId, Owner, ResourceNumber,
-    SHARED_WORDS, Status, System, TaskId, TickRecord,
+    AlarmId, IsrId, MAX_ACTIVATION, MAX_ALARMS, MAX_RECORDS, MAX_TICKS, ModeId, Owner,
+    ResourceNumber, SHARED_WORDS, Status, System, TaskId, TickRecord,
 };
 use ready_queues::ReadyQueues;
 use std::alloc::{AllocError, Global};
@@ -32,7 +32,7 @@ use std::marker::Model;
 /// kept. Contracts see what is kept but the words of tasks and routines.
 #[derive(Drop)]
 pub struct Core<'s, Q: ReadyQueues> {
-    objects: Objects<'s, Q>,
+    pub(crate) objects: Objects<'s, Q>,
 }
 
 impl<'s, Q: ReadyQueues> Model for Core<'s, Q> {
@@ -86,6 +86,54 @@ impl<'s, Q: ReadyQueues> Core<'s, Q> {
         ensures { result ≡ self.now.over }
     {
         self.objects.over
+    }
+
+    /// How many jobs a task has.
+    pub fn job_count(&self, task: TaskId) -> u8
+        requires { task < length self.now.system.tasks }
+        ensures value { result ≡ ((kept_in self.now).slots task).count }
+        ensures few { result ≤ MAX_ACTIVATION }
+    {
+        self.objects.job_count(task)
+    }
+
+    /// Whether the oldest job of a task waits for an event.
+    pub fn waits(&self, task: TaskId) -> bool
+        requires { task < length self.now.system.tasks }
+        ensures { result ≡ is_some ((kept_in self.now).slots task).waits_for }
+    {
+        self.objects.waits(task)
+    }
+
+    /// The running task, if its job stands and doesn't wait.
+    pub fn contender(&self) -> Option<TaskId>
+        ensures value { result ≡ contender (kept_in self.now) }
+        ensures known { IfSome result (λ t. t < length self.now.system.tasks) }
+    {
+        self.objects.contender()
+    }
+
+    /// The running task, also where its job has ended.
+    pub fn running(&self) -> Option<TaskId>
+        ensures value { result ≡ self.now.running }
+        ensures known { IfSome result (λ t. t < length self.now.system.tasks) }
+    {
+        self.objects.running()
+    }
+
+    /// Whether the job of the running task has ended.
+    pub fn is_gone(&self) -> bool
+        ensures { result ≡ self.now.gone }
+    {
+        self.objects.gone
+    }
+
+    /// The task that executes, if no routine does.
+    pub fn executing_task(&self) -> Option<TaskId>
+        ensures value { result ≡ calling_task (caller_in (kept_in self.now)) }
+        ensures known { IfSome result (λ t. t < length self.now.system.tasks) }
+    {
+        self.objects.calling_task()
     }
 
     /// ActivateTask by an alarm, or at boot: a new job of a task, or E_OS_LIMIT where it has as many as its ACTIVATION

@@ -90,6 +90,13 @@ impl Slot {
         self.waits_for.is_some()
     }
 
+    /// The events of which the oldest job waits for one, as a mask.
+    pub fn awaited(&self) -> Option<u32>
+        ensures { result ≡ self.now.waits_for }
+    {
+        self.waits_for
+    }
+
     /// Whether the oldest job waits for one of the events of a mask.
     pub fn waits_for(&self, set: u32) -> bool
         ensures { result ≡ is_met set self.now.waits_for }

@@ -8,7 +8,7 @@ ghost use Rattle.services.specs.Objects.{kept_in, AreFit};
 ghost use Rattle.services.specs.Calls.{IsTaskOperand, unmasked};
 
 use crate::objects::Objects;
-use osek_base::{Status, TaskId};
+use osek_base::{Status, TaskId, TaskState};
 use ready_queues::ReadyQueues;
 
 impl<'s, Q: ReadyQueues> Objects<'s, Q> {
@@ -105,20 +105,28 @@ impl<'s, Q: ReadyQueues> Objects<'s, Q> {
         Status::Ok
     }
 
-    /// The state of a task: 0 running, 1 waiting, 2 ready, 3 suspended.
-    pub fn task_state(&self, task: TaskId) -> u32
+    /// The number of a task's state: 0 running, 1 waiting, 2 ready, 3 suspended.
+    pub fn state_number(&self, task: TaskId) -> u32
         requires { task < length self.now.system.tasks }
         ensures { result ≡ state_number (task_state_in (kept_in self.now) task) }
     {
+        self.task_state(task).number() as u32
+    }
+
+    /// The state of a task.
+    pub fn task_state(&self, task: TaskId) -> TaskState
+        requires { task < length self.now.system.tasks }
+        ensures { result ≡ task_state_in (kept_in self.now) task }
+    {
         let slot = &self.slots[task.number() as usize];
         if self.running_task() == task.number() as u32 {
-            0
+            TaskState::Running
         } else if slot.waits() {
-            1
+            TaskState::Waiting
         } else if slot.count() == 0 {
-            3
+            TaskState::Suspended
         } else {
-            2
+            TaskState::Ready
         }
     }
 }

@@ -13,11 +13,12 @@ mod pieces;
 mod programs;
 mod refused_lines;
 mod scopes;
+mod shown;
 mod source;
 mod trees;
 mod words;
 
-pub use notes::{write_choice, write_names};
+pub use notes::{write_choice, write_first_names, write_names};
 pub use oil_faults::explain_oil;
 pub use pieces::{Piece, kind_word};
 pub use programs::explain_programs;

@@ -1,7 +1,7 @@
 //! Faults of a program text.
 
 use crate::mnemonics::{MNEMONICS, form};
-use crate::notes::write_choice;
+use crate::notes::{write_choice, write_names, write_nearest};
 use crate::oil_texts::explain_run;
 use crate::pieces::Piece::{self, Text};
 use crate::source::Source;
@@ -63,7 +63,8 @@ fn explain_mnemonic<W: Write>(
         &[Text("there is no instruction "), Text(word.text)],
         out,
     )?;
-    write_choice(alloc, word.text, &MNEMONICS, out)
+    write_names("allowed", &MNEMONICS, out)?;
+    write_nearest(alloc, word.text, &MNEMONICS, out)
 }
 
 /// Whether a directive stands at a place.

@@ -1,6 +1,7 @@
 //! A text that was read, and what is said and shown of it.
 
 use crate::pieces::{Piece, write_pieces};
+use crate::shown::{columns, write_shown};
 use osek_base::words::is_word_byte;
 use std::io::{self, Write};
 use text_positions::{Position, line_and_column};
@@ -64,7 +65,7 @@ impl<'a> Source<'a> {
         }
         let number = self.position(place).line;
         write_line(number, head, tail, out)?;
-        write_carets(number, head, len.min(tail.len()).max(1), out)
+        write_carets(number, columns(head), len.min(tail.len()).max(1), out)
     }
 
     /// Writes `NAME:LINE:COLUMN: WHAT`, and shows so many bytes from the place on. An error is a failed write.
@@ -130,8 +131,8 @@ impl<'a> Source<'a> {
 /// Writes a line behind its number, which stands in four columns or more.
 fn write_line<W: Write>(number: usize, head: &[u8], tail: &[u8], out: &mut W) -> io::Result<()> {
     write!(out, "{number:>4} | ")?;
-    out.write_all(head)?;
-    out.write_all(tail)?;
+    write_shown(head, out)?;
+    write_shown(tail, out)?;
     out.write_all(b"\n")
 }
 
@@ -144,12 +145,17 @@ fn write_blank<W: Write>(number: usize, out: &mut W) -> io::Result<()> {
     Ok(())
 }
 
-/// Writes carets behind as much blank as a line's number and its head are wide.
-fn write_carets<W: Write>(number: usize, head: &[u8], count: usize, out: &mut W) -> io::Result<()> {
+/// Writes carets behind as much blank as a line's number and so many columns are wide.
+fn write_carets<W: Write>(
+    number: usize,
+    columns: usize,
+    count: usize,
+    out: &mut W,
+) -> io::Result<()> {
     write_blank(number, out)?;
     out.write_all(b" | ")?;
-    for byte in head {
-        out.write_all(if *byte == b'\t' { b"\t" } else { b" " })?;
+    for _ in 0..columns {
+        out.write_all(b" ")?;
     }
     for _ in 0..count {
         out.write_all(b"^")?;

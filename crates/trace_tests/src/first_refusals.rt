@@ -1,14 +1,14 @@
 //! The first refusal of several, before which nothing is written.
 
 use crate::systems::{ENDS, ONCE};
-use crate::writers::{Narrow, WhenFull};
 use std::alloc::Global;
 use std::test::Fail;
 use tracer::{StdSink, run};
 
 /// The answer of a run of 3 ticks of `ONCE`, and how many bytes it wrote.
 fn ending(alloc: Global, asm: &str, irqs: &str, mode: &str) -> Result<String, Fail> {
-    let mut out = StdSink::new(Narrow::new(alloc, 100, 1000, WhenFull::Fails));
+    let bytes: Vec<u8> = Vec::new(alloc);
+    let mut out = StdSink::new(bytes);
     let ran = run(
         alloc,
         ONCE.as_bytes(),
@@ -18,7 +18,7 @@ fn ending(alloc: Global, asm: &str, irqs: &str, mode: &str) -> Result<String, Fa
         3,
         &mut out,
     );
-    let written = out.into_writer().into_taken().len();
+    let written = out.into_writer().len();
     match ran {
         Ok(()) => Ok(format!(in alloc; "ok, {written} bytes")?),
         Err(fault) => Ok(format!(in alloc; "{fault}, {written} bytes")?),

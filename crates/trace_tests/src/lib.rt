@@ -1,4 +1,4 @@
-//! Tests of whole runs and their parts: arrival lists with their faults, refusals, and writers that fail.
+//! Tests of whole runs and their parts: arrival lists with their faults, and refusals.
 #![tactic(auto)]
 
 #[cfg(test)]
@@ -9,5 +9,3 @@ mod first_refusals;
 mod lines;
 #[cfg(test)]
 mod systems;
-#[cfg(test)]
-mod writers;

@@ -19,9 +19,6 @@ CPU c {
 /// The program of `ONCE`.
 pub const ENDS: &str = ".task A\nTERM\nz: JMP z\n";
 
-/// The trace of `ONCE` with `ENDS`, in 3 ticks: 29 bytes.
-pub const TRACE: &str = "0 A 0 TERM = 0\n1 idle\n2 idle\n";
-
 /// A routine I, and no task.
 const ROUTINE: &str = "OIL_VERSION = \"2.5\";
 CPU c {

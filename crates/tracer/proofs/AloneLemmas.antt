@@ -13,13 +13,14 @@ use Rattle.tracer.specs.ArrivalText.{lines_of}
 use Rattle.tracer.specs.UpperRuns.{IsShown}
 use Rattle.tracer.specs.WholeRuns.{RefusesStart}
 use Rattle.tracer.specs.declared.run_fault.RunFault.{RunFault}
+use Rattle.tracer.specs.declared.shown.Shown.{Shown}
 use Rattle.tracer.proofs.RunTextLemmas.{view_shown}
 use Rattle.tracer.proofs.ArrivalLemmas.{number_below, are_read_same, first_fault_same}
 
 module _ (S : System) (p : ℕ) (irqs mode : List ℕ) where
   -- the same is shown
   pub shown_alone : (T : System) → T ≡ upper_part S p → HaveOneView S T p → (ticks : ℕ) (bytes : List ℕ)
-      → IsShown T (Some p) irqs mode ticks bytes → IsShown S (Some p) irqs mode ticks bytes
+      → IsShown T (Shown.View p) irqs mode ticks bytes → IsShown S (Shown.View p) irqs mode ticks bytes
   shown_alone T same one_view ticks bytes shown =
       let routines : T.names.routines ≡ S.names.routines = ap (λ (R : System). R.names.routines) same in
       let modes : T.names.modes ≡ S.names.modes = ap (λ (R : System). R.names.modes) same in

@@ -1,31 +1,32 @@
--- What is written of a run that was begun: the trace, or the view. Faults that are no failed write.
-use Rattle.std.proofs.Common.{◌≡◌, ℕ, List, Option, Some, None, Result, Ok, Err, subst, ap, ◌∙◌}
+-- What is written of a run that was begun: the trace, that with numbers, or the view. Faults that are no failed write.
+use Rattle.std.proofs.Common.{◌≡◌, ℕ, List, Result, Ok, Err, subst, ap, ◌∙◌}
 use Rattle.std.specs.Prelude.{IfErr}
 use Rattle.osek_base.specs.Separable.{Separable}
 use Rattle.osek_base.specs.System.{System}
 use Rattle.osek_base.specs.Trace.{run}
 use Rattle.kernel.specs.Run.{Run}
-use Rattle.tracer.specs.Shown.{text_shown}
+use Rattle.tracer.specs.Shown.{numbers_shown, text_shown}
 use Rattle.tracer.specs.UpperRuns.{IsShown, IsView, RefusesPartition}
-use Rattle.tracer.specs.WholeRuns.{IsSystemOf, IsBegun, IsTrace, RefusesSystem, RefusesStart}
+use Rattle.tracer.specs.WholeRuns.{IsSystemOf, IsBegun, IsTrace, IsBlockingTrace, RefusesSystem, RefusesStart}
 use Rattle.tracer.specs.declared.run_fault.RunFault.{RunFault}
-use Rattle.tracer.proofs.RunTextLemmas.{all_shown, view_shown}
+use Rattle.tracer.specs.declared.shown.Shown.{Shown}
+use Rattle.tracer.proofs.RunTextLemmas.{all_shown, view_shown, blocking_shown}
 
 -- what is shown of a run that was begun
-pub shown_of : (irqs mode : List ℕ) (ticks : ℕ) (view : Option ℕ) (S : System) (r : Run) → IsBegun S irqs mode r
-    → IsShown S view irqs mode ticks (text_shown S view (run r.system r.mode r.arrivals ticks))
-shown_of irqs mode ticks view S r begun =
+pub shown_of : (irqs mode : List ℕ) (ticks : ℕ) (shown : Shown) (S : System) (r : Run) → IsBegun S irqs mode r
+    → IsShown S shown irqs mode ticks (text_shown S shown (numbers_shown shown r.system r.mode r.arrivals) (run r.system r.mode r.arrivals ticks))
+shown_of irqs mode ticks shown S r begun =
     record {
       number = r.mode;
       arrivals = r.arrivals;
       listed = begun.listed;
       started = begun.started;
-      spelled = ap (λ (s : System). text_shown S view (run s r.mode r.arrivals ticks)) begun.system;
+      spelled = ap (λ (s : System). text_shown S shown (numbers_shown shown s r.mode r.arrivals) (run s r.mode r.arrivals ticks)) begun.system;
     }
 
 -- all of it is the trace
 pub trace_of : (oil asm irqs mode : List ℕ) (ticks : ℕ) (S : System) (bytes : List ℕ) → IsSystemOf oil asm S
-    → IsShown S None irqs mode ticks bytes → IsTrace oil asm irqs mode ticks bytes
+    → IsShown S Shown.All irqs mode ticks bytes → IsTrace oil asm irqs mode ticks bytes
 trace_of oil asm irqs mode ticks S bytes made shown =
     record {
       system = S;
@@ -37,9 +38,23 @@ trace_of oil asm irqs mode ticks S bytes made shown =
       spelled = shown.spelled ∙ all_shown S (run S shown.number shown.arrivals ticks);
     }
 
+-- all of it with the numbers is the trace with the numbers
+pub blocking_of : (oil asm irqs mode : List ℕ) (ticks : ℕ) (S : System) (bytes : List ℕ) → IsSystemOf oil asm S
+    → IsShown S Shown.Blocking irqs mode ticks bytes → IsBlockingTrace oil asm irqs mode ticks bytes
+blocking_of oil asm irqs mode ticks S bytes made shown =
+    record {
+      system = S;
+      number = shown.number;
+      arrivals = shown.arrivals;
+      made = made;
+      listed = shown.listed;
+      started = shown.started;
+      spelled = shown.spelled ∙ blocking_shown S shown.number shown.arrivals ticks;
+    }
+
 -- where the system is separable at p, the view at p is the one that is asked for
 pub view_of : (oil asm irqs mode : List ℕ) (ticks p : ℕ) (S : System) (bytes : List ℕ) → IsSystemOf oil asm S → Separable S p
-    → IsShown S (Some p) irqs mode ticks bytes → IsView oil asm irqs mode ticks p bytes
+    → IsShown S (Shown.View p) irqs mode ticks bytes → IsView oil asm irqs mode ticks p bytes
 view_of oil asm irqs mode ticks p S bytes made separable shown =
     record {
       system = S;

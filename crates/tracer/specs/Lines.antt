@@ -1,23 +1,28 @@
 -- What is written of the records of a tick. No part of the standards.
-use Rattle.std.specs.Prelude.{ℕ, List, [], ◌∷◌, ◌++◌, ◌≡◌, ◌≤◌, codes, decimal, length}
+use Rattle.std.specs.Prelude.{ℕ, List, [], ◌∷◌, ◌++◌, ◌≡◌, ◌≤◌, Option, codes, decimal, length}
 use Rattle.std.specs.List.{flat_map}
 use Rattle.osek_base.specs.declared.ids.Owner.{Owner}
 use Rattle.osek_base.specs.declared.instr.Instr.{Instr}
 use Rattle.osek_base.specs.declared.trace_event.TraceEvent.{TraceEvent}
 use Rattle.osek_base.specs.Names.{Names, owner_name}
 use Rattle.osek_base.specs.Text.{instruction_text, line}
+use Rattle.osek_base.specs.BlockingText.{blockers_text}
 
 -- a line and its end
 abbrev pub ended : List ℕ → List ℕ
 ended text = text ++ 10 ∷ []
 
--- a record's line and its end
-abbrev pub record_text : Names → ℕ → TraceEvent → List ℕ
-record_text names t event = ended (line names t event)
+-- a record's line, and the number of blockers where there is one
+abbrev pub numbered_line : Names → ℕ → Option ℕ → TraceEvent → List ℕ
+numbered_line names t number event = line names t event ++ blockers_text number event
+
+-- that line and its end
+abbrev pub record_text : Names → ℕ → Option ℕ → TraceEvent → List ℕ
+record_text names t number event = ended (numbered_line names t number event)
 
 -- the text of a tick
-abbrev pub tick_text : Names → ℕ → List TraceEvent → List ℕ
-tick_text names t events = flat_map (record_text names t) events
+abbrev pub tick_text : Names → ℕ → Option ℕ → List TraceEvent → List ℕ
+tick_text names t number events = flat_map (record_text names t number) events
 
 -- what the line of an instruction has between the tick and the outcome
 abbrev pub executed_text : Names → Owner → ℕ → Instr → List ℕ

@@ -1,5 +1,5 @@
 -- The view of a run that is asked for, and which refusal is the first. Partitions, no part of the standards.
-use Rattle.std.specs.Prelude.{◌≡◌, ◌⊎◌, ℕ, List, Option, Some}
+use Rattle.std.specs.Prelude.{◌≡◌, ◌⊎◌, ℕ, List, Some}
 use Rattle.osek_base.specs.declared.arrivals.Arrival.{Arrival}
 use Rattle.osek_base.specs.Names.{number_of, owner_name}
 use Rattle.osek_base.specs.System.{System}
@@ -8,19 +8,20 @@ use Rattle.osek_base.specs.Trace.{run}
 use Rattle.partition_check.specs.Partition.{denial_of}
 use Rattle.partition_check.specs.declared.denial.NamedDenial.{NamedDenial}
 use Rattle.tracer.specs.ArrivalText.{IsArrivalList}
-use Rattle.tracer.specs.Shown.{text_shown, view_text}
+use Rattle.tracer.specs.Shown.{numbers_shown, text_shown, view_text}
 use Rattle.tracer.specs.WholeRuns.{IsSystemOf, RefusesSystem, RefusesStart}
 use Rattle.tracer.specs.declared.run_fault.RunFault.{RunFault}
+use Rattle.tracer.specs.declared.shown.Shown.{Shown}
 
 -- ---- what is written
 
 -- the bytes are what is shown of so many ticks of the system, in the mode of that name, with the arrivals of that list
-pub record IsShown (S : System) (view : Option ℕ) (irqs mode : List ℕ) (ticks : ℕ) (bytes : List ℕ) : Type 0 where
+pub record IsShown (S : System) (shown : Shown) (irqs mode : List ℕ) (ticks : ℕ) (bytes : List ℕ) : Type 0 where
   pub number : ℕ
   pub arrivals : List Arrival
   pub listed : IsArrivalList S.names irqs arrivals
   pub started : number_of mode S.names.modes ≡ Some number
-  pub spelled : bytes ≡ text_shown S view (run S number arrivals ticks)
+  pub spelled : bytes ≡ text_shown S shown (numbers_shown shown S number arrivals) (run S number arrivals ticks)
 
 -- the bytes are the text of the view at p of so many ticks of the system of the texts, which is separable at p
 pub record IsView (oil asm irqs mode : List ℕ) (ticks p : ℕ) (bytes : List ℕ) : Type 0 where

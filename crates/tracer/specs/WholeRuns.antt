@@ -13,6 +13,7 @@ use Rattle.osek_base.specs.declared.arrivals.Arrival.{Arrival}
 use Rattle.osek_base.specs.Names.{number_of}
 use Rattle.osek_base.specs.System.{System}
 use Rattle.osek_base.specs.Text.{text}
+use Rattle.osek_base.specs.BlockingText.{blocking_text}
 use Rattle.osek_base.specs.Trace.{run}
 use Rattle.kernel.specs.declared.boot.BootFault.{BootFault}
 use Rattle.kernel.specs.Run.{Run}
@@ -52,6 +53,16 @@ pub record IsTrace (oil asm irqs mode : List ℕ) (ticks : ℕ) (bytes : List �
   pub listed : IsArrivalList system.names irqs arrivals
   pub started : number_of mode system.names.modes ≡ Some number
   pub spelled : bytes ≡ text system.names (run system number arrivals ticks)
+
+-- the bytes are that text with the numbers of blockers
+pub record IsBlockingTrace (oil asm irqs mode : List ℕ) (ticks : ℕ) (bytes : List ℕ) : Type 0 where
+  pub system : System
+  pub number : ℕ
+  pub arrivals : List Arrival
+  pub made : IsSystemOf oil asm system
+  pub listed : IsArrivalList system.names irqs arrivals
+  pub started : number_of mode system.names.modes ≡ Some number
+  pub spelled : bytes ≡ blocking_text system number arrivals ticks
 
 -- ---- the first fault
 

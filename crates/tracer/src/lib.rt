@@ -3,10 +3,12 @@
 
 mod arrival_line;
 mod arrivals;
+mod blocking_run;
 mod instruction_texts;
 mod irq_fault;
 mod line;
 mod run_fault;
+mod shown;
 mod sink;
 mod system_texts;
 mod upper_run;
@@ -15,6 +17,7 @@ mod whole_run;
 mod written_ticks;
 
 pub use arrivals::{one_meaning, read_arrivals};
+pub use blocking_run::run_blocking;
 pub use irq_fault::IrqFault;
 pub use line::{LineText, line_text};
 pub use run_fault::RunFault;

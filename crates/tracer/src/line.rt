@@ -3,6 +3,7 @@
 ghost use Rattle.std.specs.Prelude.{◌≡◌, ◌+◌, ◌<◌, ◌≤◌, ◌++◌, length, decimal, codes};
 ghost use Rattle.tracer.specs.Lines.{executed_text};
 ghost use Rattle.osek_base.specs.Names.{name_at, owner_name};
+ghost use Rattle.osek_base.specs.BlockingText.{blockers_text};
 ghost use Rattle.osek_base.specs.Text.{
   instruction_text,
   results_text,
@@ -214,6 +215,20 @@ fn push_event(text: &mut LineText, names: &Names, event: &TraceEvent)
             text.push_str("shutdown ");
             push_number(text, *number);
         }
+    }
+}
+
+/// Appends what stands behind a record where a number of blockers is told: ` ! ` and the number behind an instruction.
+pub(crate) fn push_blockers(text: &mut LineText, number: Option<u32>, event: &TraceEvent)
+    requires { length text.old.bytes + 13 ≤ 256 }
+    ensures same { text.new.bytes ≡ text.old.bytes ++ blockers_text number event.now }
+    ensures short { length text.new.bytes ≤ length text.old.bytes + 13 }
+{
+    if let Some(number) = number
+        && let TraceEvent::Executed(_, _, _, _) = event
+    {
+        text.push_str(" ! ");
+        push_number(text, number);
     }
 }
 

@@ -1,18 +1,20 @@
 //! Partitions, no part of the standards. From the three texts to the view at a priority.
 
-ghost use Rattle.std.specs.Prelude.{◌≡◌, ◌≢◌, ◌≤◌, ℕ, List, Some, true, false, IfErr, OnOk};
+ghost use Rattle.std.specs.Prelude.{◌≡◌, ◌≢◌, ◌≤◌, ℕ, List, true, false, IfErr, OnOk};
 ghost use Rattle.std.specs.Io.KnownBytes.{Appends};
 ghost use Rattle.osek_base.specs.Separable.{Separable};
 ghost use Rattle.tracer.specs.Sinks.{AppendsSome};
 ghost use Rattle.tracer.specs.UpperRuns.{IsShown, IsView, RefusesPartition, IsFirstViewRefusal};
 ghost use Rattle.tracer.specs.WholeRuns.{RefusesStart};
 ghost use Rattle.tracer.specs.declared.run_fault.RunFault.{RunFault};
+ghost use Rattle.tracer.specs.declared.shown.Shown.{Shown};
 
 use crate::run_fault::RunFault;
+use crate::shown::Shown;
 use crate::sink::Sink;
 use crate::system_texts::read_system;
 use crate::whole_run::write_run;
-use osek_base::System;
+use osek_base::{MAX_TICKS, System};
 use partition_check::check_partition;
 use std::alloc::Global;
 use upper_only::upper_only;
@@ -39,17 +41,17 @@ fn write_alone<S: Sink>(
     out: &mut S,
 ) -> Result<(), RunFault>
     requires separable { Separable system.now p }
-    requires ticks { ticks ≤ 1000000 }
+    requires ticks { ticks ≤ MAX_TICKS }
     requires fresh { S.has_failed out.old ≡ false }
-    ensures written { OnOk result ((bytes : List ℕ) × IsShown system.now (Some p) irqs.now mode.now ticks bytes × Appends (S.taken out.old) (S.taken out.new) bytes) }
+    ensures written { OnOk result ((bytes : List ℕ) × IsShown system.now (Shown.View p) irqs.now mode.now ticks bytes × Appends (S.taken out.old) (S.taken out.new) bytes) }
     ensures still { OnOk result (S.has_failed out.new ≡ false) }
-    ensures beginning { IfErr result (λ fault. fault ≡ RunFault.Write → (bytes : List ℕ) × IsShown system.now (Some p) irqs.now mode.now ticks bytes × AppendsSome (S.taken out.old) (S.taken out.new) bytes) }
+    ensures beginning { IfErr result (λ fault. fault ≡ RunFault.Write → (bytes : List ℕ) × IsShown system.now (Shown.View p) irqs.now mode.now ticks bytes × AppendsSome (S.taken out.old) (S.taken out.new) bytes) }
     ensures failed { IfErr result (λ fault. fault ≡ RunFault.Write → S.has_failed out.new ≡ true) }
     ensures unwritten { IfErr result (λ fault. fault ≢ RunFault.Write → out.new ≡ out.old) }
     ensures refusal { IfErr result (λ fault. fault ≢ RunFault.Write → RefusesStart system.now irqs.now mode.now fault) }
 {
     let part = upper_only(alloc, system, p)?;
-    write_run(alloc, &part, Some(p), irqs, mode, ticks, out)
+    write_run(alloc, &part, Shown::View(p), irqs, mode, ticks, out)
 }
 
 /// Writes the view at p of a run of a system, or of its upper part by itself.
@@ -64,11 +66,11 @@ fn write_view<S: Sink>(
     out: &mut S,
 ) -> Result<(), RunFault>
     requires separable { Separable system.now p }
-    requires ticks { ticks ≤ 1000000 }
+    requires ticks { ticks ≤ MAX_TICKS }
     requires fresh { S.has_failed out.old ≡ false }
-    ensures written { OnOk result ((bytes : List ℕ) × IsShown system.now (Some p) irqs.now mode.now ticks bytes × Appends (S.taken out.old) (S.taken out.new) bytes) }
+    ensures written { OnOk result ((bytes : List ℕ) × IsShown system.now (Shown.View p) irqs.now mode.now ticks bytes × Appends (S.taken out.old) (S.taken out.new) bytes) }
     ensures still { OnOk result (S.has_failed out.new ≡ false) }
-    ensures beginning { IfErr result (λ fault. fault ≡ RunFault.Write → (bytes : List ℕ) × IsShown system.now (Some p) irqs.now mode.now ticks bytes × AppendsSome (S.taken out.old) (S.taken out.new) bytes) }
+    ensures beginning { IfErr result (λ fault. fault ≡ RunFault.Write → (bytes : List ℕ) × IsShown system.now (Shown.View p) irqs.now mode.now ticks bytes × AppendsSome (S.taken out.old) (S.taken out.new) bytes) }
     ensures failed { IfErr result (λ fault. fault ≡ RunFault.Write → S.has_failed out.new ≡ true) }
     ensures unwritten { IfErr result (λ fault. fault ≢ RunFault.Write → out.new ≡ out.old) }
     ensures refusal { IfErr result (λ fault. fault ≢ RunFault.Write → RefusesStart system.now irqs.now mode.now fault) }
@@ -76,7 +78,7 @@ fn write_view<S: Sink>(
     if alone {
         write_alone(alloc, system, p, irqs, mode, ticks, out)
     } else {
-        write_run(alloc, system, Some(p), irqs, mode, ticks, out)
+        write_run(alloc, system, Shown::View(p), irqs, mode, ticks, out)
     }
 }
 
@@ -96,7 +98,7 @@ pub fn run_upper<S: Sink>(
     alone: bool,
     out: &mut S,
 ) -> Result<(), RunFault>
-    requires ticks { ticks ≤ 1000000 }
+    requires ticks { ticks ≤ MAX_TICKS }
     requires fresh { S.has_failed out.old ≡ false }
     ensures written { OnOk result ((bytes : List ℕ) × IsView oil.now asm.now irqs.now mode.now ticks p bytes × Appends (S.taken out.old) (S.taken out.new) bytes) }
     ensures still { OnOk result (S.has_failed out.new ≡ false) }

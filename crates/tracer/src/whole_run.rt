@@ -9,11 +9,12 @@ ghost use Rattle.tracer.specs.WholeRuns.{IsBegun, IsTrace, RefusesStart, IsFirst
 use crate::arrivals::read_arrivals;
 use crate::instruction_texts::InstructionTexts;
 use crate::run_fault::RunFault;
+use crate::shown::Shown;
 use crate::sink::Sink;
 use crate::system_texts::read_system;
 use crate::written_ticks::write_ticks;
 use kernel::Kernel;
-use osek_base::System;
+use osek_base::{MAX_TICKS, System};
 use ready_queues::LevelQueues;
 use std::alloc::Global;
 
@@ -31,29 +32,28 @@ fn begin<'s>(
     Ok(Kernel::boot(alloc, system, mode, arrivals)?)
 }
 
-/// Boots a system in a mode with the arrivals of a list, runs it for some ticks, and writes its trace, or the view at a
-/// priority.
+/// Boots a system in a mode with the arrivals of a list, runs it for some ticks, and writes what is shown of them.
 pub(crate) fn write_run<S: Sink>(
     alloc: Global,
     system: &System,
-    view: Option<u8>,
+    shown: Shown,
     irqs: &[u8],
     mode: &str,
     ticks: u32,
     out: &mut S,
 ) -> Result<(), RunFault>
-    requires ticks { ticks ≤ 1000000 }
+    requires ticks { ticks ≤ MAX_TICKS }
     requires fresh { S.has_failed out.old ≡ false }
-    ensures written { OnOk result ((bytes : List ℕ) × IsShown system.now view irqs.now mode.now ticks bytes × Appends (S.taken out.old) (S.taken out.new) bytes) }
+    ensures written { OnOk result ((bytes : List ℕ) × IsShown system.now shown irqs.now mode.now ticks bytes × Appends (S.taken out.old) (S.taken out.new) bytes) }
     ensures still { OnOk result (S.has_failed out.new ≡ false) }
-    ensures beginning { IfErr result (λ fault. fault ≡ RunFault.Write → (bytes : List ℕ) × IsShown system.now view irqs.now mode.now ticks bytes × AppendsSome (S.taken out.old) (S.taken out.new) bytes) }
+    ensures beginning { IfErr result (λ fault. fault ≡ RunFault.Write → (bytes : List ℕ) × IsShown system.now shown irqs.now mode.now ticks bytes × AppendsSome (S.taken out.old) (S.taken out.new) bytes) }
     ensures failed { IfErr result (λ fault. fault ≡ RunFault.Write → S.has_failed out.new ≡ true) }
     ensures unwritten { IfErr result (λ fault. fault ≢ RunFault.Write → out.new ≡ out.old) }
     ensures refusal { IfErr result (λ fault. fault ≢ RunFault.Write → RefusesStart system.now irqs.now mode.now fault) }
 {
     let mut kernel = begin(alloc, system, irqs, mode)?;
     let texts = InstructionTexts::new(alloc, system)?;
-    write_ticks(&mut kernel, system, &texts, view, ticks, out)?;
+    write_ticks(&mut kernel, system, &texts, shown, ticks, out)?;
     Ok(())
 }
 
@@ -70,7 +70,7 @@ pub fn run<S: Sink>(
     ticks: u32,
     out: &mut S,
 ) -> Result<(), RunFault>
-    requires ticks { ticks ≤ 1000000 }
+    requires ticks { ticks ≤ MAX_TICKS }
     requires fresh { S.has_failed out.old ≡ false }
     ensures written { OnOk result ((bytes : List ℕ) × IsTrace oil.now asm.now irqs.now mode.now ticks bytes × Appends (S.taken out.old) (S.taken out.new) bytes) }
     ensures still { OnOk result (S.has_failed out.new ≡ false) }
@@ -80,5 +80,5 @@ pub fn run<S: Sink>(
     ensures refusal { IfErr result (λ fault. fault ≢ RunFault.Write → IsFirstRefusal oil.now asm.now irqs.now mode.now fault) }
 {
     let system = read_system(alloc, oil, asm)?;
-    write_run(alloc, &system, None, irqs, mode, ticks, out)
+    write_run(alloc, &system, Shown::All, irqs, mode, ticks, out)
 }

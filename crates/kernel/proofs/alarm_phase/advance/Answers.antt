@@ -8,8 +8,8 @@ use Rattle.kernel.proofs.AlarmLemmas.{acted_phase}
 use Rattle.kernel.proofs.PhaseLemmas.{filtered_below}
 use Rattle.kernel.proofs.alarm_phase.advance.Goals as goal
 
-pub alarm_acts-requires-clause-alarm : goal.alarm_acts-requires-clause-alarm
-alarm_acts-requires-clause-alarm g c =
+pub alarm_seen-requires-clause-alarm : goal.alarm_seen-requires-clause-alarm
+alarm_seen-requires-clause-alarm g c =
     let S = c.args.system.now in
     let o : Objects = c.args.core.now in
     let i = c.loop-number.number in

@@ -7,7 +7,8 @@ use Rattle.kept_state.specs.KeptService.{ByNobody, unmasked_in}
 use Rattle.kept_state.specs.Standing.{runner_waits}
 use Rattle.kept_state.proofs.InRuns.{action_keeps_ready}
 use Rattle.services.specs.Objects.{Objects, kept_in}
-use Rattle.kernel.proofs.AlarmLemmas.{acts_task, state_by, events_by}
+use Rattle.kernel.proofs.AlarmLemmas.{state_by, events_by}
+use Rattle.blocking_laws.proofs.KnownTasks.{acts_task}
 use Rattle.kernel.proofs.alarm_phase.alarm_acts.Goals as goal
 
 pub activate-status-requires : goal.activate-status-requires

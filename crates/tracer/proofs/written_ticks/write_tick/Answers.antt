@@ -5,8 +5,7 @@ use Rattle.std.specs.Io.KnownBytes.{Appends}
 use Rattle.std.specs.List.{flat_map}
 use Rattle.osek_base.specs.declared.trace_event.TraceEvent.{TraceEvent}
 use Rattle.osek_base.specs.Names.{Names}
-use Rattle.osek_base.specs.Text.{line}
-use Rattle.tracer.specs.Lines.{record_text, tick_text, ended}
+use Rattle.tracer.specs.Lines.{record_text, tick_text}
 use Rattle.tracer.specs.Sinks.{AppendsSome}
 use Rattle.tracer.proofs.SinkLemmas.{begins_longer, begins_later, on_err}
 use Rattle.tracer.proofs.written_ticks.write_tick.Goals as goal
@@ -25,11 +24,12 @@ texts_at f xs i x h e =
     ∙ ap (λ r. flat_map f (take i xs ++ r)) (sym rest)
     ∙ ap (flat_map f) (take-append-drop i xs)
 
-stopped_at : (a b c : Option (List ℕ)) (names : Names) (t : ℕ) (xs : List TraceEvent) (i : ℕ) (x : TraceEvent)
+stopped_at : (a b c : Option (List ℕ)) (names : Names) (t : ℕ) (number : Option ℕ) (xs : List TraceEvent) (i : ℕ) (x : TraceEvent)
     → i < length xs → x ≡ get_or xs i x
-    → Appends a b (tick_text names t (take i xs)) → AppendsSome b c (ended (line names t x)) → AppendsSome a c (tick_text names t xs)
-stopped_at a b c names t xs i x h e p q =
-    let text = record_text names t in
+    → Appends a b (tick_text names t number (take i xs)) → AppendsSome b c (record_text names t number x)
+    → AppendsSome a c (tick_text names t number xs)
+stopped_at a b c names t number xs i x h e p q =
+    let text = record_text names t number in
     subst (AppendsSome a c) (texts_at text xs i x h e)
     (begins_longer a c (flat_map text (take i xs) ++ text x) (flat_map text (drop (suc i) xs))
     (begins_later a b c (flat_map text (take i xs)) (text x) p q))
@@ -38,7 +38,7 @@ pub returns-in_err-write_record-clause-beginning : goal.returns-in_err-write_rec
 returns-in_err-write_record-clause-beginning g c =
     let entries = c.entries-entry-items.ensures.value in
     on_err c.from_residual.result _
-    (stopped_at _ _ _ c.args.texts.now c.args.tick c.args.records.now c.records.entry-index c.entry-item.result
+    (stopped_at _ _ _ c.args.texts.now c.args.tick c.args.number c.args.records.now c.records.entry-index c.entry-item.result
     (rw (← entries) c.records-test.true) (rw (← entries) c.entry-item.is)
     (rw (← entries) c.records.invariant.so_far)
     (rw (c.event.ensures) at c.in_err-write_record.ensures.beginning))

@@ -1,13 +1,13 @@
 use Rattle.std.proofs.Common.{◌≡◌, false}
 use Rattle.std.specs.Io.KnownBytes.{Appends}
 use Rattle.osek_base.specs.Trace.{run}
-use Rattle.tracer.specs.Shown.{text_shown}
+use Rattle.tracer.specs.Shown.{numbers_shown, text_shown}
 use Rattle.tracer.proofs.written_ticks.write_ticks.Given as goal
 
 abbrev pub invariant-ticks : goal.invariant-ticks
 invariant-ticks g l =
     record {
-      so_far : Appends (g.S.Sink.taken l.initial.out) (g.S.Sink.taken l.out) (text_shown l.system l.view (run l.initial.kernel.system l.initial.kernel.mode l.initial.kernel.arrivals l.tick));
+      so_far : Appends (g.S.Sink.taken l.initial.out) (g.S.Sink.taken l.out) (text_shown l.system l.shown (numbers_shown l.shown l.initial.kernel.system l.initial.kernel.mode l.initial.kernel.arrivals) (run l.initial.kernel.system l.initial.kernel.mode l.initial.kernel.arrivals l.tick));
       at : l.kernel ≡ record l.initial.kernel { ticks = l.tick };
       still : g.S.Sink.has_failed l.out ≡ false;
     }

@@ -1,11 +1,13 @@
 use Rattle.std.proofs.Common.{sym, ◌∙◌, ap, arith}
 use Rattle.osek_base.specs.ArrivalList.{is_arrival_list}
 use Rattle.machine.specs.Windows.{word}
-use Rattle.services.specs.Objects.{Objects, no_words}
+use Rattle.kept_state.specs.Kept.{Kept}
+use Rattle.services.specs.Objects.{Objects, kept_in, no_words}
 use Rattle.kernel.proofs.ArrivalLemmas.{all_left}
 use Rattle.kernel.proofs.ExecutionLemmas.{words_equal}
+use Rattle.kernel.proofs.BootStamps.{boot_last, boot_listed}
 use Rattle.kernel.proofs.LawLemmas.{lawful}
-use Rattle.kernel.proofs.TickLemmas.{kept_begun, number_begun, alarms_ahead, opening_begun}
+use Rattle.kernel.proofs.TickLemmas.{begun_is, kept_begun, number_begun, alarms_ahead, opening_begun}
 use Rattle.kernel.proofs.kernel.Kernel.boot.Goals as goal
 
 pub invariant_of-result : goal.invariant_of-result
@@ -29,6 +31,10 @@ invariant_of-result g c =
       unwritten = opening_begun S c.in-Some.mode c.args.arrivals c.booted.new.opening proper s.events;
       few = s.few;
       none_later = λ later. absurd (omega (arith, later));
+      stamped = boot_listed S c.in-Some.mode c.args.arrivals (kept_in o) c.begun_stamps-stamps.result proper
+          (ap (λ (k : Kept). k.slots) (begun_is S proper c.in-Some.mode c.args.arrivals w o none s.kept)) c.begun_stamps-stamps.ensures;
+      levels = boot_last S c.in-Some.mode c.args.arrivals c.new-2.result c.new-2.ensures;
+      counted = λ later. absurd (omega (arith, later));
     }
 
 pub returns-clause-lawful : goal.returns-clause-lawful

@@ -1,0 +1,4 @@
+pub mod Steps
+pub mod Stamps
+pub mod Looks
+pub mod Laws

@@ -1,0 +1,75 @@
+-- The task on which an instruction acts exists; the stamps with which a run begins.
+use Rattle.std.proofs.Common.{◌≡◌, ℕ, zero, suc, ◌+◌, ◌<◌, ◌≤◌, Bool, true, false, List, [], length, replicate, refl, ◌∙◌, ap, subst, arith}
+use Rattle.std.specs.Prelude.{Option, Some, None, IfSome, ◌==◌}
+use Rattle.osek_base.specs.declared.ids.Owner.{Owner}
+use Rattle.osek_base.specs.declared.instr.Instr.{Instr}
+use Rattle.osek_base.specs.declared.instr.Service.{Service}
+use Rattle.osek_base.specs.System.{System, instruction_at}
+use Rattle.osek_base.specs.Instruction.{Context}
+use Rattle.osek_base.specs.Tick.{at_values}
+use Rattle.osek_base.proofs.PlaceLemmas.{KnownPlace}
+use Rattle.run_laws.proofs.Foremost.{equal}
+use Rattle.kept_state.specs.Kept.{Kept}
+use Rattle.services.specs.Calls.{IsKnown, IsTaskOperand}
+use Rattle.blocking_laws.specs.Looks.{StampLists, named_by, stamps_at}
+use Rattle.kernel.specs.Looking.{seen_if}
+use Rattle.kernel.proofs.PlaceLemmas.{service_known}
+
+-- ---- the task on which an instruction acts
+
+operand_known : (S : System) (o : Option ℕ) → IsTaskOperand S o → IfSome o (λ t. t < length S.tasks)
+operand_known S None h = tt
+operand_known S (Some t) h = h
+
+call_known : (S : System) (x : Context) (call : Service ℕ) → IsKnown S (at_values x call)
+    → IfSome (named_by (Instr.Service call)) (λ t. t < length S.tasks)
+call_known S x (Service.ActivateTask t) h = operand_known S t h
+call_known S x (Service.ChainTask t) h = operand_known S t h
+call_known S x (Service.SetEvent t m) h = operand_known S t h
+call_known S x _ h = tt
+
+pub named_known : (S : System) (owner : Owner) (x : Context) → KnownPlace S owner x.place → (i : Instr)
+    → instruction_at S owner x.place ≡ i → IfSome (named_by i) (λ t. t < length S.tasks)
+named_known S owner x k (Instr.Plain p) is = tt
+named_known S owner x k (Instr.Service call) is = call_known S x call (service_known S owner x k call is)
+named_known S owner x k (Instr.Control control) is = tt
+
+pub seen_known : (o : Kept) (n : ℕ) (named : Option ℕ) → IfSome named (λ t. t < n) → IfSome (seen_if o named) (λ b. b.task < n)
+seen_known o n None h = tt
+seen_known o n (Some t) h = h
+
+-- ---- boot
+
+-- the tasks below a number have their stamps, and the others none
+pub record AreBegunTo (i : ℕ) (o : Kept) (xs : StampLists) : Type 0 where
+  pub each : (t : ℕ) → t < i → stamps_at xs t ≡ replicate (o.slots t).count (Some 0)
+  pub none : (t : ℕ) → i ≤ t → length (stamps_at xs t) ≡ 0
+
+none_there : (n t : ℕ) → length (stamps_at (replicate n []) t) ≡ 0
+none_there zero t = refl
+none_there (suc n) zero = refl
+none_there (suc n) (suc t) = none_there n t
+
+pub begun_none : (n : ℕ) (o : Kept) (xs : StampLists) → xs ≡ replicate n [] → AreBegunTo 0 o xs
+begun_none n o xs is = record {
+  each = λ t low. absurd (omega (arith, low));
+  none = λ t low. ap (λ (ys : StampLists). length (stamps_at ys t)) is ∙ none_there n t;
+}
+
+pub begun_more : (i t count : ℕ) (o : Kept) (xs ys : StampLists) → AreBegunTo i o xs → t ≡ i → count ≡ (o.slots t).count
+    → ((v : ℕ) → (t == v) ≡ false → stamps_at ys v ≡ stamps_at xs v) → stamps_at ys t ≡ replicate count (Some 0)
+    → AreBegunTo (i + 1) o ys
+begun_more i t count o xs ys begun same is others own = record {
+  each = λ v low. go v low (t == v) refl;
+  none = λ v high.
+      let other : (t == v) ≡ false = grind (arith, high, same) in
+      ap (λ (zs : List (Option ℕ)). length zs) (others v other) ∙ begun.none v (omega (arith, high));
+}
+  where
+    go : (v : ℕ) → v < i + 1 → (b : Bool) → (t == v) ≡ b → stamps_at ys v ≡ replicate (o.slots v).count (Some 0)
+    go v low true e =
+        subst (λ u. stamps_at ys u ≡ replicate (o.slots u).count (Some 0)) (equal t v e)
+        (own ∙ ap (λ k. replicate k (Some 0)) is)
+    go v low false e =
+        let lower : v < i = grind (arith, low, same, e) in
+        others v e ∙ begun.each v lower

@@ -1,0 +1,146 @@
+-- The stamps of all tasks' jobs while alarms act: as many as jobs, and what is left to act completes the whole.
+use Rattle.std.proofs.Common.{◌≡◌, ℕ, suc, ◌+◌, ◌<◌, ◌≤◌, Bool, true, false, cond, not, ◌&&◌, List, [], ◌∷◌, drop, get_or, length, length-append, refl, sym, ◌∙◌, ap, ap₂, subst, arith}
+use Rattle.std.specs.Prelude.{Option, Some, None, ◌==◌, nat_lt, bit_or, slice_index}
+use Rattle.std.proofs.Math.Seq.{drop-cons}
+use Rattle.std.proofs.Math.ListN.{drop_of_length-le}
+use Rattle.std.proofs.Math.Numerals.{add-one}
+use Rattle.std.proofs.lemmas.List.{get_or-set_same, get_or-set_other}
+use Rattle.osek_base.specs.declared.task.Action.{Action}
+use Rattle.osek_base.specs.declared.instr.Service.{Service}
+use Rattle.osek_base.specs.declared.status.Status.{Status}
+use Rattle.osek_base.specs.System.{System, alarm}
+use Rattle.osek_base.specs.Alarm.{due_alarms, alarms_advanced}
+use Rattle.osek_base.specs.Service.{first_refusal, is_met}
+use Rattle.osek_base.specs.Tick.{action_call}
+use Rattle.run_laws.proofs.Foremost.{equal}
+use Rattle.kept_state.specs.Kept.{Kept}
+use Rattle.kept_state.specs.Moves.{activated_in, released_in}
+use Rattle.kept_state.specs.KeptService.{ByNobody, bare, refusals_in, reply_in, unmasked_in, with_mask}
+use Rattle.kept_state.specs.KeptTick.{alarm_acts_in}
+use Rattle.readiness.specs.Stamps.{stamp_oldest}
+use Rattle.services.specs.Objects.{Objects, kept_in}
+use Rattle.kernel.specs.Run.{AreAhead}
+use Rattle.blocking_laws.specs.Looks.{StampLists, acting_task, alarm_looked, alarm_phase_looked, alarms_looked, changed_list, looked, looked_at, stamps_at, task_waits}
+use Rattle.kernel.specs.declared.stamping.Look.{Look}
+use Rattle.kernel.specs.Looking.{AreCounted, acts_on, looked_since, seen}
+use Rattle.kernel.proofs.AlarmLemmas.{nothing_due}
+
+-- ---- the number of a task's jobs, and of its stamps
+
+self_eq : (n : ℕ) → (n == n) ≡ true
+self_eq n = grind arith
+
+-- a task gets one job more, or none, and no other does
+record GetsOne (t : ℕ) (o n : Kept) : Type 0 where
+  pub more : Bool
+  pub own : (n.slots t).count ≡ cond more ((o.slots t).count + 1) (o.slots t).count
+  pub others : (v : ℕ) → (t == v) ≡ false → (n.slots v).count ≡ (o.slots v).count
+
+none_more : (t : ℕ) (o : Kept) → GetsOne t o o
+none_more t o = record { more = false; own = refl; others = λ v other. refl }
+
+module _ (S : System) (o : Kept) where
+  activated_one : (t : ℕ) → GetsOne t o (activated_in S t o)
+  activated_one t = record { more = true; own = rw (self_eq t) refl; others = λ v other. rw other refl }
+
+  set_one : (t m : ℕ) (b : Bool) → GetsOne t o (cond b (released_in S t (with_mask t m o)) (with_mask t m o))
+  set_one t m true = record { more = false; own = rw (self_eq t) refl; others = λ v other. rw other refl }
+  set_one t m false = record { more = false; own = refl; others = λ v other. refl }
+
+  acts_one : (action : Action) → GetsOne (acting_task action) o (unmasked_in S ByNobody o (action_call action)).state
+  unfolding unmasked_in
+  acts_one (Action.ActivateTask t) = go (first_refusal (refusals_in S ByNobody o (Service.ActivateTask (Some t))))
+    where
+      go : (r : Option Status) → GetsOne t o (reply_in S ByNobody o (Service.ActivateTask (Some t)) r).state
+      go None = activated_one t
+      go (Some refusal) = none_more t o
+  acts_one (Action.SetEvent t m) = go (first_refusal (refusals_in S ByNobody o (Service.SetEvent (Some t) m)))
+    where
+      go : (r : Option Status) → GetsOne t o (reply_in S ByNobody o (Service.SetEvent (Some t) m) r).state
+      go None =
+          set_one t (bit_or (slice_index o.masks t) m) (is_met (bit_or (slice_index o.masks t) m) (o.slots t).waits_for)
+      go (Some refusal) = none_more t o
+
+stamp_length : (u : ℕ) (list : List (Option ℕ)) → length (stamp_oldest u list) ≡ length list
+stamp_length u [] = refl
+stamp_length u (None ∷ later) = refl
+stamp_length u (Some v ∷ later) = refl
+
+looked_length : (u count : ℕ) (waited waits more : Bool) (list : List (Option ℕ)) → count ≡ cond more (length list + 1) (length list)
+    → length (looked u count waited waits list) ≡ count
+looked_length u count waited waits true list is =
+    let higher : nat_lt (length list) count ≡ true = grind (arith, is) in
+    rw higher (length-append list (Some u ∷ []) ∙ sym is)
+looked_length u count waited waits false list is =
+    let same : nat_lt (length list) count ≡ false = grind (arith, is) in
+    rw same (go (waited && not waits))
+  where
+    go : (b : Bool) → length (cond b (stamp_oldest u list) list) ≡ count
+    go true = stamp_length u list ∙ sym is
+    go false = sym is
+
+module _ (t : ℕ) (f : List (Option ℕ) → List (Option ℕ)) (xs : StampLists) where
+  -- the stamps of the task, and those of another
+  pub at_changed : t < length xs → stamps_at (changed_list t f xs) t ≡ f (stamps_at xs t)
+  at_changed inside = get_or-set_same xs t (f (stamps_at xs t)) [] inside
+
+  pub at_other : (v : ℕ) → (t == v) ≡ false → stamps_at (changed_list t f xs) v ≡ stamps_at xs v
+  at_other v other = get_or-set_other xs t v (f (stamps_at xs t)) [] (λ same. absurd (grind (arith, other, same)))
+
+looked_counted : (u t : ℕ) (o n : Kept) (xs : StampLists) → GetsOne t o n → AreCounted xs o → t < length xs
+    → AreCounted (looked_at u t o n xs) n
+looked_counted u t o n xs one counted inside v = go (t == v) refl
+  where
+    go : (b : Bool) → (t == v) ≡ b → length (stamps_at (looked_at u t o n xs) v) ≡ (n.slots v).count
+    go true e =
+        subst (λ w. length (stamps_at (looked_at u t o n xs) w) ≡ (n.slots w).count) (equal t v e)
+        (ap (λ (ys : List (Option ℕ)). length ys) (at_changed t (looked u (n.slots t).count (task_waits o t) (task_waits n t)) xs inside)
+        ∙ looked_length u (n.slots t).count (task_waits o t) (task_waits n t) one.more (stamps_at xs t)
+        (one.own ∙ ap (λ k. cond one.more (k + 1) k) (sym (counted t))))
+    go false e = ap (λ (ys : List (Option ℕ)). length ys) (at_other t (looked u (n.slots t).count (task_waits o t) (task_waits n t)) xs v e) ∙ counted v ∙ sym (one.others v e)
+
+-- each task has as many stamps as jobs after an alarm's action too
+pub acted_counted : (S : System) (u a : ℕ) (o n : Kept) (xs : StampLists) → AreCounted xs o → acts_on S a < length xs
+    → n ≡ (alarm_acts_in S a o).state → AreCounted (alarm_looked S u a o xs) n
+acted_counted S u a o n xs counted inside is =
+    subst (AreCounted (alarm_looked S u a o xs)) (sym is)
+    (looked_counted u (acts_on S a) o (alarm_acts_in S a o).state xs (acts_one S o (alarm S a).action) counted inside)
+
+-- what is seen before and after is the definitions' look
+pub acted_looked : (S : System) (u a t : ℕ) (o n : Kept) (before : Look) (xs ys : StampLists) → ys ≡ looked_since u before n xs
+    → before ≡ seen o t → t ≡ acts_on S a → n ≡ (alarm_acts_in S a o).state → ys ≡ alarm_looked S u a o xs
+acted_looked S u a t o n before xs ys looks stood task state =
+    looks ∙ ap (λ (b : Look). looked_since u b n xs) (stood ∙ ap (seen o) task)
+    ∙ ap (λ k. looked_at u (acts_on S a) o k xs) state
+
+-- ---- the alarms from the i-th on complete what all are to do
+
+abbrev pub AreLooked : System → ℕ → List ℕ → ℕ → Objects → Objects → StampLists → StampLists → Type 0
+AreLooked S u due i before now xs ys = alarms_looked S u (drop i due) (kept_in now) ys ≡ alarms_looked S u due (kept_in before) xs
+
+pub looked_more : (S : System) (u : ℕ) (due : List ℕ) (i a : ℕ) (before old new : Objects) (xs ys zs : StampLists)
+    → AreLooked S u due i before old xs ys → i < length due → get_or due i 0 ≡ a
+    → kept_in new ≡ (alarm_acts_in S a (kept_in old)).state → zs ≡ alarm_looked S u a (kept_in old) ys
+    → AreLooked S u due (i + 1) before new xs zs
+looked_more S u due i a before old new xs ys zs so_far low found state looks =
+    let rest : List ℕ = drop (i + 1) due in
+    let here : drop i due ≡ a ∷ rest =
+    drop-cons due i 0 low ∙ ap (λ v. v ∷ drop (suc i) due) found ∙ ap (λ k. a ∷ drop k due) (sym (add-one i)) in
+    ap₂ (λ (k : Kept) (ws : StampLists). alarms_looked S u rest k ws) state looks
+    ∙ ap (λ v. alarms_looked S u v (kept_in old) ys) (sym here) ∙ so_far
+
+pub looked_phase : (S : System) (u : ℕ) (due : List ℕ) (i : ℕ) (before advanced now : Objects) (xs ys : StampLists)
+    → AreLooked S u due i advanced now xs ys → length due ≤ i
+    → due ≡ due_alarms S (bare (kept_in before))
+    → advanced ≡ record before { alarms = alarms_advanced S (bare (kept_in before)) }
+    → ys ≡ alarm_phase_looked S u (kept_in before) xs
+looked_phase S u due i before advanced now xs ys so_far end due_is advanced_is =
+    let none : drop i due ≡ [] = drop_of_length-le due end in
+    ap (λ v. alarms_looked S u v (kept_in now) ys) (sym none) ∙ so_far
+    ∙ ap₂ (λ (v : List ℕ) (o : Objects). alarms_looked S u v (kept_in o) xs) due_is advanced_is
+
+-- at the first tick no alarm acts
+pub first_looked : (S : System) (u : ℕ) (o : Kept) (xs : StampLists) → o.tick ≡ 0 → length o.alarms ≡ length S.alarms
+    → AreAhead o.alarms → alarm_phase_looked S u o xs ≡ xs
+first_looked S u o xs first size ahead =
+    ap (λ v. alarms_looked S u v (record o { alarms = alarms_advanced S (bare o) }) xs) (nothing_due S (bare o) first size ahead)

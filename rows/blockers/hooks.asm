@@ -1,0 +1,4 @@
+.task A
+ACT A
+TERM
+z: JMP z

@@ -1,0 +1,2 @@
+.task A
+JMP x

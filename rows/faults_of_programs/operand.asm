@@ -1,0 +1,2 @@
+.task A
+ACT r1

@@ -1,0 +1,3 @@
+.task A
+x: NOP
+x: JMP x
