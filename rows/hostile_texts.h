@@ -49,9 +49,9 @@ static int is_trace(void)
 
 static int names_file(const char *line)
 {
-    return (!strncmp(line, "system.oil:", 11) || !strncmp(line, "programs.asm:", 13)
-            || !strncmp(line, "arrivals.irq:", 13))
-           && strstr(line, ": ");
+    const char *end = strchr(line, ':');
+    return end && end - line > 4 && strstr(end, ": ")
+           && (!strncmp(end - 4, ".oil", 4) || !strncmp(end - 4, ".asm", 4) || !strncmp(end - 4, ".irq", 4));
 }
 
 /* Whether the lines behind the first are those of an explanation: the second names a file, the others begin with a space

@@ -2,11 +2,13 @@
 
 use crate::explaining::{Texts, explain_cut, explain_fault};
 use crate::host_files::{FileFault, Files};
-use crate::request::{Question, Request, RunLine, read_line};
+use crate::line_watch::LineWatch;
+use crate::request::{Question, Request, RunLine, View, read_line};
 use clap::Error as LineError;
 use clap::error::ErrorKind;
 use osek_base::{MAX_TICKS, System};
 use partition_check::{NamedDenial, check_partition};
+use run_views::{Progress, RunInput, write_stats, write_timeline, write_vcd};
 use std::alloc::Global;
 use std::convert::AsStr;
 use std::io::{self, Write};
@@ -124,16 +126,17 @@ fn write_partitions<O: Write>(system: &System, out: &mut O) -> Result<Verdict, R
 }
 
 /// Writes the trace of a run, with or without the numbers of blockers.
-fn write_trace<O: Write>(
+fn write_trace<O: Write, E: Write>(
     alloc: Global,
     texts: &Texts,
     line: RunLine<'_>,
     blocking: bool,
+    progress: &mut Progress<'_, E>,
     out: &mut O,
 ) -> Result<Verdict, RunFault> {
     let Texts { oil, asm, irq } = texts;
     let ticks = line.ticks.min(MAX_TICKS);
-    let mut sink = StdSink::new(&mut *out);
+    let mut sink = StdSink::new(LineWatch::new(&mut *out, progress, ticks));
     if blocking {
         run_blocking(alloc, oil, asm, irq, line.mode, ticks, &mut sink)?;
     } else {
@@ -143,17 +146,18 @@ fn write_trace<O: Write>(
 }
 
 /// Writes the view of a run at a priority, or the first denial.
-fn write_upper<O: Write>(
+fn write_upper<O: Write, E: Write>(
     alloc: Global,
     texts: &Texts,
     line: RunLine<'_>,
     p: u8,
     alone: bool,
+    progress: &mut Progress<'_, E>,
     out: &mut O,
 ) -> Result<Verdict, RunFault> {
     let Texts { oil, asm, irq } = texts;
     let ticks = line.ticks.min(MAX_TICKS);
-    let mut sink = StdSink::new(&mut *out);
+    let mut sink = StdSink::new(LineWatch::new(&mut *out, progress, ticks));
     match run_upper(alloc, oil, asm, irq, line.mode, ticks, p, alone, &mut sink) {
         Ok(()) => Ok(Verdict::Done),
         Err(RunFault::Denied(denial)) => write_denial(p, denial, out),
@@ -161,20 +165,47 @@ fn write_upper<O: Write>(
     }
 }
 
+/// Writes what else is shown of a run.
+fn write_view<O: Write, E: Write>(
+    alloc: Global,
+    texts: &Texts,
+    line: RunLine<'_>,
+    view: View,
+    progress: &mut Progress<'_, E>,
+    out: &mut O,
+) -> Result<Verdict, RunFault> {
+    let system = system_of(alloc, texts)?;
+    let input = RunInput {
+        irqs: &texts.irq,
+        mode: line.mode,
+        ticks: line.ticks,
+    };
+    match view {
+        View::Vcd => write_vcd(alloc, &system, input, progress, out)?,
+        View::Timeline { from } => write_timeline(alloc, &system, input, from, progress, out)?,
+        View::Stats(form) => write_stats(alloc, &system, input, form, progress, out)?,
+    }
+    Ok(Verdict::Done)
+}
+
 /// Writes the answer to a question.
-fn write_answer<O: Write>(
+fn write_answer<O: Write, E: Write>(
     alloc: Global,
     texts: &Texts,
     question: Question<'_>,
+    progress: &mut Progress<'_, E>,
     out: &mut O,
 ) -> Result<Verdict, RunFault> {
     match question {
-        Question::Trace { line, blocking } => write_trace(alloc, texts, line, blocking, out),
+        Question::Trace { line, blocking } => {
+            write_trace(alloc, texts, line, blocking, progress, out)
+        },
         Question::Upper {
             line,
             priority,
             alone,
-        } => write_upper(alloc, texts, line, priority, alone, out),
+        } => write_upper(alloc, texts, line, priority, alone, progress, out),
+        Question::View { line, view } => write_view(alloc, texts, line, view, progress, out),
         Question::Check { priority } => write_check(&system_of(alloc, texts)?, priority, out),
         Question::Partitions => write_partitions(&system_of(alloc, texts)?, out),
         Question::Class => {
@@ -226,8 +257,12 @@ fn answer_texts<O: Write, E: Write>(
     texts: &Texts,
     out: &mut O,
     err: &mut E,
+    shows_progress: bool,
 ) -> Result<u8, RunFault> {
-    let verdict = write_answer(alloc, texts, request.question, out)?;
+    let mut progress = Progress::new(&mut *err, shows_progress);
+    let outcome = write_answer(alloc, texts, request.question, &mut progress, out);
+    progress.end();
+    let verdict = outcome?;
     written(out.flush())?;
     if request.is_explained {
         explain_verdict(alloc, request, texts, &verdict, err);
@@ -261,9 +296,10 @@ fn answer<F: Files, O: Write, E: Write>(
     files: &mut F,
     out: &mut O,
     err: &mut E,
+    shows_progress: bool,
 ) -> u8 {
     match read_texts(alloc, request, files) {
-        Ok(texts) => match answer_texts(alloc, request, &texts, out, err) {
+        Ok(texts) => match answer_texts(alloc, request, &texts, out, err, shows_progress) {
             Ok(status) => status,
             Err(fault) => refuse(alloc, request, &texts, fault, err),
         },
@@ -294,16 +330,18 @@ fn print_help<O: Write, E: Write>(error: LineError, out: &mut O, err: &mut E) ->
 /// Answers a command line, of which the first word is the program's name, and gives the exit status: 0, also after help;
 /// 1 for a refused input, an unreadable file or want of memory; 2 for a refused line; 3 for a denied partition; 4 for a
 /// failed write. For 1 and 4 one line says on `err` what it was. Where the line asks for it, an explanation of the refusal
-/// or of the denial follows on `err`.
+/// or of the denial follows on `err`. With `shows_progress` a long run says on `err`, on one line that is
+/// written over and taken away, how far it is.
 pub fn command<S: AsStr, F: Files, O: Write, E: Write>(
     alloc: Global,
     words: &[S],
     files: &mut F,
     out: &mut O,
     err: &mut E,
+    shows_progress: bool,
 ) -> u8 {
     match read_line(alloc, words) {
         Err(error) => print_help(error, out, err),
-        Ok(request) => answer(alloc, &request, files, out, err),
+        Ok(request) => answer(alloc, &request, files, out, err, shows_progress),
     }
 }

@@ -1,6 +1,7 @@
 //! What is written behind the line of a refusal, where it is asked for.
 
 use crate::request::{Request, RunLine};
+use arrival_lists::IrqFault;
 use explanations::{explain_denial, explain_generation};
 use partition_check::NamedDenial;
 use std::alloc::Global;
@@ -8,7 +9,7 @@ use std::io::{self, Write};
 use text_explanations::{
     LineFault, Source, explain_arrivals, explain_mode, explain_oil, explain_programs,
 };
-use tracer::{IrqFault, RunFault};
+use tracer::RunFault;
 
 /// The bytes of a request's files. Where no run is asked for, the arrival list is empty.
 #[derive(Drop)]

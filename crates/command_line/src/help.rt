@@ -20,6 +20,18 @@ pub(crate) const ALONE: &str = "Runs the upper part by itself; what is printed i
 pub(crate) const BLOCKING: &str =
     "Prints ` ! N` behind a job's first instruction since it became ready: N jobs of lower priority executed meanwhile";
 
+pub(crate) const FROM: &str = "The first tick that is drawn, 0 to 1000000; 0 unless it is said";
+
+pub(crate) const TO: &str =
+    "The tick behind the last that is drawn, 0 to 1000000; the run's end unless it is said";
+
+pub(crate) const CSV: &str = "Prints comma-separated values, a line a figure";
+
+pub(crate) const NO_TICK_DRAWN: &str = "no tick is drawn: --from lies behind TICKS or --to";
+
+pub(crate) const TOO_MANY_DRAWN: &str =
+    "a picture has at most 5000 ticks: --from and --to choose them";
+
 pub(crate) const EXPLAIN: &str =
     "Says behind a refusal or a denial, on standard error, where it is and what would be allowed";
 
@@ -32,6 +44,16 @@ With the numbers of blockers:
 pub(crate) const UPPER_EXAMPLE: &str =
     "Example, ten ticks in the mode Normal, seen from priority 5 upward:
   osek_run upper system.oil programs.asm arrivals.irq Normal 10 5";
+
+pub(crate) const VCD_EXAMPLE: &str = "Example, a thousand ticks in the mode Normal, for GTKWave:
+  osek_run vcd system.oil programs.asm arrivals.irq Normal 1000 > run.vcd";
+
+pub(crate) const TIMELINE_EXAMPLE: &str =
+    "At most 5000 ticks are drawn. Example, the ticks 900 to 999 in the mode Normal:
+  osek_run timeline system.oil programs.asm arrivals.irq Normal 1000 --from 900 > run.svg";
+
+pub(crate) const STATS_EXAMPLE: &str = "Example, a million ticks in the mode Normal:
+  osek_run stats system.oil programs.asm arrivals.irq Normal 1000000";
 
 pub(crate) const CHECK_EXAMPLE: &str =
     "Prints `accepted`, or `denied:` with the first rule that is broken, and where.

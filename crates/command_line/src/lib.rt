@@ -5,6 +5,7 @@ mod answering;
 mod explaining;
 mod help;
 mod host_files;
+mod line_watch;
 mod lines;
 mod request;
 

@@ -58,6 +58,38 @@ fn upper_line<'a>(alloc: Global) -> Result<Command<'a>, AllocError> {
         .arg(flag(alloc, "alone", help::ALONE))
 }
 
+fn vcd_line<'a>(alloc: Global) -> Result<Command<'a>, AllocError> {
+    let line = Command::new(alloc, "vcd")
+        .about("Prints a run as a value change dump, for waveform viewers")
+        .after_help(help::VCD_EXAMPLE);
+    of_run(alloc, of_system(alloc, line)?)
+}
+
+/// A tick that bounds a picture.
+fn bound<'a>(alloc: Global, name: &'a str, meaning: &'a str) -> Arg<'a> {
+    Arg::new(alloc, name)
+        .long(name)
+        .action(ArgAction::Set)
+        .help(meaning)
+        .value_parser(value_parser!(u32).range(0..=MAX_TICKS as i64))
+}
+
+fn timeline_line<'a>(alloc: Global) -> Result<Command<'a>, AllocError> {
+    let line = Command::new(alloc, "timeline")
+        .about("Prints a picture of a run, as SVG")
+        .after_help(help::TIMELINE_EXAMPLE);
+    of_run(alloc, of_system(alloc, line)?)?
+        .arg(bound(alloc, "from", help::FROM))?
+        .arg(bound(alloc, "to", help::TO))
+}
+
+fn stats_line<'a>(alloc: Global) -> Result<Command<'a>, AllocError> {
+    let line = Command::new(alloc, "stats")
+        .about("Prints figures of a run: of its tasks, routines, resources and alarms")
+        .after_help(help::STATS_EXAMPLE);
+    of_run(alloc, of_system(alloc, line)?)?.arg(flag(alloc, "csv", help::CSV))
+}
+
 fn check_line<'a>(alloc: Global) -> Result<Command<'a>, AllocError> {
     let line = Command::new(alloc, "check")
         .about("Checks that the part from priority P upward is separable from the part below")
@@ -90,6 +122,9 @@ pub(crate) fn lines<'a>(alloc: Global) -> Result<Command<'a>, AllocError> {
         .subcommand_required(true)
         .subcommand(trace_line(alloc)?)?
         .subcommand(upper_line(alloc)?)?
+        .subcommand(vcd_line(alloc)?)?
+        .subcommand(timeline_line(alloc)?)?
+        .subcommand(stats_line(alloc)?)?
         .subcommand(check_line(alloc)?)?
         .subcommand(partitions_line(alloc)?)?
         .subcommand(class_line(alloc)?)

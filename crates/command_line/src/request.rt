@@ -1,8 +1,10 @@
 //! What a command line asks for.
 
+use crate::help;
 use crate::lines::lines;
 use clap::error::ErrorKind;
 use clap::{ArgMatches, Error};
+use run_views::{Form, MAX_DRAWN};
 use std::alloc::Global;
 use std::convert::AsStr;
 
@@ -12,6 +14,17 @@ pub struct RunLine<'a> {
     pub irq: &'a str,
     pub mode: &'a str,
     pub ticks: u32,
+}
+
+/// What is shown of a run besides its trace.
+#[derive(Clone, Copy, Debug)]
+pub enum View {
+    /// The value change dump.
+    Vcd,
+    /// The picture of the ticks from that one on.
+    Timeline { from: u32 },
+    /// The figures.
+    Stats(Form),
 }
 
 /// What is asked of a system.
@@ -28,6 +41,11 @@ pub enum Question<'a> {
         priority: u8,
         alone: bool,
     },
+    /// What else is shown of a run.
+    View {
+        line: RunLine<'a>,
+        view: View,
+    },
     /// Whether the part from a priority upward is separable from what is below.
     Check {
         priority: u8,
@@ -42,7 +60,9 @@ impl<'a> Question<'a> {
     /// What the run is of, where one is asked for.
     pub fn run_line(&self) -> Option<RunLine<'a>> {
         match *self {
-            Question::Trace { line, .. } | Question::Upper { line, .. } => Some(line),
+            Question::Trace { line, .. }
+            | Question::Upper { line, .. }
+            | Question::View { line, .. } => Some(line),
             Question::Check { .. } | Question::Partitions | Question::Class => None,
         }
     }
@@ -75,6 +95,44 @@ fn priority(matches: &ArgMatches<'_>) -> u8 {
     matches.get_one::<u8>("P").unwrap_or(0)
 }
 
+/// The picture of the ticks from one on and before another, at most those of the run.
+fn timeline<'a>(matches: &ArgMatches<'a>) -> Question<'a> {
+    let line = run_line(matches);
+    let to = matches.get_one::<u32>("to").unwrap_or(line.ticks);
+    let ticks = line.ticks.min(to);
+    let from = matches.get_one::<u32>("from").unwrap_or(0);
+    Question::View {
+        line: RunLine { ticks, ..line },
+        view: View::Timeline { from },
+    }
+}
+
+fn stats<'a>(matches: &ArgMatches<'a>) -> Question<'a> {
+    let form = if matches.get_flag("csv") {
+        Form::Csv
+    } else {
+        Form::Table
+    };
+    Question::View {
+        line: run_line(matches),
+        view: View::Stats(form),
+    }
+}
+
+/// Why a picture isn't drawn, where its first tick lies behind its last, or it has too many.
+fn picture_fault(question: &Question<'_>) -> Option<&'static str> {
+    match question {
+        Question::View {
+            line,
+            view: View::Timeline { from },
+        } => match line.ticks.checked_sub(*from) {
+            None => Some(help::NO_TICK_DRAWN),
+            Some(drawn) => (drawn > MAX_DRAWN).then_some(help::TOO_MANY_DRAWN),
+        },
+        _ => None,
+    }
+}
+
 /// What a subcommand asks for.
 fn asked<'a>(subcommand: &str, matches: &ArgMatches<'a>) -> Question<'a> {
     match subcommand {
@@ -83,6 +141,12 @@ fn asked<'a>(subcommand: &str, matches: &ArgMatches<'a>) -> Question<'a> {
             priority: priority(matches),
             alone: matches.get_flag("alone"),
         },
+        "vcd" => Question::View {
+            line: run_line(matches),
+            view: View::Vcd,
+        },
+        "timeline" => timeline(matches),
+        "stats" => stats(matches),
         "check" => Question::Check {
             priority: priority(matches),
         },
@@ -100,13 +164,17 @@ fn asked<'a>(subcommand: &str, matches: &ArgMatches<'a>) -> Question<'a> {
 pub fn read_line<'a, S: AsStr>(alloc: Global, words: &'a [S]) -> Result<Request<'a>, Error> {
     let mut line = lines(alloc)?;
     let matches = line.try_get_matches_from_mut(words)?;
-    match matches.subcommand() {
-        Some((name, found)) => Ok(Request {
-            oil: text(found, "OIL"),
-            asm: text(found, "ASM"),
-            question: asked(name, found),
-            is_explained: found.get_flag("explain"),
-        }),
-        None => Err(line.error(ErrorKind::MissingSubcommand, "a subcommand is wanted")?),
+    let Some((name, found)) = matches.subcommand() else {
+        return Err(line.error(ErrorKind::MissingSubcommand, "a subcommand is wanted")?);
+    };
+    let question = asked(name, found);
+    if let Some(fault) = picture_fault(&question) {
+        return Err(line.error(ErrorKind::ValueValidation, fault)?);
     }
+    Ok(Request {
+        oil: text(found, "OIL"),
+        asm: text(found, "ASM"),
+        question,
+        is_explained: found.get_flag("explain"),
+    })
 }

@@ -143,7 +143,14 @@ fn explained(alloc: Global, case: &Case) -> Result<Vec<u8>, AllocError> {
     };
     let mut out = Vec::new(alloc);
     let mut err = Vec::new(alloc);
-    command(alloc, words.as_slice(), &mut files, &mut out, &mut err);
+    command(
+        alloc,
+        words.as_slice(),
+        &mut files,
+        &mut out,
+        &mut err,
+        false,
+    );
     Ok(err)
 }
 

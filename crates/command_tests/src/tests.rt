@@ -132,7 +132,7 @@ fn answer_to(alloc: Global, words: &[&str], room: usize) -> Answer {
         room,
     };
     let mut err = Vec::new(alloc);
-    let status = command(alloc, words, &mut MemoryFiles, &mut out, &mut err);
+    let status = command(alloc, words, &mut MemoryFiles, &mut out, &mut err, false);
     Answer {
         status,
         out: out.taken,

@@ -1,5 +1,5 @@
 -- Due alarms act in turn; at the first tick none is due.
-use Rattle.std.proofs.Common.{◌≡◌, ℕ, zero, suc, ◌+◌, ◌/◌, ◌<◌, ◌≤◌, Bool, true, false, not, ◌&&◌, cond, List, [], ◌∷◌, ◌++◌, map, take, drop, get_or, length, refl, sym, ◌∙◌, ap, ap₂, subst, arith, append_assoc}
+use Rattle.std.proofs.Common.{◌≡◌, ℕ, zero, suc, ◌+◌, ◌/◌, ◌<◌, ◌≤◌, Bool, true, false, not, ◌&&◌, cond, List, [], ◌∷◌, ◌++◌, map, take, drop, get_or, length, refl, sym, ◌∙◌, ap, ap₂, arith, append_assoc}
 use Rattle.std.specs.Prelude.{Option, None, slice_index_or}
 use Rattle.std.specs.List.{filter}
 use Rattle.std.proofs.Math.Seq.{drop-cons, take-length}
@@ -19,10 +19,6 @@ use Rattle.osek_base.specs.System.{System, alarm, counter_of}
 use Rattle.osek_base.specs.State.{State, Expiry, Words}
 use Rattle.osek_base.specs.Alarm.{count, expiry, is_due, is_due_at, due_alarms, alarms_advanced, renewed}
 use Rattle.osek_base.specs.Tick.{action_call, error_record}
-use Rattle.osek_base.specs.Proper.{IsProper, is_proper_action}
-use Rattle.osek_base.proofs.PlaceLemmas.{and_split}
-use Rattle.run_laws.proofs.Known.{proper_alarm_at}
-use Rattle.run_laws.proofs.SingleTick.{true_lt}
 use Rattle.kept_state.specs.Kept.{Kept}
 use Rattle.kept_state.specs.Moves.{KeptRecorded}
 use Rattle.kept_state.specs.KeptService.{ByNobody, bare, unmasked_in}

@@ -13,3 +13,4 @@ pub mod KeepingLemmas
 pub mod BootStamps
 pub mod LawLemmas
 pub mod SeenLemmas
+pub mod UnendedLemmas

@@ -10,10 +10,9 @@ use Rattle.osek_base.specs.System.{System, instruction_at}
 use Rattle.osek_base.specs.Instruction.{Context, next}
 use Rattle.osek_base.specs.State.{Expiry, Words}
 use Rattle.osek_base.specs.Alarm.{is_due_at}
-use Rattle.osek_base.specs.Tick.{Step, tick}
 use Rattle.osek_base.specs.ArrivalList.{are_in_order}
 use Rattle.osek_base.specs.Laws.{StartsSingly, Excludes, BlocksOnce, Protects}
-use Rattle.osek_base.specs.Trace.{Run as RunSoFar, arriving, run, with_earlier}
+use Rattle.osek_base.specs.Trace.{Run as RunSoFar, arriving, run}
 use Rattle.kept_state.specs.Moves.{KeptRecorded}
 use Rattle.kept_state.specs.KeptTick.{boot_in, executed_in}
 use Rattle.services.specs.declared.caller.Execution.{Execution}

@@ -69,7 +69,7 @@ pub fn execute_phase<Q: ReadyQueues>(
     }
 }
 
-/// The next instruction of who executes. The task on which it acts is looked at before and after.
+/// The next instruction of who executes.
 fn execute<Q: ReadyQueues>(
     core: &mut Core<'_, Q>,
     windows: &mut Windows,
@@ -99,35 +99,27 @@ fn execute<Q: ReadyQueues>(
     ensures sized { length stamps.new ≡ length stamps.old }
 {
     let instr = next_instruction(code, system, execution);
-    let before = seen_if(core, acting_task(&instr));
-    let running = core.running();
-    let gone = core.is_gone();
-    execute_instr(core, windows, system, execution, &instr, record_of_tick);
-    executed_since(core, stamps, &before, &running, gone, tick);
+    execute_instr(
+        core,
+        windows,
+        system,
+        execution,
+        &instr,
+        stamps,
+        tick,
+        record_of_tick,
+    );
 }
 
-/// The task on which an instruction acts.
-fn acting_task(instr: &Instr) -> Option<TaskId>
-    ensures { result ≡ named_by instr.now }
-{
-    match instr {
-        Instr::Service(service) => match service {
-            Service::ActivateTask(task) => *task,
-            Service::ChainTask(task) => *task,
-            Service::SetEvent(task, _) => *task,
-            _ => None,
-        },
-        _ => None,
-    }
-}
-
-/// An instruction of who executes.
+/// An instruction of who executes. Services with a status alone make, release or end jobs.
 fn execute_instr<Q: ReadyQueues>(
     core: &mut Core<'_, Q>,
     windows: &mut Windows,
     system: &System,
     execution: &mut Execution,
     instr: &Instr,
+    stamps: &mut JobStamps,
+    tick: u32,
     record_of_tick: &mut TickRecord,
 )
     requires proper { IsProper system.now }
@@ -138,19 +130,29 @@ fn execute_instr<Q: ReadyQueues>(
     requires who { Executes (kept_in core.old) execution.old.owner execution.old.cpu }
     requires placed { IsPlaced system.now execution.old.owner execution.old.cpu }
     requires instruction { IsNext system.now execution.old instr.now }
+    requires stamps { length stamps.old ≡ length system.now.tasks }
+    requires counted { AreCounted stamps.old (kept_in core.old) }
     requires room { length record_of_tick.old + 2 ≤ MAX_RECORDS }
     ensures system { core.new.system ≡ core.old.system }
     ensures kept { kept_of (word windows.new) core.new ≡ (executed_by system.now execution.old instr.now (word windows.old) core.old).state }
     ensures events { record_of_tick.new ≡ record_of_tick.old ++ (executed_by system.now execution.old instr.now (word windows.old) core.old).events }
     ensures few { length record_of_tick.new ≤ length record_of_tick.old + 2 }
+    ensures stamps { stamps.new ≡ executed_by_looked tick instr.now (kept_in core.old) (kept_in core.new) stamps.old }
+    ensures sized { length stamps.new ≡ length stamps.old }
 {
     match instr {
         Instr::Plain(plain) => {
             execute_plain(core, windows, system, execution, plain, record_of_tick)
         }
-        Instr::Service(service) => {
-            execute_service(core, system, execution, service, record_of_tick)
-        }
+        Instr::Service(service) => serve(
+            core,
+            system,
+            execution,
+            service,
+            stamps,
+            tick,
+            record_of_tick,
+        ),
         Instr::Control(control) => {
             execute_control(core, system, execution, control, record_of_tick)
         }
@@ -195,6 +197,53 @@ fn execute_plain<Q: ReadyQueues>(
         Instr::Plain(*plain),
         Outcome::Plain(effect),
     ));
+}
+
+/// A service with a status. The task on which it acts is looked at before and after.
+fn serve<Q: ReadyQueues>(
+    core: &mut Core<'_, Q>,
+    system: &System,
+    execution: &mut Execution,
+    service: &Service<Register>,
+    stamps: &mut JobStamps,
+    tick: u32,
+    record_of_tick: &mut TickRecord,
+)
+    requires proper { IsProper system.now }
+    requires system { core.old.system ≡ system.now }
+    requires serves { MayServe system.now (kept_in core.old) }
+    requires all { core.old.suspended_all < MAX_TICKS }
+    requires os { core.old.suspended_os < MAX_TICKS }
+    requires who { Executes (kept_in core.old) execution.old.owner execution.old.cpu }
+    requires placed { IsPlaced system.now execution.old.owner execution.old.cpu }
+    requires instruction { IsNext system.now execution.old (Instr.Service service.now) }
+    requires stamps { length stamps.old ≡ length system.now.tasks }
+    requires counted { AreCounted stamps.old (kept_in core.old) }
+    requires room { length record_of_tick.old + 2 ≤ MAX_RECORDS }
+    ensures system { core.new.system ≡ core.old.system }
+    ensures kept { (w : Words) → kept_of w core.new ≡ (executed_by system.now execution.old (Instr.Service service.now) w core.old).state }
+    ensures events { (w : Words) → record_of_tick.new ≡ record_of_tick.old ++ (executed_by system.now execution.old (Instr.Service service.now) w core.old).events }
+    ensures few { length record_of_tick.new ≤ length record_of_tick.old + 2 }
+    ensures stamps { stamps.new ≡ executed_by_looked tick (Instr.Service service.now) (kept_in core.old) (kept_in core.new) stamps.old }
+    ensures sized { length stamps.new ≡ length stamps.old }
+{
+    let before = seen_if(core, acting_task(service));
+    let running = core.running();
+    let gone = core.is_gone();
+    execute_service(core, system, execution, service, record_of_tick);
+    executed_since(core, stamps, &before, &running, gone, tick);
+}
+
+/// The task on which a service acts.
+fn acting_task(service: &Service<Register>) -> Option<TaskId>
+    ensures { result ≡ named_by (Instr.Service service.now) }
+{
+    match service {
+        Service::ActivateTask(task) => *task,
+        Service::ChainTask(task) => *task,
+        Service::SetEvent(task, _) => *task,
+        _ => None,
+    }
 }
 
 /// A service with a status, which goes to r0, with its results behind it.

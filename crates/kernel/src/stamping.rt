@@ -96,7 +96,8 @@ fn preempted<Q: ReadyQueues>(
     }
 }
 
-/// The task that is to run becomes the running one, as in `Core::reschedule`.
+/// The task that is to run becomes the running one, as in `Core::reschedule`. Nothing is done where it is known to run
+/// already.
 pub fn reschedule<Q: ReadyQueues>(
     core: &mut Core<'_, Q>,
     stamps: &mut JobStamps,
@@ -111,6 +112,9 @@ pub fn reschedule<Q: ReadyQueues>(
     ensures few { length record_of_tick.new ≤ length record_of_tick.old + 2 }
     ensures stamps { stamps.new ≡ reschedule_looked core.old.system tick (kept_in core.old) stamps.old }
 {
+    if core.is_dispatched() {
+        return;
+    }
     let runner = core.contender();
     core.reschedule(record_of_tick);
     preempted(core, stamps, runner, tick);

@@ -3,7 +3,7 @@
 
 use command_line::{HostFiles, REFUSED, REFUSED_LINE, command};
 use std::env;
-use std::io::{self, BufWriter, ErrorKind, Write};
+use std::io::{self, BufWriter, ErrorKind, IsTerminal, Write};
 use std::process::ExitCode;
 
 /// The words of the command line.
@@ -13,11 +13,20 @@ fn words(rt: &HostRuntime) -> io::Result<Vec<String>> {
 }
 
 /// Answers the command line over the real files and streams. Output is buffered.
-fn answer(rt: &HostRuntime, err: &mut impl Write) -> io::Result<u8> {
+fn answer(rt: &HostRuntime, err: &mut (impl Write + IsTerminal)) -> io::Result<u8> {
     let words = words(rt)?;
     let mut out = BufWriter::new(rt.alloc(), rt.stdout())?;
     let mut files = HostFiles::new(rt);
-    let status = command(rt.alloc(), words.as_slice(), &mut files, &mut out, err);
+    // Progress would stand between the lines of a trace on one terminal.
+    let shows_progress = err.is_terminal() && !rt.stdout().is_terminal();
+    let status = command(
+        rt.alloc(),
+        words.as_slice(),
+        &mut files,
+        &mut out,
+        err,
+        shows_progress,
+    );
     // What a failed write left is not tried again.
     let (_stdout, _unwritten) = out.into_parts();
     Ok(status)

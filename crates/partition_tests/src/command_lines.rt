@@ -115,7 +115,14 @@ fn answer_to(alloc: Global, case: &Case) -> Result<Answer, AllocError> {
     };
     let mut out = Vec::new(alloc);
     let mut err = Vec::new(alloc);
-    let status = command(alloc, words.as_slice(), &mut files, &mut out, &mut err);
+    let status = command(
+        alloc,
+        words.as_slice(),
+        &mut files,
+        &mut out,
+        &mut err,
+        false,
+    );
     Ok(Answer { out, err, status })
 }
 

@@ -1,12 +1,13 @@
 //! Runs of systems from their texts over both kinds of ready queues.
 
 use arrayvec::ArrayString;
+use arrival_lists::read_arrivals;
 use kernel::Kernel;
 use osek_base::System;
 use ready_queues::{LevelQueues, ListQueues, ReadyQueues};
 use std::alloc::{AllocError, Global};
 use std::test::Fail;
-use tracer::{line_text, read_arrivals, read_system};
+use tracer::{line_text, read_system};
 
 /// No hook is on.
 pub const NO_HOOKS: &str = "STARTUPHOOK = FALSE; ERRORHOOK = FALSE; SHUTDOWNHOOK = FALSE;

@@ -6,6 +6,8 @@ mod assembler;
 #[cfg(test)]
 mod hostile_texts;
 #[cfg(test)]
+mod most_objects;
+#[cfg(test)]
 mod oil_faults;
 #[cfg(test)]
 mod oil_files;

@@ -5,3 +5,4 @@ pub mod RoutineLemmas
 pub mod StandsLemmas
 pub mod CallerLemmas
 pub mod AlarmLemmas
+pub mod DispatchedLemmas

@@ -26,6 +26,7 @@ use Rattle.kept_state.proofs.Standing.{still_stands, started_stands, activate_st
 use Rattle.kept_state.proofs.Words.{with_words, unmasked_words, service_words, control_words, context_words, start_phase_words, rescheduled_words}
 use Rattle.services.specs.declared.calls.Call.{Call}
 use Rattle.services.specs.Objects.{Objects, StandsFor, Stands, AreFit, by_task, kept_in, kept_of}
+use Rattle.services.specs.Dispatched.{IsCore}
 use Rattle.services.proofs.BoundLemmas.{activation_few}
 use Rattle.services.specs.Calls.{IsKnown, IsKnownCall, MayGoOn, IsRoutineOrNone, caller_as, call_in}
 
@@ -65,6 +66,10 @@ fit_where_stands o (s, stands) =
       beside = fits.beside;
       woken = fits.woken;
     }
+
+-- objects of which it isn't known whether they are dispatched
+pub known_to_stand : {o : Objects} → Stands o → IsCore o false
+known_to_stand stands = record { stands = stands; dispatched = λ known. absurd (grind arith) }
 
 -- no task has more jobs than any may have
 pub few_jobs : (o : Objects) → Stands o → (t : ℕ) → t < length o.system.tasks → (by_task o.slots t).count ≤ MAX_ACTIVATION

@@ -1,4 +1,5 @@
 pub mod Objects
 pub mod Calls
+pub mod Dispatched
 pub mod Levels
 pub mod Seen

@@ -3,6 +3,7 @@
 ghost use Rattle.std.specs.Prelude.{◌≡◌, ◌<◌, ◌+◌, ◌^◌, Some, None, length};
 ghost use Rattle.osek_base.specs.declared.status.Status.{Status};
 ghost use Rattle.osek_base.specs.declared.trace_event.Results.{Results};
+ghost use Rattle.services.specs.Dispatched.{is_refusal};
 ghost use Rattle.services.specs.Objects.{kept_in, AreFit};
 ghost use Rattle.services.specs.Calls.{call_in, unmasked, IsKnown, IsKnownCall, IsOnAlarm};
 
@@ -43,6 +44,19 @@ impl Answer {
         Answer {
             status: Some(status),
             results: Results::Nothing,
+        }
+    }
+
+    /// Whether it is a refusal. A service that is refused changes nothing.
+    pub(crate) fn is_refusal(&self) -> bool
+        ensures { result ≡ is_refusal self.now.status }
+    {
+        match &self.status {
+            None => false,
+            Some(status) => match status {
+                Status::Ok => false,
+                _ => true,
+            },
         }
     }
 

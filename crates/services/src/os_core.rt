@@ -1,15 +1,16 @@
 //! OSEK/VDX OS: system services. The core of a kernel: the objects of a running system, which stand for a state of it.
 
-ghost use Rattle.std.specs.Prelude.{◌≡◌, ◌<◌, ◌≤◌, ◌+◌, ◌++◌, IfOk, IfSome, MatchOption, Some, false, true, is_some, slice_index, slice_set, length};
+ghost use Rattle.std.specs.Prelude.{◌≡◌, ◌<◌, ◌≤◌, ◌+◌, ◌++◌, ◌&&◌, IfOk, IfSome, MatchOption, Some, false, true, is_some, slice_index, slice_set, length};
 ghost use Rattle.osek_base.specs.declared.instr.Service.{Service};
 ghost use Rattle.osek_base.specs.State.{Words, shared_window};
 ghost use Rattle.osek_base.specs.Alarm.{due_alarms, alarms_advanced};
 ghost use Rattle.osek_base.specs.Trace.{starting_alarms};
 ghost use Rattle.run_laws.proofs.Formed.{IsPlaced};
 ghost use Rattle.kept_state.specs.KeptService.{ByNobody, bare, caller_in, unmasked_in};
-ghost use Rattle.kept_state.specs.KeptTick.{start_phase_in, still_in, with_context_in};
+ghost use Rattle.kept_state.specs.KeptTick.{silent_in, start_phase_in, still_in, with_context_in};
 ghost use Rattle.kept_state.specs.Moves.{contender, rescheduled};
 ghost use Rattle.kept_state.specs.Standing.{MayServe, runner_waits};
+ghost use Rattle.services.specs.Dispatched.{is_refusal};
 ghost use Rattle.services.specs.Levels.{level_lists};
 ghost use Rattle.services.specs.Objects.{kept_in, kept_of};
 ghost use Rattle.services.specs.Calls.{IsKnownCall, Executes, MayGoOn, IsSameCaller, call_in, caller_as, calling_task};
@@ -33,16 +34,26 @@ use std::marker::Model;
 #[derive(Drop)]
 pub struct Core<'s, Q: ReadyQueues> {
     pub(crate) objects: Objects<'s, Q>,
+    /// Set only where a reschedule changes nothing; each step that may call for one takes it back.
+    is_dispatched: bool,
 }
 
 impl<'s, Q: ReadyQueues> Model for Core<'s, Q> {
-    ghost use Rattle.services.specs.Objects.{Objects, Stands};
+    ghost use Rattle.services.specs.Objects.{Objects};
+    ghost use Rattle.services.specs.Dispatched.{IsCore};
 
     ghost Value = { Objects };
 
     ghost view = { λ c. c.objects };
 
-    ghost invariant = { λ c. Stands c.objects };
+    ghost invariant = { λ c. IsCore c.objects c.is_dispatched };
+}
+
+/// Whether a reschedule is still known to change nothing after a call: a refused one changed nothing.
+fn stays_known(known: bool, answer: &Answer) -> bool
+    ensures { result ≡ (known && is_refusal answer.now.status) }
+{
+    known && answer.is_refusal()
 }
 
 impl<'s, Q: ReadyQueues> Core<'s, Q> {
@@ -54,6 +65,7 @@ impl<'s, Q: ReadyQueues> Core<'s, Q> {
     {
         Ok(Core {
             objects: Objects::new(alloc, system)?,
+            is_dispatched: false,
         })
     }
 
@@ -144,6 +156,7 @@ impl<'s, Q: ReadyQueues> Core<'s, Q> {
         ensures status { result ≡ (unmasked_in self.old.system ByNobody (kept_in self.old) (Service.ActivateTask (Some task))).status }
         ensures kept { kept_in self.new ≡ (unmasked_in self.old.system ByNobody (kept_in self.old) (Service.ActivateTask (Some task))).state }
     {
+        self.is_dispatched = false;
         self.objects.activate(task)
     }
 
@@ -156,6 +169,7 @@ impl<'s, Q: ReadyQueues> Core<'s, Q> {
         ensures status { result ≡ (unmasked_in self.old.system ByNobody (kept_in self.old) (Service.SetEvent (Some task) mask)).status }
         ensures kept { kept_in self.new ≡ (unmasked_in self.old.system ByNobody (kept_in self.old) (Service.SetEvent (Some task) mask)).state }
     {
+        self.is_dispatched = false;
         self.objects.set_event(task, mask)
     }
 
@@ -172,7 +186,16 @@ impl<'s, Q: ReadyQueues> Core<'s, Q> {
         ensures results { result.results ≡ (call_in self.old.system (kept_in self.old) call.now).results }
         ensures kept { kept_in self.new ≡ (call_in self.old.system (kept_in self.old) call.now).state }
     {
-        self.objects.call(call)
+        let answer = self.objects.call(call);
+        self.is_dispatched = stays_known(self.is_dispatched, &answer);
+        answer
+    }
+
+    /// Whether a reschedule is known to change nothing: none of the steps since the last one calls for another.
+    pub fn is_dispatched(&self) -> bool
+        ensures { result ≡ true → rescheduled self.now.system (kept_in self.now) ≡ silent_in (kept_in self.now) }
+    {
+        self.is_dispatched
     }
 
     /// With no routine active and interrupts on, the task that is to run becomes the running one, with a Post record of the
@@ -185,6 +208,7 @@ impl<'s, Q: ReadyQueues> Core<'s, Q> {
         ensures few { length record_of_tick.new ≤ length record_of_tick.old + 2 }
     {
         self.objects.reschedule(record_of_tick);
+        self.is_dispatched = self.objects.is_dispatched();
     }
 
     /// The next tick begins, and the alarms that are due in it expire. The content of `due` becomes these alarms, in

@@ -7,6 +7,7 @@ ghost use Rattle.osek_base.specs.Lists.{last_of};
 ghost use Rattle.kept_state.specs.Kept.{unbegun};
 ghost use Rattle.kept_state.specs.KeptService.{slot_given_up, slot_gets, slot_releases, slot_waiting, slot_moved, holds_in};
 ghost use Rattle.kept_state.specs.Moves.{one_more, slot_entered, slot_woken, dynamic_in};
+ghost use Rattle.services.specs.Dispatched.{has_entered};
 
 use machine::Cpu;
 use osek_base::{ResId, System, TaskId};
@@ -128,6 +129,18 @@ impl Slot {
     {
         self.begun = true;
         self.taken = system.internal_ceiling(task).is_some();
+    }
+
+    /// Whether the oldest job is begun, and has taken its internal resource where its task has one.
+    pub fn has_entered(&self, system: &System, task: TaskId) -> bool
+        ensures { result ≡ has_entered system.now task self.now }
+    {
+        self.begun
+            && if system.internal_ceiling(task).is_some() {
+                self.taken
+            } else {
+                !self.taken
+            }
     }
 
     /// The oldest job gives up its internal resource.

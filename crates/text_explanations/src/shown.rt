@@ -6,14 +6,28 @@ use std::io::{self, Write};
 /// What is shown for a byte or a character that can't be shown.
 const UNSHOWN: char = '\u{FFFD}';
 
-/// Whether a character has no width, or turns the direction of what follows.
+/// Whether a character isn't seen or turns the direction of what follows: Unicode's default ignorable characters, and the
+/// separators of lines and paragraphs.
 fn is_unseen(c: char) -> bool {
     matches!(
         c,
-        '\u{200B}'..='\u{200F}'
+        '\u{AD}'
+            | '\u{34F}'
+            | '\u{61C}'
+            | '\u{115F}'..='\u{1160}'
+            | '\u{17B4}'..='\u{17B5}'
+            | '\u{180B}'..='\u{180F}'
+            | '\u{200B}'..='\u{200F}'
             | '\u{2028}'..='\u{202E}'
             | '\u{2060}'..='\u{206F}'
+            | '\u{3164}'
+            | '\u{FE00}'..='\u{FE0F}'
             | '\u{FEFF}'
+            | '\u{FFA0}'
+            | '\u{FFF0}'..='\u{FFF8}'
+            | '\u{1BCA0}'..='\u{1BCA3}'
+            | '\u{1D173}'..='\u{1D17A}'
+            | '\u{E0000}'..='\u{E0FFF}'
     )
 }
 

@@ -2,7 +2,9 @@
 #![tactic(auto)]
 
 #[cfg(test)]
-mod arrival_lists;
+mod arrival_texts;
+#[cfg(test)]
+mod failed_writes;
 #[cfg(test)]
 mod first_refusals;
 #[cfg(test)]

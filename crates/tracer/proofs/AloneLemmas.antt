@@ -9,13 +9,13 @@ use Rattle.osek_base.specs.Laws.{HaveOneView}
 use Rattle.osek_base.specs.View.{Sight}
 use Rattle.kernel.specs.declared.boot.BootFault.{BootFault}
 use Rattle.tracer.specs.Lines.{ended}
-use Rattle.tracer.specs.ArrivalText.{lines_of}
+use Rattle.arrival_lists.specs.ArrivalText.{lines_of}
 use Rattle.tracer.specs.UpperRuns.{IsShown}
 use Rattle.tracer.specs.WholeRuns.{RefusesStart}
 use Rattle.tracer.specs.declared.run_fault.RunFault.{RunFault}
 use Rattle.tracer.specs.declared.shown.Shown.{Shown}
 use Rattle.tracer.proofs.RunTextLemmas.{view_shown}
-use Rattle.tracer.proofs.ArrivalLemmas.{number_below, are_read_same, first_fault_same}
+use Rattle.arrival_lists.proofs.ArrivalLemmas.{number_below, are_read_same, first_fault_same}
 
 module _ (S : System) (p : ℕ) (irqs mode : List ℕ) where
   -- the same is shown

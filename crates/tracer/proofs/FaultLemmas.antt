@@ -12,12 +12,12 @@ use Rattle.osek_base.specs.declared.arrivals.Arrival.{Arrival}
 use Rattle.osek_base.specs.Names.{number_of}
 use Rattle.osek_base.specs.System.{System}
 use Rattle.kernel.specs.declared.boot.BootFault.{BootFault}
-use Rattle.tracer.specs.ArrivalText.{IsArrivalList, IsFirstFault}
+use Rattle.arrival_lists.specs.ArrivalText.{IsArrivalList, IsFirstFault}
 use Rattle.tracer.specs.RunFaults.{of_oil, of_asm, of_gen, of_irq, of_boot}
 use Rattle.system_gen.specs.Checks.{IsFoundOrMemory}
 use Rattle.system_gen.specs.Faults.{generation_fault}
 use Rattle.tracer.specs.WholeRuns.{RefusesSystem, RefusesStart}
-use Rattle.tracer.specs.declared.irq_fault.IrqFault.{IrqFault}
+use Rattle.arrival_lists.specs.declared.irq_fault.IrqFault.{IrqFault}
 
 pub told_of_oil : (oil asm : List ℕ) (fault : OilFault) → HasOilFault oil fault → RefusesSystem oil asm (of_oil fault)
 told_of_oil oil asm OilFault.Memory h = tt

@@ -1,9 +1,6 @@
 pub mod SinkLemmas
 pub mod NumberLemmas
-pub mod TextLemmas
 pub mod RunTextLemmas
 pub mod FaultLemmas
 pub mod TraceLemmas
-pub mod ArrivalLemmas
 pub mod AloneLemmas
-pub mod OneArrivalList

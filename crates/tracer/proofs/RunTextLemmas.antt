@@ -2,7 +2,6 @@
 use Rattle.std.proofs.Common.{◌≡◌, ℕ, zero, suc, ◌+◌, ◌-◌, ◌<◌, ◌≤◌, Bool, true, false, List, [], ◌∷◌, ◌++◌, Option, None, refl, sym, ap, ap₂, subst, ◌∙◌, append_assoc, append-nil, arith}
 use Rattle.std.specs.Prelude.{◌||◌, nat_le, map}
 use Rattle.std.specs.List.{flat_map}
-use Rattle.std.specs.Io.KnownBytes.{Appends}
 use Rattle.std.proofs.lemmas.Bool.{true≢false}
 use Rattle.std.proofs.lemmas.Grind.{flat_map-append}
 use Rattle.std.proofs.lemmas.List.Folds.{flat_map-map}
@@ -22,8 +21,8 @@ use Rattle.blocking_laws.proofs.StepLemmas.{run_over, run_stays, steps_more, ste
 use Rattle.tracer.specs.declared.shown.Shown.{Shown}
 use Rattle.tracer.specs.Lines.{ended, numbered_line, tick_text}
 use Rattle.tracer.specs.Shown.{numbers_shown, records_shown, lines_shown, text_shown, view_text}
-use Rattle.tracer.specs.Sinks.{AppendsSome}
-use Rattle.tracer.proofs.SinkLemmas.{appends_more, begins_longer, begins_later}
+use Rattle.tracer.specs.Sinks.{AppendsSome, Passes}
+use Rattle.tracer.proofs.SinkLemmas.{begins_longer, passes_more, stops_later}
 
 -- ---- all, the view, and numbers
 
@@ -139,38 +138,39 @@ module _ (V : System) (shown : Shown) (numbers : ℕ → Option ℕ) (S : System
             ∙ ap so_far e;
       }
 
-  -- a beginning of the text up to a tick is one of the whole text
-  begins_run : (a b : Option (List ℕ)) (n ticks : ℕ) → n ≤ ticks → AppendsSome a b (so_far n) → AppendsSome a b (so_far ticks)
-  begins_run a b n ticks h p =
+  -- a beginning of the text up to a tick, behind what waited, is one of the whole text
+  behind_run : (a b : Option (List ℕ)) (p : List ℕ) (n ticks : ℕ) → n ≤ ticks → AppendsSome a b (p ++ so_far n) → AppendsSome a b (p ++ so_far ticks)
+  behind_run a b p n ticks h k =
       let e : n + (ticks - n) ≡ ticks = omega (arith, h) in
       let on = goes_on n (ticks - n) in
-      subst (AppendsSome a b) (on.whole ∙ ap so_far e) (begins_longer a b (so_far n) on.rest p)
+      subst (AppendsSome a b) (append_assoc p (so_far n) on.rest ∙ ap (λ t. p ++ t) (on.whole ∙ ap so_far e))
+      (begins_longer a b (p ++ so_far n) on.rest k)
 
-  -- ---- what a sink gains
+  -- ---- what a sink gains, where bytes wait
 
   -- one tick more
-  pub gains_tick : (a b c : Option (List ℕ)) (n : ℕ)
+  pub passes_tick : (a b c : Option (List ℕ)) (p q r : List ℕ) (n : ℕ)
       → is_over (record { system = S; mode = mode; arrivals = arrivals; ticks = n }) ≡ false
-      → Appends a b (so_far n) → Appends b c (text_in n) → Appends a c (so_far (n + 1))
-  gains_tick a b c n h p q =
-      subst (Appends a c) (sym (text_more n (going S mode arrivals n h).on)) (appends_more a b c (so_far n) (text_in n) p q)
+      → Passes a b p q (so_far n) → Passes b c q r (text_in n) → Passes a c p r (so_far (n + 1))
+  passes_tick a b c p q r n h k l =
+      subst (Passes a c p r) (sym (text_more n (going S mode arrivals n h).on)) (passes_more a b c p q r (so_far n) (text_in n) k l)
 
   -- a part of one tick more
-  pub gains_part : (a b c : Option (List ℕ)) (n ticks : ℕ) → n < ticks
+  pub passes_part : (a b c : Option (List ℕ)) (p q : List ℕ) (n ticks : ℕ) → n < ticks
       → is_over (record { system = S; mode = mode; arrivals = arrivals; ticks = n }) ≡ false
-      → Appends a b (so_far n) → AppendsSome b c (text_in n) → AppendsSome a c (so_far ticks)
-  gains_part a b c n ticks below h p q =
-      let here : AppendsSome a c (so_far (n + 1)) =
-      subst (AppendsSome a c) (sym (text_more n (going S mode arrivals n h).on)) (begins_later a b c (so_far n) (text_in n) p q) in
-      begins_run a c (n + 1) ticks (omega (arith, below)) here
+      → Passes a b p q (so_far n) → AppendsSome b c (q ++ text_in n) → AppendsSome a c (p ++ so_far ticks)
+  passes_part a b c p q n ticks below h k l =
+      let here : AppendsSome a c (p ++ so_far (n + 1)) =
+      subst (λ t. AppendsSome a c (p ++ t)) (sym (text_more n (going S mode arrivals n h).on)) (stops_later a b c p q (so_far n) (text_in n) k l) in
+      behind_run a c p (n + 1) ticks (omega (arith, below)) here
 
   -- a run that is over before its last tick has the whole text
-  pub gained_all : (a b : Option (List ℕ)) (n ticks : ℕ) → n < ticks
+  pub passed_whole : (a b : Option (List ℕ)) (p q : List ℕ) (n ticks : ℕ) → n < ticks
       → ticks ≤ 1000000 → is_over (record { system = S; mode = mode; arrivals = arrivals; ticks = n }) ≡ true
-      → Appends a b (so_far n) → Appends a b (so_far ticks)
-  gained_all a b n ticks below limit h p =
+      → Passes a b p q (so_far n) → Passes a b p q (so_far ticks)
+  passed_whole a b p q n ticks below limit h k =
       let few : nat_le 1000000 n ≡ false = grind (arith, below, limit) in
       let over = over_of (nat_le 1000000 n) (run S mode arrivals n).state.over h few in
       let e : n + (ticks - n) ≡ ticks = omega (arith, below) in
-      subst (Appends a b)
-      (ap (text_shown V shown numbers) (sym (run_stays S mode arrivals n (ticks - n) over) ∙ ap (run S mode arrivals) e)) p
+      subst (Passes a b p q)
+      (ap (text_shown V shown numbers) (sym (run_stays S mode arrivals n (ticks - n) over) ∙ ap (run S mode arrivals) e)) k

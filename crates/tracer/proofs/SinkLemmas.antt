@@ -1,10 +1,11 @@
 -- How the bytes that a sink takes add up over several writes.
-use Rattle.std.proofs.Common.{ℕ, ◌+◌, ◌-◌, List, ◌++◌, length, take, drop, Option, Some, None, Result, Ok, Err, sym, ap, ◌∙◌, append_assoc}
+use Rattle.std.proofs.Common.{◌≡◌, ℕ, ◌+◌, ◌-◌, List, [], ◌++◌, length, take, drop, Option, Some, None, Result, Ok, Err, sym, ap, subst, ◌∙◌, append_assoc, append-nil}
+use Rattle.std.proofs.KnownBytes.{Appends-nil}
 use Rattle.std.proofs.lemmas.List.{take_rest, take-append-drop}
 use Rattle.std.proofs.Math.Seq.{take-add}
 use Rattle.std.specs.Io.KnownBytes.{Appends, Keeps}
 use Rattle.std.specs.Result.{OnOk, OnErr}
-use Rattle.tracer.specs.Sinks.{AppendsSome}
+use Rattle.tracer.specs.Sinks.{AppendsSome, Passes}
 
 pub appends_more : (a b c : Option (List ℕ)) (xs ys : List ℕ) → Appends a b xs → Appends b c ys → Appends a c (xs ++ ys)
 appends_more None b c xs ys p q = tt
@@ -48,6 +49,62 @@ begins_later a b c xs ys p q =
       taken = appends_more a b c xs q.front p q.taken;
     }
 
+-- ---- bytes that wait
+
+-- nothing is done
+pub passes_none : (a : Option (List ℕ)) (p : List ℕ) → Passes a a p p []
+passes_none a p = record { front = []; whole = sym (append-nil p); taken = Appends-nil a }
+
+-- all that waited is taken
+pub passes_all : (a b : Option (List ℕ)) (p q : List ℕ) → q ≡ [] → Appends a b p → Passes a b p q []
+passes_all a b p q e h = record { front = p; whole = ap (λ t. p ++ t) e; taken = h }
+
+-- more waits
+pub waits_more : (a b : Option (List ℕ)) (p q xs ys : List ℕ) → Passes a b p q xs → Passes a b p (q ++ ys) (xs ++ ys)
+waits_more a b p q xs ys h =
+    record {
+      front = h.front;
+      whole = sym (append_assoc h.front q ys) ∙ ap (λ t. t ++ ys) h.whole ∙ append_assoc p xs ys;
+      taken = h.taken;
+    }
+
+joined : (f g p q r xs ys : List ℕ) → f ++ q ≡ p ++ xs → g ++ r ≡ q ++ ys → (f ++ g) ++ r ≡ p ++ (xs ++ ys)
+joined f g p q r xs ys h k =
+    append_assoc f g r ∙ ap (λ t. f ++ t) k ∙ sym (append_assoc f q ys) ∙ ap (λ t. t ++ ys) h ∙ append_assoc p xs ys
+
+pub passes_more : (a b c : Option (List ℕ)) (p q r xs ys : List ℕ) → Passes a b p q xs → Passes b c q r ys
+    → Passes a c p r (xs ++ ys)
+passes_more a b c p q r xs ys h k =
+    record {
+      front = h.front ++ k.front;
+      whole = joined h.front k.front p q r xs ys h.whole k.whole;
+      taken = appends_more a b c h.front k.front h.taken k.taken;
+    }
+
+pub stops_later : (a b c : Option (List ℕ)) (p q xs ys : List ℕ) → Passes a b p q xs → AppendsSome b c (q ++ ys)
+    → AppendsSome a c (p ++ (xs ++ ys))
+stops_later a b c p q xs ys h k =
+    record {
+      front = h.front ++ k.front;
+      rest = k.rest;
+      whole = joined h.front k.front p q k.rest xs ys h.whole k.whole;
+      taken = appends_more a b c h.front k.front h.taken k.taken;
+    }
+
+-- what waits is taken at the end, or a part of it
+pub passed_all : (a b c : Option (List ℕ)) (p q xs : List ℕ) → Passes a b p q xs → Appends b c q → Appends a c (p ++ xs)
+passed_all a b c p q xs h k = subst (Appends a c) h.whole (appends_more a b c h.front q h.taken k)
+
+pub passed_some : (a b c : Option (List ℕ)) (p q xs : List ℕ) → Passes a b p q xs → AppendsSome b c q
+    → AppendsSome a c (p ++ xs)
+passed_some a b c p q xs h k =
+    record {
+      front = h.front ++ k.front;
+      rest = k.rest;
+      whole = append_assoc h.front k.front k.rest ∙ ap (λ t. h.front ++ t) k.whole ∙ h.whole;
+      taken = appends_more a b c h.front k.front h.taken k.taken;
+    }
+
 -- ---- results
 
 pub on_err : {T E : Type 0} (r : Result T E) (P : Type 0) → P → OnErr r P
@@ -57,3 +114,7 @@ on_err (Err e) P p = p
 pub on_ok_map : {T E : Type 0} (r : Result T E) (P Q : Type 0) → (P → Q) → OnOk r P → OnOk r Q
 on_ok_map (Ok x) P Q f p = f p
 on_ok_map (Err e) P Q f p = tt
+
+pub on_err_map : {T E : Type 0} (r : Result T E) (P Q : Type 0) → (P → Q) → OnErr r P → OnErr r Q
+on_err_map (Ok x) P Q f p = tt
+on_err_map (Err e) P Q f p = f p

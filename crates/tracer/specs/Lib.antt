@@ -1,7 +1,6 @@
 pub mod Sinks
 pub mod Lines
 pub mod Shown
-pub mod ArrivalText
 pub mod RunFaults
 pub mod WholeRuns
 pub mod UpperRuns

@@ -1,5 +1,5 @@
 -- What is written of the records of a tick. No part of the standards.
-use Rattle.std.specs.Prelude.{ℕ, List, [], ◌∷◌, ◌++◌, ◌≡◌, ◌≤◌, Option, codes, decimal, length}
+use Rattle.std.specs.Prelude.{ℕ, List, [], ◌∷◌, ◌++◌, ◌≡◌, ◌≤◌, ◌==◌, if◌then◌else◌, Option, codes, decimal, length}
 use Rattle.std.specs.List.{flat_map}
 use Rattle.osek_base.specs.declared.ids.Owner.{Owner}
 use Rattle.osek_base.specs.declared.instr.Instr.{Instr}
@@ -7,6 +7,10 @@ use Rattle.osek_base.specs.declared.trace_event.TraceEvent.{TraceEvent}
 use Rattle.osek_base.specs.Names.{Names, owner_name}
 use Rattle.osek_base.specs.Text.{instruction_text, line}
 use Rattle.osek_base.specs.BlockingText.{blockers_text}
+
+-- the digits of a number but for the last
+abbrev pub front_digits : ℕ → List ℕ
+front_digits tens = if tens == 0 then [] else decimal tens
 
 -- a line and its end
 abbrev pub ended : List ℕ → List ℕ

@@ -19,3 +19,9 @@ pub record AppendsSome (old new : Option (List ℕ)) (bytes : List ℕ) : Type 0
   pub rest : List ℕ
   pub whole : front ++ rest ≡ bytes
   pub taken : Appends old new front
+
+-- bytes passed by way of a block that waits: what waited before and the bytes are what was taken and what waits now
+pub record Passes (old new : Option (List ℕ)) (waited waits bytes : List ℕ) : Type 0 where
+  pub front : List ℕ
+  pub whole : front ++ waits ≡ waited ++ bytes
+  pub taken : Appends old new front

@@ -7,7 +7,7 @@ use Rattle.osek_base.specs.Separable.{Separable, first_denial}
 use Rattle.osek_base.specs.Trace.{run}
 use Rattle.partition_check.specs.Partition.{denial_of}
 use Rattle.partition_check.specs.declared.denial.NamedDenial.{NamedDenial}
-use Rattle.tracer.specs.ArrivalText.{IsArrivalList}
+use Rattle.arrival_lists.specs.ArrivalText.{IsArrivalList}
 use Rattle.tracer.specs.Shown.{numbers_shown, text_shown, view_text}
 use Rattle.tracer.specs.WholeRuns.{IsSystemOf, RefusesSystem, RefusesStart}
 use Rattle.tracer.specs.declared.run_fault.RunFault.{RunFault}

@@ -17,7 +17,7 @@ use Rattle.osek_base.specs.BlockingText.{blocking_text}
 use Rattle.osek_base.specs.Trace.{run}
 use Rattle.kernel.specs.declared.boot.BootFault.{BootFault}
 use Rattle.kernel.specs.Run.{Run}
-use Rattle.tracer.specs.ArrivalText.{IsArrivalList, IsFirstFault}
+use Rattle.arrival_lists.specs.ArrivalText.{IsArrivalList, IsFirstFault}
 use Rattle.tracer.specs.declared.run_fault.RunFault.{RunFault}
 
 -- ---- the system of two texts

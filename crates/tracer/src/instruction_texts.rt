@@ -1,14 +1,16 @@
 //! The texts of a system's instructions, made before the first tick, no part of the standards.
 
-ghost use Rattle.std.specs.Prelude.{◌≡◌, ◌<◌, ◌≤◌, ◌∷◌, ◌++◌, [], IsTrue, IfOk, IfSome, OnOk, length};
+ghost use Rattle.std.specs.Prelude.{◌≡◌, ◌+◌, ◌<◌, ◌≤◌, ◌∷◌, ◌++◌, [], IsTrue, IfOk, IfSome, OnOk, length};
 ghost use Rattle.std.specs.List.{All};
-ghost use Rattle.std.specs.String.{string_bytes};
 ghost use Rattle.osek_base.specs.Separable.{IsOwner};
 ghost use Rattle.osek_base.specs.System.{program};
 ghost use Rattle.osek_base.specs.Text.{line};
 ghost use Rattle.tracer.specs.Lines.{IsExecutedText};
 
-use crate::line::{LineText, line_text, push_executed, push_number, push_outcome};
+use crate::block::{BLOCK_SIZE, Block, RECORD_SIZE};
+use crate::kept_text::KeptText;
+use crate::line::{LineText, push_event, push_executed, push_outcome};
+use crate::tick_text::TickText;
 use arrayvec::ArrayString;
 use osek_base::{Instr, IsrId, Names, Owner, Place, Register, Service, System, TaskId, TraceEvent};
 use std::alloc::{AllocError, Global};
@@ -20,7 +22,7 @@ struct InstructionText {
     who: Owner,
     place: Place,
     what: Instr,
-    text: String,
+    text: KeptText,
 }
 
 impl InstructionText {
@@ -31,11 +33,11 @@ impl InstructionText {
         place: Place,
         what: &Instr,
     ) -> Result<Self, AllocError>
-        ensures { IfOk result (λ t. IsExecutedText names.now t.who t.place t.what (string_bytes t.text)) }
+        ensures { IfOk result (λ t. IsExecutedText names.now t.who t.place t.what t.text) }
     {
         let mut text: LineText = ArrayString::new();
         push_executed(&mut text, names, who, place, what);
-        let text = String::from_str(alloc, text.as_str())?;
+        let text = KeptText::of(alloc, text.as_str().as_bytes())?;
         Ok(InstructionText {
             who: *who,
             place,
@@ -114,7 +116,7 @@ fn text_at(
 ) -> Result<InstructionText, AllocError>
     requires owner { IsOwner system.now who.now }
     requires place { place < length (program system.now who.now) }
-    ensures { IfOk result (λ t. IsExecutedText system.now.names t.who t.place t.what (string_bytes t.text)) }
+    ensures { IfOk result (λ t. IsExecutedText system.now.names t.who t.place t.what t.text) }
 {
     let names = system.names();
     let place = Place::new(place as u16);
@@ -129,7 +131,7 @@ fn program_texts(
     who: &Owner,
 ) -> Result<Vec<InstructionText>, AllocError>
     requires { IsOwner system.now who.now }
-    ensures { IfOk result (λ r. All (λ t. IsExecutedText system.now.names t.who t.place t.what (string_bytes t.text)) r.items) }
+    ensures { IfOk result (λ r. All (λ t. IsExecutedText system.now.names t.who t.place t.what t.text) r.items) }
 {
     let mut texts = Vec::new(alloc);
     'places: for place in 0..system.program_len(*who) {
@@ -145,13 +147,13 @@ fn text_in<'p>(
     who: &Owner,
     place: &Place,
     what: &Instr,
-) -> Option<&'p str>
-    requires { All (λ t. IsExecutedText names.now t.who t.place t.what (string_bytes t.text)) program.now }
+) -> Option<&'p KeptText>
+    requires { All (λ t. IsExecutedText names.now t.who t.place t.what t.text) program.now }
     ensures { IfSome result (λ text. IsExecutedText names.now who.now place.now what.now text.now) }
 {
     let text = program.get(place.number() as usize)?;
     if text.is_of(who, place, what) {
-        Some(text.text.as_str())
+        Some(&text.text)
     } else {
         None
     }
@@ -169,7 +171,7 @@ fn push_program(
 
 /// The texts of the tasks' programs, by number.
 fn task_texts(alloc: Global, system: &System) -> Result<Vec<Vec<InstructionText>>, AllocError>
-    ensures { IfOk result (λ r. All (λ p. All (λ t. IsExecutedText system.now.names t.who t.place t.what (string_bytes t.text)) p.items) r.items) }
+    ensures { IfOk result (λ r. All (λ p. All (λ t. IsExecutedText system.now.names t.who t.place t.what t.text) p.items) r.items) }
 {
     let mut programs = Vec::new(alloc);
     system.names();
@@ -182,7 +184,7 @@ fn task_texts(alloc: Global, system: &System) -> Result<Vec<Vec<InstructionText>
 
 /// The texts of the routines' programs, by number.
 fn routine_texts(alloc: Global, system: &System) -> Result<Vec<Vec<InstructionText>>, AllocError>
-    ensures { IfOk result (λ r. All (λ p. All (λ t. IsExecutedText system.now.names t.who t.place t.what (string_bytes t.text)) p.items) r.items) }
+    ensures { IfOk result (λ r. All (λ p. All (λ t. IsExecutedText system.now.names t.who t.place t.what t.text) p.items) r.items) }
 {
     let mut programs = Vec::new(alloc);
     system.names();
@@ -203,7 +205,6 @@ pub struct InstructionTexts<'s> {
 
 impl<'s> Model for InstructionTexts<'s> {
     ghost use Rattle.std.specs.List.{All};
-    ghost use Rattle.std.specs.String.{string_bytes};
     ghost use Rattle.osek_base.specs.Names.{Names};
     ghost use Rattle.tracer.specs.Lines.{IsExecutedText};
 
@@ -212,8 +213,8 @@ impl<'s> Model for InstructionTexts<'s> {
     ghost view = { λ s. s.names.now };
 
     ghost invariant = { λ s.
-        All (λ p. All (λ t. IsExecutedText s.names.now t.who t.place t.what (string_bytes t.text)) p.items) s.tasks.items
-        × All (λ p. All (λ t. IsExecutedText s.names.now t.who t.place t.what (string_bytes t.text)) p.items) s.routines.items };
+        All (λ p. All (λ t. IsExecutedText s.names.now t.who t.place t.what t.text) p.items) s.tasks.items
+        × All (λ p. All (λ t. IsExecutedText s.names.now t.who t.place t.what t.text) p.items) s.routines.items };
 }
 
 impl<'s> InstructionTexts<'s> {
@@ -231,7 +232,7 @@ impl<'s> InstructionTexts<'s> {
     }
 
     /// The text of an instruction, where it is the one at that place of the program.
-    fn text_of(&self, who: &Owner, place: &Place, what: &Instr) -> Option<&str>
+    fn text_of(&self, who: &Owner, place: &Place, what: &Instr) -> Option<&KeptText>
         ensures { IfSome result (λ text. IsExecutedText self.now who.now place.now what.now text.now) }
     {
         let program = match who {
@@ -241,21 +242,20 @@ impl<'s> InstructionTexts<'s> {
         text_in(program, self.names, who, place, what)
     }
 
-    /// As `line_text` of the crate, for the names of the system; an instruction isn't spelled again.
-    pub fn line_text(&self, tick: u32, event: &TraceEvent, text: &mut LineText)
-        ensures same { text.new.bytes ≡ line self.now tick event.now }
-        ensures short { length text.new.bytes ≤ 231 }
+    /// Appends the line of a record of that tick, without the line's end; an instruction isn't spelled again.
+    pub fn push_line(&self, tick: &TickText, event: &TraceEvent, text: &mut Block)
+        requires { length text.old + RECORD_SIZE ≤ BLOCK_SIZE }
+        ensures same { text.new ≡ text.old ++ line self.now tick.now event.now }
+        ensures short { length text.new ≤ length text.old + 238 }
     {
+        tick.push_to(text);
         if let TraceEvent::Executed(who, place, what, outcome) = event
             && let Some(executed) = self.text_of(who, place, what)
         {
-            text.clear();
-            push_number(text, tick);
-            text.push_str(" ");
-            text.push_str(executed);
-            push_outcome(text, *outcome);
+            executed.push_to(text);
+            push_outcome(text, outcome);
         } else {
-            line_text(self.names, tick, event, text);
+            push_event(text, self.names, event);
         }
     }
 }

@@ -1,24 +1,24 @@
-//! Whole runs: arrival lists, the texts of trace lines, and what is written to a sink.
+//! Whole runs: the texts of trace lines, and what is written to a sink.
 #![tactic(auto)]
 
-mod arrival_line;
-mod arrivals;
+mod block;
 mod blocking_run;
 mod instruction_texts;
-mod irq_fault;
+mod kept_text;
 mod line;
 mod run_fault;
+mod short_text;
 mod shown;
 mod sink;
 mod system_texts;
+mod text;
+mod tick_text;
 mod upper_run;
 mod view;
 mod whole_run;
 mod written_ticks;
 
-pub use arrivals::{one_meaning, read_arrivals};
 pub use blocking_run::run_blocking;
-pub use irq_fault::IrqFault;
 pub use line::{LineText, line_text};
 pub use run_fault::RunFault;
 pub use sink::{Sink, SinkFault, StdSink};

@@ -13,6 +13,7 @@ ghost use Rattle.osek_base.specs.Text.{
   line,
 };
 
+use crate::text::Text;
 use arrayvec::ArrayString;
 use itoa::Buffer;
 use osek_base::{Effect, Instr, Name, Names, Outcome, Owner, Place, Results, Source, TraceEvent};
@@ -42,10 +43,10 @@ fn digit_text(number: u32) -> &'static str
     }
 }
 
-pub(crate) fn push_number(text: &mut LineText, number: u32)
-    requires { length text.old.bytes + 10 ≤ 256 }
-    ensures same { text.new.bytes ≡ text.old.bytes ++ decimal number }
-    ensures short { length text.new.bytes ≤ length text.old.bytes + 10 }
+pub(crate) fn push_number<T: Text>(text: &mut T, number: u32)
+    requires { length (T.bytes text.old) + 10 ≤ T.room }
+    ensures same { T.bytes text.new ≡ T.bytes text.old ++ decimal number }
+    ensures short { length (T.bytes text.new) ≤ length (T.bytes text.old) + 10 }
 {
     if number < 10 {
         text.push_str(digit_text(number));
@@ -66,10 +67,10 @@ fn name_at(names: &[Name], number: usize) -> &str
     }
 }
 
-fn push_owner(text: &mut LineText, names: &Names, who: Owner)
-    requires { length text.old.bytes + 32 ≤ 256 }
-    ensures same { text.new.bytes ≡ text.old.bytes ++ owner_name names.now who }
-    ensures short { length text.new.bytes ≤ length text.old.bytes + 32 }
+fn push_owner<T: Text>(text: &mut T, names: &Names, who: Owner)
+    requires { length (T.bytes text.old) + 32 ≤ T.room }
+    ensures same { T.bytes text.new ≡ T.bytes text.old ++ owner_name names.now who }
+    ensures short { length (T.bytes text.new) ≤ length (T.bytes text.old) + 32 }
 {
     match who {
         Owner::Task(task) => {
@@ -81,10 +82,10 @@ fn push_owner(text: &mut LineText, names: &Names, who: Owner)
     }
 }
 
-fn push_source(text: &mut LineText, names: &Names, who: Source)
-    requires { length text.old.bytes + 33 ≤ 256 }
-    ensures same { text.new.bytes ≡ text.old.bytes ++ source_name names.now who }
-    ensures short { length text.new.bytes ≤ length text.old.bytes + 33 }
+fn push_source<T: Text>(text: &mut T, names: &Names, who: Source)
+    requires { length (T.bytes text.old) + 33 ≤ T.room }
+    ensures same { T.bytes text.new ≡ T.bytes text.old ++ source_name names.now who }
+    ensures short { length (T.bytes text.new) ≤ length (T.bytes text.old) + 33 }
 {
     match who {
         Source::Owner(owner) => push_owner(text, names, owner),
@@ -95,10 +96,10 @@ fn push_source(text: &mut LineText, names: &Names, who: Source)
     }
 }
 
-fn push_instr(text: &mut LineText, names: &Names, what: &Instr)
-    requires { length text.old.bytes + 128 ≤ 256 }
-    ensures same { text.new.bytes ≡ text.old.bytes ++ instruction_text names.now what.now }
-    ensures short { length text.new.bytes ≤ length text.old.bytes + 128 }
+fn push_instr<T: Text>(text: &mut T, names: &Names, what: &Instr)
+    requires { length (T.bytes text.old) + 128 ≤ T.room }
+    ensures same { T.bytes text.new ≡ T.bytes text.old ++ instruction_text names.now what.now }
+    ensures short { length (T.bytes text.new) ≤ length (T.bytes text.old) + 128 }
 {
     let mut operation = ArrayString::new();
     instr_text(what, names, &mut operation);
@@ -106,16 +107,16 @@ fn push_instr(text: &mut LineText, names: &Names, what: &Instr)
 }
 
 /// Appends what the line of an instruction has between the tick and the outcome.
-pub(crate) fn push_executed(
-    text: &mut LineText,
+pub(crate) fn push_executed<T: Text>(
+    text: &mut T,
     names: &Names,
     who: &Owner,
     place: Place,
     what: &Instr,
 )
-    requires { length text.old.bytes + 172 ≤ 256 }
-    ensures same { text.new.bytes ≡ text.old.bytes ++ executed_text names.now who.now place what.now }
-    ensures short { length text.new.bytes ≤ length text.old.bytes + 172 }
+    requires { length (T.bytes text.old) + 172 ≤ T.room }
+    ensures same { T.bytes text.new ≡ T.bytes text.old ++ executed_text names.now who.now place what.now }
+    ensures short { length (T.bytes text.new) ≤ length (T.bytes text.old) + 172 }
 {
     push_owner(text, names, *who);
     text.push_str(" ");
@@ -124,10 +125,10 @@ pub(crate) fn push_executed(
     push_instr(text, names, what);
 }
 
-fn push_results(text: &mut LineText, results: Results)
-    requires { length text.old.bytes + 35 ≤ 256 }
-    ensures same { text.new.bytes ≡ text.old.bytes ++ results_text results }
-    ensures short { length text.new.bytes ≤ length text.old.bytes + 35 }
+fn push_results<T: Text>(text: &mut T, results: Results)
+    requires { length (T.bytes text.old) + 35 ≤ T.room }
+    ensures same { T.bytes text.new ≡ T.bytes text.old ++ results_text results }
+    ensures short { length (T.bytes text.new) ≤ length (T.bytes text.old) + 35 }
 {
     match results {
         Results::Nothing => {}
@@ -146,10 +147,10 @@ fn push_results(text: &mut LineText, results: Results)
     }
 }
 
-fn push_effect(text: &mut LineText, effect: Effect)
-    requires { length text.old.bytes + 48 ≤ 256 }
-    ensures same { text.new.bytes ≡ text.old.bytes ++ outcome_text (Outcome.Plain effect) }
-    ensures short { length text.new.bytes ≤ length text.old.bytes + 48 }
+fn push_effect<T: Text>(text: &mut T, effect: Effect)
+    requires { length (T.bytes text.old) + 48 ≤ T.room }
+    ensures same { T.bytes text.new ≡ T.bytes text.old ++ outcome_text (Outcome.Plain effect) }
+    ensures short { length (T.bytes text.new) ≤ length (T.bytes text.old) + 48 }
 {
     match effect {
         Effect::Nothing => {}
@@ -166,26 +167,26 @@ fn push_effect(text: &mut LineText, effect: Effect)
     }
 }
 
-pub(crate) fn push_outcome(text: &mut LineText, outcome: Outcome)
-    requires { length text.old.bytes + 48 ≤ 256 }
-    ensures same { text.new.bytes ≡ text.old.bytes ++ outcome_text outcome }
-    ensures short { length text.new.bytes ≤ length text.old.bytes + 48 }
+pub(crate) fn push_outcome<T: Text>(text: &mut T, outcome: &Outcome)
+    requires { length (T.bytes text.old) + 48 ≤ T.room }
+    ensures same { T.bytes text.new ≡ T.bytes text.old ++ outcome_text outcome.now }
+    ensures short { length (T.bytes text.new) ≤ length (T.bytes text.old) + 48 }
 {
     match outcome {
-        Outcome::Plain(effect) => push_effect(text, effect),
+        Outcome::Plain(effect) => push_effect(text, *effect),
         Outcome::Answer(status, results) => {
             text.push_str(" = ");
             push_number(text, status.number() as u32);
-            push_results(text, results);
+            push_results(text, *results);
         }
         Outcome::Control => {}
     }
 }
 
-fn push_event(text: &mut LineText, names: &Names, event: &TraceEvent)
-    requires { length text.old.bytes ≤ 11 }
-    ensures same { text.new.bytes ≡ text.old.bytes ++ event_text names.now event.now }
-    ensures short { length text.new.bytes ≤ length text.old.bytes + 220 }
+pub(crate) fn push_event<T: Text>(text: &mut T, names: &Names, event: &TraceEvent)
+    requires { length (T.bytes text.old) + 220 ≤ T.room }
+    ensures same { T.bytes text.new ≡ T.bytes text.old ++ event_text names.now event.now }
+    ensures short { length (T.bytes text.new) ≤ length (T.bytes text.old) + 220 }
 {
     match event {
         TraceEvent::Startup => text.push_str("startup"),
@@ -199,7 +200,7 @@ fn push_event(text: &mut LineText, names: &Names, event: &TraceEvent)
         }
         TraceEvent::Executed(who, place, what, outcome) => {
             push_executed(text, names, who, *place, what);
-            push_outcome(text, *outcome);
+            push_outcome(text, outcome);
         }
         TraceEvent::Idle => text.push_str("idle"),
         TraceEvent::Other => text.push_str("other"),
@@ -219,10 +220,10 @@ fn push_event(text: &mut LineText, names: &Names, event: &TraceEvent)
 }
 
 /// Appends what stands behind a record where a number of blockers is told: ` ! ` and the number behind an instruction.
-pub(crate) fn push_blockers(text: &mut LineText, number: Option<u32>, event: &TraceEvent)
-    requires { length text.old.bytes + 13 ≤ 256 }
-    ensures same { text.new.bytes ≡ text.old.bytes ++ blockers_text number event.now }
-    ensures short { length text.new.bytes ≤ length text.old.bytes + 13 }
+pub(crate) fn push_blockers<T: Text>(text: &mut T, number: Option<u32>, event: &TraceEvent)
+    requires { length (T.bytes text.old) + 13 ≤ T.room }
+    ensures same { T.bytes text.new ≡ T.bytes text.old ++ blockers_text number event.now }
+    ensures short { length (T.bytes text.new) ≤ length (T.bytes text.old) + 13 }
 {
     if let Some(number) = number
         && let TraceEvent::Executed(_, _, _, _) = event
@@ -232,13 +233,22 @@ pub(crate) fn push_blockers(text: &mut LineText, number: Option<u32>, event: &Tr
     }
 }
 
+/// Appends the line of a record of that tick, without the line's end.
+pub(crate) fn push_line<T: Text>(text: &mut T, names: &Names, tick: u32, event: &TraceEvent)
+    requires { length (T.bytes text.old) + 231 ≤ T.room }
+    ensures same { T.bytes text.new ≡ T.bytes text.old ++ line names.now tick event.now }
+    ensures short { length (T.bytes text.new) ≤ length (T.bytes text.old) + 231 }
+{
+    push_number(text, tick);
+    text.push_str(" ");
+    push_event(text, names, event);
+}
+
 /// Replaces the content of `text` by the line of a record of that tick, without the line's end.
 pub fn line_text(names: &Names, tick: u32, event: &TraceEvent, text: &mut LineText)
     ensures same { text.new.bytes ≡ line names.now tick event.now }
     ensures short { length text.new.bytes ≤ 231 }
 {
     text.clear();
-    push_number(text, tick);
-    text.push_str(" ");
-    push_event(text, names, event);
+    push_line(text, names, tick, event);
 }

@@ -2,8 +2,8 @@
 
 ghost use Rattle.std.specs.Prelude.{◌≡◌};
 
-use crate::irq_fault::IrqFault;
 use crate::sink::SinkFault;
+use arrival_lists::IrqFault;
 use kernel::BootFault;
 use oil_reader::OilFault;
 use partition_check::NamedDenial;

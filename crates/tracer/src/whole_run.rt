@@ -6,13 +6,13 @@ ghost use Rattle.tracer.specs.Sinks.{AppendsSome};
 ghost use Rattle.tracer.specs.UpperRuns.{IsShown};
 ghost use Rattle.tracer.specs.WholeRuns.{IsBegun, IsTrace, RefusesStart, IsFirstRefusal};
 
-use crate::arrivals::read_arrivals;
 use crate::instruction_texts::InstructionTexts;
 use crate::run_fault::RunFault;
 use crate::shown::Shown;
 use crate::sink::Sink;
 use crate::system_texts::read_system;
 use crate::written_ticks::write_ticks;
+use arrival_lists::read_arrivals;
 use kernel::Kernel;
 use osek_base::{MAX_TICKS, System};
 use ready_queues::LevelQueues;

@@ -1,6 +1,12 @@
 use Rattle.services.proofs.StandsLemmas.{stands_advanced}
 use Rattle.services.proofs.os_core.Core.advance.Goals as goal
+use Rattle.std.proofs.Common.{◌≡◌, true, sym, subst}
+use Rattle.services.specs.Objects.{Objects, kept_in}
+use Rattle.services.specs.Dispatched.{is_dispatched_in}
 
 pub invariant_of-self : goal.invariant_of-self
 invariant_of-self g c =
-    stands_advanced c.self.inside.objects c.advance.new.self c.self.invariant c.advance.ensures.objects
+    record {
+      stands = stands_advanced c.self.inside.objects c.advance.new.self c.self.invariant.stands c.advance.ensures.objects;
+      dispatched = λ known. subst (λ (o : Objects). is_dispatched_in o.system (kept_in o) ≡ true) (sym c.advance.ensures.objects) (c.self.invariant.dispatched known);
+    }

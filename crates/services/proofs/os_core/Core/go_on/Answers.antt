@@ -4,13 +4,23 @@ use Rattle.std.proofs.Common.{sym, subst}
 use Rattle.run_laws.proofs.Formed.{IsPlaced}
 use Rattle.services.specs.Objects.{Objects}
 use Rattle.services.specs.Calls.{MayGoOn}
+use Rattle.kept_state.specs.KeptTick.{with_context_in}
+use Rattle.services.specs.Objects.{kept_in}
+use Rattle.services.specs.Calls.{caller_as}
+use Rattle.services.proofs.DispatchedLemmas.{gone_on_dispatched, still_dispatched}
 
 pub go_on-requires-clause-fit : goal.go_on-requires-clause-fit
-go_on-requires-clause-fit g c = fit_where_stands c.self.inside.objects c.self.invariant
+go_on-requires-clause-fit g c = fit_where_stands c.self.inside.objects c.self.invariant.stands
 
 pub invariant_of-self : goal.invariant_of-self
 invariant_of-self g c =
-    stands_gone_on c.self.inside.objects c.go_on.new.self c.go_on.ensures.system c.args.owner c.args.cpu c.self.invariant
-    (subst (λ (k : Objects). MayGoOn k c.args.owner) (sym c.self.view_is) c.requires.who)
-    (subst (λ (k : Objects). IsPlaced k.system c.args.owner c.args.cpu) (sym c.self.view_is) c.requires.placed)
-    c.go_on.ensures.kept
+    let o : Objects = c.self.inside.objects in
+    record {
+      stands =
+          stands_gone_on o c.go_on.new.self c.go_on.ensures.system c.args.owner c.args.cpu c.self.invariant.stands
+          (subst (λ (k : Objects). MayGoOn k c.args.owner) (sym c.self.view_is) c.requires.who)
+          (subst (λ (k : Objects). IsPlaced k.system c.args.owner c.args.cpu) (sym c.self.view_is) c.requires.placed) c.go_on.ensures.kept;
+      dispatched = λ known.
+          still_dispatched o c.go_on.new.self (with_context_in (caller_as c.args.owner) c.args.cpu) c.go_on.ensures.system c.go_on.ensures.kept
+          (gone_on_dispatched o.system (kept_in o) (caller_as c.args.owner) c.args.cpu) (c.self.invariant.dispatched known);
+    }

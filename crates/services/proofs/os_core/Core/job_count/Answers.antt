@@ -6,5 +6,5 @@ use Rattle.services.proofs.os_core.Core.job_count.Goals as goal
 pub returns-clause-few : goal.returns-clause-few
 returns-clause-few g c =
     let o : Objects = c.self.inside.objects in
-    let few = few_jobs o c.self.invariant c.args.task (subst (λ (x : Objects). c.args.task < length x.system.tasks) (sym c.self.view_is) c.requires) in
+    let few = few_jobs o c.self.invariant.stands c.args.task (subst (λ (x : Objects). c.args.task < length x.system.tasks) (sym c.self.view_is) c.requires) in
     omega (arith, few, c.job_count.ensures)

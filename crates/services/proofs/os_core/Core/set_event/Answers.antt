@@ -4,13 +4,15 @@ use Rattle.std.proofs.Common.{◌≡◌, ◌<◌, length, sym, subst, false}
 use Rattle.services.specs.Objects.{Objects, kept_in}
 use Rattle.kept_state.specs.KeptService.{ByNobody}
 use Rattle.kept_state.specs.Standing.{runner_waits}
+use Rattle.services.proofs.StandsLemmas.{known_to_stand}
 
 pub set_event-requires-clause-fit : goal.set_event-requires-clause-fit
-set_event-requires-clause-fit g c = fit_where_stands c.self.inside.objects c.self.invariant
+set_event-requires-clause-fit g c = fit_where_stands c.self.inside.objects c.self.invariant.stands
 
 pub invariant_of-self : goal.invariant_of-self
 invariant_of-self g c =
-    stands_set c.self.inside.objects c.set_event.new.self c.set_event.ensures.system c.args.task c.args.mask c.self.invariant
+    known_to_stand
+    (stands_set c.self.inside.objects c.set_event.new.self c.set_event.ensures.system c.args.task c.args.mask c.self.invariant.stands
     (subst (λ (k : Objects). c.args.task < length k.system.tasks) (sym c.self.view_is) c.requires.task)
     (subst (λ (k : Objects). runner_waits (kept_in k) ≡ false) (sym c.self.view_is) c.requires.ready)
-    (c.set_event.ensures.kept ByNobody)
+    (c.set_event.ensures.kept ByNobody))

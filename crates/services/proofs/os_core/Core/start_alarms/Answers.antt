@@ -1,6 +1,12 @@
 use Rattle.services.proofs.StandsLemmas.{stands_started}
 use Rattle.services.proofs.os_core.Core.start_alarms.Goals as goal
+use Rattle.std.proofs.Common.{◌≡◌, true, sym, subst}
+use Rattle.services.specs.Objects.{Objects, kept_in}
+use Rattle.services.specs.Dispatched.{is_dispatched_in}
 
 pub invariant_of-self : goal.invariant_of-self
 invariant_of-self g c =
-    stands_started c.self.inside.objects c.start_alarms.new.self c.args.mode c.self.invariant c.start_alarms.ensures
+    record {
+      stands = stands_started c.self.inside.objects c.start_alarms.new.self c.args.mode c.self.invariant.stands c.start_alarms.ensures;
+      dispatched = λ known. subst (λ (o : Objects). is_dispatched_in o.system (kept_in o) ≡ true) (sym c.start_alarms.ensures) (c.self.invariant.dispatched known);
+    }

@@ -1,6 +1,15 @@
 use Rattle.services.proofs.StandsLemmas.{stands_routine}
 use Rattle.services.proofs.os_core.Core.start_routine.Goals as goal
+use Rattle.kept_state.specs.KeptTick.{start_phase_in}
+use Rattle.services.specs.Objects.{Objects, kept_in}
+use Rattle.services.proofs.DispatchedLemmas.{started_dispatched, still_dispatched}
 
 pub invariant_of-self : goal.invariant_of-self
 invariant_of-self g c =
-    stands_routine c.self.inside.objects c.start_routine.new.self c.start_routine.ensures.system c.self.invariant c.start_routine.ensures.kept
+    let o : Objects = c.self.inside.objects in
+    record {
+      stands = stands_routine o c.start_routine.new.self c.start_routine.ensures.system c.self.invariant.stands c.start_routine.ensures.kept;
+      dispatched = λ known.
+          still_dispatched o c.start_routine.new.self (start_phase_in o.system) c.start_routine.ensures.system c.start_routine.ensures.kept
+          (started_dispatched o.system (kept_in o)) (c.self.invariant.dispatched known);
+    }

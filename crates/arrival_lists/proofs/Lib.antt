@@ -1,0 +1,4 @@
+pub mod NumberLemmas
+pub mod TextLemmas
+pub mod ArrivalLemmas
+pub mod OneArrivalList

@@ -1,0 +1,4 @@
+pub mod FigureLemmas
+pub mod ListLemmas
+pub mod StepLemmas
+pub mod SumLemmas

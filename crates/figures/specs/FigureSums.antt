@@ -1,0 +1,102 @@
+-- Figures of a run, over the observations of its ticks, newest first.
+use Rattle.std.specs.Prelude.{◌≡◌, ℕ, ◌<◌, Bool, false, List, [], ◌∷◌, Option, Some, None, map, length, count_by, slice_index_or, nat_lt, ◌&&◌, ◌+◌, cond, is_none}
+use Rattle.osek_base.specs.System.{System, Task as Configured}
+use Rattle.osek_base.specs.declared.status.TaskState.TheVariants.{Suspended}
+use Rattle.osek_base.specs.declared.ids.Owner.{Owner}
+use Rattle.osek_base.specs.declared.ids.Owner.TheVariants.{Task, Routine}
+use Rattle.observations.specs.declared.task_seen.TaskSeen.{TaskSeen}
+use Rattle.observations.specs.declared.routine_seen.RoutineSeen.{RoutineSeen}
+use Rattle.observations.specs.declared.alarm_seen.AlarmSeen.{AlarmSeen}
+use Rattle.observations.specs.declared.observation.Observation.{Observation}
+use Rattle.figures.specs.declared.task_tick.TaskTick.{TaskTick}
+use Rattle.figures.specs.declared.task_figures.TaskFigures.{TaskFigures}
+use Rattle.figures.specs.declared.routine_figures.RoutineTick.{RoutineTick}
+use Rattle.figures.specs.declared.routine_figures.RoutineFigures.{RoutineFigures}
+use Rattle.figures.specs.declared.resource_figures.ResourceFigures.{ResourceFigures}
+use Rattle.figures.specs.declared.alarm_figures.AlarmFigures.{AlarmFigures}
+use Rattle.figures.specs.Counts.{capped}
+use Rattle.figures.specs.TaskSums.{task_counts}
+use Rattle.figures.specs.RoutineSums.{routine_figures}
+use Rattle.figures.specs.ResourceSums.{resource_figures}
+use Rattle.figures.specs.AlarmSums.{alarm_figures}
+use Rattle.figures.specs.ResponseSums.{response_figures}
+
+unfoldable pub task_figures : List TaskTick → TaskFigures
+task_figures seen = record { counts = task_counts seen; responses = response_figures seen }
+
+-- what is seen of something that an observation doesn't have
+abbrev pub unseen_task : TaskSeen
+unseen_task = record { state = Suspended; priority = None; jobs = 0; made = 0; refused = 0; ended = false }
+
+abbrev pub unseen_routine : RoutineSeen
+unseen_routine = record { executes = false; is_pending = false; is_active = false; is_started = false; arrived = 0; lost = 0 }
+
+abbrev pub unseen_alarm : AlarmSeen
+unseen_alarm = record { has_expired = false; is_refused = false; left = None }
+
+-- a task executes whose static priority is lower than that of task k. The levels are the tasks' static priorities
+abbrev pub lower_executes : List ℕ → Option Owner → ℕ → Bool
+lower_executes levels None k = false
+lower_executes levels (Some (Task t)) k = nat_lt t (length levels) && nat_lt (slice_index_or levels t 0) (slice_index_or levels k 0)
+lower_executes levels (Some (Routine i)) k = false
+
+-- what an observation has of each thing, by number
+abbrev pub task_tick : List ℕ → Observation → ℕ → TaskTick
+task_tick levels o k = record {
+  tick = o.tick;
+  seen = slice_index_or o.tasks.items k unseen_task;
+  lower_executes = lower_executes levels o.executor k;
+}
+
+abbrev pub routine_tick : Observation → ℕ → RoutineTick
+routine_tick o k = record { tick = o.tick; seen = slice_index_or o.routines.items k unseen_routine }
+
+abbrev pub holder_seen : Observation → ℕ → Option ℕ
+holder_seen o k = slice_index_or o.holders.items k None
+
+abbrev pub alarm_seen : Observation → ℕ → AlarmSeen
+alarm_seen o k = slice_index_or o.alarms.items k unseen_alarm
+
+-- nobody executes
+abbrev pub is_idle : Observation → Bool
+is_idle o = is_none o.executor
+
+-- the static priorities of a system's tasks
+abbrev pub levels_of : System → List ℕ
+levels_of S = map (λ (t : Configured). t.priority) S.tasks
+
+-- how many resources can be held: those that are declared, and RES_SCHEDULER
+abbrev pub held_count : System → ℕ
+held_count S = length S.resources + cond S.use_res_scheduler 1 0
+
+-- the figures of a run
+pub record RunFigures : Type 0 where
+  pub ticks : ℕ
+  pub idle : ℕ
+  pub levels : List ℕ
+  pub tasks : List TaskFigures
+  pub routines : List RoutineFigures
+  pub resources : List ResourceFigures
+  pub alarms : List AlarmFigures
+
+-- a list has the figures of n things: at k those over what was seen of the thing of number k
+pub record AreOf {T X : Type 0} (n : ℕ) (kind : List T → X) (seen : ℕ → List T) (figures : List X) : Type 0 where
+  pub count : length figures ≡ n
+  pub each : (k : ℕ) → k < n → slice_index_or figures k (kind []) ≡ kind (seen k)
+
+-- the figures of a system after some observations: the ticks, those in which nobody executes, and the figures of each
+-- task, routine, resource (RES_SCHEDULER behind the declared ones) and alarm
+pub record AreFigures (S : System) (seen : List Observation) (f : RunFigures) : Type 0 where
+  pub ticks : f.ticks ≡ capped (length seen)
+  pub idle : f.idle ≡ capped (count_by is_idle seen)
+  pub levels : f.levels ≡ levels_of S
+  pub tasks : AreOf (length S.tasks) task_figures (λ k. map (λ o. task_tick (levels_of S) o k) seen) f.tasks
+  pub routines : AreOf (length S.routines) routine_figures (λ k. map (λ o. routine_tick o k) seen) f.routines
+  pub resources : AreOf (held_count S) resource_figures (λ k. map (λ o. holder_seen o k) seen) f.resources
+  pub alarms : AreOf (length S.alarms) alarm_figures (λ k. map (λ o. alarm_seen o k) seen) f.alarms
+
+-- a list of figures before and after one more tick, in which `now k` is seen of the thing of number k
+pub record IsListStep {T X : Type 0} (kind : List T → X) (now : ℕ → T) (old new : List X) : Type 0 where
+  pub count : length new ≡ length old
+  pub each : (k : ℕ) → k < length old → (before : List T) → slice_index_or old k (kind []) ≡ kind before
+      → slice_index_or new k (kind []) ≡ kind (now k ∷ before)

@@ -1,0 +1,47 @@
+//! OSEK/VDX OS: task management. Figures of a task.
+
+ghost use Rattle.std.specs.Prelude.{List, [], ◌∷◌, ◌≡◌};
+ghost use Rattle.figures.specs.declared.task_tick.TaskTick.{TaskTick};
+ghost use Rattle.figures.specs.FigureSums.{task_figures};
+
+use crate::response_figures::ResponseFigures;
+use crate::task_counts::TaskCounts;
+use crate::task_tick::TaskTick;
+
+/// Figures of a task.
+#[derive(Drop)]
+pub struct TaskFigures {
+    /// What is counted of it.
+    pub counts: TaskCounts,
+    /// The responses of its jobs.
+    pub responses: ResponseFigures,
+}
+
+impl Default for TaskFigures {
+    fn default() -> Self
+        ensures { result ≡ task_figures [] }
+    {
+        TaskFigures::new()
+    }
+}
+
+impl TaskFigures {
+    /// Nothing was seen.
+    #[tactic(auto, unfolding(crate::specs::FigureSums::task_figures))]
+    pub fn new() -> Self
+        ensures { result ≡ task_figures [] }
+    {
+        TaskFigures {
+            counts: TaskCounts::new(),
+            responses: ResponseFigures::new(),
+        }
+    }
+
+    /// A tick more is seen.
+    pub fn observe(&mut self, tick: &TaskTick)
+        ensures { (before : List TaskTick) → self.old ≡ task_figures before → self.new ≡ task_figures (tick.now ∷ before) }
+    {
+        self.counts.observe(tick);
+        self.responses.observe(tick);
+    }
+}

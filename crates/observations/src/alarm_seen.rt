@@ -1,0 +1,12 @@
+//! OSEK/VDX OS: alarms. What is seen of an alarm in a tick.
+
+/// What is seen of an alarm in a tick.
+#[derive(Clone, Copy, Debug, Default, PartialEq, Eq)]
+pub struct AlarmSeen {
+    /// Whether the alarm expires in the tick.
+    pub has_expired: bool,
+    /// Whether it expires and its action is refused.
+    pub is_refused: bool,
+    /// How many counts of its counter it has, where the tick leaves it, before it expires; None while it is off.
+    pub left: Option<u32>,
+}

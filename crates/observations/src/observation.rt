@@ -1,0 +1,40 @@
+//! What is seen of one tick, no part of the standards.
+
+use crate::alarm_seen::AlarmSeen;
+use crate::holder::Holder;
+use crate::routine_seen::RoutineSeen;
+use crate::task_seen::TaskSeen;
+use arrayvec::ArrayVec;
+use osek_base::{MAX_ALARMS, MAX_RESOURCES, MAX_ROUTINES, MAX_TASKS, Owner};
+
+/// How many resources can be held: those that are declared, and RES_SCHEDULER.
+pub const MAX_HELD: usize = MAX_RESOURCES + 1;
+
+/// What is seen of one tick: of each task, routine, resource and alarm by number, behind the declared resources
+/// RES_SCHEDULER, where the system has it.
+#[derive(Debug, Drop)]
+pub struct Observation {
+    /// The number of the tick, from 0.
+    pub tick: u32,
+    /// Who executes the tick's instruction; None in an idle tick.
+    pub executor: Option<Owner>,
+    pub tasks: ArrayVec<TaskSeen, MAX_TASKS>,
+    pub routines: ArrayVec<RoutineSeen, MAX_ROUTINES>,
+    /// Who holds each resource, as the tick leaves it.
+    pub holders: ArrayVec<Holder, MAX_HELD>,
+    pub alarms: ArrayVec<AlarmSeen, MAX_ALARMS>,
+}
+
+impl Observation {
+    /// Nothing yet: no tick, and no task.
+    pub fn new() -> Self {
+        Observation {
+            tick: 0,
+            executor: None,
+            tasks: ArrayVec::new(),
+            routines: ArrayVec::new(),
+            holders: ArrayVec::new(),
+            alarms: ArrayVec::new(),
+        }
+    }
+}

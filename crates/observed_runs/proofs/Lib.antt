@@ -1,0 +1,5 @@
+pub mod Acting
+pub mod Advancing
+pub mod Arriving
+pub mod Bounds
+pub mod SeenSteps

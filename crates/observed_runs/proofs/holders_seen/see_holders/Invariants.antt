@@ -1,0 +1,10 @@
+use Rattle.std.proofs.Common.{◌≡◌, map}
+use Rattle.osek_base.specs.Lists.{below}
+use Rattle.osek_base.specs.declared.ids.ResId.{ResId}
+use Rattle.kernel.specs.Shown.{holder}
+use Rattle.kernel.specs.Run.{run_of}
+use Rattle.observed_runs.proofs.holders_seen.see_holders.Given as goal
+
+-- what is seen of those gone over
+abbrev pub invariant-loop-number : goal.invariant-loop-number
+invariant-loop-number l = l.holders.items ≡ map (λ r. holder l.system (run_of l.kernel).state (ResId.Declared r)) (below l.number)

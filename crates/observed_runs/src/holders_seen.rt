@@ -1,0 +1,31 @@
+//! OSEK/VDX OS: resource management. Who holds each resource.
+
+ghost use Rattle.std.specs.Prelude.{◌≡◌};
+ghost use Rattle.kernel.specs.Run.{run_of};
+ghost use Rattle.observed_runs.specs.Observed.{holders_seen};
+
+use arrayvec::ArrayVec;
+use kernel::Kernel;
+use observations::{Holder, MAX_HELD};
+use osek_base::{ResId, ResourceNumber, System};
+use ready_queues::LevelQueues;
+
+/// Leaves who holds each declared resource, and behind them RES_SCHEDULER where the system has it.
+#[tactic(auto, using(crate::proofs::SeenSteps::seen_more, crate::proofs::SeenSteps::seen_count))]
+pub(crate) fn see_holders(
+    kernel: &Kernel<'_, LevelQueues>,
+    system: &System,
+    holders: &mut ArrayVec<Holder, MAX_HELD>,
+)
+    requires { kernel.now.system ≡ system.now }
+    ensures { holders.new.items ≡ holders_seen system.now (run_of kernel.now).state }
+{
+    holders.clear();
+    for number in 0..system.resource_count() {
+        let resource = ResId::Declared(ResourceNumber::new(number as u8));
+        holders.push(Holder::new(kernel.holder(&resource)));
+    }
+    if system.has_res_scheduler() {
+        holders.push(Holder::new(kernel.holder(&ResId::Scheduler)));
+    }
+}

@@ -1,0 +1,41 @@
+//! How each run begins that is shown, no part of the standards.
+
+ghost use Rattle.std.specs.Prelude.{◌≡◌, IfErr, IfOk};
+ghost use Rattle.tracer.specs.WholeRuns.{IsBegun, RefusesStart};
+
+use arrival_lists::read_arrivals;
+use observed_runs::ObservedRun;
+use osek_base::System;
+use std::alloc::Global;
+use std::io;
+use tracer::RunFault;
+
+/// What a run is of besides its system: its arrival list, the mode, and how many ticks, at most 1,000,000.
+#[derive(Clone, Copy, Debug)]
+pub struct RunInput<'a> {
+    pub irqs: &'a [u8],
+    pub mode: &'a str,
+    pub ticks: u32,
+}
+
+/// The system, booted in a mode with the arrivals of a list, or the first fault of these.
+pub(crate) fn begin<'s>(
+    alloc: Global,
+    system: &'s System,
+    irqs: &[u8],
+    mode: &str,
+) -> Result<ObservedRun<'s>, RunFault>
+    ensures begun { IfOk result (IsBegun system.now irqs.now mode.now) }
+    ensures refusal { IfErr result (RefusesStart system.now irqs.now mode.now) }
+{
+    let arrivals = read_arrivals(alloc, irqs, system)?;
+    Ok(ObservedRun::boot(alloc, system, mode, arrivals)?)
+}
+
+/// The fault of a write, where it failed.
+pub(crate) fn written(outcome: io::Result<()>) -> Result<(), RunFault> {
+    match outcome {
+        Ok(()) => Ok(()),
+        Err(_) => Err(RunFault::Write),
+    }
+}

@@ -1,0 +1,15 @@
+//! What is shown of a run besides its trace: a value change dump, a picture, and figures.
+#![tactic(auto)]
+
+mod beginning;
+mod progress;
+mod stats;
+mod timeline;
+mod vcd;
+
+pub use beginning::RunInput;
+pub use progress::Progress;
+pub use stats::{Form, write_stats};
+pub use timeline::write_timeline;
+pub use timelines::MAX_DRAWN;
+pub use vcd::write_vcd;

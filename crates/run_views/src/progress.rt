@@ -1,0 +1,48 @@
+//! How far a run is, for who waits before a terminal. No part of the standards.
+
+use std::io::Write;
+
+/// After how many ticks at least the number is shown anew: ten times a second or so.
+const TICKS_BETWEEN: u32 = 50_000;
+
+/// How far a run is: a line on a terminal, which is written over and over, and nothing where there is no terminal.
+#[derive(Debug, Drop)]
+pub struct Progress<'e, E> {
+    err: &'e mut E,
+    is_shown: bool,
+    /// How many ticks have to be done before the number is shown anew.
+    next: u32,
+}
+
+impl<'e, E: Write> Progress<'e, E> {
+    /// Progress that is shown there, if it is.
+    pub fn new(err: &'e mut E, is_shown: bool) -> Self {
+        Progress {
+            err,
+            is_shown,
+            next: TICKS_BETWEEN,
+        }
+    }
+
+    /// Whether it is shown.
+    pub fn is_shown(&self) -> bool {
+        self.is_shown
+    }
+
+    /// So many ticks are done of so many. A failed write is forgotten.
+    pub fn note(&mut self, done: u32, ticks: u32) {
+        if self.is_shown && self.next <= done {
+            self.next = done.saturating_add(TICKS_BETWEEN);
+            let _ = write!(self.err, "\r{done} of {ticks} ticks");
+            let _ = self.err.flush();
+        }
+    }
+
+    /// Takes the line away. A failed write is forgotten.
+    pub fn end(&mut self) {
+        if self.is_shown {
+            let _ = write!(self.err, "\r{:30}\r", "");
+            let _ = self.err.flush();
+        }
+    }
+}

@@ -1,0 +1,31 @@
+//! The picture of a run.
+
+use crate::beginning::{RunInput, begin, written};
+use crate::progress::Progress;
+use osek_base::System;
+use std::alloc::Global;
+use std::io::Write;
+use timelines::Timeline;
+use tracer::RunFault;
+
+/// Runs a system and writes the picture of its ticks from `from` on, of [`MAX_DRAWN`](crate::MAX_DRAWN) at most. A refusal
+/// comes before the first byte.
+pub fn write_timeline<O: Write, E: Write>(
+    alloc: Global,
+    system: &System,
+    input: RunInput<'_>,
+    from: u32,
+    progress: &mut Progress<'_, E>,
+    out: &mut O,
+) -> Result<(), RunFault> {
+    let mut run = begin(alloc, system, input.irqs, input.mode)?;
+    let mut timeline = Timeline::new(alloc, system, from, input.ticks)?;
+    for _tick in 0..input.ticks {
+        if !run.advance() {
+            break;
+        }
+        timeline.observe(system, run.observation(), run.records())?;
+        progress.note(run.ticks_done(), input.ticks);
+    }
+    written(timeline.write(system, out))
+}

@@ -1,0 +1,31 @@
+//! The value change dump of a run.
+
+use crate::beginning::{RunInput, begin, written};
+use crate::progress::Progress;
+use osek_base::System;
+use std::alloc::Global;
+use std::io::Write;
+use tracer::RunFault;
+use value_changes::ValueChanges;
+
+/// Runs a system and writes the value change dump of the run. A refusal comes before the first byte; a write that fails ends
+/// the run.
+pub fn write_vcd<O: Write, E: Write>(
+    alloc: Global,
+    system: &System,
+    input: RunInput<'_>,
+    progress: &mut Progress<'_, E>,
+    out: &mut O,
+) -> Result<(), RunFault> {
+    let mut run = begin(alloc, system, input.irqs, input.mode)?;
+    let mut dump = ValueChanges::new(system);
+    written(dump.begin(out))?;
+    for _tick in 0..input.ticks {
+        if !run.advance() {
+            break;
+        }
+        written(dump.observe(run.observation(), run.records(), out))?;
+        progress.note(run.ticks_done(), input.ticks);
+    }
+    written(dump.end(out))
+}

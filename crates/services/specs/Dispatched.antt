@@ -1,0 +1,36 @@
+-- OSEK/VDX OS: task management, scheduling policy. Where a reschedule changes nothing.
+use Rattle.std.specs.Prelude.{ℕ, suc, ◌≡◌, Bool, true, false, not, ◌&&◌, if◌then◌else◌, Option, Some, None, is_some}
+use Rattle.osek_base.specs.declared.status.Status.{Status}
+use Rattle.osek_base.specs.System.{System}
+use Rattle.osek_base.specs.Ceiling.{internal_ceiling, top_priority}
+use Rattle.kept_state.specs.Kept.{Kept, Slot}
+use Rattle.kept_state.specs.Moves.{dynamic_in, highest}
+use Rattle.kept_state.specs.KeptService.{is_above}
+use Rattle.services.specs.Objects.{Objects, Stands, kept_in}
+
+-- whether a task's oldest job is as it is left where it enters running
+abbrev pub has_entered : System → ℕ → Slot → Bool
+has_entered S t a = a.begun && (if is_some (internal_ceiling S t) then a.taken else not a.taken)
+
+-- whether the running task's job runs on, where this is the highest level that has a task
+abbrev pub runs_on : System → ℕ → Slot → Option ℕ → Bool
+runs_on S t a top = not (is_some a.waits_for) && (has_entered S t a && not (is_above (dynamic_in S t a) top))
+
+abbrev pub is_dispatched_by : System → Option ℕ → Bool → (ℕ → Slot) → Option ℕ → Bool
+is_dispatched_by S None gone slots top = not gone && not (is_some top)
+is_dispatched_by S (Some t) gone slots top = not gone && runs_on S t (slots t) top
+
+-- whether the running task is the one that is to run, and runs already; or no task runs, and none is to
+abbrev pub is_dispatched_in : System → Kept → Bool
+is_dispatched_in S o = is_dispatched_by S o.running o.gone o.slots (highest (suc (top_priority S)) o.queues)
+
+-- whether a service is refused, so that it changes nothing
+abbrev pub is_refusal : Option Status → Bool
+is_refusal None = false
+is_refusal (Some Status.Ok) = false
+is_refusal (Some refusal) = true
+
+-- objects that stand for a state, and whether they are known to be dispatched
+pub record IsCore (o : Objects) (known : Bool) : Type 0 where
+  pub stands : Stands o
+  pub dispatched : known ≡ true → is_dispatched_in o.system (kept_in o) ≡ true

@@ -1,0 +1,5 @@
+//! Tests of pictures: the stretches of a row.
+#![tactic(auto)]
+
+#[cfg(test)]
+mod rows;

@@ -1,0 +1,2 @@
+pub mod StretchLemmas
+pub mod TilingLemmas

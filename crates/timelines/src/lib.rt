@@ -1,0 +1,25 @@
+//! A picture of a run: of each task and routine the stretches of ticks in which it shows the same, and what came to it.
+#![tactic(auto)]
+
+mod activity;
+mod drawn_marks;
+mod drawn_row;
+mod frame;
+mod laws;
+mod layout;
+mod mark;
+mod moment;
+mod pieces;
+mod row;
+mod stretch;
+mod style;
+mod svg;
+mod timeline;
+mod track;
+
+pub use activity::Activity;
+pub use laws::{differ_from_the_next, tile_the_ticks};
+pub use moment::Moment;
+pub use row::Row;
+pub use stretch::Stretch;
+pub use timeline::{MAX_DRAWN, Timeline};

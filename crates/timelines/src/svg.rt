@@ -1,0 +1,105 @@
+//! A picture of a run as SVG, no part of the standards.
+
+use crate::drawn_marks::write_marks;
+use crate::drawn_row::{DrawnRow, Kind};
+use crate::frame::{write_head, write_heading, write_legend, write_ticks};
+use crate::layout::Layout;
+use crate::timeline::Timeline;
+use crate::track::Track;
+use osek_base::{Name, Routine, System};
+use std::io::{self, Write};
+
+/// How many bytes the longest of some names has, 0 without names.
+fn longest(names: &[Name]) -> usize {
+    let mut longest = 0;
+    for name in names {
+        longest = name.as_str().len().max(longest);
+    }
+    longest
+}
+
+/// Whether a routine of a PRIORITY and a number stands above one of another PRIORITY and another number.
+fn stands_above(priority: u8, number: usize, other_priority: u8, other: usize) -> bool {
+    other_priority < priority || (other_priority == priority && number < other)
+}
+
+/// How many routines stand above that of a number: those of higher PRIORITY, and of equal PRIORITY those before it.
+fn place_of_routine(routines: &[Routine], number: usize, priority: u8) -> usize {
+    routines
+        .iter()
+        .enumerate()
+        .filter(|(other, routine)| stands_above(routine.priority, *other, priority, number))
+        .count()
+}
+
+fn write_track<W: Write>(
+    system: &System,
+    row: DrawnRow<'_>,
+    track: &Track,
+    layout: Layout,
+    out: &mut W,
+) -> io::Result<()> {
+    row.write(track, layout, out)?;
+    write_marks(system, track.marks.as_slice(), layout, out)
+}
+
+fn write_routines<W: Write>(
+    system: &System,
+    tracks: &[Track],
+    layout: Layout,
+    out: &mut W,
+) -> io::Result<()> {
+    let routines = system.parts().routines.as_slice();
+    let names = system.names().routines.as_slice();
+    for (number, ((track, routine), name)) in tracks.iter().zip(routines).zip(names).enumerate() {
+        let row = DrawnRow {
+            kind: Kind::Routine,
+            name: name.as_str(),
+            priority: routine.priority,
+            place: place_of_routine(routines, number, routine.priority),
+        };
+        write_track(system, row, track, layout, out)?;
+    }
+    Ok(())
+}
+
+fn write_tasks<W: Write>(
+    system: &System,
+    tracks: &[Track],
+    layout: Layout,
+    out: &mut W,
+) -> io::Result<()> {
+    let tasks = system.parts().tasks.as_slice();
+    let names = system.names().tasks.as_slice();
+    for (number, ((track, task), name)) in tracks.iter().zip(tasks).zip(names).enumerate() {
+        let row = DrawnRow {
+            kind: Kind::Task,
+            name: name.as_str(),
+            priority: task.priority,
+            place: number.saturating_add(system.routine_count()),
+        };
+        write_track(system, row, track, layout, out)?;
+    }
+    Ok(())
+}
+
+impl Timeline {
+    fn layout(&self, system: &System) -> Layout {
+        let names = system.names();
+        let longest = longest(names.tasks.as_slice()).max(longest(names.routines.as_slice()));
+        let rows = system.routine_count().saturating_add(system.task_count());
+        Layout::new(self.from, self.end, rows, longest)
+    }
+
+    /// Writes the picture: an SVG document of its own, without scripts and without references to others. A row for each
+    /// routine and then each task, by falling priority. An error is a failed write.
+    pub fn write<W: Write>(&self, system: &System, out: &mut W) -> io::Result<()> {
+        let layout = self.layout(system);
+        write_head(layout, out)?;
+        write_heading(layout, out)?;
+        write_ticks(layout, out)?;
+        write_routines(system, self.routines.as_slice(), layout, out)?;
+        write_tasks(system, self.tasks.as_slice(), layout, out)?;
+        write_legend(layout, out)
+    }
+}

@@ -1,0 +1,57 @@
+//! What is kept of one task or routine.
+
+use crate::mark::{Mark, Sign};
+use crate::moment::Moment;
+use crate::row::Row;
+use std::alloc::{AllocError, Global};
+
+/// What is kept of one task or routine: its stretches, and what came to it, by falling age.
+#[derive(Drop)]
+pub(crate) struct Track {
+    pub(crate) row: Row,
+    pub(crate) marks: Vec<Mark>,
+}
+
+impl Track {
+    pub(crate) fn new(alloc: Global) -> Self {
+        Track {
+            row: Row::new(alloc),
+            marks: Vec::new(alloc),
+        }
+    }
+
+    /// Keeps what came in a tick, where the condition holds. An error is want of memory.
+    pub(crate) fn mark_if(
+        &mut self,
+        condition: bool,
+        tick: u32,
+        sign: Sign,
+    ) -> Result<(), AllocError> {
+        if condition {
+            self.marks.push(Mark { tick, sign })?;
+        }
+        Ok(())
+    }
+}
+
+/// So many tracks, with nothing on them.
+pub(crate) fn bare_tracks(alloc: Global, count: usize) -> Result<Vec<Track>, AllocError> {
+    let mut tracks = Vec::with_capacity(alloc, count)?;
+    for _made in 0..count {
+        tracks.push(Track::new(alloc))?;
+    }
+    Ok(tracks)
+}
+
+/// Keeps what came to the task or routine of a number. An error is want of memory.
+pub(crate) fn mark_at(
+    tracks: &mut [Track],
+    number: usize,
+    tick: u32,
+    sign: Sign,
+) -> Result<(), AllocError> {
+    if number < tracks.len() {
+        tracks[number].mark_if(true, tick, sign)?;
+    }
+    Ok(())
+}

@@ -1,0 +1,34 @@
+//! Value change dumps: variables of the kind event, which fire in a tick and have no value.
+
+use crate::tick_changes::TickChanges;
+use crate::variable::Variable;
+use arrayvec::ArrayVec;
+use observations::{AlarmSeen, RoutineSeen};
+use osek_base::{AlarmId, IsrId, MAX_ALARMS, MAX_ROUTINES};
+use std::io::{self, Write};
+
+/// The losses of interrupts in the tick.
+pub(crate) fn write_losses<W: Write>(
+    seen: &ArrayVec<RoutineSeen, MAX_ROUTINES>,
+    changes: &mut TickChanges<'_, W>,
+) -> io::Result<()> {
+    for number in 0..seen.len() {
+        if seen[number].lost > 0 {
+            changes.event(Variable::Lost(IsrId::new(number as u8)))?;
+        }
+    }
+    Ok(())
+}
+
+/// The expiries of alarms in the tick.
+pub(crate) fn write_expiries<W: Write>(
+    seen: &ArrayVec<AlarmSeen, MAX_ALARMS>,
+    changes: &mut TickChanges<'_, W>,
+) -> io::Result<()> {
+    for number in 0..seen.len() {
+        if seen[number].has_expired {
+            changes.event(Variable::Expiry(AlarmId::new(number as u8)))?;
+        }
+    }
+    Ok(())
+}

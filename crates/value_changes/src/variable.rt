@@ -1,0 +1,109 @@
+//! Value change dumps: variables and their identifier codes.
+
+ghost use Rattle.std.specs.Prelude.{◌<◌, ◌*◌};
+
+use observations::MAX_HELD;
+use osek_base::{AlarmId, IsrId, MAX_ROUTINES, MAX_TASKS, ResId, TaskId};
+use std::fmt;
+
+/// How many characters identifier codes are made of: the printable ones of ASCII but the space.
+const DIGITS: u16 = 94;
+
+/// How many variables there are of each task and of each routine.
+const OF_TASK: u16 = 3;
+
+const OF_ROUTINE: u16 = 3;
+
+/// The number of the first variable of the tasks, routines, resources and alarms.
+const TASKS: u16 = 1;
+
+const ROUTINES: u16 = TASKS + OF_TASK * MAX_TASKS as u16;
+
+const RESOURCES: u16 = ROUTINES + OF_ROUTINE * MAX_ROUTINES as u16;
+
+const ALARMS: u16 = RESOURCES + MAX_HELD as u16;
+
+/// A variable of a dump. It is written as its identifier code, one or two printable characters.
+#[derive(Clone, Copy, Debug, PartialEq, Eq)]
+pub enum Variable {
+    /// The name of the task or routine that executes.
+    Executor,
+    /// The state of a task.
+    State(TaskId),
+    /// The dynamic priority of a task's oldest job.
+    Priority(TaskId),
+    /// How many jobs a task has.
+    Jobs(TaskId),
+    /// Whether a routine is pending.
+    Pending(IsrId),
+    /// Whether a routine executes or is active.
+    Active(IsrId),
+    /// The event that an interrupt of a routine is lost.
+    Lost(IsrId),
+    /// The name of the task that holds a resource.
+    Holder(ResId),
+    /// The event that an alarm expires.
+    Expiry(AlarmId),
+}
+
+fn of_task(task: TaskId, which: u16) -> u16
+    requires { which < OF_TASK }
+    ensures { result < ROUTINES }
+{
+    TASKS + OF_TASK * u16::from(task.number()) + which
+}
+
+fn of_routine(routine: IsrId, which: u16) -> u16
+    requires { which < OF_ROUTINE }
+    ensures { result < RESOURCES }
+{
+    ROUTINES + OF_ROUTINE * u16::from(routine.number()) + which
+}
+
+fn of_resource(resource: &ResId) -> u16
+    ensures { result < ALARMS }
+{
+    match resource {
+        ResId::Declared(number) => RESOURCES + u16::from(number.number()),
+        ResId::Scheduler => ALARMS - 1,
+    }
+}
+
+fn digit(value: u16) -> char
+    requires { value < DIGITS }
+{
+    char::from(b'!' + value as u8)
+}
+
+impl Variable {
+    /// The number of the variable, the same in every dump.
+    fn number(&self) -> u16
+        ensures { result < DIGITS * DIGITS }
+    {
+        match self {
+            Variable::Executor => 0,
+            Variable::State(task) => of_task(*task, 0),
+            Variable::Priority(task) => of_task(*task, 1),
+            Variable::Jobs(task) => of_task(*task, 2),
+            Variable::Pending(routine) => of_routine(*routine, 0),
+            Variable::Active(routine) => of_routine(*routine, 1),
+            Variable::Lost(routine) => of_routine(*routine, 2),
+            Variable::Holder(resource) => of_resource(resource),
+            Variable::Expiry(alarm) => ALARMS + u16::from(alarm.number()),
+        }
+    }
+}
+
+/// The number in digits, the lowest first; a second digit counts from 1.
+impl fmt::Display for Variable {
+    fn fmt<W: fmt::Write>(&self, f: &mut fmt::Formatter<W>) -> fmt::Result {
+        let number = self.number();
+        let first = digit(number % DIGITS);
+        if number < DIGITS {
+            write!(f, "{first}")
+        } else {
+            let second = digit(number / DIGITS - 1);
+            write!(f, "{first}{second}")
+        }
+    }
+}
