@@ -44,7 +44,7 @@ any_own test (c ∷ ks) (suc p) low away =
 -- ---- the next tick
 
 -- the first counters have gone through it, and the rest are as they were
-pub record AreThrough (tick : ℕ) (old new : List CounterAlarms) (before flags : List Bool) (i : ℕ) : Type 0 where
+pub record AreThrough (tick : ℕ) (old new : List CounterAlarms) (before flags : ℕ) (i : ℕ) : Type 0 where
   pub same : length new ≡ length old
   pub ready : (k : ℕ) → k < i → IsReady (tick + 1) (counter_at new k)
   pub counters : (k : ℕ) → k < i → (counter_at new k).counter ≡ (counter_at old k).counter
@@ -55,7 +55,7 @@ pub record AreThrough (tick : ℕ) (old new : List CounterAlarms) (before flags 
       ≡ (is_raised a before || list_any (λ k. is_due_at (count_of (tick + 1) k) (expiry_in tick k a)) (take i old))
 
 -- one counter has
-pub record IsThrough (tick : ℕ) (old new : CounterAlarms) (before flags : List Bool) : Type 0 where
+pub record IsThrough (tick : ℕ) (old new : CounterAlarms) (before flags : ℕ) : Type 0 where
   pub ready : IsReady (tick + 1) new
   pub counter : new.counter ≡ old.counter
   pub expiries : (a : ℕ) → expiry_in (tick + 1) new a ≡ expired_at (count_of (tick + 1) old) (expiry_in tick old a)
@@ -65,7 +65,7 @@ or-assoc : (a b c : Bool) → ((a || b) || c) ≡ (a || (b || c))
 or-assoc true b c = refl
 or-assoc false b c = refl
 
-pub none_through : (tick : ℕ) (old : List CounterAlarms) (flags : List Bool) → AreThrough tick old old flags flags 0
+pub none_through : (tick : ℕ) (old : List CounterAlarms) (flags : ℕ) → AreThrough tick old old flags flags 0
 none_through tick old flags = record {
   same = refl;
   ready = λ k low. absurd (omega arith);
@@ -75,7 +75,7 @@ none_through tick old flags = record {
   raised = λ a. sym (or_false (is_raised a flags));
 }
 
-module _ (tick : ℕ) (old new : List CounterAlarms) (first before flags : List Bool) (i : ℕ) (x : CounterAlarms)
+module _ (tick : ℕ) (old new : List CounterAlarms) (first before flags : ℕ) (i : ℕ) (x : CounterAlarms)
     (done : AreThrough tick old new first before i) (low : i < length old) (one : IsThrough tick (counter_at new i) x before flags) where
   next_here : (k : ℕ) → k ≡ i → counter_at (set new i x) k ≡ x
   next_here k is = rw is (get_or-set_same new i x no_alarms (omega (arith, done.same)))
@@ -128,7 +128,7 @@ module _ (tick : ℕ) (old new : List CounterAlarms) (first before flags : List 
     raised = next_raised;
   }
 
-pub through_all : (tick : ℕ) (old new : List CounterAlarms) (before flags : List Bool) → AreThrough tick old new before flags (length old)
+pub through_all : (tick : ℕ) (old new : List CounterAlarms) (before flags : ℕ) → AreThrough tick old new before flags (length old)
     → AreAdvanced tick old new
 through_all tick old new before flags done = record {
   same = done.same;
@@ -191,7 +191,7 @@ module _ (tick : ℕ) (ks new : List CounterAlarms) (numbers : List ℕ) (whole 
     due_away a k inside other =
         ap (is_due_at (count_of (tick + 1) (counter_at ks k))) (whole.own k a inside (λ low same. other (sym same)))
 
-    pub due_table : (flags : List Bool)
+    pub due_table : (flags : ℕ)
         → ((a : ℕ) → is_raised a flags ≡ list_any (λ k. is_due_at (count_of (tick + 1) k) (expiry_in tick k a)) ks)
         → filter (λ a. is_raised a flags) (below (length S.alarms)) ≡ due_of S (next_tick (table_of tick ks numbers))
     due_table flags raised =

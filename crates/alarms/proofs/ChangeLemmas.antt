@@ -172,7 +172,7 @@ set_change tick k t ready off more =
       ready = record {
         base = ready.base;
         round = ready.round;
-        value_is = ready.value_is;
+        next_is = ready.next_is;
         ahead = ahead-inserted k.running t more ready.ahead;
         apart = apart-inserted k.running t none ready.apart;
       };
@@ -186,7 +186,7 @@ cancel_change tick k a ready = record {
   ready = record {
     base = ready.base;
     round = ready.round;
-    value_is = ready.value_is;
+    next_is = ready.next_is;
     ahead = ahead-without k.running a ready.ahead;
     apart = apart-without k.running a ready.apart;
   };

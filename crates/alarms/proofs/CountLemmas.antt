@@ -3,7 +3,7 @@ use Rattle.std.proofs.Common.{ℕ, zero, suc, ◌≡◌, ◌<◌, ◌≤◌, ◌
 use Rattle.std.specs.List.{list_all}
 use Rattle.std.proofs.lemmas.Nat.{div-mul-add, div-add-mod'}
 use Rattle.std.proofs.Math.Nat.{add-div_left, mod-lt, mod-add-mod}
-use Rattle.std.proofs.lemmas.Bool.{cases_Bool, and_parts, eqb-true, ltb-true, lt-ltb, cases_lt}
+use Rattle.std.proofs.lemmas.Bool.{cases_Bool, and_parts, eqb-true, ltb-true, lt-ltb}
 use Rattle.std.proofs.lemmas.Bool.Decides.{nat_tests}
 use Rattle.alarms.specs.Waits.{Wait, wait_of, less, again, is_over, expiry_at, has, are_apart, are_ahead, without, one_less, is_none_over, are_low, overs, inserted, is_sooner, left_in}
 use Rattle.alarms.specs.Alarms.{expired_at, remaining_at}
@@ -11,30 +11,25 @@ use Rattle.osek_base.specs.Alarm.{is_due_at}
 use Rattle.alarms.proofs.ExpiryLemmas.{expiry-less, expiry-again, due-over, ahead-over, wait_of-less, wait_of-inserted, wait_of-without, or_first, or_second, not_false}
 
 -- the count at the next tick
-pub count_stays : (t b : ℕ) → 0 < b → ((t + 1) % b ≡ 0 → ⊥) → (t + 1) / b ≡ t / b
+pub count_stays : (t b : ℕ) → 0 < b → (t + 1 ≡ t / b * b + b → ⊥) → (t + 1) / b ≡ t / b
 count_stays t b base more =
-    let k = (t + 1) / b in
-    let whole = div-add-mod' (t + 1) b in
-    let low = mod-lt (t + 1) base in
-    let is : t ≡ (t + 1) / b * b + ((t + 1) % b - 1) = omega arith in
-    let below : (t + 1) % b - 1 < b = omega arith in
-    sym (ap (λ n. n / b) is ∙ div-mul-add ((t + 1) / b) b ((t + 1) % b - 1) below)
-
-pub count_grows : (t b : ℕ) → 0 < b → (t + 1) % b ≡ 0 → (t + 1) / b ≡ t / b + 1
-count_grows t b base none =
     let whole = div-add-mod' t b in
-    let next = div-add-mod' (t + 1) b in
     let low = mod-lt t base in
-    elim (cases_lt (t % b + 1) b) [
-      | inl more ↦
-          let is : t + 1 ≡ t / b * b + (t % b + 1) = omega arith in
-          let same : (t + 1) / b ≡ t / b = ap (λ n. n / b) is ∙ div-mul-add (t / b) b (t % b + 1) more in
-          let times : (t + 1) / b * b ≡ t / b * b = ap (λ n. n * b) same in
-          absurd (omega arith)
-      | inr last ↦
-          let is : t + 1 ≡ b + (t / b * b + 0) = omega arith in
-          ap (λ n. n / b) is ∙ (add-div_left (t / b * b + 0) base ∙ ap (λ n. n + 1) (div-mul-add (t / b) b 0 base))
-    ]
+    let below : t % b + 1 < b = omega arith in
+    let is : t + 1 ≡ t / b * b + (t % b + 1) = omega arith in
+    ap (λ n. n / b) is ∙ div-mul-add (t / b) b (t % b + 1) below
+
+pub count_grows : (t b : ℕ) → 0 < b → t + 1 ≡ t / b * b + b → (t + 1) / b ≡ t / b + 1
+count_grows t b base last =
+    let is : t + 1 ≡ b + (t / b * b + 0) = omega arith in
+    ap (λ n. n / b) is ∙ (add-div_left (t / b * b + 0) base ∙ ap (λ n. n + 1) (div-mul-add (t / b) b 0 base))
+
+-- once it has grown, it grows next a base later
+pub grows_next : (t b : ℕ) → 0 < b → t + 1 ≡ t / b * b + b → t / b * b + b + b ≡ (t + 1) / b * b + b
+grows_next t b base last =
+    let grown : (t + 1) / b * b ≡ (t / b + 1) * b = ap (λ n. n * b) (count_grows t b base last) in
+    let times : (t / b + 1) * b ≡ t / b * b + b = grind arith in
+    omega arith
 
 pub not_due : (n : ℕ) (ws : List Wait) (a : ℕ) → are_ahead ws ≡ true → is_due_at n (expiry_at n (wait_of a ws)) ≡ false
 not_due n ws a ahead = due-over n (wait_of a ws) ∙ ahead-over ws a ahead

@@ -220,7 +220,7 @@ same_again old ws rest b cycle a none before = elim (cases_Bool (eqb b a)) [
       ap again (now ∙ sym was)
 ]
 
-same_raised : (ws rest : List Wait) (before flags : List Bool) (b cycle a : ℕ) → has b rest ≡ false
+same_raised : (ws rest : List Wait) (before flags : ℕ) (b cycle a : ℕ) → has b rest ≡ false
     → wait_of a ws ≡ cond (eqb b a) (Some (over_wait b cycle)) (wait_of a rest)
     → is_raised a flags ≡ (is_raised a before || eqb b a)
     → (is_raised a flags || is_over (wait_of a (restarted b cycle rest))) ≡ (is_raised a before || is_over (wait_of a ws))
@@ -269,7 +269,7 @@ length-was ws rest b cycle is = ap length is ∙ length_last rest (over_wait b c
 few_next : (ws rest : List Wait) (b cycle : ℕ) → ws ≡ rest ++ over_wait b cycle ∷ [] → length ws ≤ MAX_ALARMS → length (restarted b cycle rest) ≤ MAX_ALARMS
 few_next ws rest b cycle is few = omega (arith, length-was ws rest b cycle is, length-restarted rest b cycle)
 
-pub left_next : (old ws rest : List Wait) (first before flags : List Bool) (b cycle : ℕ) → IsLeft old first ws before
+pub left_next : (old ws rest : List Wait) (first before flags : ℕ) (b cycle : ℕ) → IsLeft old first ws before
     → ws ≡ rest ++ over_wait b cycle ∷ []
     → ((a : ℕ) → is_raised a flags ≡ (is_raised a before || eqb b a))
     → IsLeft old first (restarted b cycle rest) flags

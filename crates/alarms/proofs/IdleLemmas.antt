@@ -1,7 +1,7 @@
 -- The table where no alarm is on.
-use Rattle.std.proofs.Common.{ℕ, ◌≡◌, ◌+◌, ◌%◌, List, [], ◌∷◌, map, length, get_or, replicate, Option, None, refl, sym, ◌∙◌, ap, ap₂, arith}
+use Rattle.std.proofs.Common.{ℕ, ◌≡◌, ◌+◌, ◌*◌, List, [], ◌∷◌, map, length, get_or, replicate, Option, None, refl, sym, ◌∙◌, ap, ap₂, arith}
 use Rattle.std.proofs.Math.ListN.{get_or-map}
-use Rattle.std.proofs.Math.Nat.{zero-div, zero-mod}
+use Rattle.std.proofs.Math.Nat.{zero-div}
 use Rattle.std.proofs.lemmas.List.{length-map, length-replicate, ext_get_or, get_or-replicate}
 use Rattle.osek_base.specs.declared.task.Counter.{Counter}
 use Rattle.osek_base.specs.System.{System, Alarm, counter, no_alarm, no_counter}
@@ -16,13 +16,15 @@ idle_at : (cs : List Counter) (k : ℕ) → counter_at (map idle cs) k ≡ idle 
 idle_at cs k = get_or-map idle cs k no_counter
 
 idle_ready : (c : Counter) → IsSound c → IsReady 0 (idle c)
-idle_ready c s = record {
-  base = s.base;
-  round = omega (arith, s.round);
-  value_is = sym (ap (λ n. n % (c.max_allowed_value + 1)) (zero-div c.ticks_per_base) ∙ zero-mod (c.max_allowed_value + 1));
-  ahead = refl;
-  apart = refl;
-}
+idle_ready c s =
+    let none : 0 * c.ticks_per_base + c.ticks_per_base ≡ c.ticks_per_base = omega arith in
+    record {
+      base = s.base;
+      round = omega (arith, s.round);
+      next_is = sym (ap (λ n. n * c.ticks_per_base + c.ticks_per_base) (zero-div c.ticks_per_base) ∙ none);
+      ahead = refl;
+      apart = refl;
+    }
 
 abbrev number : Alarm → ℕ
 number b = b.counter

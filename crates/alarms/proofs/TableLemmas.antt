@@ -1,12 +1,17 @@
 -- Lists over all alarms by number.
-use Rattle.std.proofs.Common.{ℕ, zero, suc, ◌≡◌, ◌<◌, ◌≤◌, ◌+◌, ◌-◌, List, [], ◌∷◌, map, length, get_or, Bool, false, replicate, inl, inr, refl, ◌∙◌, ap, arith}
+use Rattle.std.proofs.Common.{ℕ, zero, suc, ◌≡◌, ◌<◌, ◌≤◌, ◌+◌, ◌-◌, [], ◌∷◌, map, length, get_or, ◌*◌, ◌%◌, ◌^◌, Bool, true, false, ◌||◌, eqb, bit_or, inl, inr, refl, sym, ◌∙◌, ap, arith}
 use Rattle.std.proofs.Math.Numerals.{add-one}
 use Rattle.std.proofs.Math.Nat.{sub_self}
 use Rattle.std.specs.List.{filter}
 use Rattle.std.proofs.lemmas.List.{map-append, length-append, length-map, get_or-append_right, get_or_append_left}
 use Rattle.std.proofs.lemmas.List.Elements.{filter-append}
 use Rattle.std.proofs.lemmas.List.Sums.{length-filter, count_by-le-length}
-use Rattle.std.proofs.lemmas.Bool.{cases_lt}
+use Rattle.std.proofs.Math.Bool.{or-false, or-true}
+use Rattle.std.proofs.lemmas.Bool.{cases_lt, cases_eq, ne_eqb}
+use Rattle.std.proofs.lemmas.Bool.Decides.{nat_tests}
+use Rattle.std.proofs.lemmas.Nat.Bits.{bit_at-zero, bit_at_set_same, bit_at_set_other}
+use Rattle.std.specs.Int.{w64}
+use Rattle.osek_base.specs.declared.limits.TheConstants.{MAX_ALARMS}
 use Rattle.osek_base.specs.Lists.{below}
 use Rattle.alarms.specs.Waits.{is_raised}
 
@@ -53,13 +58,27 @@ pub length-due : (test : ℕ → Bool) (n : ℕ) → length (filter test (below 
 length-due test n =
     omega (arith, length-filter test (below n), count_by-le-length test (below n), length-below n)
 
--- no flag is set
-pub none_raised : (n a : ℕ) → is_raised a (replicate n false) ≡ false
-none_raised zero a = refl
-none_raised (suc n) zero = refl
-none_raised (suc n) (suc a) = none_raised n a
+-- no bit is set
+pub none_raised : (a : ℕ) → is_raised a 0 ≡ false
+none_raised a = rw (bit_at-zero a) refl
 
-pub none_listed : (flags : List Bool) (n : ℕ) → ((a : ℕ) → is_raised a flags ≡ false) → filter (λ a. is_raised a flags) (below n) ≡ []
+pub none_listed : (flags : ℕ) (n : ℕ) → ((a : ℕ) → is_raised a flags ≡ false) → filter (λ a. is_raised a flags) (below n) ≡ []
 none_listed flags zero none = refl
 none_listed flags (suc n) none =
     rw (filter-append (λ a. is_raised a flags) (below n) (n ∷ []), none_listed flags n none, none n) refl
+
+eqb-same : (n : ℕ) → eqb n n ≡ true
+eqb-same n = grind (arith, nat_tests)
+
+-- one bit more is set
+pub one_raised : (word b a : ℕ) → b < MAX_ALARMS → is_raised a (bit_or word (1 * 2 ^ b % 2 ^ 64)) ≡ (is_raised a word || eqb b a)
+one_raised word b a low = elim (cases_eq a b) [
+  | inl is ↦
+      let bit : is_raised a (bit_or word (1 * 2 ^ b % 2 ^ 64)) ≡ true = rw (is, bit_at_set_same w64 word b low) refl in
+      let same : eqb b a ≡ true = rw is (eqb-same b) in
+      rw (bit, same) (sym (or-true (is_raised a word)))
+  | inr other ↦
+      let bit : is_raised a (bit_or word (1 * 2 ^ b % 2 ^ 64)) ≡ is_raised a word = rw (bit_at_set_other w64 word b low a other) refl in
+      let away : eqb b a ≡ false = ne_eqb b a (λ (e : b ≡ a). other (sym e)) in
+      rw (bit, away) (sym (or-false (is_raised a word)))
+]

@@ -1,6 +1,6 @@
 -- OSEK/VDX OS: counters and alarm management. Counters with their running alarms, and the table of all alarms that they
 -- stand for.
-use Rattle.std.specs.Prelude.{ℕ, ◌+◌, ◌/◌, ◌%◌, ◌≡◌, ◌≤◌, ◌<◌, ◌^◌, List, [], map, Option, None, length, true, slice_index_or, if◌then◌else◌, ◌==◌}
+use Rattle.std.specs.Prelude.{ℕ, ◌+◌, ◌*◌, ◌/◌, ◌≡◌, ◌≤◌, ◌<◌, ◌^◌, List, [], map, Option, None, length, true, slice_index_or, if◌then◌else◌, ◌==◌}
 use Rattle.osek_base.specs.declared.limits.TheConstants.{MAX_TICKS, MAX_ALARMS}
 use Rattle.osek_base.specs.declared.task.Counter.{Counter}
 use Rattle.osek_base.specs.Lists.{below}
@@ -10,9 +10,9 @@ use Rattle.alarms.specs.declared.counter_alarms.CounterAlarms.{CounterAlarms}
 use Rattle.alarms.specs.Alarms.{AlarmTable, expired_at}
 use Rattle.alarms.specs.Waits.{wait_of, expiry_at, are_ahead, are_apart}
 
--- a counter at 0 with no running alarm
+-- a counter at 0 with no running alarm: it grows first once its base has passed
 abbrev pub idle : Counter → CounterAlarms
-idle c = record { counter = c; value = 0; running = [] }
+idle c = record { counter = c; next = c.ticks_per_base; running = [] }
 
 -- what stands for a counter that isn't there
 abbrev pub no_alarms : CounterAlarms
@@ -25,11 +25,11 @@ count_of tick k = tick / k.counter.ticks_per_base
 abbrev pub expiry_in : ℕ → CounterAlarms → ℕ → Option Expiry
 expiry_in tick k a = expiry_at (count_of tick k) (wait_of a k.running)
 
--- what holds of a counter between ticks: its limits, its wrapped value, no wait is over, and no alarm runs twice
+-- what holds of a counter between ticks: its limits, when it grows, no wait is over, and no alarm runs twice
 pub record IsReady (tick : ℕ) (k : CounterAlarms) : Type 0 where
   pub base : 1 ≤ k.counter.ticks_per_base
   pub round : k.counter.max_allowed_value < 2 ^ 31
-  pub value_is : k.value ≡ (tick / k.counter.ticks_per_base) % (k.counter.max_allowed_value + 1)
+  pub next_is : k.next ≡ count_of tick k * k.counter.ticks_per_base + k.counter.ticks_per_base
   pub ahead : are_ahead k.running ≡ true
   pub apart : are_apart k.running ≡ true
 

@@ -1,5 +1,6 @@
 -- OSEK/VDX OS: counters and alarm management. The running alarms of one counter, the one that expires last first.
 use Rattle.std.specs.Prelude.{ℕ, ◌+◌, ◌-◌, ◌≤◌, ◌≡◌, Bool, true, false, length, not, nat_lt, ◌==◌, ◌&&◌, ◌||◌, if◌then◌else◌, List, [], ◌∷◌, Option, Some, None, slice_index_or, slice_set}
+use Rattle.std.specs.Int.{bit_at}
 use Rattle.std.specs.List.{list_all, list_any}
 use Rattle.osek_base.specs.declared.limits.TheConstants.{MAX_ALARMS}
 use Rattle.osek_base.specs.State.{Expiry}
@@ -100,14 +101,14 @@ abbrev pub again : Option Wait → Option Wait
 again None = None
 again (Some w) = if w.left == 0 then (if w.cycle == 0 then None else Some (record w { left = w.cycle })) else Some w
 
--- whether the flag of an alarm is set
-abbrev pub is_raised : ℕ → List Bool → Bool
-is_raised a flags = slice_index_or flags a false
+-- whether the bit of an alarm is set
+abbrev pub is_raised : ℕ → ℕ → Bool
+is_raised a word = bit_at word a == 1
 
--- some alarms whose wait was over have started again, and their flags are set
-pub record IsLeft (old : List Wait) (before : List Bool) (ws : List Wait) (flags : List Bool) : Type 0 where
+-- some alarms whose wait was over have started again, and their bits are set
+pub record IsLeft (old : List Wait) (before : ℕ) (ws : List Wait) (due : ℕ) : Type 0 where
   pub waits_same : (a : ℕ) → again (wait_of a ws) ≡ again (wait_of a old)
-  pub raised_same : (a : ℕ) → (is_raised a flags || is_over (wait_of a ws)) ≡ (is_raised a before || is_over (wait_of a old))
+  pub raised_same : (a : ℕ) → (is_raised a due || is_over (wait_of a ws)) ≡ (is_raised a before || is_over (wait_of a old))
   pub apart : are_apart ws ≡ true
   pub few : length ws ≤ MAX_ALARMS
 

@@ -1,10 +1,13 @@
 //! The alarms of a system.
 
 ghost use Rattle.std.specs.Prelude.{◌≡◌, ◌<◌, ◌≤◌, ◌+◌, ◌^◌, ℕ, length, map, replicate, Option, None, Some, is_some, slice_index_or, slice_set};
+ghost use Rattle.std.specs.List.{filter};
+ghost use Rattle.osek_base.specs.Lists.{below};
 ghost use Rattle.osek_base.specs.System.{System as Configured, alarm_start_in, counter, counter_of};
 ghost use Rattle.osek_base.specs.Alarm.{is_bad_cycle, next_count};
 ghost use Rattle.osek_base.specs.declared.instr.Service.{Service};
 ghost use Rattle.osek_base.specs.Trace.{first_expiry, starting_alarms};
+ghost use Rattle.alarms.specs.Waits.{is_raised};
 ghost use Rattle.alarms.specs.Alarms.{IsTableOf, status_of, after_call, counter_in, count_in, remaining_at, remaining_of, next_tick, due_of, expired};
 
 use crate::counter_alarms::CounterAlarms;
@@ -153,10 +156,22 @@ impl Alarms {
         ensures alarms { self.new ≡ expired system.now (next_tick self.old) }
         ensures table { IsTableOf system.now self.new }
     {
-        let mut flags = DueAlarms::none();
-        advance_each(&mut self.counters, self.tick, &mut flags);
+        let expired = self.expire();
+        expired.list(system.alarm_count(), due);
+    }
+
+    /// The next tick begins, and the alarms that are due in it expire: each expires again a cycle later, or goes off. The
+    /// answer has these alarms.
+    pub fn expire(&mut self) -> DueAlarms
+        requires last { self.old.tick + 1 < MAX_TICKS }
+        ensures due { (S : Configured) → IsTableOf S self.old → filter (λ a. is_raised a result) (below (length S.alarms)) ≡ due_of S (next_tick self.old) }
+        ensures alarms { (S : Configured) → IsTableOf S self.old → self.new ≡ expired S (next_tick self.old) }
+        ensures table { (S : Configured) → IsTableOf S self.old → IsTableOf S self.new }
+    {
+        let mut due = DueAlarms::none();
+        advance_each(&mut self.counters, self.tick, &mut due);
         self.tick += 1;
-        flags.list(system.alarm_count(), due);
+        due
     }
 
     /// Whether an alarm is on.
@@ -186,7 +201,7 @@ impl Alarms {
     {
         let number = self.numbers[alarm.number() as usize];
         let counter = &self.counters[number as usize];
-        counter.wait_until(start)
+        counter.wait_until(self.tick, start)
     }
 
     /// An alarm that is off starts: it expires in `wait` counts, and each `cycle` counts after that, 0 for once.

@@ -1,6 +1,6 @@
 //! A counter and its alarms.
 
-ghost use Rattle.std.specs.Prelude.{◌≡◌, ◌<◌, ◌≤◌, ◌+◌, ◌||◌, ◌%◌, ◌^◌, ℕ};
+ghost use Rattle.std.specs.Prelude.{◌≡◌, ◌<◌, ◌≤◌, ◌+◌, ◌||◌, ◌^◌, ℕ};
 ghost use Rattle.osek_base.specs.Alarm.{is_due_at, next_count};
 ghost use Rattle.alarms.specs.Alarms.{expired_at};
 ghost use Rattle.alarms.specs.Waits.{is_raised};
@@ -10,11 +10,11 @@ use crate::difference_list::DifferenceList;
 use crate::due_alarms::DueAlarms;
 use osek_base::{Counter, MAX_TICKS};
 
-/// A counter, its value, from 0 to MAXALLOWEDVALUE, and its running alarms.
+/// A counter, the tick in which it grows next, and its running alarms.
 #[derive(Drop)]
 pub struct CounterAlarms {
     pub counter: Counter,
-    pub value: u32,
+    pub next: u32,
     pub running: DifferenceList,
 }
 
@@ -35,7 +35,7 @@ impl CounterAlarms {
     {
         CounterAlarms {
             counter,
-            value: 0,
+            next: counter.ticks_per_base,
             running: DifferenceList::new(),
         }
     }
@@ -49,22 +49,24 @@ impl CounterAlarms {
         ensures expiries { (a : ℕ) → expiry_in (tick + 1) self.new a ≡ expired_at (count_of (tick + 1) self.old) (expiry_in tick self.old a) }
         ensures due { (a : ℕ) → is_raised a due.new ≡ (is_raised a due.old || is_due_at (count_of (tick + 1) self.old) (expiry_in tick self.old a)) }
     {
-        if (tick + 1) % self.counter.ticks_per_base == 0 {
-            self.value = (self.value + 1) % (self.counter.max_allowed_value + 1);
+        if tick + 1 == self.next {
+            self.next += self.counter.ticks_per_base;
             self.running.advance(due);
         }
     }
 
-    /// How many counts there are to the next one at which the counter has the value `start`: 1 to MAXALLOWEDVALUE + 1.
-    pub fn wait_until(&self, start: u32) -> u32
+    /// At a tick, how many counts there are to the next one at which the counter has the value `start`: 1 to
+    /// MAXALLOWEDVALUE + 1.
+    pub fn wait_until(&self, tick: u32, start: u32) -> u32
+        requires base { 1 ≤ self.now.counter.ticks_per_base }
         requires round { self.now.counter.max_allowed_value < 2 ^ 31 }
-        requires own { self.now.value ≤ self.now.counter.max_allowed_value }
         requires start { start ≤ self.now.counter.max_allowed_value }
-        ensures value { (n : ℕ) → self.now.value ≡ n % (self.now.counter.max_allowed_value + 1) → n + result ≡ next_count self.now.counter n start }
+        ensures value { count_of tick self.now + result ≡ next_count self.now.counter (count_of tick self.now) start }
         ensures some { 0 < result }
     {
         let round = self.counter.max_allowed_value + 1;
-        let passed = (self.value + 1) % round;
+        let value = tick / self.counter.ticks_per_base % round;
+        let passed = (value + 1) % round;
         1 + (start + (round - passed)) % round
     }
 }

@@ -1,6 +1,6 @@
 //! The alarms that are due in a tick.
 
-ghost use Rattle.std.specs.Prelude.{◌≡◌, ◌≤◌, ◌||◌, ◌==◌, ℕ, [], false};
+ghost use Rattle.std.specs.Prelude.{◌≡◌, ◌≤◌, ◌||◌, ◌==◌, ℕ, [], false, true};
 ghost use Rattle.std.specs.List.{filter};
 ghost use Rattle.osek_base.specs.Lists.{below};
 ghost use Rattle.alarms.specs.Waits.{is_raised};
@@ -9,22 +9,20 @@ use arrayvec::ArrayVec;
 use osek_base::{AlarmId, MAX_ALARMS};
 use std::marker::Model;
 
-/// A flag for each alarm, set where it is due. Contracts see the flags.
+const _: () = prove!(MAX_ALARMS as u32 == u64::BITS);
+
+/// A set of alarms that are due: a word whose bit k is set exactly where alarm k is due. Contracts see the word.
 #[derive(Drop)]
 pub struct DueAlarms {
-    flags: [bool; MAX_ALARMS],
-    is_any_set: bool,
+    word: u64,
 }
 
 impl Model for DueAlarms {
-    ghost use Rattle.std.specs.Prelude.{List, Bool, ℕ, ◌≡◌, length, false};
-    ghost use Rattle.alarms.specs.Waits.{is_raised};
+    ghost use Rattle.std.specs.Prelude.{ℕ};
 
-    ghost Value = { List Bool };
+    ghost Value = { ℕ };
 
-    ghost view = { λ d. d.flags };
-
-    ghost invariant = { λ d. d.is_any_set ≡ false → (a : ℕ) → is_raised a d.flags ≡ false };
+    ghost view = { λ d. d.word };
 }
 
 impl DueAlarms {
@@ -32,18 +30,21 @@ impl DueAlarms {
     pub fn none() -> Self
         ensures { (a : ℕ) → is_raised a result ≡ false }
     {
-        DueAlarms {
-            flags: [false; MAX_ALARMS],
-            is_any_set: false,
-        }
+        DueAlarms { word: 0 }
     }
 
     /// An alarm is due.
     pub fn raise(&mut self, alarm: AlarmId)
         ensures { (a : ℕ) → is_raised a self.new ≡ (is_raised a self.old || alarm == a) }
     {
-        self.flags[alarm.number() as usize] = true;
-        self.is_any_set = true;
+        self.word |= 1 << alarm.number();
+    }
+
+    /// Whether no alarm is due.
+    pub fn is_none(&self) -> bool
+        ensures { result ≡ true → (count : ℕ) → filter (λ a. is_raised a self.now) (below count) ≡ [] }
+    {
+        self.word == 0
     }
 
     /// The content of `due` becomes the alarms that are due, of the first `count`, in declaration order.
@@ -52,20 +53,20 @@ impl DueAlarms {
         ensures { due.new.items ≡ filter (λ a. is_raised a self.now) (below count) }
     {
         due.clear();
-        if self.is_any_set {
-            list_set(&self.flags, count, due);
+        if self.word != 0 {
+            list_set(self.word, count, due);
         }
     }
 }
 
-/// Adds the alarms whose flags are set, of the first `count`, in declaration order.
-fn list_set(flags: &[bool; MAX_ALARMS], count: usize, due: &mut ArrayVec<AlarmId, MAX_ALARMS>)
+/// Adds the alarms whose bits are set, of the first `count`, in declaration order.
+fn list_set(word: u64, count: usize, due: &mut ArrayVec<AlarmId, MAX_ALARMS>)
     requires count { count ≤ MAX_ALARMS }
     requires none { due.old.items ≡ [] }
-    ensures { due.new.items ≡ filter (λ a. is_raised a flags.now) (below count) }
+    ensures { due.new.items ≡ filter (λ a. is_raised a word) (below count) }
 {
     for number in 0..count {
-        if flags[number] {
+        if (word >> number) % 2 == 1 {
             due.push(AlarmId::new(number as u8));
         }
     }

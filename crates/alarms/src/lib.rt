@@ -8,3 +8,4 @@ mod difference_list;
 mod due_alarms;
 
 pub use alarms::Alarms;
+pub use due_alarms::DueAlarms;

@@ -20,13 +20,14 @@ use Rattle.run_laws.proofs.Known.{IsCaller, executor_calls}
 use Rattle.run_laws.proofs.SingleTick.{any_instr_known, execute_single}
 use Rattle.run_laws.proofs.RankedTick.{IsRunState, IsExecuting, before_executing, execute_left, run_ordered}
 use Rattle.run_laws.proofs.Formed.{HasForm}
-use Rattle.run_laws.proofs.FormedTick.{before_form, run_form}
+use Rattle.run_laws.proofs.FormedPhases.{before_form}
+use Rattle.run_laws.proofs.FormedTick.{run_form}
 use Rattle.kept_state.specs.Kept.{Kept, Slot, kept}
 use Rattle.kept_state.specs.KeptService.{KeptCaller, kept_caller}
 use Rattle.kept_state.specs.KeptTick.{execute_phase_in}
 use Rattle.kept_state.specs.Moves.{KeptRecorded}
 use Rattle.kept_state.proofs.Settled.{IsSettled, AreKnown, reschedules}
-use Rattle.kept_state.proofs.Ticked.{settled_of, known_of}
+use Rattle.kept_state.proofs.Ticked.{settled_of, known_of, execute_kept}
 use Rattle.kept_state.proofs.Served.{executor_kept}
 use Rattle.kept_state.proofs.Tests.{caller_slot}
 use Rattle.readiness.specs.Stamps.{without_oldest}
@@ -42,7 +43,7 @@ use Rattle.blocking_laws.proofs.SameJobs.{there_alike, waiting_alike}
 use Rattle.blocking_laws.proofs.SpentStamps.{spent_here, spent_at, spent_many, spent_listed, spent_new}
 use Rattle.blocking_laws.proofs.EndStamps.{IsTold, AreNew, looked_here, ended_here, executed_here}
 use Rattle.blocking_laws.proofs.ServiceStamps.{HasNone, none_of_known, still_told, executed_told, executed_none}
-use Rattle.blocking_laws.proofs.ExecutedKept.{execute_running, execute_kept}
+use Rattle.blocking_laws.proofs.RunnerKept.{execute_running}
 
 -- ---- the lists of all tasks
 
@@ -171,7 +172,7 @@ module _ (S : System) (proper : IsProper S) (e : State) (executing : IsExecuting
       (sym (executor_kept S e))
       ∙ ap₂ (λ i k. lists_by u (kept S e) (kept_caller (executor e)) (named_in i) k xs)
       (instr_is S e settled known (executor e) (executor_calls e))
-      (sym (execute_kept S proper e settled known executing.good.ordered.ready))
+      (sym (ap (λ (r : KeptRecorded). r.state) (execute_kept S proper e executing known)))
 
   pub executed_listed : (xs : StampLists) → AreListed S xs p e
       → AreListed S (execute_looked S u (kept S e) xs)
@@ -268,8 +269,7 @@ module _ (S : System) (proper : IsProper S) (e : State) (executing : IsExecuting
       (λ (k : Kept). AreListed S (last_looked S u k (execute_looked S u (kept S e) xs))
       (stamped e (last_phase S (execute_phase S e).state).state u (spent (calling_job (executor e)) p))
       (last_phase S (execute_phase S e).state).state)
-      (execute_kept S proper e (settled_of S e executing.good.single executing.good.ordered.ranked)
-      (known_of S e form) executing.good.ordered.ready)
+      (ap (λ (r : KeptRecorded). r.state) (execute_kept S proper e executing (known_of S e form)))
       (last_listed S e (execute_phase S e).state u (spent (calling_job (executor e)) p)
       (settled_of S (execute_phase S e).state (execute_single S proper e executing.good.single)
       (execute_left S proper e executing).ranked)

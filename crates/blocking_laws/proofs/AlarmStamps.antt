@@ -14,7 +14,7 @@ use Rattle.run_laws.proofs.Known.{ActivatesKnown, all_below}
 use Rattle.run_laws.proofs.SingleTick.{alarm_known}
 use Rattle.run_laws.proofs.RankedTick.{IsRunState, action_run}
 use Rattle.run_laws.proofs.Formed.{HasForm}
-use Rattle.run_laws.proofs.FormedTick.{acts_form, advanced_form}
+use Rattle.run_laws.proofs.FormedPhases.{acts_form, advanced_form}
 use Rattle.kept_state.specs.Kept.{Kept, kept}
 use Rattle.kept_state.specs.KeptService.{KeptReply, ByNobody, unmasked_in}
 use Rattle.kept_state.specs.KeptTick.{alarms_act_in, alarm_phase_in}

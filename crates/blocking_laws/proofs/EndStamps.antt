@@ -14,14 +14,14 @@ use Rattle.run_laws.proofs.Known.{IsRunningCaller}
 use Rattle.run_laws.proofs.Single.{IsSoundJob, IsSingle}
 use Rattle.run_laws.proofs.SingleService.{ended_single}
 use Rattle.kept_state.specs.Kept.{Kept, task_in, is_gone, kept}
-use Rattle.kept_state.proofs.Parts.{IsOldest}
+use Rattle.kept_state.proofs.Parts.{IsOldest, found_any}
 use Rattle.kept_state.proofs.JobMoves.{activated_kept}
-use Rattle.kept_state.proofs.Rescheduled.{found_any}
 use Rattle.kept_state.proofs.Settled.{IsSettled, Stands, given_of, stands_oldest, ends}
 use Rattle.readiness.specs.Stamps.{without_oldest}
 use Rattle.blocking_laws.specs.Stamps.{Stamps, stamped, listed}
 use Rattle.blocking_laws.specs.Looks.{task_waits, looked}
-use Rattle.blocking_laws.proofs.ReadyLemmas.{keeps_stamp, none_found, unmade, ended_listed, but_found}
+use Rattle.blocking_laws.proofs.ReadyLemmas.{keeps_stamp, ended_listed, but_found}
+use Rattle.blocking_laws.proofs.NewJobs.{none_found, unmade}
 use Rattle.blocking_laws.proofs.WakeLemmas.{IsOneChange, listed_twice}
 use Rattle.blocking_laws.proofs.LookedLemmas.{IsLooked, count_is, count_listed, looked_more, made_listed}
 use Rattle.blocking_laws.proofs.SpentStamps.{others_apart}

@@ -1,6 +1,8 @@
 pub mod StepLemmas
 pub mod StampLemmas
 pub mod ReadyLemmas
+pub mod NewJobs
+pub mod RunningJobs
 pub mod WakeLemmas
 pub mod LookedLemmas
 pub mod PreemptLemmas
@@ -11,7 +13,7 @@ pub mod SameJobs
 pub mod SpentStamps
 pub mod EndStamps
 pub mod ServiceStamps
-pub mod ExecutedKept
+pub mod RunnerKept
 pub mod AfterStamps
 pub mod KnownTasks
 pub mod AlarmStamps

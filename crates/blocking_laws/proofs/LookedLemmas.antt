@@ -20,7 +20,8 @@ use Rattle.kept_state.proofs.JobMoves.{but_of}
 use Rattle.readiness.specs.Stamps.{stamp_oldest}
 use Rattle.blocking_laws.specs.Stamps.{Stamps, stamped, listed}
 use Rattle.blocking_laws.specs.Looks.{task_waits, looked}
-use Rattle.blocking_laws.proofs.ReadyLemmas.{changed_listed, activated_listed}
+use Rattle.blocking_laws.proofs.ReadyLemmas.{changed_listed}
+use Rattle.blocking_laws.proofs.NewJobs.{activated_listed}
 use Rattle.blocking_laws.proofs.WakeLemmas.{released_listed}
 
 -- ---- what is seen of a task

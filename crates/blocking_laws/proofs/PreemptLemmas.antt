@@ -14,13 +14,12 @@ use Rattle.run_laws.proofs.Single.{IsSoundPair, IsSingle}
 use Rattle.run_laws.proofs.SingleMoves.{is_best, reschedule_single}
 use Rattle.kept_state.specs.Kept.{Slot, slot_of, slots_of, task_in, is_gone, kept}
 use Rattle.kept_state.specs.Moves.{contender_of, contender}
-use Rattle.kept_state.proofs.Parts.{filter_moved, any_moved, map_unmoved, IsOldest}
-use Rattle.kept_state.proofs.Rescheduled.{found_any}
+use Rattle.kept_state.proofs.Parts.{filter_moved, any_moved, map_unmoved, IsOldest, found_any}
 use Rattle.kept_state.proofs.Runner.{runner_oldest}
 use Rattle.readiness.specs.Stamps.{stamp_oldest}
 use Rattle.blocking_laws.specs.Stamps.{Stamps, stamped, listed}
 use Rattle.blocking_laws.specs.Looks.{is_task}
-use Rattle.blocking_laws.proofs.ReadyLemmas.{is_taken_out, idle_listed, left_alone, taken_out_listed}
+use Rattle.blocking_laws.proofs.RunningJobs.{is_taken_out, idle_listed, left_alone, taken_out_listed}
 use Rattle.blocking_laws.proofs.LookedLemmas.{same_listed}
 
 -- what is made of the stamps of one task: those of the task that contended, where it runs no more

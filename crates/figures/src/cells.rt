@@ -3,10 +3,11 @@
 ghost use Rattle.std.specs.Prelude.{◌≡◌};
 ghost use Rattle.figures.specs.Counts.{rounded};
 
+use std::fmt;
 use std::io::{self, Write};
 
 /// One figure of a line.
-#[derive(Clone, Copy, Debug, PartialEq, Eq)]
+#[derive(Clone, Copy)]
 pub enum Cell {
     /// A count, or a number of ticks.
     Count(u32),
@@ -44,12 +45,14 @@ impl Cell {
             Cell::Nothing => write!(out, "           -"),
         }
     }
+}
 
-    /// Writes the figure, where there is one. An error is a failed write.
-    pub fn write_bare<W: Write>(self, out: &mut W) -> io::Result<()> {
+/// The figure, where there is one.
+impl fmt::Display for Cell {
+    fn fmt<W: fmt::Write>(&self, f: &mut fmt::Formatter<W>) -> fmt::Result {
         match self {
-            Cell::Count(count) => write!(out, "{count}"),
-            Cell::Tenths(tenths) => write!(out, "{}.{}", tenths / 10, tenths % 10),
+            Cell::Count(count) => write!(f, "{count}"),
+            Cell::Tenths(tenths) => write!(f, "{}.{}", tenths / 10, tenths % 10),
             Cell::Nothing => Ok(()),
         }
     }

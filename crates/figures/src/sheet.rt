@@ -3,10 +3,8 @@
 use crate::cells::Cell;
 use std::io::{self, Write};
 
-const SPACES: &[u8; 32] = b"                                ";
-
 /// A form of the text.
-#[derive(Clone, Copy, Debug, PartialEq, Eq)]
+#[derive(Clone, Copy)]
 pub enum Sheet {
     /// Aligned columns behind names that have at most so many bytes.
     Table { width: usize },
@@ -15,7 +13,7 @@ pub enum Sheet {
 }
 
 /// Lines of one kind of objects: a name, and a figure for each column.
-#[derive(Clone, Copy, Debug)]
+#[derive(Clone, Copy)]
 pub struct Section {
     /// The kind of the objects.
     pub kind: &'static str,
@@ -25,30 +23,40 @@ pub struct Section {
 
 fn write_name<W: Write>(name: &str, width: usize, out: &mut W) -> io::Result<()> {
     out.write_all(name.as_bytes())?;
-    let missing = width.saturating_sub(name.len()).min(SPACES.len());
-    out.write_all(&SPACES[..missing])
+    for _missing in name.len()..width {
+        out.write_all(b" ")?;
+    }
+    Ok(())
+}
+
+fn write_columns<W: Write>(section: &Section, width: usize, out: &mut W) -> io::Result<()> {
+    write_name(section.kind, width, out)?;
+    for column in section.columns {
+        write!(out, " {column:>11}")?;
+    }
+    out.write_all(b"\n")
+}
+
+fn write_later_columns<W: Write>(section: &Section, width: usize, out: &mut W) -> io::Result<()> {
+    out.write_all(b"\n")?;
+    write_columns(section, width, out)
 }
 
 impl Sheet {
     /// Writes what stands before a later section of so many lines. An error is a failed write.
     pub fn open<W: Write>(self, section: &Section, lines: usize, out: &mut W) -> io::Result<()> {
-        if lines == 0 || matches!(self, Sheet::Csv) {
-            return Ok(());
+        match self {
+            Sheet::Table { width } if lines > 0 => write_later_columns(section, width, out),
+            _ => Ok(()),
         }
-        out.write_all(b"\n")?;
-        self.write_heading(section, out)
     }
 
     /// Writes what stands before a section's lines. An error is a failed write.
     pub fn write_heading<W: Write>(self, section: &Section, out: &mut W) -> io::Result<()> {
-        let Sheet::Table { width } = self else {
-            return Ok(());
-        };
-        write_name(section.kind, width, out)?;
-        for column in section.columns {
-            write!(out, " {column:>11}")?;
+        match self {
+            Sheet::Table { width } => write_columns(section, width, out),
+            Sheet::Csv => Ok(()),
         }
-        out.write_all(b"\n")
     }
 
     /// Writes the figures of an object. An error is a failed write.
@@ -80,10 +88,9 @@ fn write_values<W: Write>(
     cells: &[Cell],
     out: &mut W,
 ) -> io::Result<()> {
+    let kind = section.kind;
     for (column, cell) in section.columns.iter().zip(cells) {
-        write!(out, "{},{name},{column},", section.kind)?;
-        cell.write_bare(out)?;
-        out.write_all(b"\n")?;
+        writeln!(out, "{kind},{name},{column},{cell}")?;
     }
     Ok(())
 }

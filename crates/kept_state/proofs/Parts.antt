@@ -1,7 +1,7 @@
 -- Filters, maps and the oldest job of a task.
 use Rattle.std.proofs.Common.{◌≡◌, ℕ, Bool, true, false, cond, not, ◌&&◌, ◌||◌, List, [], ◌∷◌, map, refl, sym, ◌∙◌, ap, arith}
-use Rattle.std.specs.Prelude.{◌==◌}
-use Rattle.std.specs.List.{filter, list_any, AllByRecursion}
+use Rattle.std.specs.Prelude.{Some, ◌==◌}
+use Rattle.std.specs.List.{filter, find, list_any, AllByRecursion}
 use Rattle.osek_base.specs.System.{System}
 use Rattle.osek_base.specs.State.{Job, JobId, same_id, jobs_of}
 use Rattle.run_laws.proofs.Lists.{Pairs, clash, all_weaker}
@@ -123,6 +123,27 @@ module _ {X : Type 0} where
       go true false e c d k l ih = rw (e, k, l) ih
       go false true e c d k l ih = rw e refl
       go false false e c d k l ih = rw (e, k, l) ih
+
+-- ---- what is found
+
+-- where what one test finds passes another, some passes that
+pub found_any : {X : Type 0} (p q : X → Bool) (xs : List X) (c : X) → find p xs ≡ Some c → q c ≡ true
+    → list_any q xs ≡ true
+found_any p q [] c h e = absurd (grind arith)
+found_any p q (x ∷ xs) c h e = go (p x) h (found_any p q xs c)
+  where
+    ends : (b : Bool) → b ≡ true → (d : Bool) → (b || d) ≡ true
+    ends true k d = refl
+    ends false k d = clash (sym k)
+
+    goes : (b d : Bool) → d ≡ true → (b || d) ≡ true
+    goes true d k = refl
+    goes false d k = k
+
+    go : (b : Bool) → cond b (Some x) (find p xs) ≡ Some c → (find p xs ≡ Some c → q c ≡ true → list_any q xs ≡ true)
+        → (q x || list_any q xs) ≡ true
+    go true k ih = let same : c ≡ x = grind arith in ends (q x) (ap q (sym same) ∙ e) (list_any q xs)
+    go false k ih = goes (q x) (list_any q xs) (ih k e)
 
 -- ---- the oldest job of a task
 

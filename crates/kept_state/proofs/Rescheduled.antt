@@ -1,6 +1,6 @@
 -- A reschedule of the definitions is one by queues.
 use Rattle.std.proofs.Math.Path.{fun_ext}
-use Rattle.std.proofs.Common.{◌≡◌, ℕ, zero, suc, ◌<◌, ◌≤◌, Bool, true, false, cond, not, ◌&&◌, ◌||◌, nat_le, max, List, [], ◌∷◌, ◌++◌, map, length, refl, sym, ◌∙◌, ap, subst, arith}
+use Rattle.std.proofs.Common.{◌≡◌, ℕ, zero, suc, ◌<◌, ◌≤◌, Bool, true, false, cond, not, ◌&&◌, nat_le, max, List, [], ◌∷◌, ◌++◌, map, length, refl, sym, ◌∙◌, ap, subst, arith}
 use Rattle.std.specs.Prelude.{Option, Some, None, ◌==◌, is_some, slice_index_or}
 use Rattle.std.specs.Option.{option_map, unwrap_or}
 use Rattle.std.specs.List.{filter, find, list_any, AllByRecursion}
@@ -23,7 +23,7 @@ use Rattle.run_laws.proofs.SingleMoves.{other_way, chosen_single, is_best}
 use Rattle.run_laws.proofs.Ranked.{IsBehind}
 use Rattle.kept_state.specs.Kept.{Slot, slot_with, slot_of, slots_of, runs, is_at, is_queued, task_of, task_in, queue, is_gone, kept}
 use Rattle.kept_state.specs.Moves.{kept_recorded, left_in, entered_in, changed_at, put_first, first, dynamic_in, highest, slot_entered, stays, entered_as, dispatched, contender_of, contender, chosen, rescheduled}
-use Rattle.kept_state.proofs.Parts.{filter_same, any_moved, none_of, IsOldest, oldest}
+use Rattle.kept_state.proofs.Parts.{filter_same, any_moved, found_any, none_of, IsOldest, oldest}
 use Rattle.kept_state.proofs.JobMoves.{one_changed, keeps_id, changed_queue, changed_gone, changed_of, changed_slots}
 use Rattle.kept_state.proofs.Choose.{best_same, highest_queue, is_ready, IsClear, clear_behind, best_against, first_of_level, all_ready, taken_out, put_back, first_is}
 
@@ -75,24 +75,6 @@ module _ (S : System) where
       taken_top j.taken (unwrap_or (internal_ceiling S j.id.task) 0) (top_priority S)
       (internal_top (task S j.id.task).schedule (task S j.id.task).resources) in
       omega arith
-
-pub found_any : {X : Type 0} (p q : X → Bool) (xs : List X) (c : X) → find p xs ≡ Some c → q c ≡ true
-    → list_any q xs ≡ true
-found_any p q [] c h e = absurd (grind arith)
-found_any p q (x ∷ xs) c h e = go (p x) h (found_any p q xs c)
-  where
-    ends : (b : Bool) → b ≡ true → (d : Bool) → (b || d) ≡ true
-    ends true k d = refl
-    ends false k d = clash (sym k)
-
-    goes : (b d : Bool) → d ≡ true → (b || d) ≡ true
-    goes true d k = refl
-    goes false d k = k
-
-    go : (b : Bool) → cond b (Some x) (find p xs) ≡ Some c → (find p xs ≡ Some c → q c ≡ true → list_any q xs ≡ true)
-        → (q x || list_any q xs) ≡ true
-    go true k ih = let same : c ≡ x = grind arith in ends (q x) (ap q (sym same) ∙ e) (list_any q xs)
-    go false k ih = goes (q x) (list_any q xs) (ih k e)
 
 -- the oldest before a change that keeps ids
 oldest_before : (n : JobId) (f : Job → Job) → ((j : Job) → (f j).id ≡ j.id) → (jobs : List Job)

@@ -21,11 +21,10 @@ use Rattle.run_laws.proofs.Ranked.{IsStill, HasReady}
 use Rattle.kept_state.specs.Kept.{slot_of, runs, task_in, is_gone, kept}
 use Rattle.kept_state.specs.Moves.{activated_in, released_in, slot_changed}
 use Rattle.kept_state.specs.KeptService.{ByTask, ByNobody, kept_caller, is_outranked_in, with_caller_in, caller_ended_in, slot_given_up, slot_gets, slot_releases, slot_waiting, with_mask, event_set_in, events_cleared_in, event_awaited_in, effect_in, reply_in, service_in, unmasked_in, kept_reply, caller_by, caller_in, slot_moved, moved_in}
-use Rattle.kept_state.proofs.Parts.{IsOldest, oldest}
+use Rattle.kept_state.proofs.Parts.{IsOldest, oldest, found_any}
 use Rattle.kept_state.proofs.JobMoves.{IsGiven, changed_kept, activated_kept}
 use Rattle.kept_state.proofs.Releases.{released_kept}
 use Rattle.kept_state.proofs.Settled.{IsSettled, AreKnown, Stands, given_of, activates, changes, ends}
-use Rattle.kept_state.proofs.Rescheduled.{found_any}
 use Rattle.kept_state.proofs.Tests.{refusals_kept, results_kept, outranked_is}
 
 module _ (S : System) (s : State) (settled : IsSettled S s) (known : AllByRecursion (λ j. j.id.task < length S.tasks) s.jobs) where

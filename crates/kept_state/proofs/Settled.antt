@@ -11,9 +11,9 @@ use Rattle.run_laws.proofs.Single.{IsSoundJob, HasRunner, IsSingle}
 use Rattle.run_laws.proofs.Ranked.{IsBehind, IsStill}
 use Rattle.kept_state.specs.Kept.{Slot, slot_with, kept}
 use Rattle.kept_state.specs.Moves.{activated_in, ended_in, slot_changed, kept_recorded, rescheduled}
-use Rattle.kept_state.proofs.Parts.{IsOldest, oldest}
+use Rattle.kept_state.proofs.Parts.{IsOldest, oldest, found_any}
 use Rattle.kept_state.proofs.JobMoves.{IsGiven, IsFresh, activated_kept, changed_kept, ended_kept}
-use Rattle.kept_state.proofs.Rescheduled.{rescheduled_kept, found_any}
+use Rattle.kept_state.proofs.Rescheduled.{rescheduled_kept}
 
 -- what of a state they stand on: single jobs, nobody before the running job at its level, who waits holds nothing
 pub record IsSettled (S : System) (s : State) : Type 0 where

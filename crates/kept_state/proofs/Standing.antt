@@ -31,7 +31,8 @@ use Rattle.run_laws.proofs.RankedService.{IsLeft, service_left}
 use Rattle.run_laws.proofs.RankedTick.{IsRunState, action_run}
 use Rattle.run_laws.proofs.Formed.{IsPlaced, HasActive, HasForm}
 use Rattle.run_laws.proofs.FormedService.{change_formed, service_formed}
-use Rattle.run_laws.proofs.FormedTick.{pending_service, active_service, acts_form, advanced_form, reschedule_form, start_form}
+use Rattle.run_laws.proofs.FormedPhases.{acts_form, advanced_form, reschedule_form, start_form}
+use Rattle.run_laws.proofs.FormedTick.{pending_service, active_service}
 use Rattle.kept_state.specs.Kept.{kept}
 use Rattle.kept_state.specs.KeptService.{ByNobody, caller_in, kept_reply, reply_in, refusals_in, service_in, unmasked_in}
 use Rattle.kept_state.specs.Standing.{IsStanding, MayServe, StillStands, StartedStands, ActivateStands, SetEventStands, ServiceStands, ControlStands, RescheduleStands, AdvanceStands, FlagStands, StartStands, JobMoveStands, RoutineMoveStands}

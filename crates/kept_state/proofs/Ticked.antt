@@ -26,7 +26,8 @@ use Rattle.run_laws.proofs.SingleTick.{activated_running, begun, started_keep, C
 use Rattle.run_laws.proofs.Ranked.{AreRanked}
 use Rattle.run_laws.proofs.RankedTick.{first_ordered, begun_ordered, run_ordered, IsRunState, IsExecuting, IsExecuted, action_run, alarm_phase_ordered, before_executing, execute_left}
 use Rattle.run_laws.proofs.Formed.{IsPlacedJob, HasForm}
-use Rattle.run_laws.proofs.FormedTick.{run_form, acts_form, advanced_form, before_form}
+use Rattle.run_laws.proofs.FormedPhases.{acts_form, advanced_form, before_form}
+use Rattle.run_laws.proofs.FormedTick.{run_form}
 use Rattle.kept_state.specs.Kept.{Slot, kept}
 use Rattle.kept_state.specs.Moves.{KeptRecorded, kept_recorded, rescheduled}
 use Rattle.kept_state.specs.KeptService.{ByTask, kept_caller, KeptReply}
@@ -172,7 +173,7 @@ module _ (S : System) (proper : IsProper S) where
         state = with_context_in (kept_caller c) (next x) (controlled_kept control s i);
       })
 
-  execute_kept : (s : State) → IsExecuting S proper s → AreKnown S s
+  pub execute_kept : (s : State) → IsExecuting S proper s → AreKnown S s
       → kept_recorded S (execute_phase S s) ≡ execute_phase_in S (kept S s)
   unfolding execute_phase execute_phase_in
   execute_kept s executing known =

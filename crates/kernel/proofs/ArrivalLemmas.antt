@@ -19,7 +19,7 @@ pub record IsInOrder (least : ℕ) (a : Arrival) (rest : List Arrival) : Type 0 
   pub limit : nat_lt a.tick MAX_TICKS ≡ true
   pub others : are_in_order a.tick rest ≡ true
 
-order_split : (least : ℕ) (a : Arrival) (rest : List Arrival) → are_in_order least (a ∷ rest) ≡ true → IsInOrder least a rest
+pub order_split : (least : ℕ) (a : Arrival) (rest : List Arrival) → are_in_order least (a ∷ rest) ≡ true → IsInOrder least a rest
 order_split least a rest h =
     let parts = and_split _ _ h in
     let front = and_split _ _ parts.0 in
@@ -34,14 +34,14 @@ order_later least later a rest h low =
     rw (reached, o.limit) o.others
 
 -- an arrival at another tick, and one at the tick, in front of the others
-arriving_other : (a : Arrival) (rest : List Arrival) (t : ℕ) → (a.tick == t) ≡ false → arriving (a ∷ rest) t ≡ arriving rest t
+pub arriving_other : (a : Arrival) (rest : List Arrival) (t : ℕ) → (a.tick == t) ≡ false → arriving (a ∷ rest) t ≡ arriving rest t
 arriving_other a rest t other = rw other refl
 
-arriving_first : (a : Arrival) (rest : List Arrival) (t : ℕ) → (a.tick == t) ≡ true → arriving (a ∷ rest) t ≡ a.routine ∷ arriving rest t
+pub arriving_first : (a : Arrival) (rest : List Arrival) (t : ℕ) → (a.tick == t) ≡ true → arriving (a ∷ rest) t ≡ a.routine ∷ arriving rest t
 arriving_first a rest t same = rw same refl
 
 -- nothing arrives before the first tick of a list in order
-none_before : (least t : ℕ) (xs : List Arrival) → are_in_order least xs ≡ true → t < least → arriving xs t ≡ []
+pub none_before : (least t : ℕ) (xs : List Arrival) → are_in_order least xs ≡ true → t < least → arriving xs t ≡ []
 none_before least t [] h low = refl
 none_before least t (a ∷ rest) h low =
     let o : IsInOrder least a rest = order_split least a rest h in

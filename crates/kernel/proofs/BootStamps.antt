@@ -13,7 +13,7 @@ use Rattle.osek_base.specs.Blocker.{is_in_state, waits_in}
 use Rattle.osek_base.specs.Proper.{IsProper}
 use Rattle.osek_base.specs.Trace.{all_activated, boot, run, starting_alarms, starting_tasks}
 use Rattle.run_laws.proofs.FormedTick.{run_form}
-use Rattle.kept_state.specs.Kept.{Kept, Slot, kept, slot_of}
+use Rattle.kept_state.specs.Kept.{Kept, Slot, kept}
 use Rattle.blocking_laws.specs.Stamps.{listed, stamps_of}
 use Rattle.blocking_laws.specs.Looks.{AreListed, StampLists, stamps_at}
 use Rattle.kernel.specs.Looking.{AreBegun}
@@ -22,6 +22,7 @@ use Rattle.blocking_laws.proofs.AfterStamps.{rescheduled_waits}
 use Rattle.blocking_laws.proofs.OnlyWakes.{wakes_made}
 use Rattle.blocking_laws.proofs.ReadyLemmas.{there_of}
 use Rattle.blocking_laws.proofs.ServiceStamps.{none_of_known}
+use Rattle.kernel.proofs.KeepingLemmas.{many_jobs}
 
 running_made : (S : System) (t : ℕ) (s : State) → (activated S t s).running ≡ s.running
 unfolding activated
@@ -35,10 +36,6 @@ all_waits S (t ∷ ts) s n h =
 never : (b : Bool) → (b ≡ true → false ≡ true) → b ≡ false
 never true h = sym (h refl)
 never false h = refl
-
-many_jobs : (jobs : List Job) → length jobs ≡ (slot_of jobs).count
-many_jobs [] = refl
-many_jobs (j ∷ jobs) = refl
 
 all_filter : (P : Job → Type 0) (test : Job → Bool) (jobs : List Job) → AllByRecursion P jobs → AllByRecursion P (filter test jobs)
 all_filter P test [] all = tt

@@ -23,12 +23,11 @@ use Rattle.kept_state.specs.Kept.{Kept}
 use Rattle.kept_state.specs.KeptService.{KeptCaller, ByTask, ByRoutine, ByNobody, KeptReply, caller_in, caller_by, service_in}
 use Rattle.kept_state.specs.KeptTick.{executed_in, caller_executes_in, routine_executes, execute_phase_in, with_context_in, controlled_in}
 use Rattle.kept_state.proofs.Words.{with_words, context_words, control_words, service_words, reply_with}
-use Rattle.services.specs.declared.caller.Execution.{Execution}
 use Rattle.services.specs.declared.calls.Call.{Call}
 use Rattle.services.specs.Objects.{Objects, kept_of, kept_in}
 use Rattle.services.specs.Calls.{Executes, MayGoOn, IsSameCaller, IsSameActive, IsRoutineOrNone, caller_as, call_in}
 use Rattle.osek_base.proofs.PlaceLemmas.{KnownPlace, is_routine}
-use Rattle.kernel.specs.Run.{next_of, executed_by, control_context}
+use Rattle.kernel.specs.Run.{Execution, next_of, executed_by, control_context}
 
 -- ---- who executes
 

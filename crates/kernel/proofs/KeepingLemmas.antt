@@ -62,13 +62,25 @@ phase_words : (S : System) (u : ℕ) (w : Words) (o : Objects) (xs : StampLists)
 phase_words S u w o xs =
     alarms_words S u w (due_alarms S (bare (kept_in o))) (record (kept_in o) { alarms = alarms_advanced S (bare (kept_in o)) }) xs
 
+-- what phases 1 to 4 do to the stamps
+pub before_told : (S : System) (arrived : List ℕ) (n : ℕ) (w : Words) (o al ar : Objects) (xs ys zs : StampLists) → ar.system ≡ S
+    → kept_of w al ≡ (alarm_phase_in S (kept_of w (at_tick o n))).state
+    → kept_of w ar ≡ arrival_phase_in arrived (kept_of w al)
+    → ys ≡ alarm_phase_looked S n (kept_in (at_tick o n)) xs → zs ≡ reschedule_looked ar.system n (kept_in ar) ys
+    → zs ≡ before_looked S n arrived (kept_of w (at_tick o n)) xs
+before_told S arrived n w o al ar xs ys zs system acted flagged first second =
+    second ∙ ap (λ T. reschedule_looked T n (kept_in ar) ys) system ∙ sym (reschedule_words S n w (kept_in ar) ys)
+    ∙ ap₂ (λ (k : Kept) (vs : StampLists). reschedule_looked S n k vs)
+    (flagged ∙ ap (arrival_phase_in arrived) acted) (first ∙ sym (phase_words S n w (at_tick o n) xs))
+
 -- ---- as many stamps as jobs
 
 map_length : {X Y : Type 0} (f : X → Y) (xs : List X) → length (map f xs) ≡ length xs
 map_length f [] = refl
 map_length f (x ∷ xs) = ap suc (map_length f xs)
 
-many_jobs : (jobs : List Job) → length jobs ≡ (slot_of jobs).count
+-- as many jobs as their slot counts
+pub many_jobs : (jobs : List Job) → length jobs ≡ (slot_of jobs).count
 many_jobs [] = refl
 many_jobs (j ∷ jobs) = refl
 
@@ -112,18 +124,12 @@ module _ (S : System) (proper : IsProper S) (mode : ℕ) (arrivals : List Arriva
       ∙ ap (λ t. (tick S (arriving arrivals t) (run S mode arrivals n).state).executing) (sym (run_tick S mode arrivals n going))
 
   -- phases 1 to 4
-  pub begun_listed : (al ar : Objects) (xs ys zs : StampLists) → ar.system ≡ S
-      → kept_of w al ≡ (alarm_phase_in S (kept_of w (at_tick o n))).state
-      → kept_of w ar ≡ arrival_phase_in (arriving arrivals n) (kept_of w al)
-      → ys ≡ alarm_phase_looked S n (kept_in (at_tick o n)) xs → zs ≡ reschedule_looked ar.system n (kept_in ar) ys
+  pub begun_listed : (xs zs : StampLists) → zs ≡ before_looked S n (arriving arrivals n) (kept_of w (at_tick o n)) xs
       → AreListed S xs (stamps_of S mode arrivals n) (run S mode arrivals n).state
       → AreListed S zs (stamps_in S mode arrivals n (stamps_of S mode arrivals n)) e
-  begun_listed al ar xs ys zs system acted flagged first second are =
+  begun_listed xs zs looked are =
       let all : zs ≡ before_looked S n (arriving arrivals n) (kept S (run S mode arrivals n).state) xs =
-      second ∙ ap (λ T. reschedule_looked T n (kept_in ar) ys) system ∙ sym (reschedule_words S n w (kept_in ar) ys)
-      ∙ ap₂ (λ (k : Kept) (vs : StampLists). reschedule_looked S n k vs)
-      (flagged ∙ ap (arrival_phase_in (arriving arrivals n)) acted) (first ∙ sym (phase_words S n w (at_tick o n) xs))
-      ∙ ap (λ (k : Kept). before_looked S n (arriving arrivals n) k xs) same in
+      looked ∙ ap (λ (k : Kept). before_looked S n (arriving arrivals n) k xs) same in
       subst (λ vs. AreListed S vs (stamps_in S mode arrivals n (stamps_of S mode arrivals n)) e) (sym all)
       (subst (λ s. AreListed S (before_looked S n (arriving arrivals n) (kept S (run S mode arrivals n).state) xs) (stamps_in S mode arrivals n (stamps_of S mode arrivals n)) s) (sym step_is)
       (before_listed S mode arrivals n xs proper going are))

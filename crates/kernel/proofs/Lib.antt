@@ -14,3 +14,4 @@ pub mod BootStamps
 pub mod LawLemmas
 pub mod SeenLemmas
 pub mod UnendedLemmas
+pub mod ExecutedStamps

@@ -12,11 +12,10 @@ use Rattle.kept_state.specs.Kept.{Kept}
 use Rattle.kept_state.specs.KeptService.{KeptCaller, ByTask, ByRoutine, ByNobody, slot_moved}
 use Rattle.kept_state.specs.KeptTick.{controlled_in, with_context_in}
 use Rattle.kept_state.specs.Moves.{slot_changed}
-use Rattle.services.specs.declared.caller.Execution.{Execution}
 use Rattle.services.specs.Objects.{Objects, kept_in, kept_of}
 use Rattle.services.specs.Calls.{caller_as}
 use Rattle.blocking_laws.specs.Looks.{StampLists, ended_of}
-use Rattle.kernel.specs.Run.{executed_by}
+use Rattle.kernel.specs.Run.{Execution, executed_by}
 use Rattle.kernel.specs.Looking.{executed_by_looked}
 
 moved_gone : (d : KeptCaller) (x : Context) (o : Kept) → (with_context_in d x o).gone ≡ o.gone

@@ -3,6 +3,7 @@ use Rattle.std.specs.Prelude.{ℕ, ◌≡◌, ◌<◌, ◌≤◌, Bool, true, fa
 use Rattle.std.specs.List.{All, list_all}
 use Rattle.osek_base.specs.declared.limits.TheConstants.{MAX_TICKS}
 use Rattle.osek_base.specs.declared.arrivals.Arrival.{Arrival}
+use Rattle.osek_base.specs.declared.ids.Owner.{Owner}
 use Rattle.osek_base.specs.declared.trace_event.TraceEvent.{TraceEvent}
 use Rattle.osek_base.specs.declared.instr.Instr.{Instr}
 use Rattle.osek_base.specs.declared.instr.Control.{Control}
@@ -15,9 +16,8 @@ use Rattle.osek_base.specs.Laws.{StartsSingly, Excludes, BlocksOnce, Protects}
 use Rattle.osek_base.specs.Trace.{Run as RunSoFar, arriving, run}
 use Rattle.kept_state.specs.Moves.{KeptRecorded}
 use Rattle.kept_state.specs.KeptTick.{boot_in, executed_in}
-use Rattle.services.specs.declared.caller.Execution.{Execution}
 use Rattle.services.specs.Objects.{Objects, kept_of, kept_in}
-use Rattle.services.specs.Calls.{caller_as}
+use Rattle.services.specs.Calls.{caller_as, context_in}
 
 -- the system, the mode, all arrivals, and the ticks done
 pub record Run : Type 0 where
@@ -60,6 +60,14 @@ AreAhead alarms = list_all (λ e. not (is_due_at 0 e)) alarms ≡ true
 -- the objects at a tick: their own number is that of the last one
 abbrev pub at_tick : Objects → ℕ → Objects
 at_tick o t = record o { tick = t }
+
+-- who executes, with registers and place
+pub record Execution : Type 0 where
+  pub owner : Owner
+  pub cpu : Context
+
+abbrev pub executing : Objects → Owner → Execution
+executing o who = record { owner = who; cpu = context_in (kept_in o) who }
 
 -- the instruction at the place of who executes, and what it comes to
 abbrev pub next_of : System → Execution → Instr

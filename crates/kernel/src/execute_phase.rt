@@ -11,21 +11,21 @@ ghost use Rattle.machine.specs.Code.{programs_of};
 ghost use Rattle.kept_state.specs.KeptTick.{execute_phase_in};
 ghost use Rattle.kept_state.specs.Standing.{MayServe};
 ghost use Rattle.services.specs.Objects.{kept_in, kept_of};
-ghost use Rattle.services.specs.Calls.{Executes};
-ghost use Rattle.kernel.specs.Run.{IsNext, executed_by, next_of, ends_routine, control_context};
+ghost use Rattle.services.specs.Calls.{IsExecuting, context_in};
+ghost use Rattle.kernel.specs.Run.{IsNext, executed_by, executing, next_of, ends_routine, control_context};
 ghost use Rattle.blocking_laws.specs.Looks.{named_by};
 ghost use Rattle.kernel.specs.Looking.{AreCounted, executed_by_looked, executed_looked};
 
 use crate::alarm_phase::record_error;
 use crate::stamping::{executed_since, seen_if};
-use machine::{Code, Cpu, Windows, exec_plain};
+use machine::{Code, Cpu, Windows};
 use osek_base::{
-    Control, Instr, MAX_INSTRUCTIONS, MAX_RECORDS, MAX_TICKS, Outcome, Plain, Register, Service,
-    Source, System, TaskId, TickRecord, TraceEvent,
+    Control, Instr, MAX_INSTRUCTIONS, MAX_RECORDS, MAX_TICKS, Outcome, Owner, Plain, Register,
+    Service, Source, System, TaskId, TickRecord, TraceEvent,
 };
 use readiness::JobStamps;
 use ready_queues::ReadyQueues;
-use services::{Call, Core, Execution};
+use services::{Call, Core};
 
 /// The active routine, else the running task, executes one instruction; where there is neither, nobody does.
 #[tactic(auto, unfolding(kept_state::specs::KeptTick::execute_phase_in))]
@@ -54,14 +54,14 @@ pub fn execute_phase<Q: ReadyQueues>(
     ensures stamps { stamps.new ≡ executed_looked system.now tick (kept_of (word windows.old) core.old) stamps.old }
     ensures sized { length stamps.new ≡ length stamps.old }
 {
-    match core.execution() {
+    match core.executor() {
         None => record_of_tick.push(TraceEvent::Idle),
-        Some(mut execution) => execute(
+        Some(owner) => execute(
             core,
             windows,
             code,
             system,
-            &mut execution,
+            &owner,
             stamps,
             tick,
             record_of_tick,
@@ -75,7 +75,7 @@ fn execute<Q: ReadyQueues>(
     windows: &mut Windows,
     code: &Code,
     system: &System,
-    execution: &mut Execution,
+    owner: &Owner,
     stamps: &mut JobStamps,
     tick: u32,
     record_of_tick: &mut TickRecord,
@@ -86,24 +86,25 @@ fn execute<Q: ReadyQueues>(
     requires serves { MayServe system.now (kept_in core.old) }
     requires all { core.old.suspended_all < MAX_TICKS }
     requires os { core.old.suspended_os < MAX_TICKS }
-    requires who { Executes (kept_in core.old) execution.old.owner execution.old.cpu }
-    requires placed { IsPlaced system.now execution.old.owner execution.old.cpu }
+    requires who { IsExecuting (kept_in core.old) owner.now }
+    requires placed { IsPlaced system.now owner.now (context_in (kept_in core.old) owner.now) }
     requires stamps { length stamps.old ≡ length system.now.tasks }
     requires counted { AreCounted stamps.old (kept_in core.old) }
     requires room { length record_of_tick.old + 2 ≤ MAX_RECORDS }
     ensures system { core.new.system ≡ core.old.system }
-    ensures kept { kept_of (word windows.new) core.new ≡ (executed_by system.now execution.old (next_of system.now execution.old) (word windows.old) core.old).state }
-    ensures events { record_of_tick.new ≡ record_of_tick.old ++ (executed_by system.now execution.old (next_of system.now execution.old) (word windows.old) core.old).events }
+    ensures kept { kept_of (word windows.new) core.new ≡ (executed_by system.now (executing core.old owner.now) (next_of system.now (executing core.old owner.now)) (word windows.old) core.old).state }
+    ensures events { record_of_tick.new ≡ record_of_tick.old ++ (executed_by system.now (executing core.old owner.now) (next_of system.now (executing core.old owner.now)) (word windows.old) core.old).events }
     ensures few { length record_of_tick.new ≤ length record_of_tick.old + 2 }
-    ensures stamps { stamps.new ≡ executed_by_looked tick (next_of system.now execution.old) (kept_in core.old) (kept_in core.new) stamps.old }
+    ensures stamps { stamps.new ≡ executed_by_looked tick (next_of system.now (executing core.old owner.now)) (kept_in core.old) (kept_in core.new) stamps.old }
     ensures sized { length stamps.new ≡ length stamps.old }
 {
-    let instr = next_instruction(code, system, execution);
+    let cpu = core.cpu_of(*owner);
+    let instr = next_instruction(code, system, owner, &cpu);
     execute_instr(
         core,
         windows,
         system,
-        execution,
+        owner,
         &instr,
         stamps,
         tick,
@@ -116,7 +117,7 @@ fn execute_instr<Q: ReadyQueues>(
     core: &mut Core<'_, Q>,
     windows: &mut Windows,
     system: &System,
-    execution: &mut Execution,
+    owner: &Owner,
     instr: &Instr,
     stamps: &mut JobStamps,
     tick: u32,
@@ -127,45 +128,43 @@ fn execute_instr<Q: ReadyQueues>(
     requires serves { MayServe system.now (kept_in core.old) }
     requires all { core.old.suspended_all < MAX_TICKS }
     requires os { core.old.suspended_os < MAX_TICKS }
-    requires who { Executes (kept_in core.old) execution.old.owner execution.old.cpu }
-    requires placed { IsPlaced system.now execution.old.owner execution.old.cpu }
-    requires instruction { IsNext system.now execution.old instr.now }
+    requires who { IsExecuting (kept_in core.old) owner.now }
+    requires placed { IsPlaced system.now owner.now (context_in (kept_in core.old) owner.now) }
+    requires instruction { IsNext system.now (executing core.old owner.now) instr.now }
     requires stamps { length stamps.old ≡ length system.now.tasks }
     requires counted { AreCounted stamps.old (kept_in core.old) }
     requires room { length record_of_tick.old + 2 ≤ MAX_RECORDS }
     ensures system { core.new.system ≡ core.old.system }
-    ensures kept { kept_of (word windows.new) core.new ≡ (executed_by system.now execution.old instr.now (word windows.old) core.old).state }
-    ensures events { record_of_tick.new ≡ record_of_tick.old ++ (executed_by system.now execution.old instr.now (word windows.old) core.old).events }
+    ensures kept { kept_of (word windows.new) core.new ≡ (executed_by system.now (executing core.old owner.now) instr.now (word windows.old) core.old).state }
+    ensures events { record_of_tick.new ≡ record_of_tick.old ++ (executed_by system.now (executing core.old owner.now) instr.now (word windows.old) core.old).events }
     ensures few { length record_of_tick.new ≤ length record_of_tick.old + 2 }
     ensures stamps { stamps.new ≡ executed_by_looked tick instr.now (kept_in core.old) (kept_in core.new) stamps.old }
     ensures sized { length stamps.new ≡ length stamps.old }
 {
     match instr {
         Instr::Plain(plain) => {
-            execute_plain(core, windows, system, execution, plain, record_of_tick)
+            execute_plain(core, windows, system, owner, plain, record_of_tick)
         }
         Instr::Service(service) => serve(
             core,
             system,
-            execution,
+            owner,
             service,
             stamps,
             tick,
             record_of_tick,
         ),
-        Instr::Control(control) => {
-            execute_control(core, system, execution, control, record_of_tick)
-        }
+        Instr::Control(control) => { execute_control(core, system, owner, control, record_of_tick) }
     }
 }
 
 /// The instruction that who executes comes to.
-fn next_instruction(code: &Code, _system: &System, execution: &Execution) -> Instr
+fn next_instruction(code: &Code, _system: &System, owner: &Owner, cpu: &Cpu) -> Instr
     requires code { code.now ≡ programs_of _system.now }
-    requires placed { IsPlaced _system.now execution.now.owner execution.now.cpu }
-    ensures { IsNext _system.now execution.now result }
+    requires placed { IsPlaced _system.now owner.now cpu.now }
+    ensures { IsNext _system.now (record { owner = owner.now; cpu = cpu.now }) result }
 {
-    code.fetch(execution.owner, execution.cpu.place())
+    code.fetch(*owner, cpu.place())
 }
 
 /// A plain instruction.
@@ -173,26 +172,25 @@ fn execute_plain<Q: ReadyQueues>(
     core: &mut Core<'_, Q>,
     windows: &mut Windows,
     _system: &System,
-    execution: &mut Execution,
+    owner: &Owner,
     plain: &Plain,
     record_of_tick: &mut TickRecord,
 )
     requires proper { IsProper _system.now }
     requires system { core.old.system ≡ _system.now }
-    requires who { Executes (kept_in core.old) execution.old.owner execution.old.cpu }
-    requires placed { IsPlaced _system.now execution.old.owner execution.old.cpu }
-    requires instruction { IsNext _system.now execution.old (Instr.Plain plain.now) }
+    requires who { IsExecuting (kept_in core.old) owner.now }
+    requires placed { IsPlaced _system.now owner.now (context_in (kept_in core.old) owner.now) }
+    requires instruction { IsNext _system.now (executing core.old owner.now) (Instr.Plain plain.now) }
     requires room { length record_of_tick.old < MAX_RECORDS }
     ensures system { core.new.system ≡ core.old.system }
-    ensures kept { kept_of (word windows.new) core.new ≡ (executed_by _system.now execution.old (Instr.Plain plain.now) (word windows.old) core.old).state }
-    ensures events { record_of_tick.new ≡ record_of_tick.old ++ (executed_by _system.now execution.old (Instr.Plain plain.now) (word windows.old) core.old).events }
+    ensures kept { kept_of (word windows.new) core.new ≡ (executed_by _system.now (executing core.old owner.now) (Instr.Plain plain.now) (word windows.old) core.old).state }
+    ensures events { record_of_tick.new ≡ record_of_tick.old ++ (executed_by _system.now (executing core.old owner.now) (Instr.Plain plain.now) (word windows.old) core.old).events }
     ensures few { length record_of_tick.new ≤ length record_of_tick.old + 1 }
 {
-    let place = execution.cpu.place();
-    let effect = exec_plain(&mut execution.cpu, windows, execution.owner, plain);
-    core.go_on(execution.owner, execution.cpu);
+    let place = core.cpu_of(*owner).place();
+    let effect = core.exec_plain(windows, *owner, plain);
     record_of_tick.push(TraceEvent::Executed(
-        execution.owner,
+        *owner,
         place,
         Instr::Plain(*plain),
         Outcome::Plain(effect),
@@ -203,7 +201,7 @@ fn execute_plain<Q: ReadyQueues>(
 fn serve<Q: ReadyQueues>(
     core: &mut Core<'_, Q>,
     system: &System,
-    execution: &mut Execution,
+    owner: &Owner,
     service: &Service<Register>,
     stamps: &mut JobStamps,
     tick: u32,
@@ -214,15 +212,15 @@ fn serve<Q: ReadyQueues>(
     requires serves { MayServe system.now (kept_in core.old) }
     requires all { core.old.suspended_all < MAX_TICKS }
     requires os { core.old.suspended_os < MAX_TICKS }
-    requires who { Executes (kept_in core.old) execution.old.owner execution.old.cpu }
-    requires placed { IsPlaced system.now execution.old.owner execution.old.cpu }
-    requires instruction { IsNext system.now execution.old (Instr.Service service.now) }
+    requires who { IsExecuting (kept_in core.old) owner.now }
+    requires placed { IsPlaced system.now owner.now (context_in (kept_in core.old) owner.now) }
+    requires instruction { IsNext system.now (executing core.old owner.now) (Instr.Service service.now) }
     requires stamps { length stamps.old ≡ length system.now.tasks }
     requires counted { AreCounted stamps.old (kept_in core.old) }
     requires room { length record_of_tick.old + 2 ≤ MAX_RECORDS }
     ensures system { core.new.system ≡ core.old.system }
-    ensures kept { (w : Words) → kept_of w core.new ≡ (executed_by system.now execution.old (Instr.Service service.now) w core.old).state }
-    ensures events { (w : Words) → record_of_tick.new ≡ record_of_tick.old ++ (executed_by system.now execution.old (Instr.Service service.now) w core.old).events }
+    ensures kept { (w : Words) → kept_of w core.new ≡ (executed_by system.now (executing core.old owner.now) (Instr.Service service.now) w core.old).state }
+    ensures events { (w : Words) → record_of_tick.new ≡ record_of_tick.old ++ (executed_by system.now (executing core.old owner.now) (Instr.Service service.now) w core.old).events }
     ensures few { length record_of_tick.new ≤ length record_of_tick.old + 2 }
     ensures stamps { stamps.new ≡ executed_by_looked tick (Instr.Service service.now) (kept_in core.old) (kept_in core.new) stamps.old }
     ensures sized { length stamps.new ≡ length stamps.old }
@@ -230,7 +228,7 @@ fn serve<Q: ReadyQueues>(
     let before = seen_if(core, acting_task(service));
     let running = core.running();
     let gone = core.is_gone();
-    execute_service(core, system, execution, service, record_of_tick);
+    execute_service(core, system, owner, service, record_of_tick);
     executed_since(core, stamps, &before, &running, gone, tick);
 }
 
@@ -250,7 +248,7 @@ fn acting_task(service: &Service<Register>) -> Option<TaskId>
 fn execute_service<Q: ReadyQueues>(
     core: &mut Core<'_, Q>,
     system: &System,
-    execution: &mut Execution,
+    owner: &Owner,
     service: &Service<Register>,
     record_of_tick: &mut TickRecord,
 )
@@ -259,29 +257,30 @@ fn execute_service<Q: ReadyQueues>(
     requires serves { MayServe system.now (kept_in core.old) }
     requires all { core.old.suspended_all < MAX_TICKS }
     requires os { core.old.suspended_os < MAX_TICKS }
-    requires who { Executes (kept_in core.old) execution.old.owner execution.old.cpu }
-    requires placed { IsPlaced system.now execution.old.owner execution.old.cpu }
-    requires instruction { IsNext system.now execution.old (Instr.Service service.now) }
+    requires who { IsExecuting (kept_in core.old) owner.now }
+    requires placed { IsPlaced system.now owner.now (context_in (kept_in core.old) owner.now) }
+    requires instruction { IsNext system.now (executing core.old owner.now) (Instr.Service service.now) }
     requires room { length record_of_tick.old + 2 ≤ MAX_RECORDS }
     ensures system { core.new.system ≡ core.old.system }
-    ensures kept { (w : Words) → kept_of w core.new ≡ (executed_by system.now execution.old (Instr.Service service.now) w core.old).state }
-    ensures events { (w : Words) → record_of_tick.new ≡ record_of_tick.old ++ (executed_by system.now execution.old (Instr.Service service.now) w core.old).events }
+    ensures kept { (w : Words) → kept_of w core.new ≡ (executed_by system.now (executing core.old owner.now) (Instr.Service service.now) w core.old).state }
+    ensures events { (w : Words) → record_of_tick.new ≡ record_of_tick.old ++ (executed_by system.now (executing core.old owner.now) (Instr.Service service.now) w core.old).events }
     ensures few { length record_of_tick.new ≤ length record_of_tick.old + 2 }
 {
-    let place = execution.cpu.place();
-    let answer = core.call(&Call::Service(execution.cpu.with_values(service)));
+    let mut cpu = core.cpu_of(*owner);
+    let place = cpu.place();
+    let answer = core.call(&Call::Service(cpu.with_values(service)));
     let Some(status) = answer.status else {
         unreachable!()
     };
-    execution.cpu.answer(status, answer.results);
-    core.go_on(execution.owner, execution.cpu);
+    cpu.answer(status, answer.results);
+    core.go_on(*owner, cpu);
     record_of_tick.push(TraceEvent::Executed(
-        execution.owner,
+        *owner,
         place,
         Instr::Service(*service),
         Outcome::Answer(status, answer.results),
     ));
-    let source = Source::Owner(execution.owner);
+    let source = Source::Owner(*owner);
     record_error(
         system,
         source,
@@ -295,7 +294,7 @@ fn execute_service<Q: ReadyQueues>(
 fn execute_control<Q: ReadyQueues>(
     core: &mut Core<'_, Q>,
     system: &System,
-    execution: &Execution,
+    owner: &Owner,
     control: &Control,
     record_of_tick: &mut TickRecord,
 )
@@ -304,20 +303,21 @@ fn execute_control<Q: ReadyQueues>(
     requires serves { MayServe system.now (kept_in core.old) }
     requires all { core.old.suspended_all < MAX_TICKS }
     requires os { core.old.suspended_os < MAX_TICKS }
-    requires who { Executes (kept_in core.old) execution.now.owner execution.now.cpu }
-    requires placed { IsPlaced system.now execution.now.owner execution.now.cpu }
-    requires instruction { IsNext system.now execution.now (Instr.Control control.now) }
+    requires who { IsExecuting (kept_in core.old) owner.now }
+    requires placed { IsPlaced system.now owner.now (context_in (kept_in core.old) owner.now) }
+    requires instruction { IsNext system.now (executing core.old owner.now) (Instr.Control control.now) }
     requires room { length record_of_tick.old + 2 ≤ MAX_RECORDS }
     ensures system { core.new.system ≡ core.old.system }
-    ensures kept { (w : Words) → kept_of w core.new ≡ (executed_by system.now execution.now (Instr.Control control.now) w core.old).state }
-    ensures events { (w : Words) → record_of_tick.new ≡ record_of_tick.old ++ (executed_by system.now execution.now (Instr.Control control.now) w core.old).events }
+    ensures kept { (w : Words) → kept_of w core.new ≡ (executed_by system.now (executing core.old owner.now) (Instr.Control control.now) w core.old).state }
+    ensures events { (w : Words) → record_of_tick.new ≡ record_of_tick.old ++ (executed_by system.now (executing core.old owner.now) (Instr.Control control.now) w core.old).events }
     ensures few { length record_of_tick.new ≤ length record_of_tick.old + 2 }
 {
+    let cpu = core.cpu_of(*owner);
     let _answer = core.call(&Call::Control(*control));
-    core.go_on(execution.owner, behind(control, execution.cpu));
+    core.go_on(*owner, behind(control, cpu));
     record_of_tick.push(TraceEvent::Executed(
-        execution.owner,
-        execution.cpu.place(),
+        *owner,
+        cpu.place(),
         Instr::Control(*control),
         Outcome::Control,
     ));

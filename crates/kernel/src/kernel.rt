@@ -15,10 +15,9 @@ ghost use Rattle.kernel.specs.Run.{AreKnown, IsLawful, is_over, run_of};
 ghost use Rattle.blocking_laws.specs.Steps.{record_at};
 ghost use Rattle.blocking_laws.specs.Looks.{last_looked, reschedule_looked};
 
-use crate::alarm_phase::alarm_phase;
-use crate::arrival_phase::arrival_phase;
 use crate::blocking::begin;
 use crate::boot::{BootFault, begun_stamps, booted};
+use crate::early_phases::before_execution;
 use crate::execute_phase::execute_phase;
 use crate::stamping::reschedule;
 use machine::{Code, Windows};
@@ -182,21 +181,15 @@ impl<'s, Q: ReadyQueues> Kernel<'s, Q> {
         ensures lawful { IsLawful self.new }
     {
         put_first(&mut self.opening, self.ticks, record_of_tick);
-        alarm_phase(
+        self.arrived = before_execution(
             &mut self.core,
             self.system,
+            self.arrivals.list(),
+            self.arrived,
             &mut self.stamps,
             self.ticks,
             record_of_tick,
         );
-        self.arrived = arrival_phase(
-            &mut self.core,
-            self.arrivals.list(),
-            self.arrived,
-            self.ticks,
-        );
-        reschedule(&mut self.core, &mut self.stamps, self.ticks, record_of_tick);
-        self.core.start_routine();
         self.blockers = begin(
             &self.core,
             self.system,

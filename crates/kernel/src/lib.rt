@@ -5,6 +5,7 @@ mod alarm_phase;
 mod arrival_phase;
 mod blocking;
 mod boot;
+mod early_phases;
 mod execute_phase;
 mod kernel;
 mod seen;

@@ -111,6 +111,7 @@ pub fn reschedule<Q: ReadyQueues>(
     ensures events { record_of_tick.new ≡ record_of_tick.old ++ (rescheduled core.old.system (kept_in core.old)).events }
     ensures few { length record_of_tick.new ≤ length record_of_tick.old + 2 }
     ensures stamps { stamps.new ≡ reschedule_looked core.old.system tick (kept_in core.old) stamps.old }
+    ensures sized { length stamps.new ≡ length stamps.old }
 {
     if core.is_dispatched() {
         return;

@@ -42,15 +42,17 @@ impl Code {
         requires { place < length (program_in self.now owner) }
         ensures { result ≡ instruction_in (program_in self.now owner) place }
     {
+        self.program(owner).at(place)
+    }
+
+    /// The program of a task or routine.
+    fn program(&self, owner: Owner) -> &PackedProgram
+        requires { 0 < length (program_in self.now owner) }
+        ensures { result.now ≡ program_in self.now owner }
+    {
         match owner {
-            Owner::Task(task) => {
-                let program = &self.tasks[task.number() as usize];
-                program.at(place)
-            }
-            Owner::Routine(routine) => {
-                let program = &self.routines[routine.number() as usize];
-                program.at(place)
-            }
+            Owner::Task(task) => &self.tasks[task.number() as usize],
+            Owner::Routine(routine) => &self.routines[routine.number() as usize],
         }
     }
 }

@@ -62,19 +62,18 @@ fn instr_at(fields: &Fields) -> Instr
 fn plain_at(fields: &Fields) -> Plain
     ensures { result ≡ plain_at fields.now }
 {
-    let a = register_at(fields.first);
-    let b = register_at(fields.second);
-    let c = register_at(fields.third);
     match fields.operation {
         0 => Plain::Nop,
-        1 => Plain::Li(a, fields.number),
-        2 => Plain::Mov(a, b),
-        9 => Plain::Ld(a, b),
-        10 => Plain::St(a, b),
+        1 => Plain::Li(register_at(fields.first), fields.number),
+        2 => Plain::Mov(register_at(fields.first), register_at(fields.second)),
+        9 => Plain::Ld(register_at(fields.first), register_at(fields.second)),
+        10 => Plain::St(register_at(fields.first), register_at(fields.second)),
         11 => Plain::Jmp(place_at(fields.number)),
         operation => {
+            let a = register_at(fields.first);
+            let b = register_at(fields.second);
             if operation < 9 {
-                Plain::Compute(operation_at(operation), a, b, c)
+                Plain::Compute(operation_at(operation), a, b, register_at(fields.third))
             } else {
                 Plain::JumpIf(comparison_at(operation), a, b, place_at(fields.number))
             }
@@ -85,8 +84,6 @@ fn plain_at(fields: &Fields) -> Plain
 fn service_at(fields: &Fields) -> Service<Register>
     ensures { result ≡ service_at fields.now }
 {
-    let x = register_at(fields.second);
-    let y = register_at(fields.third);
     match fields.operation {
         15 => Service::ActivateTask(task_at(fields.first)),
         16 => Service::TerminateTask,
@@ -100,13 +97,22 @@ fn service_at(fields: &Fields) -> Service<Register>
         24 => Service::ClearEvent(fields.number),
         25 => Service::GetEvent(task_at(fields.first)),
         26 => Service::WaitEvent(fields.number),
-        27 => Service::SetRelAlarm(alarm_at(fields.first), x, y),
-        28 => Service::SetAbsAlarm(alarm_at(fields.first), x, y),
+        27 => {
+            let x = register_at(fields.second);
+            Service::SetRelAlarm(alarm_at(fields.first), x, register_at(fields.third))
+        }
+        28 => {
+            let x = register_at(fields.second);
+            Service::SetAbsAlarm(alarm_at(fields.first), x, register_at(fields.third))
+        }
         29 => Service::CancelAlarm(alarm_at(fields.first)),
         30 => Service::GetAlarm(alarm_at(fields.first)),
         31 => Service::GetAlarmBase(alarm_at(fields.first)),
-        40 => Service::LoadShared(resource_at(fields.first), x),
-        _ => Service::StoreShared(resource_at(fields.first), x, y),
+        40 => Service::LoadShared(resource_at(fields.first), register_at(fields.second)),
+        _ => {
+            let x = register_at(fields.second);
+            Service::StoreShared(resource_at(fields.first), x, register_at(fields.third))
+        }
     }
 }
 

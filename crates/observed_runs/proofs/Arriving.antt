@@ -1,41 +1,15 @@
 -- The arrivals of one tick stand together, from the cursor on.
-use Rattle.std.proofs.Common.{◌≡◌, ℕ, suc, ◌+◌, ◌<◌, ◌≤◌, true, false, List, [], ◌∷◌, drop, get_or, length, refl, sym, ◌∙◌, ap, subst, arith}
+use Rattle.std.proofs.Common.{◌≡◌, ℕ, suc, ◌+◌, ◌<◌, ◌≤◌, true, false, List, ◌∷◌, drop, get_or, length, refl, sym, ◌∙◌, ap, subst, arith}
 use Rattle.std.specs.Prelude.{◌==◌}
 use Rattle.std.proofs.Math.Seq.{drop-cons}
 use Rattle.std.proofs.Math.ListN.{drop_of_length-le}
 use Rattle.std.proofs.Math.Numerals.{add-one}
-use Rattle.std.proofs.lemmas.Bool.{leb-true}
 use Rattle.osek_base.specs.declared.arrivals.Arrival.{Arrival}
 use Rattle.osek_base.specs.ArrivalList.{are_in_order}
 use Rattle.osek_base.specs.Trace.{arriving}
-use Rattle.osek_base.proofs.PlaceLemmas.{and_split}
 use Rattle.kernel.specs.Run.{AreLeft}
+use Rattle.kernel.proofs.ArrivalLemmas.{IsInOrder, order_split, arriving_other, arriving_first, none_before}
 use Rattle.observed_runs.specs.Observed.{times}
-
--- a list in order: its first tick, and its rest
-record IsInOrder (least : ℕ) (a : Arrival) (rest : List Arrival) : Type 0 where
-  first : least ≤ a.tick
-  others : are_in_order a.tick rest ≡ true
-
-order_split : (least : ℕ) (a : Arrival) (rest : List Arrival) → are_in_order least (a ∷ rest) ≡ true → IsInOrder least a rest
-order_split least a rest h =
-    let parts = and_split _ _ h in
-    record { first = leb-true _ _ (and_split _ _ parts.0).0; others = parts.1 }
-
-arriving_other : (a : Arrival) (rest : List Arrival) (t : ℕ) → (a.tick == t) ≡ false → arriving (a ∷ rest) t ≡ arriving rest t
-arriving_other a rest t other = rw other refl
-
-arriving_first : (a : Arrival) (rest : List Arrival) (t : ℕ) → (a.tick == t) ≡ true → arriving (a ∷ rest) t ≡ a.routine ∷ arriving rest t
-arriving_first a rest t same = rw same refl
-
--- nothing arrives before the first tick of a list in order
-none_before : (least t : ℕ) (xs : List Arrival) → are_in_order least xs ≡ true → t < least → arriving xs t ≡ []
-none_before least t [] h low = refl
-none_before least t (a ∷ rest) h low =
-    let o : IsInOrder least a rest = order_split least a rest h in
-    let later : t < a.tick = omega (arith, o.first) in
-    let other : (a.tick == t) ≡ false = grind (arith, later) in
-    arriving_other a rest t other ∙ none_before a.tick t rest o.others later
 
 -- ---- of a routine
 

@@ -127,46 +127,33 @@ with_both : (c : Configuration) (os more : List Object) → with_objects c (os +
 with_both c [] more = refl
 with_both c (o ∷ os) more = with_both (with_object c o) os more
 
-with_modes : (c : Configuration) (names : List (List ℕ)) → with_objects c (map mode_object names) ≡ record c { app_modes = c.app_modes ++ names }
-with_modes c [] = ap (λ (xs : List (List ℕ)). record c { app_modes = xs }) (sym (append-nil c.app_modes))
-with_modes c (name ∷ names) =
-    with_modes (record c { app_modes = c.app_modes ++ name ∷ [] }) names ∙ ap (λ (xs : List (List ℕ)). record c { app_modes = xs }) (append_assoc c.app_modes (name ∷ []) names)
+-- objects of one kind join the list of their kind
+with_all : {R : Type 0} (put : List R → Configuration) (object : R → Object) → ((xs : List R) (x : R) → with_object (put xs) (object x) ≡ put (xs ++ x ∷ []))
+    → (old xs : List R) → with_objects (put old) (map object xs) ≡ put (old ++ xs)
+with_all put object one old [] = ap put (sym (append-nil old))
+with_all put object one old (x ∷ xs) =
+    ap (λ (c : Configuration). with_objects c (map object xs)) (one old x) ∙ with_all put object one (old ++ x ∷ []) xs ∙ ap put (append_assoc old (x ∷ []) xs)
+
+with_modes : (c : Configuration) (xs : List (List ℕ)) → with_objects c (map mode_object xs) ≡ record c { app_modes = c.app_modes ++ xs }
+with_modes c xs = with_all (λ (ys : List (List ℕ)). record c { app_modes = ys }) mode_object (λ xs x. refl) c.app_modes xs
 
 with_tasks : (c : Configuration) (xs : List TaskRecord) → with_objects c (map task_object xs) ≡ record c { tasks = c.tasks ++ xs }
-with_tasks c [] = ap (λ (xs : List TaskRecord). record c { tasks = xs }) (sym (append-nil c.tasks))
-with_tasks c (x ∷ xs) =
-    ap (λ (y : TaskRecord). with_objects (record c { tasks = c.tasks ++ y ∷ [] }) (map task_object xs)) (task_back x)
-    ∙ with_tasks (record c { tasks = c.tasks ++ x ∷ [] }) xs ∙ ap (λ (ys : List TaskRecord). record c { tasks = ys }) (append_assoc c.tasks (x ∷ []) xs)
+with_tasks c xs = with_all (λ (ys : List TaskRecord). record c { tasks = ys }) task_object (λ xs x. ap (λ (y : TaskRecord). record c { tasks = xs ++ y ∷ [] }) (task_back x)) c.tasks xs
 
 with_isrs : (c : Configuration) (xs : List IsrRecord) → with_objects c (map isr_object xs) ≡ record c { routines = c.routines ++ xs }
-with_isrs c [] = ap (λ (xs : List IsrRecord). record c { routines = xs }) (sym (append-nil c.routines))
-with_isrs c (x ∷ xs) =
-    ap (λ (y : IsrRecord). with_objects (record c { routines = c.routines ++ y ∷ [] }) (map isr_object xs)) (isr_back x)
-    ∙ with_isrs (record c { routines = c.routines ++ x ∷ [] }) xs ∙ ap (λ (ys : List IsrRecord). record c { routines = ys }) (append_assoc c.routines (x ∷ []) xs)
+with_isrs c xs = with_all (λ (ys : List IsrRecord). record c { routines = ys }) isr_object (λ xs x. ap (λ (y : IsrRecord). record c { routines = xs ++ y ∷ [] }) (isr_back x)) c.routines xs
 
 with_resources : (c : Configuration) (xs : List ResourceRecord) → with_objects c (map resource_object xs) ≡ record c { resources = c.resources ++ xs }
-with_resources c [] = ap (λ (xs : List ResourceRecord). record c { resources = xs }) (sym (append-nil c.resources))
-with_resources c (x ∷ xs) =
-    ap (λ (y : ResourceRecord). with_objects (record c { resources = c.resources ++ y ∷ [] }) (map resource_object xs)) (resource_back x)
-    ∙ with_resources (record c { resources = c.resources ++ x ∷ [] }) xs ∙ ap (λ (ys : List ResourceRecord). record c { resources = ys }) (append_assoc c.resources (x ∷ []) xs)
+with_resources c xs = with_all (λ (ys : List ResourceRecord). record c { resources = ys }) resource_object (λ xs x. ap (λ (y : ResourceRecord). record c { resources = xs ++ y ∷ [] }) (resource_back x)) c.resources xs
 
 with_events : (c : Configuration) (xs : List EventRecord) → with_objects c (map event_object xs) ≡ record c { events = c.events ++ xs }
-with_events c [] = ap (λ (xs : List EventRecord). record c { events = xs }) (sym (append-nil c.events))
-with_events c (x ∷ xs) =
-    ap (λ (y : EventRecord). with_objects (record c { events = c.events ++ y ∷ [] }) (map event_object xs)) (event_back x)
-    ∙ with_events (record c { events = c.events ++ x ∷ [] }) xs ∙ ap (λ (ys : List EventRecord). record c { events = ys }) (append_assoc c.events (x ∷ []) xs)
+with_events c xs = with_all (λ (ys : List EventRecord). record c { events = ys }) event_object (λ xs x. ap (λ (y : EventRecord). record c { events = xs ++ y ∷ [] }) (event_back x)) c.events xs
 
 with_counters : (c : Configuration) (xs : List CounterRecord) → with_objects c (map counter_object xs) ≡ record c { counters = c.counters ++ xs }
-with_counters c [] = ap (λ (xs : List CounterRecord). record c { counters = xs }) (sym (append-nil c.counters))
-with_counters c (x ∷ xs) =
-    ap (λ (y : CounterRecord). with_objects (record c { counters = c.counters ++ y ∷ [] }) (map counter_object xs)) (counter_back x)
-    ∙ with_counters (record c { counters = c.counters ++ x ∷ [] }) xs ∙ ap (λ (ys : List CounterRecord). record c { counters = ys }) (append_assoc c.counters (x ∷ []) xs)
+with_counters c xs = with_all (λ (ys : List CounterRecord). record c { counters = ys }) counter_object (λ xs x. ap (λ (y : CounterRecord). record c { counters = xs ++ y ∷ [] }) (counter_back x)) c.counters xs
 
 with_alarms : (c : Configuration) (xs : List AlarmRecord) → with_objects c (map alarm_object xs) ≡ record c { alarms = c.alarms ++ xs }
-with_alarms c [] = ap (λ (xs : List AlarmRecord). record c { alarms = xs }) (sym (append-nil c.alarms))
-with_alarms c (x ∷ xs) =
-    ap (λ (y : AlarmRecord). with_objects (record c { alarms = c.alarms ++ y ∷ [] }) (map alarm_object xs)) (alarm_back x)
-    ∙ with_alarms (record c { alarms = c.alarms ++ x ∷ [] }) xs ∙ ap (λ (ys : List AlarmRecord). record c { alarms = ys }) (append_assoc c.alarms (x ∷ []) xs)
+with_alarms c xs = with_all (λ (ys : List AlarmRecord). record c { alarms = ys }) alarm_object (λ xs x. ap (λ (y : AlarmRecord). record c { alarms = xs ++ y ∷ [] }) (alarm_back x)) c.alarms xs
 
 -- what the objects of a file say, kind by kind
 all_back : (d : Configuration) (modes tasks isrs resources events counters alarms : List Object) →

@@ -10,8 +10,9 @@ use Rattle.osek_base.specs.Proper.{are_proper_names}
 use Rattle.oil_reader.specs.declared.syntax.Kind.TheVariants as kind
 use Rattle.oil_reader.specs.Grammar.{Object}
 use Rattle.oil_reader.specs.Checks.{kind_number, clashes, has_kind}
-use Rattle.oil_reader.specs.Checked.{is_name, is_object_name, is_checked_os, is_checked_task, is_checked_isr, is_checked_resource, is_checked_event, is_checked_counter, is_checked_alarm, are_checked_modes, are_checked_tasks, are_checked_isrs, are_checked_resources, are_checked_events, are_checked_counters, are_checked_alarms, is_checked}
+use Rattle.oil_reader.specs.Checked.{is_object_name, is_checked_os, is_checked_task, is_checked_isr, is_checked_resource, is_checked_event, is_checked_counter, is_checked_alarm}
 use Rattle.oil_reader.specs.Configuration.{OsRecord, Configuration}
+use Rattle.oil_reader.proofs.CheckedParts.{CheckedParts}
 use Rattle.oil_printer.specs.Printed.{os_object, mode_object, task_object, isr_object, resource_object, event_object, counter_object, alarm_object, objects_of, tree_of}
 use Rattle.oil_printer.proofs.Words.{both}
 use Rattle.oil_printer.proofs.Spelled.{may_print_object, may_print}
@@ -100,44 +101,20 @@ has_mode : (o : OsRecord) (names : List (List ℕ)) → not (is_empty names) ≡
 has_mode o [] some a b c d e f = absurd cc
 has_mode o (name ∷ names) some a b c d e f = refl
 
--- what was checked of a file
-pub record HasParts (c : Configuration) : Type 0 where
-  pub cpu : is_name c.cpu ≡ true
-  pub os : is_checked_os c.os ≡ true
-  pub modes : are_checked_modes c.app_modes ≡ true
-  pub tasks : are_checked_tasks c.tasks ≡ true
-  pub isrs : are_checked_isrs c.routines ≡ true
-  pub resources : are_checked_resources c.resources ≡ true
-  pub events : are_checked_events c.events ≡ true
-  pub counters : are_checked_counters c.counters ≡ true
-  pub alarms : are_checked_alarms c.alarms ≡ true
-
-pub has_parts : (c : Configuration) → is_checked c ≡ true → HasParts c
-has_parts c h =
-    let h1 = both _ (are_checked_alarms c.alarms) h in
-    let h2 = both _ (are_checked_counters c.counters) h1.0 in
-    let h3 = both _ (are_checked_events c.events) h2.0 in
-    let h4 = both _ (are_checked_resources c.resources) h3.0 in
-    let h5 = both _ (are_checked_isrs c.routines) h4.0 in
-    let h6 = both _ (are_checked_tasks c.tasks) h5.0 in
-    let h7 = both _ (are_checked_modes c.app_modes) h6.0 in
-    let h8 = both (is_name c.cpu) (is_checked_os c.os) h7.0 in
-    record { cpu = h8.0; os = h8.1; modes = h7.1; tasks = h6.1; isrs = h5.1; resources = h4.1; events = h3.1; counters = h2.1; alarms = h1.1 }
-
-module _ (c : Configuration) (h : HasParts c) where
+module _ (c : Configuration) (h : CheckedParts c) where
   modes_some : not (is_empty c.app_modes) ≡ true
-  modes_some = (both (not (is_empty c.app_modes)) (list_all (is_object_name kind.AppMode) c.app_modes) (both _ (are_proper_names c.app_modes) h.modes).0).0
+  modes_some = (both (not (is_empty c.app_modes)) (list_all (is_object_name kind.AppMode) c.app_modes) (both _ (are_proper_names c.app_modes) h.app_modes).0).0
 
   modes_named : list_all (is_object_name kind.AppMode) c.app_modes ≡ true
-  modes_named = (both (not (is_empty c.app_modes)) (list_all (is_object_name kind.AppMode) c.app_modes) (both _ (are_proper_names c.app_modes) h.modes).0).1
+  modes_named = (both (not (is_empty c.app_modes)) (list_all (is_object_name kind.AppMode) c.app_modes) (both _ (are_proper_names c.app_modes) h.app_modes).0).1
 
   modes_distinct : are_distinct_names c.app_modes ≡ true
-  modes_distinct = distinct_of c.app_modes (both _ (are_proper_names c.app_modes) h.modes).1
+  modes_distinct = distinct_of c.app_modes (both _ (are_proper_names c.app_modes) h.app_modes).1
 
   all_fit : AreFit 8 (objects_of c)
   all_fit =
       let t = both (list_all is_checked_task c.tasks) (are_proper_names (map (λ x. x.name) c.tasks)) h.tasks in
-      let i = both (list_all is_checked_isr c.routines) (are_proper_names (map (λ x. x.name) c.routines)) h.isrs in
+      let i = both (list_all is_checked_isr c.routines) (are_proper_names (map (λ x. x.name) c.routines)) h.routines in
       let r = both (list_all is_checked_resource c.resources) (are_proper_names (map (λ x. x.name) c.resources)) h.resources in
       let e = both (list_all is_checked_event c.events) (are_proper_names (map (λ x. x.name) c.events)) h.events in
       let n = both (list_all is_checked_counter c.counters) (are_proper_names (map (λ x. x.name) c.counters)) h.counters in

@@ -5,6 +5,7 @@ use Rattle.oil_reader.specs.Checked.{is_checked}
 use Rattle.oil_reader.specs.Configuration.{Configuration}
 use Rattle.oil_reader.specs.Meaning.{configuration_of}
 use Rattle.oil_reader.specs.Faults.{Means}
+use Rattle.oil_reader.proofs.CheckedParts.{CheckedParts, checked_parts}
 use Rattle.oil_printer.specs.Printed.{tree_of, printed}
 use Rattle.oil_printer.proofs.Parts.{lexes, lexemes_at}
 use Rattle.oil_printer.proofs.TreeParts.{file_parts, file_is}
@@ -13,9 +14,9 @@ use Rattle.oil_printer.proofs.Placed.{reads_file}
 use Rattle.oil_printer.proofs.Faultless.{is_file_right, file_sound}
 use Rattle.oil_printer.proofs.Bare.{configuration_bare, file_right_bare}
 use Rattle.oil_printer.proofs.Back.{configuration_back}
-use Rattle.oil_printer.proofs.CheckedFile.{HasParts, has_parts, checked_prints, checked_right}
+use Rattle.oil_printer.proofs.CheckedFile.{checked_prints, checked_right}
 
-pub parts_mean : (c : Configuration) → HasParts c → Means (printed c) c
+pub parts_mean : (c : Configuration) → CheckedParts c → Means (printed c) c
 parts_mean c h =
     let f = tree_of c in
     let r = reads_file f in
@@ -30,4 +31,4 @@ parts_mean c h =
 
 -- of a whole file that was checked
 pub printed_means : (c : Configuration) → is_checked c ≡ true → Means (printed c) c
-printed_means c h = parts_mean c (has_parts c h)
+printed_means c h = parts_mean c (checked_parts c h)

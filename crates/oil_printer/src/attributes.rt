@@ -26,6 +26,7 @@ use crate::layout::{
     close_block, open_block, push_line, push_lines, push_number_line, push_number_sub, push_sub,
     push_subs, push_switch,
 };
+use crate::printed_object::PrintedObject;
 use oil_reader::{
     ActionObject, AlarmObject, AlarmStartObject, CounterObject, EventObject, IsrObject, Mask, Os,
     ResourceObject, TaskObject,
@@ -69,13 +70,14 @@ pub fn push_os(text: &mut String, os: &Os) -> Result<(), AllocError>
     close_object(text)
 }
 
-/// An APPMODE of that name.
-#[tactic(auto, unfolding(crate::specs::Layout::object_text))]
-pub fn push_mode(text: &mut String, name: &Name) -> Result<(), AllocError>
-    ensures { OnOk result (string_bytes text.new ≡ string_bytes text.old ++ object_text (mode_object name.now)) }
-{
-    open_object(text, "APPMODE", name)?;
-    close_object(text)
+impl PrintedObject for Name {
+    ghost object_of = { mode_object };
+
+    #[tactic(auto, unfolding(crate::specs::Layout::object_text))]
+    fn push(&self, text: &mut String) -> Result<(), AllocError> {
+        open_object(text, "APPMODE", self)?;
+        close_object(text)
+    }
 }
 
 /// AUTOSTART of a task that starts by itself in these modes.
@@ -99,30 +101,32 @@ fn push_schedule(text: &mut String, schedule: Schedule) -> Result<(), AllocError
     }
 }
 
-/// A TASK.
-#[tactic(auto, unfolding(crate::specs::Layout::object_text))]
-pub fn push_task(text: &mut String, task: &TaskObject) -> Result<(), AllocError>
-    ensures { OnOk result (string_bytes text.new ≡ string_bytes text.old ++ object_text (task_object task.now)) }
-{
-    open_object(text, "TASK", &task.name)?;
-    push_number_line(text, "PRIORITY", task.priority as u32)?;
-    push_schedule(text, task.schedule)?;
-    push_number_line(text, "ACTIVATION", task.activation as u32)?;
-    push_task_start(text, &task.autostart)?;
-    push_lines(text, "RESOURCE", &task.resources)?;
-    push_lines(text, "EVENT", &task.events)?;
-    close_object(text)
+impl PrintedObject for TaskObject {
+    ghost object_of = { task_object };
+
+    #[tactic(auto, unfolding(crate::specs::Layout::object_text))]
+    fn push(&self, text: &mut String) -> Result<(), AllocError> {
+        open_object(text, "TASK", &self.name)?;
+        push_number_line(text, "PRIORITY", self.priority as u32)?;
+        push_schedule(text, self.schedule)?;
+        push_number_line(text, "ACTIVATION", self.activation as u32)?;
+        push_task_start(text, &self.autostart)?;
+        push_lines(text, "RESOURCE", &self.resources)?;
+        push_lines(text, "EVENT", &self.events)?;
+        close_object(text)
+    }
 }
 
-/// An ISR.
-#[tactic(auto, unfolding(crate::specs::Layout::object_text))]
-pub fn push_isr(text: &mut String, routine: &IsrObject) -> Result<(), AllocError>
-    ensures { OnOk result (string_bytes text.new ≡ string_bytes text.old ++ object_text (isr_object routine.now)) }
-{
-    open_object(text, "ISR", &routine.name)?;
-    push_number_line(text, "CATEGORY", 2)?;
-    push_number_line(text, "PRIORITY", routine.priority as u32)?;
-    close_object(text)
+impl PrintedObject for IsrObject {
+    ghost object_of = { isr_object };
+
+    #[tactic(auto, unfolding(crate::specs::Layout::object_text))]
+    fn push(&self, text: &mut String) -> Result<(), AllocError> {
+        open_object(text, "ISR", &self.name)?;
+        push_number_line(text, "CATEGORY", 2)?;
+        push_number_line(text, "PRIORITY", self.priority as u32)?;
+        close_object(text)
+    }
 }
 
 fn push_property(text: &mut String, property: Property) -> Result<(), AllocError>
@@ -134,14 +138,15 @@ fn push_property(text: &mut String, property: Property) -> Result<(), AllocError
     }
 }
 
-/// A RESOURCE.
-#[tactic(auto, unfolding(crate::specs::Layout::object_text))]
-pub fn push_resource(text: &mut String, resource: &ResourceObject) -> Result<(), AllocError>
-    ensures { OnOk result (string_bytes text.new ≡ string_bytes text.old ++ object_text (resource_object resource.now)) }
-{
-    open_object(text, "RESOURCE", &resource.name)?;
-    push_property(text, resource.property)?;
-    close_object(text)
+impl PrintedObject for ResourceObject {
+    ghost object_of = { resource_object };
+
+    #[tactic(auto, unfolding(crate::specs::Layout::object_text))]
+    fn push(&self, text: &mut String) -> Result<(), AllocError> {
+        open_object(text, "RESOURCE", &self.name)?;
+        push_property(text, self.property)?;
+        close_object(text)
+    }
 }
 
 fn push_mask(text: &mut String, mask: Mask) -> Result<(), AllocError>
@@ -153,27 +158,29 @@ fn push_mask(text: &mut String, mask: Mask) -> Result<(), AllocError>
     }
 }
 
-/// An EVENT.
-#[tactic(auto, unfolding(crate::specs::Layout::object_text))]
-pub fn push_event(text: &mut String, event: &EventObject) -> Result<(), AllocError>
-    ensures { OnOk result (string_bytes text.new ≡ string_bytes text.old ++ object_text (event_object event.now)) }
-{
-    open_object(text, "EVENT", &event.name)?;
-    push_mask(text, event.mask)?;
-    close_object(text)
+impl PrintedObject for EventObject {
+    ghost object_of = { event_object };
+
+    #[tactic(auto, unfolding(crate::specs::Layout::object_text))]
+    fn push(&self, text: &mut String) -> Result<(), AllocError> {
+        open_object(text, "EVENT", &self.name)?;
+        push_mask(text, self.mask)?;
+        close_object(text)
+    }
 }
 
-/// A COUNTER.
-#[tactic(auto, unfolding(crate::specs::Layout::object_text))]
-pub fn push_counter(text: &mut String, counter: &CounterObject) -> Result<(), AllocError>
-    ensures { OnOk result (string_bytes text.new ≡ string_bytes text.old ++ object_text (counter_object counter.now)) }
-{
-    let values = counter.counter;
-    open_object(text, "COUNTER", &counter.name)?;
-    push_number_line(text, "MAXALLOWEDVALUE", values.max_allowed_value)?;
-    push_number_line(text, "TICKSPERBASE", values.ticks_per_base)?;
-    push_number_line(text, "MINCYCLE", values.min_cycle)?;
-    close_object(text)
+impl PrintedObject for CounterObject {
+    ghost object_of = { counter_object };
+
+    #[tactic(auto, unfolding(crate::specs::Layout::object_text))]
+    fn push(&self, text: &mut String) -> Result<(), AllocError> {
+        let values = self.counter;
+        open_object(text, "COUNTER", &self.name)?;
+        push_number_line(text, "MAXALLOWEDVALUE", values.max_allowed_value)?;
+        push_number_line(text, "TICKSPERBASE", values.ticks_per_base)?;
+        push_number_line(text, "MINCYCLE", values.min_cycle)?;
+        close_object(text)
+    }
 }
 
 fn push_action(text: &mut String, action: &ActionObject) -> Result<(), AllocError>
@@ -213,14 +220,15 @@ fn push_alarm_start(
     }
 }
 
-/// An ALARM.
-#[tactic(auto, unfolding(crate::specs::Layout::object_text))]
-pub fn push_alarm(text: &mut String, alarm: &AlarmObject) -> Result<(), AllocError>
-    ensures { OnOk result (string_bytes text.new ≡ string_bytes text.old ++ object_text (alarm_object alarm.now)) }
-{
-    open_object(text, "ALARM", &alarm.name)?;
-    push_line(text, "COUNTER", alarm.counter.as_str())?;
-    push_action(text, &alarm.action)?;
-    push_alarm_start(text, &alarm.autostart)?;
-    close_object(text)
+impl PrintedObject for AlarmObject {
+    ghost object_of = { alarm_object };
+
+    #[tactic(auto, unfolding(crate::specs::Layout::object_text))]
+    fn push(&self, text: &mut String) -> Result<(), AllocError> {
+        open_object(text, "ALARM", &self.name)?;
+        push_line(text, "COUNTER", self.counter.as_str())?;
+        push_action(text, &self.action)?;
+        push_alarm_start(text, &self.autostart)?;
+        close_object(text)
+    }
 }

@@ -1,10 +1,12 @@
 //! Prints OIL, the configuration language of OSEK/VDX: the text of a file that was read.
 //!
-//! A line or block is written by `layout`, an object's attributes by `attributes`, and a whole file by `print`.
+//! A line or block is written by `layout`, an object's attributes by `attributes`, a list of objects by
+//! `printed_object`, and a whole file by `print`.
 #![tactic(auto)]
 
 mod attributes;
 mod layout;
 mod print;
+mod printed_object;
 
 pub use print::{print_oil, printed_means};

@@ -1,5 +1,5 @@
 -- What the reader has checked holds of what a tree without a fault means.
-use Rattle.std.proofs.Common.{◌≡◌, ℕ, List, [], ◌∷◌, ◌++◌, Option, Some, None, Bool, true, false, cond, not, ◌||◌, ◌&&◌, leb, length, arith, refl, sym, ap, ◌∙◌, subst, inl, inr, append_assoc}
+use Rattle.std.proofs.Common.{◌≡◌, ℕ, List, [], ◌∷◌, ◌++◌, map, Option, Some, None, Bool, true, false, cond, not, ◌||◌, ◌&&◌, leb, length, arith, refl, sym, ap, ◌∙◌, subst, inl, inr, append_assoc}
 use Rattle.std.specs.Prelude.{codes}
 use Rattle.std.specs.List.{list_all}
 use Rattle.std.specs.Str.{bytes_eq}
@@ -270,53 +270,28 @@ module _ (f : File) (sound : IsSoundFile f) (spelled : is_spelled f ≡ true) wh
         each_passes (is_object_name kind.AppMode) kind.AppMode name_of (λ o s w k. name_checked o s w kind.AppMode k),
       ) (proper_names kind.AppMode))
 
+  -- the list of a kind, where each object without a fault passes the kind's test
+  list_checked : {R : Type 0} (xs : List R) (k : Kind) (r : Object → R) (name : R → List ℕ) (test : R → Bool) → xs ≡ records_of k r f.objects → ((o : Object) → name (r o) ≡ o.name)
+      → ((o : Object) → IsSoundObject o → is_spelled_object o ≡ true → o.kind ≡ k → test (r o) ≡ true) → (list_all test xs && are_proper_names (map name xs)) ≡ true
+  list_checked xs k r name test is named one = rw (is, each_passes test k r one, names_are k r name named f.objects) (proper_names k)
+
   tasks_checked : are_checked_tasks (configuration_of f).tasks ≡ true
-  tasks_checked =
-      ap are_checked_tasks (tasks_are (no_objects f.cpu (os_among f.objects)) f.objects)
-      ∙ (rw (
-        each_passes is_checked_task kind.Task task_record task_checked,
-        names_are kind.Task task_record (λ x. x.name) (λ o. refl) f.objects,
-      ) (proper_names kind.Task))
+  tasks_checked = list_checked (configuration_of f).tasks kind.Task task_record (λ x. x.name) is_checked_task (tasks_are (no_objects f.cpu (os_among f.objects)) f.objects) (λ o. refl) task_checked
 
   isrs_checked : are_checked_isrs (configuration_of f).routines ≡ true
-  isrs_checked =
-      ap are_checked_isrs (routines_are (no_objects f.cpu (os_among f.objects)) f.objects)
-      ∙ (rw (
-        each_passes is_checked_isr kind.Isr isr_record isr_checked,
-        names_are kind.Isr isr_record (λ x. x.name) (λ o. refl) f.objects,
-      ) (proper_names kind.Isr))
+  isrs_checked = list_checked (configuration_of f).routines kind.Isr isr_record (λ x. x.name) is_checked_isr (routines_are (no_objects f.cpu (os_among f.objects)) f.objects) (λ o. refl) isr_checked
 
   resources_checked : are_checked_resources (configuration_of f).resources ≡ true
-  resources_checked =
-      ap are_checked_resources (resources_are (no_objects f.cpu (os_among f.objects)) f.objects)
-      ∙ (rw (
-        each_passes is_checked_resource kind.Resource resource_record resource_checked,
-        names_are kind.Resource resource_record (λ x. x.name) (λ o. refl) f.objects,
-      ) (proper_names kind.Resource))
+  resources_checked = list_checked (configuration_of f).resources kind.Resource resource_record (λ x. x.name) is_checked_resource (resources_are (no_objects f.cpu (os_among f.objects)) f.objects) (λ o. refl) resource_checked
 
   events_checked : are_checked_events (configuration_of f).events ≡ true
-  events_checked =
-      ap are_checked_events (events_are (no_objects f.cpu (os_among f.objects)) f.objects)
-      ∙ (rw (
-        each_passes is_checked_event kind.Event event_record event_checked,
-        names_are kind.Event event_record (λ x. x.name) (λ o. refl) f.objects,
-      ) (proper_names kind.Event))
+  events_checked = list_checked (configuration_of f).events kind.Event event_record (λ x. x.name) is_checked_event (events_are (no_objects f.cpu (os_among f.objects)) f.objects) (λ o. refl) event_checked
 
   counters_checked : are_checked_counters (configuration_of f).counters ≡ true
-  counters_checked =
-      ap are_checked_counters (counters_are (no_objects f.cpu (os_among f.objects)) f.objects)
-      ∙ (rw (
-        each_passes is_checked_counter kind.Counter counter_record counter_checked,
-        names_are kind.Counter counter_record (λ x. x.name) (λ o. refl) f.objects,
-      ) (proper_names kind.Counter))
+  counters_checked = list_checked (configuration_of f).counters kind.Counter counter_record (λ x. x.name) is_checked_counter (counters_are (no_objects f.cpu (os_among f.objects)) f.objects) (λ o. refl) counter_checked
 
   alarms_checked : are_checked_alarms (configuration_of f).alarms ≡ true
-  alarms_checked =
-      ap are_checked_alarms (alarms_are (no_objects f.cpu (os_among f.objects)) f.objects)
-      ∙ (rw (
-        each_passes is_checked_alarm kind.Alarm alarm_record alarm_checked,
-        names_are kind.Alarm alarm_record (λ x. x.name) (λ o. refl) f.objects,
-      ) (proper_names kind.Alarm))
+  alarms_checked = list_checked (configuration_of f).alarms kind.Alarm alarm_record (λ x. x.name) is_checked_alarm (alarms_are (no_objects f.cpu (os_among f.objects)) f.objects) (λ o. refl) alarm_checked
 
   pub configuration_checked : is_checked (configuration_of f) ≡ true
   configuration_checked =

@@ -4,7 +4,7 @@ use Rattle.oil_reader.specs.Configuration.{Configuration}
 use Rattle.oil_reader.specs.Checked.{is_name, is_checked_os, are_checked_modes, are_checked_tasks, are_checked_isrs, are_checked_resources, are_checked_events, are_checked_counters, are_checked_alarms, is_checked}
 use Rattle.oil_reader.proofs.Listed.{both}
 
-record AllNine (a b c d e f g h i : Bool) : Type 0 where
+pub record AllNine (a b c d e f g h i : Bool) : Type 0 where
   pub cpu : a ≡ true
   pub os : b ≡ true
   pub app_modes : c ≡ true
@@ -27,19 +27,12 @@ all_nine a b c d e f g h i all =
     let two = both a b three.0 in
     record { cpu = two.0; os = two.1; app_modes = three.1; tasks = four.1; routines = five.1; resources = six.1; events = seven.1; counters = eight.1; alarms = nine.1 }
 
-pub record CheckedParts (c : Configuration) : Type 0 where
-  pub cpu : is_name c.cpu ≡ true
-  pub os : is_checked_os c.os ≡ true
-  pub app_modes : are_checked_modes c.app_modes ≡ true
-  pub tasks : are_checked_tasks c.tasks ≡ true
-  pub routines : are_checked_isrs c.routines ≡ true
-  pub resources : are_checked_resources c.resources ≡ true
-  pub events : are_checked_events c.events ≡ true
-  pub counters : are_checked_counters c.counters ≡ true
-  pub alarms : are_checked_alarms c.alarms ≡ true
+abbrev pub CheckedParts : Configuration → Type 0
+CheckedParts c =
+    AllNine (is_name c.cpu) (is_checked_os c.os) (are_checked_modes c.app_modes) (are_checked_tasks c.tasks) (are_checked_isrs c.routines)
+    (are_checked_resources c.resources) (are_checked_events c.events) (are_checked_counters c.counters) (are_checked_alarms c.alarms)
 
 pub checked_parts : (c : Configuration) → is_checked c ≡ true → CheckedParts c
 checked_parts c h =
-    let p = all_nine (is_name c.cpu) (is_checked_os c.os) (are_checked_modes c.app_modes) (are_checked_tasks c.tasks) (are_checked_isrs c.routines)
-    (are_checked_resources c.resources) (are_checked_events c.events) (are_checked_counters c.counters) (are_checked_alarms c.alarms) h in
-    record { cpu = p.cpu; os = p.os; app_modes = p.app_modes; tasks = p.tasks; routines = p.routines; resources = p.resources; events = p.events; counters = p.counters; alarms = p.alarms }
+    all_nine (is_name c.cpu) (is_checked_os c.os) (are_checked_modes c.app_modes) (are_checked_tasks c.tasks) (are_checked_isrs c.routines)
+    (are_checked_resources c.resources) (are_checked_events c.events) (are_checked_counters c.counters) (are_checked_alarms c.alarms) h

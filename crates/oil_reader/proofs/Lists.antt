@@ -1,5 +1,5 @@
 -- A loop that reads a list of things up to a closing brace.
-use Rattle.std.proofs.Common.{◌≡◌, ◌≤◌, ◌<◌, arith, length, ℕ, List, [], ◌∷◌, ◌++◌, Option, Some, None, refl, ap, ◌∙◌, subst, append_assoc}
+use Rattle.std.proofs.Common.{◌≡◌, ℕ, List, [], ◌∷◌, ◌++◌, Option, Some, None, refl, ap, ◌∙◌, subst, append_assoc}
 use Rattle.std.proofs.lemmas.List.{append-nil}
 use Rattle.oil_reader.specs.declared.fault.OilFault.{OilFault}
 use Rattle.oil_reader.specs.declared.fault.OilFault.TheVariants as fault
@@ -15,18 +15,16 @@ pub record SoFar {X : Type 0} (Is : X → List Lexeme → List Lexeme → Type 0
   pub len_stays : now ≡ len
   pub each : (more : List X) (last : List Lexeme) → AreEach Is more rest last → AreEach Is (xs ++ more) ts last
   pub goes_on : (k : List Symbol) → refusal (s ∷ k) len ts ≡ refusal (s ∷ k) len rest
-  pub within : length rest ≤ length ts
 
 module _ {X : Type 0} (Is : X → List Lexeme → List Lexeme → Type 0) (s : Symbol) (len now : ℕ) (ts : List Lexeme) where
   pub none_so_far : SoFar Is s len len ts ts []
-  none_so_far = record { len_stays = refl; each = λ more last h. h; goes_on = λ k. refl; within = omega arith }
+  none_so_far = record { len_stays = refl; each = λ more last h. h; goes_on = λ k. refl }
 
-  pub one_more : (rest after : List Lexeme) (xs : List X) (x : X) (next : ℕ) → next ≡ now → length after < length rest → Is x rest after → ((k : List Symbol) → refusal (s ∷ k) len rest ≡ refusal (s ∷ k) len after) → SoFar Is s len now ts rest xs → SoFar Is s len next ts after (xs ++ x ∷ [])
-  one_more rest after xs x next same shorter is passes so_far = record {
+  pub one_more : (rest after : List Lexeme) (xs : List X) (x : X) (next : ℕ) → next ≡ now → Is x rest after → ((k : List Symbol) → refusal (s ∷ k) len rest ≡ refusal (s ∷ k) len after) → SoFar Is s len now ts rest xs → SoFar Is s len next ts after (xs ++ x ∷ [])
+  one_more rest after xs x next same is passes so_far = record {
     len_stays = same ∙ so_far.len_stays;
     each = λ more last h. rw append_assoc (so_far.each (x ∷ more) last (after, is, h));
     goes_on = λ k. so_far.goes_on k ∙ passes k;
-    within = omega (arith, so_far.within);
   }
 
   pub all_there : (rest : List Lexeme) (xs : List X) → SoFar Is s len now ts rest xs → AreEach Is xs ts rest
@@ -38,6 +36,15 @@ module _ {X : Type 0} (Is : X → List Lexeme → List Lexeme → Type 0) (s : S
   refuses_all rest xs (fault.Syntax p) so_far h = λ k. so_far.goes_on k ∙ subst (λ (n : ℕ). refusal (s ∷ k) n rest ≡ Some p) so_far.len_stays (h k)
   refuses_all rest xs _ so_far h = absurd h
 
+-- what the next of them refuses, unless the closing brace stands there
+module _ (s first : Symbol) (others : List Symbol)
+    (refused : (w : Word) (len place p : ℕ) (ts : List Lexeme) (k : List Symbol) → (w ≡ Mark Close → ⊥) → refusal (first ∷ others ++ (s ∷ k)) len (record { place = place; word = w } ∷ ts) ≡ Some p → refusal (s ∷ k) len (record { place = place; word = w } ∷ ts) ≡ Some p) where
+  next_refuses : (len : ℕ) (ts : List Lexeme) (e : OilFault) → ¬ StartsWith Close ts → Refuses (first ∷ others) len ts e → Refuses (s ∷ []) len ts e
+  next_refuses len ts fault.Memory closed h = tt
+  next_refuses len [] (fault.Syntax p) closed h = λ k. h k
+  next_refuses len (t ∷ ts) (fault.Syntax p) closed h = λ k. refused t.word len t.place p ts k closed (h (s ∷ k))
+  next_refuses len ts _ closed h = absurd h
+
 subs_first : (w : Word) (len place p : ℕ) (ts : List Lexeme) (k : List Symbol) → (w ≡ Mark Close → ⊥) → refusal (AnyName ∷ Only Equals ∷ AnyValue ∷ Only Semicolon ∷ Subs ∷ k) len (record { place = place; word = w } ∷ ts) ≡ Some p → refusal (Subs ∷ k) len (record { place = place; word = w } ∷ ts) ≡ Some p
 subs_first (Number n) len place p ts k closed h = h
 subs_first Version len place p ts k closed h = h
@@ -47,12 +54,8 @@ subs_first (Mark Equals) len place p ts k closed h = h
 subs_first (Mark Semicolon) len place p ts k closed h = h
 subs_first (Name v) len place p ts k closed h = h
 
--- what the next of them refuses, unless the closing brace stands there
 pub subs_refuse : (len : ℕ) (ts : List Lexeme) (e : OilFault) → ¬ StartsWith Close ts → Refuses (AnyName ∷ Only Equals ∷ AnyValue ∷ Only Semicolon ∷ []) len ts e → Refuses (Subs ∷ []) len ts e
-subs_refuse len ts fault.Memory closed h = tt
-subs_refuse len [] (fault.Syntax p) closed h = λ k. h k
-subs_refuse len (t ∷ ts) (fault.Syntax p) closed h = λ k. subs_first t.word len t.place p ts k closed (h (Subs ∷ k))
-subs_refuse len ts _ closed h = absurd h
+subs_refuse = next_refuses Subs AnyName (Only Equals ∷ AnyValue ∷ Only Semicolon ∷ []) subs_first
 
 attributes_first : (w : Word) (len place p : ℕ) (ts : List Lexeme) (k : List Symbol) → (w ≡ Mark Close → ⊥) → refusal (AnyName ∷ Only Equals ∷ AnyValue ∷ Rest ∷ Attributes ∷ k) len (record { place = place; word = w } ∷ ts) ≡ Some p → refusal (Attributes ∷ k) len (record { place = place; word = w } ∷ ts) ≡ Some p
 attributes_first (Number n) len place p ts k closed h = h
@@ -63,12 +66,8 @@ attributes_first (Mark Equals) len place p ts k closed h = h
 attributes_first (Mark Semicolon) len place p ts k closed h = h
 attributes_first (Name v) len place p ts k closed h = h
 
--- what the next of them refuses, unless the closing brace stands there
 pub attributes_refuse : (len : ℕ) (ts : List Lexeme) (e : OilFault) → ¬ StartsWith Close ts → Refuses (AnyName ∷ Only Equals ∷ AnyValue ∷ Rest ∷ []) len ts e → Refuses (Attributes ∷ []) len ts e
-attributes_refuse len ts fault.Memory closed h = tt
-attributes_refuse len [] (fault.Syntax p) closed h = λ k. h k
-attributes_refuse len (t ∷ ts) (fault.Syntax p) closed h = λ k. attributes_first t.word len t.place p ts k closed (h (Attributes ∷ k))
-attributes_refuse len ts _ closed h = absurd h
+attributes_refuse = next_refuses Attributes AnyName (Only Equals ∷ AnyValue ∷ Rest ∷ []) attributes_first
 
 kind_first : (o : Option Kind) (len place p : ℕ) (ts : List Lexeme) (k : List Symbol) → after_step (after_kind o []) place (λ more. refusal (more ++ (AnyName ∷ Body ∷ Objects ∷ k)) len ts) ≡ Some p → after_step (after_kind o (AnyName ∷ Body ∷ Objects ∷ [])) place (λ more. refusal (more ++ k) len ts) ≡ Some p
 kind_first None len place p ts k h = h
@@ -83,12 +82,8 @@ objects_first (Mark Equals) len place p ts k closed h = h
 objects_first (Mark Semicolon) len place p ts k closed h = h
 objects_first (Name v) len place p ts k closed h = kind_first (kind_of v) len place p ts k h
 
--- what the next of them refuses, unless the closing brace stands there
 pub objects_refuse : (len : ℕ) (ts : List Lexeme) (e : OilFault) → ¬ StartsWith Close ts → Refuses (AnyKind ∷ AnyName ∷ Body ∷ []) len ts e → Refuses (Objects ∷ []) len ts e
-objects_refuse len ts fault.Memory closed h = tt
-objects_refuse len [] (fault.Syntax p) closed h = λ k. h k
-objects_refuse len (t ∷ ts) (fault.Syntax p) closed h = λ k. objects_first t.word len t.place p ts k closed (h (Objects ∷ k))
-objects_refuse len ts _ closed h = absurd h
+objects_refuse = next_refuses Objects AnyKind (AnyName ∷ Body ∷ []) objects_first
 
 -- ---- refusals of a part are refusals of the whole
 
@@ -107,6 +102,13 @@ pub semicolon_refuses : (s : Symbol) (len : ℕ) (ts : List Lexeme) (e : OilFaul
 semicolon_refuses s len [] e first starts h = absurd starts
 semicolon_refuses s len (t ∷ ts) e first starts h = refuses_by (Only Semicolon ∷ []) (s ∷ []) len (t ∷ ts) (t ∷ ts) e (λ k. k) (λ k. rw (starts, first) refl) h
 
+-- what follows is in braces, unless a semicolon stands there
+module _ (s inner : Symbol)
+    (opens : (w : Word) (len place : ℕ) (ts : List Lexeme) (k : List Symbol) → (w ≡ Mark Semicolon → ⊥) → refusal (s ∷ k) len (record { place = place; word = w } ∷ ts) ≡ refusal (Only Open ∷ inner ∷ Only Semicolon ∷ k) len (record { place = place; word = w } ∷ ts)) where
+  open_refuses : (len : ℕ) (ts : List Lexeme) (e : OilFault) → ¬ StartsWith Semicolon ts → Refuses (Only Open ∷ []) len ts e → Refuses (s ∷ []) len ts e
+  open_refuses len [] e other h = refuses_by (Only Open ∷ []) (s ∷ []) len [] [] e (λ k. k) (λ k. refl) h
+  open_refuses len (t ∷ ts) e other h = refuses_by (Only Open ∷ []) (s ∷ []) len (t ∷ ts) (t ∷ ts) e (λ k. inner ∷ Only Semicolon ∷ k) (λ k. opens t.word len t.place ts k other) h
+
 rest_first : (w : Word) (len place : ℕ) (ts : List Lexeme) (k : List Symbol) → (w ≡ Mark Semicolon → ⊥) → refusal (Rest ∷ k) len (record { place = place; word = w } ∷ ts) ≡ refusal (Only Open ∷ Subs ∷ Only Semicolon ∷ k) len (record { place = place; word = w } ∷ ts)
 rest_first (Name v) len place ts k other = refl
 rest_first (Number n) len place ts k other = refl
@@ -117,8 +119,7 @@ rest_first (Mark Equals) len place ts k other = refl
 rest_first (Mark Semicolon) len place ts k other = absurd (other refl)
 
 pub rest_refuses : (len : ℕ) (ts : List Lexeme) (e : OilFault) → ¬ StartsWith Semicolon ts → Refuses (Only Open ∷ []) len ts e → Refuses (Rest ∷ []) len ts e
-rest_refuses len [] e other h = refuses_by (Only Open ∷ []) (Rest ∷ []) len [] [] e (λ k. k) (λ k. refl) h
-rest_refuses len (t ∷ ts) e other h = refuses_by (Only Open ∷ []) (Rest ∷ []) len (t ∷ ts) (t ∷ ts) e (λ k. Subs ∷ Only Semicolon ∷ k) (λ k. rest_first t.word len t.place ts k other) h
+rest_refuses = open_refuses Rest Subs rest_first
 
 body_first : (w : Word) (len place : ℕ) (ts : List Lexeme) (k : List Symbol) → (w ≡ Mark Semicolon → ⊥) → refusal (Body ∷ k) len (record { place = place; word = w } ∷ ts) ≡ refusal (Only Open ∷ Attributes ∷ Only Semicolon ∷ k) len (record { place = place; word = w } ∷ ts)
 body_first (Name v) len place ts k other = refl
@@ -130,8 +131,7 @@ body_first (Mark Equals) len place ts k other = refl
 body_first (Mark Semicolon) len place ts k other = absurd (other refl)
 
 pub body_refuses : (len : ℕ) (ts : List Lexeme) (e : OilFault) → ¬ StartsWith Semicolon ts → Refuses (Only Open ∷ []) len ts e → Refuses (Body ∷ []) len ts e
-body_refuses len [] e other h = refuses_by (Only Open ∷ []) (Body ∷ []) len [] [] e (λ k. k) (λ k. refl) h
-body_refuses len (t ∷ ts) e other h = refuses_by (Only Open ∷ []) (Body ∷ []) len (t ∷ ts) (t ∷ ts) e (λ k. Attributes ∷ Only Semicolon ∷ k) (λ k. body_first t.word len t.place ts k other) h
+body_refuses = open_refuses Body Attributes body_first
 
 -- the semicolon behind braces
 module _ (len : ℕ) (ts inner rest : List Lexeme) (o c : ℕ) (e : OilFault) (opened : ts ≡ at o (Mark Open) ∷ inner) where

@@ -17,6 +17,7 @@ use Rattle.oil_reader.specs.Meaning.{add_by, with_object, with_objects, task_rec
 use Rattle.oil_reader.proofs.Firsts.{among_right}
 use Rattle.oil_reader.proofs.Listed.{any_is}
 use Rattle.oil_reader.proofs.ObjectsListed.{same_kind_is}
+use Rattle.oil_reader.proofs.Passes.{each_kind}
 
 -- what the objects of a kind say, in their order
 abbrev pub records_of : {R : Type 0} → Kind → (Object → R) → List Object → List R
@@ -28,154 +29,54 @@ name_of o = o.name
 
 -- ---- objects change neither the CPU's name nor the OS object
 
-cpu_step : (k : Kind) (c : Configuration) (o : Object) → (add_by k c o).cpu ≡ c.cpu
-cpu_step kind.Os c o = refl
-cpu_step kind.AppMode c o = refl
-cpu_step kind.Task c o = refl
-cpu_step kind.Isr c o = refl
-cpu_step kind.Resource c o = refl
-cpu_step kind.Event c o = refl
-cpu_step kind.Counter c o = refl
-cpu_step kind.Alarm c o = refl
+abbrev Stays : {X : Type 0} → (Configuration → X) → Configuration → Object → Kind → Type 0
+Stays part c o k = part (add_by k c o) ≡ part c
+
+stays : {X : Type 0} (part : Configuration → X) → ((c : Configuration) (o : Object) (k : Kind) → Stays part c o k) → (c : Configuration) (os : List Object) → part (with_objects c os) ≡ part c
+stays part same c [] = refl
+stays part same c (o ∷ os) = stays part same (with_object c o) os ∙ same c o o.kind
 
 pub cpu_is : (c : Configuration) (os : List Object) → (with_objects c os).cpu ≡ c.cpu
-cpu_is c [] = refl
-cpu_is c (o ∷ os) = cpu_is (with_object c o) os ∙ cpu_step o.kind c o
-
-os_step : (k : Kind) (c : Configuration) (o : Object) → (add_by k c o).os ≡ c.os
-os_step kind.Os c o = refl
-os_step kind.AppMode c o = refl
-os_step kind.Task c o = refl
-os_step kind.Isr c o = refl
-os_step kind.Resource c o = refl
-os_step kind.Event c o = refl
-os_step kind.Counter c o = refl
-os_step kind.Alarm c o = refl
+cpu_is = stays (λ c. c.cpu) (λ c o. each_kind (Stays (λ d. d.cpu) c o) refl refl refl refl refl refl refl refl)
 
 pub os_is : (c : Configuration) (os : List Object) → (with_objects c os).os ≡ c.os
-os_is c [] = refl
-os_is c (o ∷ os) = os_is (with_object c o) os ∙ os_step o.kind c o
+os_is = stays (λ c. c.os) (λ c o. each_kind (Stays (λ d. d.os) c o) refl refl refl refl refl refl refl refl)
 
 -- ---- the lists
 
-abbrev app_modes_goal : Kind → Configuration → Object → List Object → Type 0
-app_modes_goal k c o os = (with_objects (add_by k c o) os).app_modes ≡ c.app_modes ++ cond (same_kind k kind.AppMode) (name_of o ∷ records_of kind.AppMode name_of os) (records_of kind.AppMode name_of os)
+-- an object of the list's kind comes to its end, and no other does
+abbrev Grows : {R : Type 0} → (Configuration → List R) → Kind → (Object → R) → Configuration → Object → Kind → Type 0
+Grows part k r c o j = part (add_by j c o) ≡ cond (same_kind j k) (part c ++ r o ∷ []) (part c)
 
-app_modes_step : (k : Kind) (c : Configuration) (o : Object) (os : List Object) → ((d : Configuration) → (with_objects d os).app_modes ≡ d.app_modes ++ records_of kind.AppMode name_of os) → app_modes_goal k c o os
-app_modes_step kind.Os c o os next = next (add_by kind.Os c o)
-app_modes_step kind.AppMode c o os next = next (add_by kind.AppMode c o) ∙ append_assoc c.app_modes (name_of o ∷ []) (records_of kind.AppMode name_of os)
-app_modes_step kind.Task c o os next = next (add_by kind.Task c o)
-app_modes_step kind.Isr c o os next = next (add_by kind.Isr c o)
-app_modes_step kind.Resource c o os next = next (add_by kind.Resource c o)
-app_modes_step kind.Event c o os next = next (add_by kind.Event c o)
-app_modes_step kind.Counter c o os next = next (add_by kind.Counter c o)
-app_modes_step kind.Alarm c o os next = next (add_by kind.Alarm c o)
+grown : {R : Type 0} (b : Bool) (old now rest : List R) (x : R) → now ≡ cond b (old ++ x ∷ []) old → now ++ rest ≡ old ++ cond b (x ∷ rest) rest
+grown true old now rest x e = rw e (append_assoc old (x ∷ []) rest)
+grown false old now rest x e = rw e refl
+
+list_is : {R : Type 0} (part : Configuration → List R) (k : Kind) (r : Object → R) → ((c : Configuration) (o : Object) (j : Kind) → Grows part k r c o j) → (c : Configuration) (os : List Object) → part (with_objects c os) ≡ part c ++ records_of k r os
+list_is part k r one c [] = sym (append-nil (part c))
+list_is part k r one c (o ∷ os) =
+    list_is part k r one (with_object c o) os ∙ grown (same_kind o.kind k) (part c) (part (with_object c o)) (records_of k r os) (r o) (one c o o.kind)
 
 pub app_modes_are : (c : Configuration) (os : List Object) → (with_objects c os).app_modes ≡ c.app_modes ++ records_of kind.AppMode name_of os
-app_modes_are c [] = sym (append-nil c.app_modes)
-app_modes_are c (o ∷ os) = app_modes_step o.kind c o os (λ d. app_modes_are d os)
-
-abbrev tasks_goal : Kind → Configuration → Object → List Object → Type 0
-tasks_goal k c o os = (with_objects (add_by k c o) os).tasks ≡ c.tasks ++ cond (same_kind k kind.Task) (task_record o ∷ records_of kind.Task task_record os) (records_of kind.Task task_record os)
-
-tasks_step : (k : Kind) (c : Configuration) (o : Object) (os : List Object) → ((d : Configuration) → (with_objects d os).tasks ≡ d.tasks ++ records_of kind.Task task_record os) → tasks_goal k c o os
-tasks_step kind.Os c o os next = next (add_by kind.Os c o)
-tasks_step kind.AppMode c o os next = next (add_by kind.AppMode c o)
-tasks_step kind.Task c o os next = next (add_by kind.Task c o) ∙ append_assoc c.tasks (task_record o ∷ []) (records_of kind.Task task_record os)
-tasks_step kind.Isr c o os next = next (add_by kind.Isr c o)
-tasks_step kind.Resource c o os next = next (add_by kind.Resource c o)
-tasks_step kind.Event c o os next = next (add_by kind.Event c o)
-tasks_step kind.Counter c o os next = next (add_by kind.Counter c o)
-tasks_step kind.Alarm c o os next = next (add_by kind.Alarm c o)
+app_modes_are = list_is (λ c. c.app_modes) kind.AppMode name_of (λ c o. each_kind (Grows (λ d. d.app_modes) kind.AppMode name_of c o) refl refl refl refl refl refl refl refl)
 
 pub tasks_are : (c : Configuration) (os : List Object) → (with_objects c os).tasks ≡ c.tasks ++ records_of kind.Task task_record os
-tasks_are c [] = sym (append-nil c.tasks)
-tasks_are c (o ∷ os) = tasks_step o.kind c o os (λ d. tasks_are d os)
-
-abbrev routines_goal : Kind → Configuration → Object → List Object → Type 0
-routines_goal k c o os = (with_objects (add_by k c o) os).routines ≡ c.routines ++ cond (same_kind k kind.Isr) (isr_record o ∷ records_of kind.Isr isr_record os) (records_of kind.Isr isr_record os)
-
-routines_step : (k : Kind) (c : Configuration) (o : Object) (os : List Object) → ((d : Configuration) → (with_objects d os).routines ≡ d.routines ++ records_of kind.Isr isr_record os) → routines_goal k c o os
-routines_step kind.Os c o os next = next (add_by kind.Os c o)
-routines_step kind.AppMode c o os next = next (add_by kind.AppMode c o)
-routines_step kind.Task c o os next = next (add_by kind.Task c o)
-routines_step kind.Isr c o os next = next (add_by kind.Isr c o) ∙ append_assoc c.routines (isr_record o ∷ []) (records_of kind.Isr isr_record os)
-routines_step kind.Resource c o os next = next (add_by kind.Resource c o)
-routines_step kind.Event c o os next = next (add_by kind.Event c o)
-routines_step kind.Counter c o os next = next (add_by kind.Counter c o)
-routines_step kind.Alarm c o os next = next (add_by kind.Alarm c o)
+tasks_are = list_is (λ c. c.tasks) kind.Task task_record (λ c o. each_kind (Grows (λ d. d.tasks) kind.Task task_record c o) refl refl refl refl refl refl refl refl)
 
 pub routines_are : (c : Configuration) (os : List Object) → (with_objects c os).routines ≡ c.routines ++ records_of kind.Isr isr_record os
-routines_are c [] = sym (append-nil c.routines)
-routines_are c (o ∷ os) = routines_step o.kind c o os (λ d. routines_are d os)
-
-abbrev resources_goal : Kind → Configuration → Object → List Object → Type 0
-resources_goal k c o os = (with_objects (add_by k c o) os).resources ≡ c.resources ++ cond (same_kind k kind.Resource) (resource_record o ∷ records_of kind.Resource resource_record os) (records_of kind.Resource resource_record os)
-
-resources_step : (k : Kind) (c : Configuration) (o : Object) (os : List Object) → ((d : Configuration) → (with_objects d os).resources ≡ d.resources ++ records_of kind.Resource resource_record os) → resources_goal k c o os
-resources_step kind.Os c o os next = next (add_by kind.Os c o)
-resources_step kind.AppMode c o os next = next (add_by kind.AppMode c o)
-resources_step kind.Task c o os next = next (add_by kind.Task c o)
-resources_step kind.Isr c o os next = next (add_by kind.Isr c o)
-resources_step kind.Resource c o os next = next (add_by kind.Resource c o) ∙ append_assoc c.resources (resource_record o ∷ []) (records_of kind.Resource resource_record os)
-resources_step kind.Event c o os next = next (add_by kind.Event c o)
-resources_step kind.Counter c o os next = next (add_by kind.Counter c o)
-resources_step kind.Alarm c o os next = next (add_by kind.Alarm c o)
+routines_are = list_is (λ c. c.routines) kind.Isr isr_record (λ c o. each_kind (Grows (λ d. d.routines) kind.Isr isr_record c o) refl refl refl refl refl refl refl refl)
 
 pub resources_are : (c : Configuration) (os : List Object) → (with_objects c os).resources ≡ c.resources ++ records_of kind.Resource resource_record os
-resources_are c [] = sym (append-nil c.resources)
-resources_are c (o ∷ os) = resources_step o.kind c o os (λ d. resources_are d os)
-
-abbrev events_goal : Kind → Configuration → Object → List Object → Type 0
-events_goal k c o os = (with_objects (add_by k c o) os).events ≡ c.events ++ cond (same_kind k kind.Event) (event_record o ∷ records_of kind.Event event_record os) (records_of kind.Event event_record os)
-
-events_step : (k : Kind) (c : Configuration) (o : Object) (os : List Object) → ((d : Configuration) → (with_objects d os).events ≡ d.events ++ records_of kind.Event event_record os) → events_goal k c o os
-events_step kind.Os c o os next = next (add_by kind.Os c o)
-events_step kind.AppMode c o os next = next (add_by kind.AppMode c o)
-events_step kind.Task c o os next = next (add_by kind.Task c o)
-events_step kind.Isr c o os next = next (add_by kind.Isr c o)
-events_step kind.Resource c o os next = next (add_by kind.Resource c o)
-events_step kind.Event c o os next = next (add_by kind.Event c o) ∙ append_assoc c.events (event_record o ∷ []) (records_of kind.Event event_record os)
-events_step kind.Counter c o os next = next (add_by kind.Counter c o)
-events_step kind.Alarm c o os next = next (add_by kind.Alarm c o)
+resources_are = list_is (λ c. c.resources) kind.Resource resource_record (λ c o. each_kind (Grows (λ d. d.resources) kind.Resource resource_record c o) refl refl refl refl refl refl refl refl)
 
 pub events_are : (c : Configuration) (os : List Object) → (with_objects c os).events ≡ c.events ++ records_of kind.Event event_record os
-events_are c [] = sym (append-nil c.events)
-events_are c (o ∷ os) = events_step o.kind c o os (λ d. events_are d os)
-
-abbrev counters_goal : Kind → Configuration → Object → List Object → Type 0
-counters_goal k c o os = (with_objects (add_by k c o) os).counters ≡ c.counters ++ cond (same_kind k kind.Counter) (counter_record o ∷ records_of kind.Counter counter_record os) (records_of kind.Counter counter_record os)
-
-counters_step : (k : Kind) (c : Configuration) (o : Object) (os : List Object) → ((d : Configuration) → (with_objects d os).counters ≡ d.counters ++ records_of kind.Counter counter_record os) → counters_goal k c o os
-counters_step kind.Os c o os next = next (add_by kind.Os c o)
-counters_step kind.AppMode c o os next = next (add_by kind.AppMode c o)
-counters_step kind.Task c o os next = next (add_by kind.Task c o)
-counters_step kind.Isr c o os next = next (add_by kind.Isr c o)
-counters_step kind.Resource c o os next = next (add_by kind.Resource c o)
-counters_step kind.Event c o os next = next (add_by kind.Event c o)
-counters_step kind.Counter c o os next = next (add_by kind.Counter c o) ∙ append_assoc c.counters (counter_record o ∷ []) (records_of kind.Counter counter_record os)
-counters_step kind.Alarm c o os next = next (add_by kind.Alarm c o)
+events_are = list_is (λ c. c.events) kind.Event event_record (λ c o. each_kind (Grows (λ d. d.events) kind.Event event_record c o) refl refl refl refl refl refl refl refl)
 
 pub counters_are : (c : Configuration) (os : List Object) → (with_objects c os).counters ≡ c.counters ++ records_of kind.Counter counter_record os
-counters_are c [] = sym (append-nil c.counters)
-counters_are c (o ∷ os) = counters_step o.kind c o os (λ d. counters_are d os)
-
-abbrev alarms_goal : Kind → Configuration → Object → List Object → Type 0
-alarms_goal k c o os = (with_objects (add_by k c o) os).alarms ≡ c.alarms ++ cond (same_kind k kind.Alarm) (alarm_record o ∷ records_of kind.Alarm alarm_record os) (records_of kind.Alarm alarm_record os)
-
-alarms_step : (k : Kind) (c : Configuration) (o : Object) (os : List Object) → ((d : Configuration) → (with_objects d os).alarms ≡ d.alarms ++ records_of kind.Alarm alarm_record os) → alarms_goal k c o os
-alarms_step kind.Os c o os next = next (add_by kind.Os c o)
-alarms_step kind.AppMode c o os next = next (add_by kind.AppMode c o)
-alarms_step kind.Task c o os next = next (add_by kind.Task c o)
-alarms_step kind.Isr c o os next = next (add_by kind.Isr c o)
-alarms_step kind.Resource c o os next = next (add_by kind.Resource c o)
-alarms_step kind.Event c o os next = next (add_by kind.Event c o)
-alarms_step kind.Counter c o os next = next (add_by kind.Counter c o)
-alarms_step kind.Alarm c o os next = next (add_by kind.Alarm c o) ∙ append_assoc c.alarms (alarm_record o ∷ []) (records_of kind.Alarm alarm_record os)
+counters_are = list_is (λ c. c.counters) kind.Counter counter_record (λ c o. each_kind (Grows (λ d. d.counters) kind.Counter counter_record c o) refl refl refl refl refl refl refl refl)
 
 pub alarms_are : (c : Configuration) (os : List Object) → (with_objects c os).alarms ≡ c.alarms ++ records_of kind.Alarm alarm_record os
-alarms_are c [] = sym (append-nil c.alarms)
-alarms_are c (o ∷ os) = alarms_step o.kind c o os (λ d. alarms_are d os)
+alarms_are = list_is (λ c. c.alarms) kind.Alarm alarm_record (λ c o. each_kind (Grows (λ d. d.alarms) kind.Alarm alarm_record c o) refl refl refl refl refl refl refl refl)
 
 -- ---- a test that each of them passes
 

@@ -7,22 +7,23 @@ use Rattle.oil_reader.specs.declared.syntax.Kind.TheVariants as kind
 use Rattle.oil_reader.specs.declared.tokens.Sign.TheVariants.{Equals, Semicolon}
 use Rattle.oil_reader.specs.Tokens.{Name, Mark, Lexeme}
 use Rattle.oil_reader.specs.Grammar.{Value, Named, Numeric, Setting, Block, Attribute, Object, File, at, value_word, kind_word, IsSetting, IsSub, IsBlock, IsAttribute, IsBody, IsObject, IsHeader, IsFile, AreEach}
-use Rattle.oil_reader.specs.Machine.{Symbol, AnyName, AnyKind, AnyValue, Only, Objects, Body, Attributes, Rest, Subs, refusal, the_file, the_header, kind_of}
+use Rattle.oil_reader.specs.Machine.{Symbol, AnyName, AnyValue, Only, Objects, Body, Attributes, Rest, Subs, refusal, the_file, the_header, kind_of}
 use Rattle.std.specs.Prelude.{codes}
+
+-- what holds of each kind holds of any
+pub each_kind : (P : Kind → Type 0) → P kind.Os → P kind.AppMode → P kind.Task → P kind.Isr → P kind.Resource → P kind.Event → P kind.Counter → P kind.Alarm → (k : Kind) → P k
+each_kind P os mode task isr resource event counter alarm kind.Os = os
+each_kind P os mode task isr resource event counter alarm kind.AppMode = mode
+each_kind P os mode task isr resource event counter alarm kind.Task = task
+each_kind P os mode task isr resource event counter alarm kind.Isr = isr
+each_kind P os mode task isr resource event counter alarm kind.Resource = resource
+each_kind P os mode task isr resource event counter alarm kind.Event = event
+each_kind P os mode task isr resource event counter alarm kind.Counter = counter
+each_kind P os mode task isr resource event counter alarm kind.Alarm = alarm
 
 value_passes : (k : List Symbol) (len p : ℕ) (v : Value) (rest : List Lexeme) → refusal (AnyValue ∷ k) len (at p (value_word v) ∷ rest) ≡ refusal k len rest
 value_passes k len p (Named s) rest = refl
 value_passes k len p (Numeric n) rest = refl
-
-kind_passes : (k : List Symbol) (len p : ℕ) (o : Kind) (rest : List Lexeme) → refusal (AnyKind ∷ k) len (at p (Name (kind_word o)) ∷ rest) ≡ refusal k len rest
-kind_passes k len p kind.Os rest = refl
-kind_passes k len p kind.AppMode rest = refl
-kind_passes k len p kind.Task rest = refl
-kind_passes k len p kind.Isr rest = refl
-kind_passes k len p kind.Resource rest = refl
-kind_passes k len p kind.Event rest = refl
-kind_passes k len p kind.Counter rest = refl
-kind_passes k len p kind.Alarm rest = refl
 
 -- ---- a word that names a kind is the kind's
 
@@ -88,14 +89,8 @@ body_passes k len xs p ts rest (inr h) =
     ap (refusal (Body ∷ k) len) h.spelled ∙ each_passes IsAttribute Attributes (Only Semicolon ∷ k) len (attribute_passes (Only Semicolon ∷ k) len) xs h.inner _ h.each
 
 object_kind : (k : List Symbol) (len p : ℕ) (o : Kind) (rest : List Lexeme) → refusal (Objects ∷ k) len (at p (Name (kind_word o)) ∷ rest) ≡ refusal (AnyName ∷ Body ∷ Objects ∷ k) len rest
-object_kind k len p kind.Os rest = refl
-object_kind k len p kind.AppMode rest = refl
-object_kind k len p kind.Task rest = refl
-object_kind k len p kind.Isr rest = refl
-object_kind k len p kind.Resource rest = refl
-object_kind k len p kind.Event rest = refl
-object_kind k len p kind.Counter rest = refl
-object_kind k len p kind.Alarm rest = refl
+object_kind k len p o rest =
+    each_kind (λ j. refusal (Objects ∷ k) len (at p (Name (kind_word j)) ∷ rest) ≡ refusal (AnyName ∷ Body ∷ Objects ∷ k) len rest) refl refl refl refl refl refl refl refl o
 
 pub object_passes : (k : List Symbol) (len : ℕ) (o : Object) (ts rest : List Lexeme) → IsObject o ts rest → refusal (Objects ∷ k) len ts ≡ refusal (Objects ∷ k) len rest
 object_passes k len o ts rest h =

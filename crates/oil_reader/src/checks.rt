@@ -19,10 +19,12 @@ use std::collections::BTreeSet;
 fn attribute_named(allowed: &[AttributeName], name: &str) -> Option<AttributeName>
     ensures { result ≡ attribute_named allowed.now name.now }
 {
-    allowed
-        .iter()
-        .copied()
-        .find(|attribute| attribute.word() == name)
+    for attribute in allowed {
+        if attribute.word() == name {
+            return Some(*attribute);
+        }
+    }
+    None
 }
 
 /// What tells a name and its value from others: the name, and the value's sort, word and number.

@@ -1,7 +1,7 @@
 //! Reads OIL, the configuration language of OSEK/VDX: a subset of OIL 2.5, and a PRIORITY for interrupt routines.
 //!
-//! Bytes become tokens (`tokens`), these a tree (`syntax`), whose faults are sought (`checks`, by the attributes of
-//! `table`), and a tree without a fault becomes the file that it means (`objects`).
+//! Bytes become tokens (`tokens`), these a tree (`syntax`, made by `parser`), whose faults are sought (`checks`, by the
+//! attributes of `table`), and a tree without a fault becomes the file that it means (`objects`).
 #![tactic(auto)]
 
 mod checks;
@@ -9,6 +9,7 @@ mod fault;
 mod file;
 mod ident;
 mod objects;
+mod parser;
 mod reading;
 mod syntax;
 mod table;
@@ -20,7 +21,8 @@ pub use file::{
     OilFile, OilParts, Os, ResourceObject, TaskObject,
 };
 pub use ident::Ident;
+pub use parser::parse;
 pub use reading::{one_meaning, read_oil};
-pub use syntax::{Attribute, Block, Kind, Object, Setting, SyntaxTree, Value, parse};
+pub use syntax::{Attribute, Block, Kind, Object, Setting, SyntaxTree, Value};
 pub use table::{AttributeName, Presence, attributes_of};
 pub use tokens::{Placed, Sign, Token, tokenize};

@@ -13,7 +13,8 @@ use crate::checks::file_fault;
 use crate::fault::OilFault;
 use crate::file::OilFile;
 use crate::objects::oil_file;
-use crate::syntax::{SyntaxTree, parse};
+use crate::parser::parse;
+use crate::syntax::SyntaxTree;
 use crate::tokens::tokenize;
 use std::alloc::Global;
 

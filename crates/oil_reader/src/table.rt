@@ -1,7 +1,7 @@
 //! OIL: standard objects and their attributes. The attributes that each kind of object has.
 
-ghost use Rattle.std.specs.Prelude.{◌≡◌};
-ghost use Rattle.oil_reader.specs.Table.{word_of, presence_of, is_list, may_lack, attributes_of, accepts, block_of};
+ghost use Rattle.std.specs.Prelude.{◌≡◌, ◌∷◌, []};
+ghost use Rattle.oil_reader.specs.Table.{word_of, presence_of, is_list, may_lack, attributes_of, accepts, block_of, is_one_of};
 ghost use Rattle.oil_reader.specs.Grammar.{Named, Numeric};
 ghost use Rattle.oil_reader.specs.Trees.{value_of};
 
@@ -172,12 +172,12 @@ impl AttributeName {
             | AttributeName::PostTaskHook
             | AttributeName::UseResScheduler
             | AttributeName::TaskAutostart
-            | AttributeName::AlarmAutostart => word == "TRUE" || word == "FALSE",
+            | AttributeName::AlarmAutostart => is_either(word, "TRUE", "FALSE"),
             AttributeName::UseGetServiceId | AttributeName::UseParameterAccess => word == "FALSE",
-            AttributeName::Schedule => word == "NON" || word == "FULL",
-            AttributeName::ResourceProperty => word == "STANDARD" || word == "INTERNAL",
+            AttributeName::Schedule => is_either(word, "NON", "FULL"),
+            AttributeName::ResourceProperty => is_either(word, "STANDARD", "INTERNAL"),
             AttributeName::EventMask => word == "AUTO",
-            AttributeName::AlarmAction => word == "ACTIVATETASK" || word == "SETEVENT",
+            AttributeName::AlarmAction => is_either(word, "ACTIVATETASK", "SETEVENT"),
             AttributeName::TaskResource
             | AttributeName::TaskEvent
             | AttributeName::AlarmCounter
@@ -216,6 +216,13 @@ impl AttributeName {
             _ => &[],
         }
     }
+}
+
+/// Whether a word is one of two.
+fn is_either(word: &str, one: &str, other: &str) -> bool
+    ensures { result ≡ is_one_of (one.now ∷ other.now ∷ []) word.now }
+{
+    word == one || word == other
 }
 
 /// The attributes of a kind of object, in the order of OIL's table.

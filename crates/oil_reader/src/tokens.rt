@@ -21,7 +21,7 @@ pub enum Sign {
 }
 
 /// What may begin with a byte.
-#[derive(Clone, Copy, Debug, PartialEq, Eq)]
+#[derive(Clone, Copy)]
 pub enum Class {
     Letter,
     Digit,

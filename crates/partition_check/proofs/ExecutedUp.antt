@@ -30,7 +30,7 @@ use Rattle.partition_check.proofs.LayersKept.{service_layered}
 use Rattle.partition_check.proofs.Dispatch.{lines_append, lines_none, lines_one, hooked_one}
 use Rattle.partition_check.proofs.AlarmActs.{AreAlike}
 use Rattle.partition_check.proofs.TextUp.{IsSeen, IsUpperInstr, executed_lines, error_lines}
-use Rattle.partition_check.proofs.Shared.{IsCounterpart, IsLow, IsLayered, IsLayeredJob, IsKnownObject, IsUpperCaller, IsUpperCall, SameLines, up_caller}
+use Rattle.partition_check.proofs.Shared.{IsCounterpart, IsLow, IsLayered, IsLayeredJob, as_layered, IsKnownObject, IsUpperCaller, IsUpperCall, SameLines, up_caller}
 
 -- ---- registers and place
 
@@ -56,44 +56,15 @@ was_none x None h = refl
 was_none x (Some a) h = absurd (grind arith)
 
 pub with_context_layered : (S : System) (p : ℕ) (c : Caller) (x : Context) (s : State) → IsLayered S p s → IsLayered S p (with_context c x s)
-with_context_layered S p (JobCalls j) x s layered = record {
-  made = layered.made;
-  masks = layered.masks;
-  alarms = layered.alarms;
-  shared = layered.shared;
-  jobs = moved_layered S p j.id x s.jobs layered.jobs;
-  running = layered.running;
-  quiet = layered.quiet;
-}
-with_context_layered S p (RoutineCalls a) x s layered = record {
-  made = layered.made;
-  masks = layered.masks;
-  alarms = layered.alarms;
-  shared = layered.shared;
-  jobs = layered.jobs;
-  running = layered.running;
-  quiet = λ id e low idle. layered.quiet id e low (was_none x s.active idle);
-}
-with_context_layered S p NobodyCalls x s layered = record {
-  made = layered.made;
-  masks = layered.masks;
-  alarms = layered.alarms;
-  shared = layered.shared;
-  jobs = layered.jobs;
-  running = layered.running;
-  quiet = layered.quiet;
-}
+with_context_layered S p (JobCalls j) x s layered =
+    as_layered S p s (with_context (JobCalls j) x s) (refl, refl, refl, refl, refl) (moved_layered S p j.id x s.jobs layered.jobs) layered.quiet layered
+with_context_layered S p (RoutineCalls a) x s layered =
+    as_layered S p s (with_context (RoutineCalls a) x s) (refl, refl, refl, refl, refl) layered.jobs (λ id e low idle. layered.quiet id e low (was_none x s.active idle)) layered
+with_context_layered S p NobodyCalls x s layered = layered
 
 pub words_layered : (S : System) (p : ℕ) (words : Words) (s : State) → IsLayered S p s → IsLayered S p (record s { words = words })
-words_layered S p words s layered = record {
-  made = layered.made;
-  masks = layered.masks;
-  alarms = layered.alarms;
-  shared = layered.shared;
-  jobs = layered.jobs;
-  running = layered.running;
-  quiet = layered.quiet;
-}
+words_layered S p words s layered =
+    as_layered S p s (record s { words = words }) (refl, refl, refl, refl, refl) layered.jobs layered.quiet layered
 
 -- ---- values of registers
 
@@ -164,24 +135,10 @@ abbrev pub IsBusy : System → ℕ → State → Type 0
 IsBusy S p s = (id : JobId) → s.running ≡ Some id → is_upper_id S p id ≡ false → s.active ≡ None → ⊥
 
 controlled_layered : (S : System) (p : ℕ) (control : Control) (s : State) → IsBusy S p s → IsLayered S p s → IsLayered S p (controlled control s)
-controlled_layered S p Control.ReturnFromInterrupt s busy layered = record {
-  made = layered.made;
-  masks = layered.masks;
-  alarms = layered.alarms;
-  shared = layered.shared;
-  jobs = layered.jobs;
-  running = layered.running;
-  quiet = λ id e low idle. refl;
-}
-controlled_layered S p _ s busy layered = record {
-  made = layered.made;
-  masks = layered.masks;
-  alarms = layered.alarms;
-  shared = layered.shared;
-  jobs = layered.jobs;
-  running = layered.running;
-  quiet = λ id e low idle. absurd (busy id e low idle);
-}
+controlled_layered S p Control.ReturnFromInterrupt s busy layered =
+    as_layered S p s (controlled Control.ReturnFromInterrupt s) (refl, refl, refl, refl, refl) layered.jobs (λ id e low idle. refl) layered
+controlled_layered S p control s busy layered =
+    as_layered S p s (controlled control s) (refl, refl, refl, refl, refl) layered.jobs (λ id e low idle. absurd (busy id e low idle)) layered
 
 shutdown_lines : (S : System) (p : ℕ) (control : Control) → SameLines S p (shutdown_record S control) (shutdown_record (upper_core S p) control)
 shutdown_lines S p (Control.ShutdownOs n) =

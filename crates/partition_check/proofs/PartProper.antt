@@ -15,8 +15,9 @@ use Rattle.osek_base.specs.Proper.{IsProper, is_proper_start, is_proper_action, 
 use Rattle.osek_base.specs.Separable.{Separable}
 use Rattle.partition_check.proofs.UpperState.{upper_count}
 use Rattle.partition_check.proofs.Falling.{and_split, all_at}
+use Rattle.partition_check.proofs.Ranks.{rank_within}
 use Rattle.partition_check.proofs.CoreFacts.{true_lt, split, tasks}
-use Rattle.partition_check.proofs.Picked.{and_join, kept_length, names_picked, le_within, all_kept_pass}
+use Rattle.partition_check.proofs.Picked.{and_join, names_picked, le_within, all_kept_pass}
 use Rattle.partition_check.proofs.PartInstrs.{task_new, routines_new}
 use Rattle.partition_check.proofs.PartTasks.{falling_new, tasks_new}
 
@@ -61,7 +62,7 @@ module _ (S : System) (p : ℕ) (proper : IsProper S) where
   -- ---- how many
 
   shorter : {X : Type 0} (f : ℕ → X) (test : ℕ → Bool) (n k : ℕ) → nat_le n k ≡ true → nat_le (length (map f (kept test n))) k ≡ true
-  shorter f test n k h = le_within (length (map f (kept test n))) n k h (omega (arith, length-map (kept test n) f, kept_length test n))
+  shorter f test n k h = le_within (length (map f (kept test n))) n k h (omega (arith, length-map (kept test n) f, rank_within test n))
 
   limits_new : Separable S p → IsProper (upper_part S p)
   limits_new separable =

@@ -1,4 +1,5 @@
 -- What the proof of isolation is made of: the upper core beside its system, states in two layers, and equal lines.
+use Rattle.std.proofs.Common.{◌∙◌, ap, sym}
 use Rattle.std.specs.Prelude.{ℕ, ◌≡◌, ◌<◌, ◌≤◌, Bool, true, false, nat_lt, List, map, Option, Some, None, length, slice_get}
 use Rattle.std.specs.List.{AllByRecursion}
 use Rattle.osek_base.specs.declared.limits.TheConstants.{MAX_TASKS}
@@ -89,6 +90,25 @@ pub record IsLayered (S : System) (p : ℕ) (s : State) : Type 0 where
   pub running : (id : JobId) → s.running ≡ Some id → id.task < length S.tasks
   -- while a lower job runs, interrupts are on or a routine is active
   pub quiet : (id : JobId) → s.running ≡ Some id → is_upper_id S p id ≡ false → s.active ≡ None → interrupts_off s ≡ false
+
+-- what the layers see of a state besides its jobs stands in another
+abbrev pub HasSameLists : State → State → Type 0
+HasSameLists s e =
+    (e.made ≡ s.made) × (e.masks ≡ s.masks) × (e.alarms ≡ s.alarms) × (e.shared ≡ s.shared) × (e.running ≡ s.running)
+
+-- so it is in the same layers by its jobs, and by what is quiet
+pub as_layered : (S : System) (p : ℕ) (s e : State) → HasSameLists s e → AllByRecursion (IsLayeredJob S p) e.jobs
+    → ((id : JobId) → s.running ≡ Some id → is_upper_id S p id ≡ false → e.active ≡ None → interrupts_off e ≡ false)
+    → IsLayered S p s → IsLayered S p e
+as_layered S p s e same jobs quiet layered = record {
+  made = ap length same.0 ∙ layered.made;
+  masks = ap length same.1 ∙ layered.masks;
+  alarms = ap length same.2 ∙ layered.alarms;
+  shared = ap length same.3 ∙ layered.shared;
+  jobs = jobs;
+  running = λ id h. layered.running id (sym same.4 ∙ h);
+  quiet = λ id h. quiet id (sym same.4 ∙ h);
+}
 
 -- ---- callers and calls
 

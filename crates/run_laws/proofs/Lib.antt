@@ -11,6 +11,7 @@ pub mod RankedService
 pub mod RankedTick
 pub mod Formed
 pub mod FormedService
+pub mod FormedPhases
 pub mod FormedTick
 pub mod Good
 pub mod Records

@@ -1,6 +1,7 @@
 -- No call changes which task runs, or which routine is active, unless it ends.
 use Rattle.std.proofs.Common.{◌≡◌, ℕ, Bool, true, false, cond, ◌∷◌, refl, sym, ◌∙◌, ap, subst}
-use Rattle.std.specs.Prelude.{Option, Some, None, slice_index, bit_or}
+use Rattle.std.specs.Prelude.{Option, Some, None, is_some, slice_index, bit_or}
+use Rattle.osek_base.specs.declared.ids.Owner.{Owner}
 use Rattle.osek_base.specs.declared.instr.Service.{Service}
 use Rattle.osek_base.specs.declared.instr.Control.{Control}
 use Rattle.osek_base.specs.declared.status.Status.{Status}
@@ -9,11 +10,11 @@ use Rattle.osek_base.specs.State.{Active, interrupts_off}
 use Rattle.osek_base.specs.Service.{first_refusal, is_met, meets}
 use Rattle.kept_state.specs.Kept.{Kept, Slot}
 use Rattle.kept_state.specs.Moves.{slot_changed, released_in}
-use Rattle.kept_state.specs.KeptService.{KeptCaller, ByTask, ByRoutine, ByNobody, bare, caller_in, service_in, effect_in, changed_in, refusals_in, with_caller_in, caller_ended_in, slot_given_up, slot_gets, slot_releases, slot_waiting, with_mask, events_cleared_in, event_awaited_in, is_outranked_in}
+use Rattle.kept_state.specs.KeptService.{KeptCaller, ByTask, ByRoutine, ByNobody, bare, caller_by, caller_in, service_in, effect_in, changed_in, refusals_in, with_caller_in, caller_ended_in, slot_given_up, slot_gets, slot_releases, slot_waiting, with_mask, events_cleared_in, event_awaited_in, is_outranked_in}
 use Rattle.kept_state.specs.KeptTick.{controlled_in}
 use Rattle.services.specs.declared.calls.Call.{Call}
 use Rattle.services.specs.Objects.{Objects, kept_in}
-use Rattle.services.specs.Calls.{IsSameActive, IsSameCaller, call_in}
+use Rattle.services.specs.Calls.{IsExecuting, IsRoutineOrNone, IsSameActive, IsSameCaller, IsThere, MayGoOn, call_in}
 
 -- the same task runs, and the same routine is active
 record IsAlike (o k : Kept) : Type 0 where
@@ -104,3 +105,19 @@ same_caller o n (Call.Control control) new = record {
   running = ap (λ (k : Kept). k.running) new;
   active = subst (IsSameActive o.active) (sym (ap (λ (k : Kept). k.active) new)) (control_active (kept_in o) control);
 }
+
+-- ---- who executes is there
+
+task_calls : (a : Bool) (running : Option ℕ) (gone : Bool) (t : ℕ) → caller_by a running gone ≡ ByTask t → (running ≡ Some t) × (gone ≡ false)
+task_calls true running gone t h = absurd (let e : ByRoutine ≡ ByTask t = h in cc)
+task_calls false None gone t h = absurd (let e : ByNobody ≡ ByTask t = h in cc)
+task_calls false (Some u) true t h = absurd (let e : ByNobody ≡ ByTask t = h in cc)
+task_calls false (Some u) false t h = (let e : ByTask u ≡ ByTask t = h in cc, refl)
+
+pub there : (o : Objects) (who : Owner) → IsExecuting (kept_in o) who → IsThere o who
+there o (Owner.Task t) h = task_calls (is_some o.active) o.running o.gone t h.0
+there o (Owner.Routine i) h = ap (λ (a : Option Active). is_some a) h
+
+pub there_goes_on : (o : Objects) (who : Owner) → IsExecuting (kept_in o) who → MayGoOn o who
+there_goes_on o (Owner.Task t) h = (task_calls (is_some o.active) o.running o.gone t h.0).0
+there_goes_on o (Owner.Routine i) h = subst (λ a. IsRoutineOrNone a i) (sym h) refl

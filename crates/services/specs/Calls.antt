@@ -1,5 +1,5 @@
 -- OSEK/VDX OS: specification of operating system services. Calls with a status and without, and who executes.
-use Rattle.std.specs.Prelude.{ℕ, ◌≡◌, ◌<◌, Option, Some, None, length}
+use Rattle.std.specs.Prelude.{ℕ, ◌≡◌, ◌<◌, Option, Some, None, false, true, is_some, length}
 use Rattle.osek_base.specs.declared.ids.Owner.{Owner}
 use Rattle.osek_base.specs.declared.ids.ResId.{ResId}
 use Rattle.osek_base.specs.declared.instr.Service.{Service}
@@ -7,7 +7,7 @@ use Rattle.osek_base.specs.declared.status.Status.{Status}
 use Rattle.osek_base.specs.declared.trace_event.Results.{Results}
 use Rattle.osek_base.specs.System.{System}
 use Rattle.osek_base.specs.Instruction.{Context}
-use Rattle.osek_base.specs.State.{Active}
+use Rattle.osek_base.specs.State.{Active, fresh_context}
 use Rattle.kept_state.specs.Kept.{Kept}
 use Rattle.kept_state.specs.KeptService.{KeptCaller, ByTask, ByRoutine, KeptReply, caller_in, service_in, unmasked_in}
 use Rattle.kept_state.specs.KeptTick.{controlled_in}
@@ -87,6 +87,24 @@ caller_as (Owner.Routine i) = ByRoutine
 abbrev pub Executes : Kept → Owner → Context → Type 0
 Executes o (Owner.Task t) x = (caller_in o ≡ ByTask t) × ((o.slots t).context ≡ x)
 Executes o (Owner.Routine i) x = o.active ≡ Some (record { routine = i; context = x })
+
+-- the registers and the place of the active routine, and of a task's oldest job
+abbrev pub active_context : Option Active → Context
+active_context None = fresh_context
+active_context (Some a) = a.context
+
+abbrev pub context_in : Kept → Owner → Context
+context_in o (Owner.Task t) = (o.slots t).context
+context_in o (Owner.Routine i) = active_context o.active
+
+-- the task or routine executes
+abbrev pub IsExecuting : Kept → Owner → Type 0
+IsExecuting o who = Executes o who (context_in o who)
+
+-- who executes has not ended
+abbrev pub IsThere : Objects → Owner → Type 0
+IsThere o (Owner.Task t) = (o.running ≡ Some t) × (o.gone ≡ false)
+IsThere o (Owner.Routine i) = is_some o.active ≡ true
 
 -- an active routine is that one
 abbrev pub IsRoutineOrNone : Option Active → ℕ → Type 0

@@ -1,27 +1,24 @@
 //! OSEK/VDX OS: system services. Who calls: the active routine, or else the running task.
 
-ghost use Rattle.std.specs.Prelude.{◌≡◌, ◌<◌, MatchOption, IfSome, is_some, length};
-ghost use Rattle.osek_base.specs.Instruction.{Context};
+ghost use Rattle.std.specs.Prelude.{◌≡◌, ◌<◌, MatchOption, IfSome, ℕ, is_some, length};
+ghost use Rattle.osek_base.specs.Instruction.{plain};
 ghost use Rattle.run_laws.proofs.Formed.{IsPlaced};
 ghost use Rattle.kept_state.specs.KeptService.{ByNobody, by_routine_in, caller_in, holds_any_in, is_above_ceiling_in, is_basic_in, is_outranked_in, is_own_in, may_take_in, got_last_in, caller_holds_in, running_number, with_caller_in, caller_ended_in, slot_given_up};
 ghost use Rattle.kept_state.specs.KeptTick.{with_context_in};
 ghost use Rattle.services.specs.Objects.{kept_in, AreFit};
-ghost use Rattle.services.specs.Calls.{calling_task, caller_as, Executes, MayGoOn};
+ghost use Rattle.services.specs.Calls.{calling_task, caller_as, context_in, IsExecuting, IsThere, MayGoOn};
+ghost use Rattle.osek_base.specs.declared.ids.Owner.{Owner};
+ghost use Rattle.osek_base.specs.State.{words_after};
+ghost use Rattle.machine.specs.Windows.{word};
+ghost use Rattle.machine.specs.Execution.{HasNext};
 
 use crate::objects::Objects;
-use machine::Cpu;
-use osek_base::{Owner, ResId, TaskId};
+use machine::{Cpu, Windows};
+use osek_base::{Effect, Owner, Plain, ResId, TaskId};
 use ready_queues::ReadyQueues;
 
 /// What GetTaskID answers where no task is running.
 const INVALID_TASK: u32 = u32::MAX;
-
-/// The task or routine that executes, with its registers and place.
-#[derive(Clone, Copy)]
-pub struct Execution {
-    pub owner: Owner,
-    pub cpu: Cpu,
-}
 
 impl<'s, Q: ReadyQueues> Objects<'s, Q> {
     /// Whether a routine calls.
@@ -196,27 +193,58 @@ impl<'s, Q: ReadyQueues> Objects<'s, Q> {
         }
     }
 
-    /// Who executes, with registers and place: the active routine, else the running task.
-    pub fn execution(&self) -> Option<Execution>
+    /// Who executes: the active routine, else the running task.
+    pub fn executor(&self) -> Option<Owner>
         requires { AreFit self.now }
-        ensures value { MatchOption result (caller_in (kept_in self.now) ≡ ByNobody) (λ e. Executes (kept_in self.now) e.owner e.cpu) }
-        ensures placed { IfSome result (λ e. IsPlaced self.now.system e.owner e.cpu) }
+        ensures value { MatchOption result (caller_in (kept_in self.now) ≡ ByNobody) (IsExecuting (kept_in self.now)) }
+        ensures placed { IfSome result (λ w. IsPlaced self.now.system w (context_in (kept_in self.now) w)) }
     {
         if let Some(active) = &self.active {
-            return Some(Execution {
-                owner: Owner::Routine(active.routine),
-                cpu: active.cpu,
-            });
+            return Some(Owner::Routine(active.routine));
         }
         match self.calling_task() {
             None => None,
-            Some(task) => {
+            Some(task) => Some(Owner::Task(task)),
+        }
+    }
+
+    /// The registers and the place of who executes.
+    pub fn cpu_of(&self, owner: Owner) -> Cpu
+        requires fit { AreFit self.now }
+        requires who { IsThere self.now owner }
+        ensures { result ≡ context_in (kept_in self.now) owner }
+    {
+        match owner {
+            Owner::Task(task) => {
                 let slot = &self.slots[task.number() as usize];
-                Some(Execution {
-                    owner: Owner::Task(task),
-                    cpu: slot.cpu(),
-                })
+                slot.cpu()
             }
+            Owner::Routine(_) => match &self.active {
+                None => unreachable!(),
+                Some(active) => active.cpu(),
+            },
+        }
+    }
+
+    /// A plain instruction of who executes, on its registers, its place and its window.
+    pub fn exec_plain(&mut self, windows: &mut Windows, owner: Owner, instr: &Plain) -> Effect
+        requires fit { AreFit self.old }
+        requires who { IsThere self.old owner }
+        requires next { HasNext instr.now (context_in (kept_in self.old) owner) }
+        ensures system { self.new.system ≡ self.old.system }
+        ensures effect { result ≡ (plain instr.now (context_in (kept_in self.old) owner) (word windows.old owner)).effect }
+        ensures words { (o : Owner) (i : ℕ) → word windows.new o i ≡ words_after (word windows.old) owner result o i }
+        ensures kept { kept_in self.new ≡ with_context_in (caller_as owner) (plain instr.now (context_in (kept_in self.old) owner) (word windows.old owner)).context (kept_in self.old) }
+    {
+        match owner {
+            Owner::Task(task) => {
+                let slot = &mut self.slots[task.number() as usize];
+                slot.exec_plain(windows, owner, instr)
+            }
+            Owner::Routine(_) => match &mut self.active {
+                None => unreachable!(),
+                Some(active) => active.exec_plain(windows, owner, instr),
+            },
         }
     }
 

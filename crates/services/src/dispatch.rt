@@ -6,8 +6,6 @@ ghost use Rattle.osek_base.specs.Ceiling.{top_priority};
 ghost use Rattle.ready_queues.specs.Queues.{total};
 ghost use Rattle.kept_state.specs.Moves.{activated_in, released_in, contender, put_first, first, dynamic_in, highest, changed_at, slot_entered, nobody, stays, dispatched, rescheduled, left_in, entered_in};
 ghost use Rattle.kept_state.specs.Standing.{room_for};
-ghost use Rattle.kept_state.specs.KeptService.{is_above};
-ghost use Rattle.services.specs.Dispatched.{is_dispatched_in, runs_on};
 ghost use Rattle.services.specs.Objects.{by_level, by_task, kept_in, AreFit};
 
 use crate::objects::Objects;
@@ -86,42 +84,6 @@ impl<'s, Q: ReadyQueues> Objects<'s, Q> {
     {
         let slot = &self.slots[task.number() as usize];
         slot.dynamic(self.system, task)
-    }
-
-    /// Whether the running task is the one that is to run, and runs already; or no task runs, and none is to.
-    pub fn is_dispatched(&self) -> bool
-        requires { AreFit self.now }
-        ensures { result ≡ is_dispatched_in self.now.system (kept_in self.now) }
-    {
-        if self.gone {
-            return false;
-        }
-        match &self.running {
-            None => self.highest().is_none(),
-            Some(task) => self.runs_on(*task),
-        }
-    }
-
-    /// Whether a task's oldest job has entered running, doesn't wait, and no task is ready above it.
-    fn runs_on(&self, task: TaskId) -> bool
-        requires fit { AreFit self.now }
-        requires task { task < length self.now.system.tasks }
-        ensures { result ≡ runs_on self.now.system task (by_task self.now.slots task) (highest (suc (top_priority self.now.system)) (by_level self.now.queues)) }
-    {
-        let slot = &self.slots[task.number() as usize];
-        !slot.waits() && slot.has_entered(self.system, task) && !self.is_overtaken(task)
-    }
-
-    /// Whether a task is ready above the dynamic priority of a task's oldest job.
-    fn is_overtaken(&self, task: TaskId) -> bool
-        requires fit { AreFit self.now }
-        requires task { task < length self.now.system.tasks }
-        ensures { result ≡ is_above (dynamic_in self.now.system task (by_task self.now.slots task)) (highest (suc (top_priority self.now.system)) (by_level self.now.queues)) }
-    {
-        match self.highest() {
-            None => false,
-            Some(level) => self.dynamic(task) < level,
-        }
     }
 
     /// No task runs.

@@ -1,9 +1,13 @@
 //! OSEK/VDX OS: interrupt processing. Pending and active routines, and the services that turn interrupts off and on.
 
-ghost use Rattle.std.specs.Prelude.{◌≡◌, ◌<◌, ◌+◌, ◌^◌, IfSome, Some, true, false, slice_index_or, slice_set, length};
+ghost use Rattle.std.specs.Prelude.{◌≡◌, ◌<◌, ◌+◌, ◌^◌, IfSome, Some, ℕ, true, false, slice_index_or, slice_set, length};
 ghost use Rattle.osek_base.specs.Lists.{below, foremost};
 ghost use Rattle.osek_base.specs.System.{routine};
-ghost use Rattle.osek_base.specs.State.{interrupts_off};
+ghost use Rattle.osek_base.specs.declared.ids.Owner.{Owner};
+ghost use Rattle.osek_base.specs.Instruction.{plain};
+ghost use Rattle.osek_base.specs.State.{interrupts_off, words_after};
+ghost use Rattle.machine.specs.Windows.{word};
+ghost use Rattle.machine.specs.Execution.{HasNext};
 ghost use Rattle.osek_base.specs.Tick.{moved, routine_choice};
 ghost use Rattle.kept_state.specs.KeptService.{bare};
 ghost use Rattle.kept_state.specs.KeptTick.{controlled_in, routine_started_in, start_phase_in};
@@ -11,8 +15,8 @@ ghost use Rattle.kept_state.specs.Moves.{may_dispatch_in};
 ghost use Rattle.services.specs.Objects.{kept_in};
 
 use crate::objects::Objects;
-use machine::Cpu;
-use osek_base::{Control, IsrId, System};
+use machine::{Cpu, Windows, exec_plain};
+use osek_base::{Control, Effect, IsrId, Owner, Plain, System};
 use ready_queues::ReadyQueues;
 use std::marker::Model;
 
@@ -32,6 +36,23 @@ impl Model for Active {
 }
 
 impl Active {
+    /// The registers and the place of the routine.
+    pub fn cpu(&self) -> Cpu
+        ensures { result ≡ self.now.context }
+    {
+        self.cpu
+    }
+
+    /// A plain instruction of the routine, on its registers, its place and its owner's window.
+    pub fn exec_plain(&mut self, windows: &mut Windows, owner: Owner, instr: &Plain) -> Effect
+        requires { HasNext instr.now self.old.context }
+        ensures effect { result ≡ (plain instr.now self.old.context (word windows.old owner)).effect }
+        ensures words { (o : Owner) (i : ℕ) → word windows.new o i ≡ words_after (word windows.old) owner result o i }
+        ensures context { self.new ≡ moved (plain instr.now self.old.context (word windows.old owner)).context self.old }
+    {
+        exec_plain(&mut self.cpu, windows, owner, instr)
+    }
+
     /// The routine gets other registers and another place.
     pub fn go_on(&mut self, cpu: Cpu)
         ensures { self.new ≡ moved cpu self.old }

@@ -18,6 +18,5 @@ mod shared_window;
 mod slot;
 mod task_services;
 
-pub use caller::Execution;
 pub use calls::{Answer, Call};
 pub use os_core::Core;

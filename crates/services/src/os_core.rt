@@ -1,8 +1,12 @@
 //! OSEK/VDX OS: system services. The core of a kernel: the objects of a running system, which stand for a state of it.
 
-ghost use Rattle.std.specs.Prelude.{◌≡◌, ◌<◌, ◌≤◌, ◌+◌, ◌++◌, ◌&&◌, IfOk, IfSome, MatchOption, Some, false, true, is_some, slice_index, slice_set, length};
+ghost use Rattle.std.specs.Prelude.{◌≡◌, ◌<◌, ◌≤◌, ◌+◌, ◌++◌, ◌&&◌, ◌||◌, IfOk, IfSome, MatchOption, Some, ℕ, false, true, is_some, slice_index, slice_set, length};
 ghost use Rattle.osek_base.specs.declared.instr.Service.{Service};
-ghost use Rattle.osek_base.specs.State.{Words, shared_window};
+ghost use Rattle.osek_base.specs.declared.ids.Owner.{Owner};
+ghost use Rattle.osek_base.specs.Instruction.{plain};
+ghost use Rattle.osek_base.specs.State.{Words, shared_window, words_after};
+ghost use Rattle.machine.specs.Windows.{word};
+ghost use Rattle.machine.specs.Execution.{HasNext};
 ghost use Rattle.osek_base.specs.Alarm.{due_alarms, alarms_advanced};
 ghost use Rattle.osek_base.specs.Trace.{starting_alarms};
 ghost use Rattle.run_laws.proofs.Formed.{IsPlaced};
@@ -13,16 +17,15 @@ ghost use Rattle.kept_state.specs.Standing.{MayServe, runner_waits};
 ghost use Rattle.services.specs.Dispatched.{is_refusal};
 ghost use Rattle.services.specs.Levels.{level_lists};
 ghost use Rattle.services.specs.Objects.{kept_in, kept_of};
-ghost use Rattle.services.specs.Calls.{IsKnownCall, Executes, MayGoOn, IsSameCaller, call_in, caller_as, calling_task};
+ghost use Rattle.services.specs.Calls.{IsExecuting, IsKnownCall, MayGoOn, IsSameCaller, call_in, caller_as, calling_task, context_in};
 
-use crate::caller::Execution;
 use crate::calls::{Answer, Call};
 use crate::objects::Objects;
 use arrayvec::ArrayVec;
-use machine::Cpu;
+use machine::{Cpu, Windows};
 use osek_base::{
-    AlarmId, IsrId, MAX_ACTIVATION, MAX_ALARMS, MAX_RECORDS, MAX_TICKS, ModeId, Owner,
-    ResourceNumber, SHARED_WORDS, Status, System, TaskId, TickRecord,
+    AlarmId, Effect, IsrId, MAX_ACTIVATION, MAX_ALARMS, MAX_RECORDS, MAX_TICKS, ModeId, Owner,
+    Plain, ResourceNumber, SHARED_WORDS, Status, System, TaskId, TickRecord,
 };
 use ready_queues::ReadyQueues;
 use std::alloc::{AllocError, Global};
@@ -54,6 +57,13 @@ fn stays_known(known: bool, answer: &Answer) -> bool
     ensures { result ≡ (known && is_refusal answer.now.status) }
 {
     known && answer.is_refusal()
+}
+
+/// Whether a reschedule is known to change nothing after one, which could dispatch or not.
+fn becomes_known(known: bool, could: bool) -> bool
+    ensures { result ≡ (known || could) }
+{
+    known || could
 }
 
 impl<'s, Q: ReadyQueues> Core<'s, Q> {
@@ -207,8 +217,9 @@ impl<'s, Q: ReadyQueues> Core<'s, Q> {
         ensures events { record_of_tick.new ≡ record_of_tick.old ++ (rescheduled self.old.system (kept_in self.old)).events }
         ensures few { length record_of_tick.new ≤ length record_of_tick.old + 2 }
     {
+        let could = self.objects.may_dispatch();
         self.objects.reschedule(record_of_tick);
-        self.is_dispatched = self.objects.is_dispatched();
+        self.is_dispatched = becomes_known(self.is_dispatched, could);
     }
 
     /// The next tick begins, and the alarms that are due in it expire. The content of `due` becomes these alarms, in
@@ -238,12 +249,33 @@ impl<'s, Q: ReadyQueues> Core<'s, Q> {
         self.objects.start_routine();
     }
 
-    /// Who executes, with registers and place: the active routine, else the running task.
-    pub fn execution(&self) -> Option<Execution>
-        ensures value { MatchOption result (caller_in (kept_in self.now) ≡ ByNobody) (λ e. Executes (kept_in self.now) e.owner e.cpu) }
-        ensures placed { IfSome result (λ e. IsPlaced self.now.system e.owner e.cpu) }
+    /// Who executes: the active routine, else the running task.
+    pub fn executor(&self) -> Option<Owner>
+        ensures value { MatchOption result (caller_in (kept_in self.now) ≡ ByNobody) (IsExecuting (kept_in self.now)) }
+        ensures placed { IfSome result (λ w. IsPlaced self.now.system w (context_in (kept_in self.now) w)) }
     {
-        self.objects.execution()
+        self.objects.executor()
+    }
+
+    /// The registers and the place of who executes.
+    pub fn cpu_of(&self, owner: Owner) -> Cpu
+        requires { IsExecuting (kept_in self.now) owner }
+        ensures { result ≡ context_in (kept_in self.now) owner }
+    {
+        self.objects.cpu_of(owner)
+    }
+
+    /// A plain instruction of who executes, on its registers, its place and its window.
+    pub fn exec_plain(&mut self, windows: &mut Windows, owner: Owner, instr: &Plain) -> Effect
+        requires who { IsExecuting (kept_in self.old) owner }
+        requires next { HasNext instr.now (context_in (kept_in self.old) owner) }
+        requires placed { IsPlaced self.old.system owner (plain instr.now (context_in (kept_in self.old) owner) (word windows.old owner)).context }
+        ensures system { self.new.system ≡ self.old.system }
+        ensures effect { result ≡ (plain instr.now (context_in (kept_in self.old) owner) (word windows.old owner)).effect }
+        ensures words { (o : Owner) (i : ℕ) → word windows.new o i ≡ words_after (word windows.old) owner result o i }
+        ensures kept { kept_in self.new ≡ with_context_in (caller_as owner) (plain instr.now (context_in (kept_in self.old) owner) (word windows.old owner)).context (kept_in self.old) }
+    {
+        self.objects.exec_plain(windows, owner, instr)
     }
 
     /// Gives who executed other registers and another place, where it is still there.

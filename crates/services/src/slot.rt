@@ -1,16 +1,20 @@
 //! OSEK/VDX OS: task management, task state model. The control block of a task.
 
-ghost use Rattle.std.specs.Prelude.{◌≡◌, ◌<◌, ◌+◌, ◌-◌, IsFalse, is_some, length};
+ghost use Rattle.std.specs.Prelude.{◌≡◌, ◌<◌, ◌+◌, ◌-◌, ℕ, IsFalse, is_some, length};
 ghost use Rattle.osek_base.specs.Lists.{is_empty};
 ghost use Rattle.osek_base.specs.Service.{is_met, is_resource};
 ghost use Rattle.osek_base.specs.Lists.{last_of};
+ghost use Rattle.osek_base.specs.declared.ids.Owner.{Owner};
+ghost use Rattle.osek_base.specs.Instruction.{plain};
+ghost use Rattle.osek_base.specs.State.{words_after};
+ghost use Rattle.machine.specs.Windows.{word};
+ghost use Rattle.machine.specs.Execution.{HasNext};
 ghost use Rattle.kept_state.specs.Kept.{unbegun};
 ghost use Rattle.kept_state.specs.KeptService.{slot_given_up, slot_gets, slot_releases, slot_waiting, slot_moved, holds_in};
 ghost use Rattle.kept_state.specs.Moves.{one_more, slot_entered, slot_woken, dynamic_in};
-ghost use Rattle.services.specs.Dispatched.{has_entered};
 
-use machine::Cpu;
-use osek_base::{ResId, System, TaskId};
+use machine::{Cpu, Windows, exec_plain};
+use osek_base::{Effect, Owner, Plain, ResId, System, TaskId};
 use resources::Held;
 use std::marker::Model;
 
@@ -131,18 +135,6 @@ impl Slot {
         self.taken = system.internal_ceiling(task).is_some();
     }
 
-    /// Whether the oldest job is begun, and has taken its internal resource where its task has one.
-    pub fn has_entered(&self, system: &System, task: TaskId) -> bool
-        ensures { result ≡ has_entered system.now task self.now }
-    {
-        self.begun
-            && if system.internal_ceiling(task).is_some() {
-                self.taken
-            } else {
-                !self.taken
-            }
-    }
-
     /// The oldest job gives up its internal resource.
     pub fn give_up(&mut self)
         ensures { self.new ≡ slot_given_up self.old }
@@ -206,5 +198,15 @@ impl Slot {
         ensures { self.new ≡ slot_moved cpu self.old }
     {
         self.cpu = cpu;
+    }
+
+    /// A plain instruction of the oldest job, on its registers, its place and its owner's window.
+    pub fn exec_plain(&mut self, windows: &mut Windows, owner: Owner, instr: &Plain) -> Effect
+        requires { HasNext instr.now self.old.context }
+        ensures effect { result ≡ (plain instr.now self.old.context (word windows.old owner)).effect }
+        ensures words { (o : Owner) (i : ℕ) → word windows.new o i ≡ words_after (word windows.old) owner result o i }
+        ensures context { self.new ≡ slot_moved (plain instr.now self.old.context (word windows.old owner)).context self.old }
+    {
+        exec_plain(&mut self.cpu, windows, owner, instr)
     }
 }

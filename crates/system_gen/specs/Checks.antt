@@ -1,5 +1,5 @@
 -- OIL: standard objects and their attributes; OSEK/VDX OS: constraints. What generation refuses in an OIL file.
-use Rattle.std.specs.Prelude.{◌≡◌, ℕ, Bool, true, not, ◌&&◌, ◌||◌, ◌==◌, ◌⊎◌, nat_lt, nat_le, if◌then◌else◌, List, [], ◌∷◌, Option, Some, None, length, bytes_eq}
+use Rattle.std.specs.Prelude.{◌≡◌, ℕ, Bool, true, not, ◌&&◌, ◌||◌, ◌==◌, ◌⊎◌, nat_lt, nat_le, if◌then◌else◌, List, [], ◌∷◌, Option, Some, None, Result, Ok, Err, length, bytes_eq}
 use Rattle.std.specs.List.{list_any}
 use Rattle.osek_base.specs.declared.limits.TheConstants.{MAX_MODES, MAX_TASKS, MAX_ROUTINES, MAX_RESOURCES, MAX_EVENTS, MAX_COUNTERS, MAX_COUNTS, MAX_ALARMS}
 use Rattle.osek_base.specs.Lists.{is_empty}
@@ -20,6 +20,11 @@ first_fault test fault (x ∷ xs) = if test x then first_fault test fault xs els
 -- an answered fault is the one that was found, or want of memory
 abbrev pub IsFoundOrMemory : Option GenFault → GenFault → Type 0
 IsFoundOrMemory found e = (e ≡ GenFault.Memory) ⊎ (found ≡ Some e)
+
+-- what a check answers: nothing where no fault was found
+abbrev pub Answers : {X : Type 0} → Option GenFault → Result X GenFault → Type 0
+Answers found (Ok x) = found ≡ None
+Answers found (Err e) = IsFoundOrMemory found e
 
 -- the first kind of which there are more objects than a system may have
 abbrev pub beyond_limit : Configuration → Option ObjectKind

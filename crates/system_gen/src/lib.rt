@@ -4,8 +4,8 @@
 mod class;
 mod declared_names;
 mod fault;
+mod generation;
 mod limits;
-mod making;
 mod masks;
 mod object_checks;
 mod object_names;
@@ -16,4 +16,4 @@ mod resolver;
 
 pub use class::class_of;
 pub use fault::{GenFault, ObjectKind};
-pub use making::generate;
+pub use generation::generate;

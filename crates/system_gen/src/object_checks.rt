@@ -1,10 +1,10 @@
 //! OIL: standard objects and their attributes; OSEK/VDX OS: constraints. What generation refuses in an OIL file.
 
-ghost use Rattle.std.specs.Prelude.{◌≡◌, ◌⊎◌, OnOk, IfErr, Some, None};
+ghost use Rattle.std.specs.Prelude.{◌≡◌, Some, None};
 ghost use Rattle.std.specs.List.{list_any};
 ghost use Rattle.osek_base.specs.Proper.{has_two};
 ghost use Rattle.system_gen.specs.Checks.{
-  IsFoundOrMemory,
+  Answers,
   has_proper_activation,
   is_internal,
   is_internal_named,
@@ -30,8 +30,7 @@ use osek_base::{Counter, MAX_COUNTS, Name, Property, Schedule};
 
 /// An extended task has one activation at most.
 pub(crate) fn check_activations(tasks: &[TaskObject]) -> Result<(), GenFault>
-    ensures passed { OnOk result (activation_fault tasks.now ≡ None) }
-    ensures refused { IfErr result (IsFoundOrMemory (activation_fault tasks.now)) }
+    ensures { Answers (activation_fault tasks.now) result }
 {
     for task in tasks {
         if !has_proper_activation(task) {
@@ -52,8 +51,7 @@ pub(crate) fn check_internal_resources(
     resources: &[ResourceObject],
     tasks: &[TaskObject],
 ) -> Result<(), GenFault>
-    ensures passed { OnOk result (resource_fault resources.now tasks.now ≡ None) }
-    ensures refused { IfErr result (IsFoundOrMemory (resource_fault resources.now tasks.now)) }
+    ensures { Answers (resource_fault resources.now tasks.now) result }
 {
     for task in tasks {
         if !is_single_internal(resources, task.schedule, task.resources.as_slice()) {
@@ -90,16 +88,24 @@ fn has_two_internal(resources: &[ResourceObject], names: &[Name]) -> bool
 fn has_internal(resources: &[ResourceObject], names: &[Name]) -> bool
     ensures { result ≡ list_any (is_internal resources.now) names.now }
 {
-    names.iter().any(|name| is_internal(resources, name))
+    for name in names {
+        if is_internal(resources, name) {
+            return true;
+        }
+    }
+    false
 }
 
 /// Whether a name is that of an internal resource.
 pub(crate) fn is_internal(resources: &[ResourceObject], name: &Name) -> bool
     ensures { result ≡ is_internal resources.now name.now }
 {
-    resources
-        .iter()
-        .any(|resource| is_internal_named(name, resource))
+    for resource in resources {
+        if is_internal_named(name, resource) {
+            return true;
+        }
+    }
+    false
 }
 
 fn is_internal_named(name: &Name, resource: &ResourceObject) -> bool
@@ -113,8 +119,7 @@ fn is_internal_named(name: &Name, resource: &ResourceObject) -> bool
 
 /// A counter counts, and cycles fit between its MINCYCLE and its MAXALLOWEDVALUE.
 pub(crate) fn check_counters(counters: &[CounterObject]) -> Result<(), GenFault>
-    ensures passed { OnOk result (counter_fault counters.now ≡ None) }
-    ensures refused { IfErr result (IsFoundOrMemory (counter_fault counters.now)) }
+    ensures { Answers (counter_fault counters.now) result }
 {
     for object in counters {
         if !has_proper_values(&object.counter) {
@@ -134,8 +139,7 @@ fn has_proper_values(counter: &Counter) -> bool
 
 /// An alarm starts with times that its counter has, and sets events of extended tasks alone.
 pub(crate) fn check_alarms(file: &OilFile) -> Result<(), GenFault>
-    ensures passed { OnOk result (alarm_fault file.now file.now.alarms ≡ None) }
-    ensures refused { IfErr result (IsFoundOrMemory (alarm_fault file.now file.now.alarms)) }
+    ensures { Answers (alarm_fault file.now file.now.alarms) result }
 {
     for alarm in file.alarms() {
         if !is_proper_alarm(file, alarm) {
@@ -170,7 +174,12 @@ fn has_proper_start(
 fn has_fitting(counters: &[CounterObject], name: &Name, start: &AlarmStartObject) -> bool
     ensures { result ≡ list_any (fits_on name.now start.now) counters.now }
 {
-    counters.iter().any(|object| fits_on(name, start, object))
+    for object in counters {
+        if fits_on(name, start, object) {
+            return true;
+        }
+    }
+    false
 }
 
 fn fits_on(name: &Name, start: &AlarmStartObject, object: &CounterObject) -> bool
@@ -202,7 +211,12 @@ fn has_proper_action(tasks: &[TaskObject], action: &ActionObject) -> bool
 fn has_extended(tasks: &[TaskObject], name: &Name) -> bool
     ensures { result ≡ list_any (is_extended_named name.now) tasks.now }
 {
-    tasks.iter().any(|task| is_extended_named(name, task))
+    for task in tasks {
+        if is_extended_named(name, task) {
+            return true;
+        }
+    }
+    false
 }
 
 fn is_extended_named(name: &Name, task: &TaskObject) -> bool

@@ -1,8 +1,8 @@
 //! The modelled processor, no part of the standards. What generation refuses in programs.
 
-ghost use Rattle.std.specs.Prelude.{◌≡◌, OnOk, IfErr, IfSome, None, is_some, length, option_copied};
+ghost use Rattle.std.specs.Prelude.{◌≡◌, None, is_some, length, option_copied};
 ghost use Rattle.std.specs.List.{find, list_all, list_any};
-ghost use Rattle.system_gen.specs.Checks.{IsFoundOrMemory};
+ghost use Rattle.system_gen.specs.Checks.{Answers};
 ghost use Rattle.system_gen.specs.Programs.{
   is_closed,
   is_end,
@@ -61,8 +61,7 @@ pub(crate) fn check_task_programs(
     tasks: &[TaskObject],
     programs: &[NamedProgram],
 ) -> Result<(), GenFault>
-    ensures passed { OnOk result (task_program_fault programs.now tasks.now ≡ None) }
-    ensures refused { IfErr result (IsFoundOrMemory (task_program_fault programs.now tasks.now)) }
+    ensures { Answers (task_program_fault programs.now tasks.now) result }
 {
     for task in tasks {
         if !has_program(ProgramKind::Task, &task.name, programs) {
@@ -77,8 +76,7 @@ pub(crate) fn check_routine_programs(
     routines: &[IsrObject],
     programs: &[NamedProgram],
 ) -> Result<(), GenFault>
-    ensures passed { OnOk result (routine_program_fault programs.now routines.now ≡ None) }
-    ensures refused { IfErr result (IsFoundOrMemory (routine_program_fault programs.now routines.now)) }
+    ensures { Answers (routine_program_fault programs.now routines.now) result }
 {
     for routine in routines {
         if !has_program(ProgramKind::Routine, &routine.name, programs) {
@@ -91,15 +89,12 @@ pub(crate) fn check_routine_programs(
 fn has_program(kind: ProgramKind, name: &Name, programs: &[NamedProgram]) -> bool
     ensures { result ≡ list_any (is_program_of kind name.now) programs.now }
 {
-    programs
-        .iter()
-        .any(|program| is_program_of(kind, name, program))
+    program_of(kind, name, programs).is_some()
 }
 
 /// No program can be left.
 pub(crate) fn check_ends(programs: &[NamedProgram]) -> Result<(), GenFault>
-    ensures passed { OnOk result (end_fault programs.now ≡ None) }
-    ensures refused { IfErr result (IsFoundOrMemory (end_fault programs.now)) }
+    ensures { Answers (end_fault programs.now) result }
 {
     for program in programs {
         if !is_closed(program) {
@@ -122,8 +117,12 @@ fn is_closed(program: &NamedProgram) -> bool
 fn jumps_within(lines: &[NamedLine]) -> bool
     ensures { result ≡ list_all (jumps_below (length lines.now)) lines.now }
 {
-    let size = lines.len();
-    lines.iter().all(|line| jumps_below(size, line.instr()))
+    for line in lines {
+        if !jumps_below(lines.len(), line.instr()) {
+            return false;
+        }
+    }
+    true
 }
 
 /// Whether an instruction jumps to a place below a number, if it jumps.
@@ -159,8 +158,7 @@ fn is_end(instr: &NamedInstr) -> bool
 
 /// Only a routine returns from an interrupt.
 pub(crate) fn check_returns(programs: &[NamedProgram]) -> Result<(), GenFault>
-    ensures passed { OnOk result (return_fault programs.now ≡ None) }
-    ensures refused { IfErr result (IsFoundOrMemory (return_fault programs.now)) }
+    ensures { Answers (return_fault programs.now) result }
 {
     for program in programs {
         if !returns_well(program) {
@@ -174,15 +172,20 @@ fn returns_well(program: &NamedProgram) -> bool
     ensures { result ≡ returns_well program.now }
 {
     match program.kind {
-        ProgramKind::Task => !has_return(program),
+        ProgramKind::Task => !has_return(program.lines.as_slice()),
         ProgramKind::Routine => true,
     }
 }
 
-fn has_return(program: &NamedProgram) -> bool
-    ensures { result ≡ list_any is_return program.now.instructions }
+fn has_return(lines: &[NamedLine]) -> bool
+    ensures { result ≡ list_any is_return lines.now }
 {
-    program.lines.iter().any(|line| is_return(line.instr()))
+    for line in lines {
+        if is_return(line.instr()) {
+            return true;
+        }
+    }
+    false
 }
 
 fn is_return(instr: &NamedInstr) -> bool

@@ -1,7 +1,7 @@
 //! OIL: references between objects; the modelled processor: operands. Each name must stand for a declared object.
 
-ghost use Rattle.std.specs.Prelude.{◌≡◌, OnOk, IfErr, None, IsTrue};
-ghost use Rattle.system_gen.specs.Checks.{IsFoundOrMemory};
+ghost use Rattle.std.specs.Prelude.{◌≡◌, OnOk, None, IsTrue};
+ghost use Rattle.system_gen.specs.Checks.{Answers};
 ghost use Rattle.system_gen.specs.References.{
   first_of,
   unknown,
@@ -43,8 +43,7 @@ pub(crate) fn check_references(
     file: &OilFile,
     programs: &[NamedProgram],
 ) -> Result<(), GenFault>
-    ensures passed { OnOk result (reference_fault file.now declared.now programs.now ≡ None) }
-    ensures refused { IfErr result (IsFoundOrMemory (reference_fault file.now declared.now programs.now)) }
+    ensures answers { Answers (reference_fault file.now declared.now programs.now) result }
     ensures typed { OnOk result (IsTrue (are_typed programs.now)) }
 {
     check_tasks(declared, file.tasks())?;
@@ -53,8 +52,7 @@ pub(crate) fn check_references(
 }
 
 fn check_tasks(declared: &Declared, tasks: &[TaskObject]) -> Result<(), GenFault>
-    ensures passed { OnOk result (first_of (task_reference declared.now) tasks.now ≡ None) }
-    ensures refused { IfErr result (IsFoundOrMemory (first_of (task_reference declared.now) tasks.now)) }
+    ensures { Answers (first_of (task_reference declared.now) tasks.now) result }
 {
     for task in tasks {
         check_task(declared, task)?;
@@ -64,8 +62,7 @@ fn check_tasks(declared: &Declared, tasks: &[TaskObject]) -> Result<(), GenFault
 
 /// A task names its modes, then its resources, then its events.
 fn check_task(declared: &Declared, task: &TaskObject) -> Result<(), GenFault>
-    ensures passed { OnOk result (task_reference declared.now task.now ≡ None) }
-    ensures refused { IfErr result (IsFoundOrMemory (task_reference declared.now task.now)) }
+    ensures { Answers (task_reference declared.now task.now) result }
 {
     check_names(&declared.modes, task.autostart.as_slice())?;
     check_names(&declared.resources, task.resources.as_slice())?;
@@ -73,8 +70,7 @@ fn check_task(declared: &Declared, task: &TaskObject) -> Result<(), GenFault>
 }
 
 fn check_alarms(declared: &Declared, alarms: &[AlarmObject]) -> Result<(), GenFault>
-    ensures passed { OnOk result (first_of (alarm_reference declared.now) alarms.now ≡ None) }
-    ensures refused { IfErr result (IsFoundOrMemory (first_of (alarm_reference declared.now) alarms.now)) }
+    ensures { Answers (first_of (alarm_reference declared.now) alarms.now) result }
 {
     for alarm in alarms {
         check_alarm(declared, alarm)?;
@@ -84,8 +80,7 @@ fn check_alarms(declared: &Declared, alarms: &[AlarmObject]) -> Result<(), GenFa
 
 /// An alarm names its counter, then the task and the event of its action, then its modes.
 fn check_alarm(declared: &Declared, alarm: &AlarmObject) -> Result<(), GenFault>
-    ensures passed { OnOk result (alarm_reference declared.now alarm.now ≡ None) }
-    ensures refused { IfErr result (IsFoundOrMemory (alarm_reference declared.now alarm.now)) }
+    ensures { Answers (alarm_reference declared.now alarm.now) result }
 {
     check_name(&declared.counters, &alarm.counter)?;
     check_action(declared, &alarm.action)?;
@@ -93,8 +88,7 @@ fn check_alarm(declared: &Declared, alarm: &AlarmObject) -> Result<(), GenFault>
 }
 
 fn check_action(declared: &Declared, action: &ActionObject) -> Result<(), GenFault>
-    ensures passed { OnOk result (action_reference declared.now action.now ≡ None) }
-    ensures refused { IfErr result (IsFoundOrMemory (action_reference declared.now action.now)) }
+    ensures { Answers (action_reference declared.now action.now) result }
 {
     match action {
         ActionObject::ActivateTask { task } => check_name(&declared.tasks, task),
@@ -106,8 +100,7 @@ fn check_action(declared: &Declared, action: &ActionObject) -> Result<(), GenFau
 }
 
 fn check_start(declared: &Declared, start: &Option<AlarmStartObject>) -> Result<(), GenFault>
-    ensures passed { OnOk result (start_reference declared.now start.now ≡ None) }
-    ensures refused { IfErr result (IsFoundOrMemory (start_reference declared.now start.now)) }
+    ensures { Answers (start_reference declared.now start.now) result }
 {
     match start {
         None => Ok(()),
@@ -120,8 +113,7 @@ fn check_programs(
     file: &OilFile,
     programs: &[NamedProgram],
 ) -> Result<(), GenFault>
-    ensures passed { OnOk result (first_of (program_reference file.now declared.now) programs.now ≡ None) }
-    ensures refused { IfErr result (IsFoundOrMemory (first_of (program_reference file.now declared.now) programs.now)) }
+    ensures answers { Answers (first_of (program_reference file.now declared.now) programs.now) result }
     ensures typed { OnOk result (IsTrue (are_typed programs.now)) }
 {
     for program in programs {
@@ -136,8 +128,7 @@ fn check_program(
     file: &OilFile,
     program: &NamedProgram,
 ) -> Result<(), GenFault>
-    ensures passed { OnOk result (program_reference file.now declared.now program.now ≡ None) }
-    ensures refused { IfErr result (IsFoundOrMemory (program_reference file.now declared.now program.now)) }
+    ensures answers { Answers (program_reference file.now declared.now program.now) result }
     ensures typed { OnOk result (IsTrue (list_all is_typed program.now.instructions)) }
 {
     check_owner(declared, program.kind, &program.name)?;
@@ -145,8 +136,7 @@ fn check_program(
 }
 
 fn check_owner(declared: &Declared, kind: ProgramKind, name: &Name) -> Result<(), GenFault>
-    ensures passed { OnOk result (owner_reference declared.now kind name.now ≡ None) }
-    ensures refused { IfErr result (IsFoundOrMemory (owner_reference declared.now kind name.now)) }
+    ensures { Answers (owner_reference declared.now kind name.now) result }
 {
     match kind {
         ProgramKind::Task => check_name(&declared.tasks, name),
@@ -155,8 +145,7 @@ fn check_owner(declared: &Declared, kind: ProgramKind, name: &Name) -> Result<()
 }
 
 fn check_lines(declared: &Declared, file: &OilFile, lines: &[NamedLine]) -> Result<(), GenFault>
-    ensures passed { OnOk result (first_of (instruction_reference file.now declared.now) lines.now ≡ None) }
-    ensures refused { IfErr result (IsFoundOrMemory (first_of (instruction_reference file.now declared.now) lines.now)) }
+    ensures answers { Answers (first_of (instruction_reference file.now declared.now) lines.now) result }
     ensures typed { OnOk result (IsTrue (list_all is_typed lines.now)) }
 {
     for line in lines {
@@ -170,8 +159,7 @@ fn check_instruction(
     file: &OilFile,
     instr: &NamedInstr,
 ) -> Result<(), GenFault>
-    ensures passed { OnOk result (instruction_reference file.now declared.now instr.now ≡ None) }
-    ensures refused { IfErr result (IsFoundOrMemory (instruction_reference file.now declared.now instr.now)) }
+    ensures answers { Answers (instruction_reference file.now declared.now instr.now) result }
     ensures typed { OnOk result (IsTrue (is_typed instr.now)) }
 {
     match instr {
@@ -238,8 +226,7 @@ fn check_service(
     file: &OilFile,
     service: &NamedService,
 ) -> Result<(), GenFault>
-    ensures passed { OnOk result (service_reference file.now declared.now service.now ≡ None) }
-    ensures refused { IfErr result (IsFoundOrMemory (service_reference file.now declared.now service.now)) }
+    ensures answers { Answers (service_reference file.now declared.now service.now) result }
     ensures typed { OnOk result (IsTrue (is_typed_service service.now)) }
 {
     match service {
@@ -280,8 +267,7 @@ fn check_service(
 
 /// The operand INVALID names nothing.
 fn check_operand(table: &NameTable, operand: &Option<Name>) -> Result<(), GenFault>
-    ensures passed { OnOk result (unknown_operand table.now operand.now ≡ None) }
-    ensures refused { IfErr result (IsFoundOrMemory (unknown_operand table.now operand.now)) }
+    ensures { Answers (unknown_operand table.now operand.now) result }
 {
     match operand {
         None => Ok(()),
@@ -294,8 +280,7 @@ fn check_resource_operand(
     file: &OilFile,
     operand: &Option<Name>,
 ) -> Result<(), GenFault>
-    ensures passed { OnOk result (resource_reference file.now declared.now operand.now ≡ None) }
-    ensures refused { IfErr result (IsFoundOrMemory (resource_reference file.now declared.now operand.now)) }
+    ensures { Answers (resource_reference file.now declared.now operand.now) result }
 {
     match operand {
         None => Ok(()),
@@ -321,8 +306,7 @@ fn may_be_got(declared: &Declared, file: &OilFile, name: &Name) -> bool
 }
 
 fn check_names(table: &NameTable, names: &[Name]) -> Result<(), GenFault>
-    ensures passed { OnOk result (unknown_in table.now names.now ≡ None) }
-    ensures refused { IfErr result (IsFoundOrMemory (unknown_in table.now names.now)) }
+    ensures { Answers (unknown_in table.now names.now) result }
 {
     for name in names {
         check_name(table, name)?;
@@ -331,8 +315,7 @@ fn check_names(table: &NameTable, names: &[Name]) -> Result<(), GenFault>
 }
 
 fn check_name(table: &NameTable, name: &Name) -> Result<(), GenFault>
-    ensures passed { OnOk result (unknown table.now name.now ≡ None) }
-    ensures refused { IfErr result (IsFoundOrMemory (unknown table.now name.now)) }
+    ensures { Answers (unknown table.now name.now) result }
 {
     if table.has(name) {
         Ok(())

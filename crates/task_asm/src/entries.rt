@@ -13,7 +13,7 @@ use std::alloc::{AllocError, Global};
 use std::marker::Model;
 
 /// What a label, an instruction or a directive says. None: its line doesn't go on with just its operands.
-#[derive(Debug, Drop)]
+#[derive(Drop)]
 pub enum Item<'a> {
     Label(&'a str),
     Instruction(Option<Written<'a>>),
@@ -23,7 +23,7 @@ pub enum Item<'a> {
 }
 
 /// What stands in a text, with the place of its first token.
-#[derive(Debug, Drop)]
+#[derive(Drop)]
 pub struct Entry<'a> {
     pub place: usize,
     pub item: Item<'a>,

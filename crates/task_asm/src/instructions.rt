@@ -21,7 +21,7 @@ use osek_base::{Comparison, Control, Plain, Register};
 use std::alloc::Global;
 
 /// An instruction as it stands in a line: finished, or a jump whose label is still to be found.
-#[derive(Debug, Drop)]
+#[derive(Drop)]
 pub enum Written<'a> {
     Ready(NamedInstr),
     Jump(Label<'a>),

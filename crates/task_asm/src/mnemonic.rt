@@ -6,7 +6,7 @@ ghost use Rattle.task_asm.specs.Mnemonics.{plain_mnemonic, service_mnemonic, con
 use osek_base::{Comparison, Operation};
 
 /// The mnemonics that touch registers, words and the place alone.
-#[derive(Clone, Copy, Debug, PartialEq, Eq)]
+#[derive(Clone, Copy)]
 pub enum PlainMnemonic {
     Nop,
     Li,
@@ -19,7 +19,7 @@ pub enum PlainMnemonic {
 }
 
 /// The mnemonics of the services with a status.
-#[derive(Clone, Copy, Debug, PartialEq, Eq)]
+#[derive(Clone, Copy)]
 pub enum ServiceMnemonic {
     ActivateTask,
     TerminateTask,
@@ -43,7 +43,7 @@ pub enum ServiceMnemonic {
 }
 
 /// The mnemonics of the services without a status.
-#[derive(Clone, Copy, Debug, PartialEq, Eq)]
+#[derive(Clone, Copy)]
 pub enum ControlMnemonic {
     DisableAllInterrupts,
     EnableAllInterrupts,
@@ -56,7 +56,7 @@ pub enum ControlMnemonic {
 }
 
 /// What an instruction begins with.
-#[derive(Clone, Copy, Debug, PartialEq, Eq)]
+#[derive(Clone, Copy)]
 pub enum Mnemonic {
     Plain(PlainMnemonic),
     Service(ServiceMnemonic),

@@ -45,7 +45,7 @@ use osek_base::{Name, Register};
 use std::alloc::{AllocError, Global};
 
 /// Why the operands of a line could not be read: they are others than the mnemonic wants, or memory was refused.
-#[derive(Debug, Drop)]
+#[derive(Drop)]
 pub enum Refusal {
     Operand,
     Memory,
@@ -62,14 +62,14 @@ impl From<AllocError> for Refusal {
 }
 
 /// A label as an operand, and the place of its first byte.
-#[derive(Clone, Copy, Debug)]
+#[derive(Clone, Copy)]
 pub struct Label<'a> {
     pub place: usize,
     pub word: &'a str,
 }
 
 /// The name behind a directive, and the place of its first byte.
-#[derive(Debug, Drop)]
+#[derive(Drop)]
 pub struct Title {
     pub place: usize,
     pub name: Name,

@@ -32,9 +32,9 @@ const VALUES: [(AttributeName, &str); 24] = [
 
 /// What an attribute takes.
 pub(crate) fn allowed_values(attribute: AttributeName) -> &'static str {
-    for (name, values) in VALUES {
-        if name == attribute {
-            return values;
+    for (name, values) in &VALUES {
+        if *name == attribute {
+            return *values;
         }
     }
     "a name"

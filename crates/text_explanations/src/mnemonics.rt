@@ -45,9 +45,9 @@ const FORMS: [&str; 31] = [
 
 /// How an instruction with a mnemonic is written.
 pub(crate) fn form(mnemonic: &str) -> &'static str {
-    for form in FORMS {
+    for form in &FORMS {
         if form.split(' ').next() == Some(mnemonic) {
-            return form;
+            return *form;
         }
     }
     "the mnemonic alone"

@@ -30,12 +30,12 @@ fn nearest<'a>(
     Ok(found)
 }
 
-/// Those of many names that are nearest to a word, the nearest first, as many as are listed.
-fn nearest_names<'a>(
+/// The numbers of those of many names that are nearest to a word, each behind its distance, as many as are listed.
+fn nearest_numbers(
     alloc: Global,
     word: &str,
-    names: &[&'a str],
-) -> Result<Vec<&'a str>, AllocError> {
+    names: &[&str],
+) -> Result<BTreeSet<(usize, usize)>, AllocError> {
     let mut near = BTreeSet::new(alloc);
     for (number, name) in names.iter().enumerate() {
         near.insert((osa_distance(alloc, word, *name)?, number))?;
@@ -43,9 +43,19 @@ fn nearest_names<'a>(
             let _ = near.pop_last();
         }
     }
+    Ok(near)
+}
+
+/// Those names, the nearest first.
+fn nearest_names<'a>(
+    alloc: Global,
+    word: &str,
+    names: &[&'a str],
+) -> Result<Vec<&'a str>, AllocError> {
+    let near = nearest_numbers(alloc, word, names)?;
     let mut found = Vec::new(alloc);
-    for (_, number) in near {
-        if let Some(name) = names.get(number) {
+    for (_, number) in &near {
+        if let Some(name) = names.get(*number) {
             found.push(*name)?;
         }
     }
@@ -55,11 +65,11 @@ fn nearest_names<'a>(
 /// Writes ` TITLE: NAME NAME ..`, or ` TITLE: none`, without a line end.
 fn write_list<W: Write>(title: &str, names: &[&str], out: &mut W) -> io::Result<()> {
     write!(out, " {title}:")?;
+    if names.is_empty() {
+        return out.write_all(b" none");
+    }
     for name in names {
         write!(out, " {name}")?;
-    }
-    if names.is_empty() {
-        out.write_all(b" none")?;
     }
     Ok(())
 }

@@ -21,6 +21,13 @@ const fn bad_token(what: &'static str, allowed: &'static str, len: usize) -> Bad
 const NUMBERS: &str =
     "0, decimal digits without a leading zero, or 0x and hexadecimal digits; at most 4294967295";
 
+fn begins_with_digit(word: &str) -> bool {
+    match word.as_bytes().first() {
+        Some(byte) => b'0' <= *byte && *byte <= b'9',
+        None => false,
+    }
+}
+
 /// What is wrong where a word or a number begins and breaks its rule.
 pub(crate) fn explain_run<W: Write>(
     source: Source<'_>,
@@ -28,22 +35,13 @@ pub(crate) fn explain_run<W: Write>(
     out: &mut W,
 ) -> io::Result<()> {
     let word = source.word(place);
-    match word.as_bytes() {
-        [b'0'..=b'9', ..] => {
-            let what = [Text(word), Text(" is no number")];
-            source.note(place, &what, "allowed", &[Text(NUMBERS)], out)
-        }
-        _ => {
-            let what = [Text("a name of "), Number(word.len()), Text(" bytes")];
-            source.note(
-                place,
-                &what,
-                "allowed",
-                &[Text("names of 1 to 32 bytes")],
-                out,
-            )
-        }
+    if begins_with_digit(word) {
+        let what = [Text(word), Text(" is no number")];
+        return source.note(place, &what, "allowed", &[Text(NUMBERS)], out);
     }
+    let what = [Text("a name of "), Number(word.len()), Text(" bytes")];
+    let allowed = Text("names of 1 to 32 bytes");
+    source.note(place, &what, "allowed", &[allowed], out)
 }
 
 fn bad_token_at(text: &[u8]) -> BadToken {

@@ -24,17 +24,10 @@ impl Kind {
 
     /// The word for what is done.
     fn does(self, activity: Activity) -> &'static str {
-        match activity {
-            Activity::Nothing => "nothing",
-            Activity::Executing => match self {
-                Kind::Task => "running",
-                Kind::Routine => "executing",
-            },
-            Activity::Ready => match self {
-                Kind::Task => "ready",
-                Kind::Routine => "pending",
-            },
-            Activity::Waiting => "waiting",
+        match (self, activity) {
+            (Kind::Task, Activity::Executing) => "running",
+            (Kind::Routine, Activity::Ready) => "pending",
+            _ => class(activity),
         }
     }
 }

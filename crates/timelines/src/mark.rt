@@ -3,7 +3,7 @@
 use osek_base::Status;
 
 /// What came to a task or a routine.
-#[derive(Clone, Copy, Debug, PartialEq, Eq)]
+#[derive(Clone, Copy)]
 pub(crate) enum Sign {
     /// So many jobs were made.
     Activated(u8),
@@ -22,7 +22,7 @@ pub(crate) enum Sign {
 }
 
 /// What came to a task or a routine, and in which tick.
-#[derive(Clone, Copy, Debug, PartialEq, Eq)]
+#[derive(Clone, Copy)]
 pub(crate) struct Mark {
     pub(crate) tick: u32,
     pub(crate) sign: Sign,

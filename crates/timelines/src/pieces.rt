@@ -12,15 +12,21 @@ pub(crate) enum Piece<'a> {
     Number(u32),
 }
 
+/// What stands in XML for a byte that XML has a meaning for.
+fn entity(byte: u8) -> Option<&'static [u8]> {
+    match byte {
+        b'&' => Some(b"&amp;"),
+        b'<' => Some(b"&lt;"),
+        b'>' => Some(b"&gt;"),
+        b'"' => Some(b"&quot;"),
+        _ => None,
+    }
+}
+
 fn write_escaped<W: Write>(text: &str, out: &mut W) -> io::Result<()> {
     for byte in text.as_bytes() {
-        match *byte {
-            b'&' => out.write_all(b"&amp;")?,
-            b'<' => out.write_all(b"&lt;")?,
-            b'>' => out.write_all(b"&gt;")?,
-            b'"' => out.write_all(b"&quot;")?,
-            other => out.write_all(&[other])?,
-        }
+        let itself = [*byte];
+        out.write_all(entity(*byte).unwrap_or(&itself))?;
     }
     Ok(())
 }

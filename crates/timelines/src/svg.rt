@@ -63,9 +63,11 @@ fn write_routines<W: Write>(
     Ok(())
 }
 
+/// Writes the tasks, which stand below so many rows.
 fn write_tasks<W: Write>(
     system: &System,
     tracks: &[Track],
+    above: usize,
     layout: Layout,
     out: &mut W,
 ) -> io::Result<()> {
@@ -76,7 +78,7 @@ fn write_tasks<W: Write>(
             kind: Kind::Task,
             name: name.as_str(),
             priority: task.priority,
-            place: number.saturating_add(system.routine_count()),
+            place: number.saturating_add(above),
         };
         write_track(system, row, track, layout, out)?;
     }
@@ -99,7 +101,8 @@ impl Timeline {
         write_heading(layout, out)?;
         write_ticks(layout, out)?;
         write_routines(system, self.routines.as_slice(), layout, out)?;
-        write_tasks(system, self.tasks.as_slice(), layout, out)?;
+        let above = self.routines.len();
+        write_tasks(system, self.tasks.as_slice(), above, layout, out)?;
         write_legend(layout, out)
     }
 }

@@ -136,6 +136,17 @@ fn observe_tasks(
     Ok(())
 }
 
+fn observe_routine(
+    track: &mut Track,
+    tick: u32,
+    seen: RoutineSeen,
+    priority: u8,
+) -> Result<(), AllocError> {
+    track.row.add(tick, Moment::of_routine(seen, priority))?;
+    track.mark_if(seen.arrived > 0, tick, Sign::Arrived(seen.arrived))?;
+    track.mark_if(seen.lost > 0, tick, Sign::Lost(seen.lost))
+}
+
 fn observe_routines(
     system: &System,
     tick: u32,
@@ -144,11 +155,7 @@ fn observe_routines(
 ) -> Result<(), AllocError> {
     let routines = system.parts().routines.as_slice();
     for ((track, seen), routine) in tracks.iter_mut().zip(seen).zip(routines) {
-        track
-            .row
-            .add(tick, Moment::of_routine(*seen, routine.priority))?;
-        track.mark_if(seen.arrived > 0, tick, Sign::Arrived(seen.arrived))?;
-        track.mark_if(seen.lost > 0, tick, Sign::Lost(seen.lost))?;
+        observe_routine(track, tick, *seen, routine.priority)?;
     }
     Ok(())
 }

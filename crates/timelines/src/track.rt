@@ -20,7 +20,13 @@ impl Track {
         }
     }
 
-    /// Keeps what came in a tick, where the condition holds. An error is want of memory.
+    /// Keeps what came in a tick. An error is want of memory.
+    pub(crate) fn mark(&mut self, tick: u32, sign: Sign) -> Result<(), AllocError> {
+        self.marks.push(Mark { tick, sign })?;
+        Ok(())
+    }
+
+    /// The same where the condition holds.
     pub(crate) fn mark_if(
         &mut self,
         condition: bool,
@@ -28,7 +34,7 @@ impl Track {
         sign: Sign,
     ) -> Result<(), AllocError> {
         if condition {
-            self.marks.push(Mark { tick, sign })?;
+            return self.mark(tick, sign);
         }
         Ok(())
     }
@@ -50,8 +56,8 @@ pub(crate) fn mark_at(
     tick: u32,
     sign: Sign,
 ) -> Result<(), AllocError> {
-    if number < tracks.len() {
-        tracks[number].mark_if(true, tick, sign)?;
+    match tracks.get_mut(number) {
+        Some(track) => track.mark(tick, sign),
+        None => Ok(()),
     }
-    Ok(())
 }

@@ -8,7 +8,7 @@ use Rattle.osek_base.specs.Agree.{upper_part}
 use Rattle.osek_base.specs.Laws.{HaveOneView}
 use Rattle.osek_base.specs.View.{Sight}
 use Rattle.kernel.specs.declared.boot.BootFault.{BootFault}
-use Rattle.tracer.specs.Lines.{ended}
+use Rattle.trace_lines.specs.Lines.{ended}
 use Rattle.arrival_lists.specs.ArrivalText.{lines_of}
 use Rattle.tracer.specs.UpperRuns.{IsShown}
 use Rattle.tracer.specs.WholeRuns.{RefusesStart}

@@ -1,5 +1,4 @@
-pub mod SinkLemmas
-pub mod NumberLemmas
+pub mod ProgramRecords
 pub mod RunTextLemmas
 pub mod FaultLemmas
 pub mod TraceLemmas

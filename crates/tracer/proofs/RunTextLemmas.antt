@@ -19,10 +19,10 @@ use Rattle.blocking_laws.specs.Steps.{step_at, record_at}
 use Rattle.kernel.proofs.RunLemmas.{going}
 use Rattle.blocking_laws.proofs.StepLemmas.{run_over, run_stays, steps_more, step_number}
 use Rattle.tracer.specs.declared.shown.Shown.{Shown}
-use Rattle.tracer.specs.Lines.{ended, numbered_line, tick_text}
+use Rattle.trace_lines.specs.Lines.{ended, numbered_line, tick_text}
 use Rattle.tracer.specs.Shown.{numbers_shown, records_shown, lines_shown, text_shown, view_text}
-use Rattle.tracer.specs.Sinks.{AppendsSome, Passes}
-use Rattle.tracer.proofs.SinkLemmas.{begins_longer, passes_more, stops_later}
+use Rattle.trace_lines.specs.Sinks.{AppendsSome, Passes}
+use Rattle.trace_lines.proofs.SinkLemmas.{begins_longer, passes_more, stops_later}
 
 -- ---- all, the view, and numbers
 

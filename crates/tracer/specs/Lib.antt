@@ -1,5 +1,3 @@
-pub mod Sinks
-pub mod Lines
 pub mod Shown
 pub mod RunFaults
 pub mod WholeRuns

@@ -10,7 +10,7 @@ use Rattle.osek_base.specs.Trace.{Run}
 use Rattle.osek_base.specs.View.{view_records, view_lines}
 use Rattle.osek_base.specs.BlockingText.{blockers_at}
 use Rattle.tracer.specs.declared.shown.Shown.{Shown}
-use Rattle.tracer.specs.Lines.{ended, numbered_line}
+use Rattle.trace_lines.specs.Lines.{ended, numbered_line}
 
 -- the text of the view of a run: each line with its LF
 abbrev pub view_text : System → ℕ → Run → List ℕ

@@ -2,16 +2,16 @@
 
 ghost use Rattle.std.specs.Prelude.{◌≡◌, ◌≢◌, ◌≤◌, ℕ, List, true, false, IfErr, OnOk};
 ghost use Rattle.std.specs.Io.KnownBytes.{Appends};
-ghost use Rattle.tracer.specs.Sinks.{AppendsSome};
+ghost use Rattle.trace_lines.specs.Sinks.{AppendsSome};
 ghost use Rattle.tracer.specs.WholeRuns.{IsBlockingTrace, IsFirstRefusal};
 
 use crate::run_fault::RunFault;
 use crate::shown::Shown;
-use crate::sink::Sink;
 use crate::system_texts::read_system;
 use crate::whole_run::write_run;
 use osek_base::MAX_TICKS;
 use std::alloc::Global;
+use trace_lines::Sink;
 
 /// As `run`, but each line of an instruction that is its job's first since the job became ready has ` ! ` behind it, and
 /// how many blockers the job had since then: jobs of a lower priority that executed.

@@ -2,7 +2,6 @@
 
 ghost use Rattle.std.specs.Prelude.{◌≡◌};
 
-use crate::sink::SinkFault;
 use arrival_lists::IrqFault;
 use kernel::BootFault;
 use oil_reader::OilFault;
@@ -11,6 +10,7 @@ use std::alloc::AllocError;
 use system_gen::GenFault;
 use task_asm::AsmFault;
 use thiserror::Error;
+use trace_lines::SinkFault;
 
 /// Why a run came to no end: the first refusal of an input, want of memory, or a failed write.
 #[derive(Debug, Drop, Error)]

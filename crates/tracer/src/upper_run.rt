@@ -3,7 +3,7 @@
 ghost use Rattle.std.specs.Prelude.{◌≡◌, ◌≢◌, ◌≤◌, ℕ, List, true, false, IfErr, OnOk};
 ghost use Rattle.std.specs.Io.KnownBytes.{Appends};
 ghost use Rattle.osek_base.specs.Separable.{Separable};
-ghost use Rattle.tracer.specs.Sinks.{AppendsSome};
+ghost use Rattle.trace_lines.specs.Sinks.{AppendsSome};
 ghost use Rattle.tracer.specs.UpperRuns.{IsShown, IsView, RefusesPartition, IsFirstViewRefusal};
 ghost use Rattle.tracer.specs.WholeRuns.{RefusesStart};
 ghost use Rattle.tracer.specs.declared.run_fault.RunFault.{RunFault};
@@ -11,12 +11,12 @@ ghost use Rattle.tracer.specs.declared.shown.Shown.{Shown};
 
 use crate::run_fault::RunFault;
 use crate::shown::Shown;
-use crate::sink::Sink;
 use crate::system_texts::read_system;
 use crate::whole_run::write_run;
 use osek_base::{MAX_TICKS, System};
 use partition_check::check_partition;
 use std::alloc::Global;
+use trace_lines::Sink;
 use upper_only::upper_only;
 
 /// Checks that the upper part of a system at p is separable. A refusal is the first denial, with its subject's name.

@@ -2,14 +2,12 @@
 
 ghost use Rattle.std.specs.Prelude.{◌≡◌, ◌≢◌, ◌≤◌, ℕ, List, true, false, IfOk, IfErr, OnOk};
 ghost use Rattle.std.specs.Io.KnownBytes.{Appends};
-ghost use Rattle.tracer.specs.Sinks.{AppendsSome};
+ghost use Rattle.trace_lines.specs.Sinks.{AppendsSome};
 ghost use Rattle.tracer.specs.UpperRuns.{IsShown};
 ghost use Rattle.tracer.specs.WholeRuns.{IsBegun, IsTrace, RefusesStart, IsFirstRefusal};
 
-use crate::instruction_texts::InstructionTexts;
 use crate::run_fault::RunFault;
 use crate::shown::Shown;
-use crate::sink::Sink;
 use crate::system_texts::read_system;
 use crate::written_ticks::write_ticks;
 use arrival_lists::read_arrivals;
@@ -17,6 +15,7 @@ use kernel::Kernel;
 use osek_base::{MAX_TICKS, System};
 use ready_queues::LevelQueues;
 use std::alloc::Global;
+use trace_lines::{InstructionTexts, Sink};
 
 /// The system, booted in a mode with the arrivals of a list, or the first fault of these.
 fn begin<'s>(

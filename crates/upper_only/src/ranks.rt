@@ -23,6 +23,7 @@ impl UpperPart<'_> {
     }
 
     /// How many resources with a number below this one are upper.
+    #[tactic(auto, using(crate::proofs::KeptSteps::rank_in, crate::proofs::KeptSteps::rank_out))]
     fn resources_below(&self, end: u8) -> u8
         requires { end ≤ MAX_RESOURCES }
         ensures is { result ≡ rank (is_upper_declared self.now.system self.now.p) end }

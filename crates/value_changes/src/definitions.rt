@@ -13,6 +13,20 @@ $version Paddlelychee $end
 $timescale 1 us $end
 ";
 
+/// A variable as it is declared: its type and width in bits, and its name.
+#[derive(Clone, Copy)]
+struct Declaration<'a> {
+    kind: &'static str,
+    variable: Variable,
+    name: &'a str,
+}
+
+fn declare<W: Write>(declared: &Declaration<'_>, out: &mut W) -> io::Result<()> {
+    let kind = declared.kind;
+    let name = declared.name;
+    writeln!(out, "$var {kind} {} {name} $end", declared.variable)
+}
+
 fn open_scope<W: Write>(name: &str, out: &mut W) -> io::Result<()> {
     writeln!(out, "$scope module {name} $end")
 }
@@ -21,18 +35,36 @@ fn close_scope<W: Write>(out: &mut W) -> io::Result<()> {
     out.write_all(b"$upscope $end\n")
 }
 
+/// Writes a scope with its variables.
+fn declare_all<W: Write>(name: &str, declared: &[Declaration<'_>], out: &mut W) -> io::Result<()> {
+    open_scope(name, out)?;
+    for variable in declared {
+        declare(variable, out)?;
+    }
+    close_scope(out)
+}
+
 fn define_task<W: Write>(system: &System, task: TaskId, out: &mut W) -> io::Result<()>
     requires { task < length system.now.tasks }
 {
-    open_scope(system.names().of(Owner::Task(task)), out)?;
-    writeln!(out, "$var wire 2 {} state $end", Variable::State(task))?;
-    writeln!(
-        out,
-        "$var wire 6 {} priority $end",
-        Variable::Priority(task)
-    )?;
-    writeln!(out, "$var wire 4 {} jobs $end", Variable::Jobs(task))?;
-    close_scope(out)
+    let declared = [
+        Declaration {
+            kind: "wire 2",
+            variable: Variable::State(task),
+            name: "state",
+        },
+        Declaration {
+            kind: "wire 6",
+            variable: Variable::Priority(task),
+            name: "priority",
+        },
+        Declaration {
+            kind: "wire 4",
+            variable: Variable::Jobs(task),
+            name: "jobs",
+        },
+    ];
+    declare_all(system.names().of(Owner::Task(task)), &declared, out)
 }
 
 fn define_tasks<W: Write>(system: &System, out: &mut W) -> io::Result<()> {
@@ -46,15 +78,24 @@ fn define_tasks<W: Write>(system: &System, out: &mut W) -> io::Result<()> {
 fn define_routine<W: Write>(system: &System, routine: IsrId, out: &mut W) -> io::Result<()>
     requires { routine < length system.now.routines }
 {
-    open_scope(system.names().of(Owner::Routine(routine)), out)?;
-    writeln!(
-        out,
-        "$var wire 1 {} pending $end",
-        Variable::Pending(routine)
-    )?;
-    writeln!(out, "$var wire 1 {} active $end", Variable::Active(routine))?;
-    writeln!(out, "$var event 1 {} lost $end", Variable::Lost(routine))?;
-    close_scope(out)
+    let declared = [
+        Declaration {
+            kind: "wire 1",
+            variable: Variable::Pending(routine),
+            name: "pending",
+        },
+        Declaration {
+            kind: "wire 1",
+            variable: Variable::Active(routine),
+            name: "active",
+        },
+        Declaration {
+            kind: "event 1",
+            variable: Variable::Lost(routine),
+            name: "lost",
+        },
+    ];
+    declare_all(system.names().of(Owner::Routine(routine)), &declared, out)
 }
 
 fn define_routines<W: Write>(system: &System, out: &mut W) -> io::Result<()> {
@@ -68,12 +109,12 @@ fn define_routines<W: Write>(system: &System, out: &mut W) -> io::Result<()> {
 fn define_resource<W: Write>(system: &System, resource: &ResId, out: &mut W) -> io::Result<()>
     requires { HasResource system.now.names resource.now }
 {
-    let name = system.names().resource(*resource);
-    writeln!(
-        out,
-        "$var string 1 {} {name} $end",
-        Variable::Holder(*resource)
-    )
+    let declared = Declaration {
+        kind: "string 1",
+        variable: Variable::Holder(*resource),
+        name: system.names().resource(*resource),
+    };
+    declare(&declared, out)
 }
 
 fn define_resources<W: Write>(system: &System, out: &mut W) -> io::Result<()> {
@@ -88,25 +129,43 @@ fn define_resources<W: Write>(system: &System, out: &mut W) -> io::Result<()> {
     close_scope(out)
 }
 
+fn define_alarm<W: Write>(system: &System, alarm: AlarmId, out: &mut W) -> io::Result<()>
+    requires { alarm < length system.now.alarms }
+{
+    let declared = Declaration {
+        kind: "event 1",
+        variable: Variable::Expiry(alarm),
+        name: system.names().alarm(alarm),
+    };
+    declare(&declared, out)
+}
+
 fn define_alarms<W: Write>(system: &System, out: &mut W) -> io::Result<()> {
     open_scope("alarms", out)?;
     for number in 0..system.alarm_count() {
-        let alarm = AlarmId::new(number as u8);
-        let name = system.names().alarm(alarm);
-        writeln!(out, "$var event 1 {} {name} $end", Variable::Expiry(alarm))?;
+        define_alarm(system, AlarmId::new(number as u8), out)?;
     }
     close_scope(out)
 }
 
-/// Writes all that stands before the first tick.
-pub(crate) fn write_definitions<W: Write>(system: &System, out: &mut W) -> io::Result<()> {
-    out.write_all(HEADER)?;
-    open_scope("system", out)?;
-    writeln!(out, "$var string 1 {} executor $end", Variable::Executor)?;
+/// Writes the scopes of all objects.
+fn define_objects<W: Write>(system: &System, out: &mut W) -> io::Result<()> {
     define_tasks(system, out)?;
     define_routines(system, out)?;
     define_resources(system, out)?;
-    define_alarms(system, out)?;
-    close_scope(out)?;
-    out.write_all(b"$enddefinitions $end\n")
+    define_alarms(system, out)
+}
+
+/// Writes all that stands before the first tick.
+pub(crate) fn write_definitions<W: Write>(system: &System, out: &mut W) -> io::Result<()> {
+    let executor = Declaration {
+        kind: "string 1",
+        variable: Variable::Executor,
+        name: "executor",
+    };
+    out.write_all(HEADER)?;
+    open_scope("system", out)?;
+    declare(&executor, out)?;
+    define_objects(system, out)?;
+    out.write_all(b"$upscope $end\n$enddefinitions $end\n")
 }

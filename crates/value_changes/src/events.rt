@@ -1,6 +1,6 @@
 //! Value change dumps: variables of the kind event, which fire in a tick and have no value.
 
-use crate::tick_changes::TickChanges;
+use crate::tick_changes::{Change, TickChanges};
 use crate::variable::Variable;
 use arrayvec::ArrayVec;
 use observations::{AlarmSeen, RoutineSeen};
@@ -14,7 +14,8 @@ pub(crate) fn write_losses<W: Write>(
 ) -> io::Result<()> {
     for number in 0..seen.len() {
         if seen[number].lost > 0 {
-            changes.event(Variable::Lost(IsrId::new(number as u8)))?;
+            let routine = IsrId::new(number as u8);
+            changes.write(Variable::Lost(routine), Change::Event)?;
         }
     }
     Ok(())
@@ -27,7 +28,8 @@ pub(crate) fn write_expiries<W: Write>(
 ) -> io::Result<()> {
     for number in 0..seen.len() {
         if seen[number].has_expired {
-            changes.event(Variable::Expiry(AlarmId::new(number as u8)))?;
+            let alarm = AlarmId::new(number as u8);
+            changes.write(Variable::Expiry(alarm), Change::Event)?;
         }
     }
     Ok(())

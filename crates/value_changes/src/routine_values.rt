@@ -1,7 +1,7 @@
 //! Value change dumps: the variables of an interrupt routine.
 
 use crate::last_value::LastValue;
-use crate::tick_changes::TickChanges;
+use crate::tick_changes::{Change, TickChanges};
 use crate::variable::Variable;
 use observations::RoutineSeen;
 use osek_base::IsrId;
@@ -23,11 +23,11 @@ impl RoutineValues {
         changes: &mut TickChanges<'_, W>,
     ) -> io::Result<()> {
         if let Some(is_pending) = self.pending.change_to(seen.is_pending) {
-            changes.wire(Variable::Pending(routine), is_pending)?;
+            changes.write(Variable::Pending(routine), Change::Wire(is_pending))?;
         }
         let is_active = seen.executes || seen.is_active;
         if let Some(is_active) = self.active.change_to(is_active) {
-            changes.wire(Variable::Active(routine), is_active)?;
+            changes.write(Variable::Active(routine), Change::Wire(is_active))?;
         }
         Ok(())
     }

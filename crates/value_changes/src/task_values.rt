@@ -1,11 +1,19 @@
 //! Value change dumps: the variables of a task.
 
 use crate::last_value::LastValue;
-use crate::tick_changes::TickChanges;
+use crate::tick_changes::{Change, TickChanges};
 use crate::variable::Variable;
 use observations::TaskSeen;
 use osek_base::{TaskId, TaskState};
 use std::io::{self, Write};
+
+/// A priority, which has no value where the task has no job.
+fn priority_change(priority: Option<u8>) -> Change<'static> {
+    match priority {
+        None => Change::Unknown,
+        Some(priority) => Change::Vector(priority),
+    }
+}
 
 /// The values with which the variables of a task were last written.
 #[derive(Clone, Copy, Debug, Default)]
@@ -24,15 +32,13 @@ impl TaskValues {
         changes: &mut TickChanges<'_, W>,
     ) -> io::Result<()> {
         if let Some(state) = self.state.change_to(seen.state) {
-            changes.vector(Variable::State(task), state.number())?;
+            changes.write(Variable::State(task), Change::Vector(state.number()))?;
         }
-        match self.priority.change_to(seen.priority) {
-            None => {}
-            Some(None) => changes.unknown(Variable::Priority(task))?,
-            Some(Some(priority)) => changes.vector(Variable::Priority(task), priority)?,
+        if let Some(priority) = self.priority.change_to(seen.priority) {
+            changes.write(Variable::Priority(task), priority_change(priority))?;
         }
         if let Some(jobs) = self.jobs.change_to(seen.jobs) {
-            changes.vector(Variable::Jobs(task), jobs)?;
+            changes.write(Variable::Jobs(task), Change::Vector(jobs))?;
         }
         Ok(())
     }

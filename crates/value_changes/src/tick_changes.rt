@@ -1,7 +1,36 @@
 //! Value change dumps: the simulation time and the value changes of one tick.
 
 use crate::variable::Variable;
+use std::fmt;
 use std::io::{self, Write};
+
+/// What becomes of a variable in a tick.
+#[derive(Clone, Copy)]
+pub(crate) enum Change<'a> {
+    /// A wire is high or low.
+    Wire(bool),
+    /// A vector has that number, in binary without leading zeros.
+    Vector(u8),
+    /// A vector has no value.
+    Unknown,
+    /// A string variable has that text, which has no space.
+    String(&'a str),
+    /// An event fires.
+    Event,
+}
+
+/// What stands before the variable's identifier code.
+impl fmt::Display for Change<'_> {
+    fn fmt<W: fmt::Write>(&self, f: &mut fmt::Formatter<W>) -> fmt::Result {
+        match self {
+            Change::Wire(is_high) => write!(f, "{}", u8::from(*is_high)),
+            Change::Vector(number) => write!(f, "b{number:b} "),
+            Change::Unknown => f.write_str("bx "),
+            Change::String(text) => write!(f, "s{text} "),
+            Change::Event => f.write_str("1"),
+        }
+    }
+}
 
 /// Where the changes of a tick are written. Its time stands before the first of them; without any,
 /// nothing is written.
@@ -23,11 +52,11 @@ impl<'w, W: Write> TickChanges<'w, W> {
     }
 
     fn tell_time(&mut self) -> io::Result<()> {
-        if !self.is_told {
-            self.is_told = true;
-            writeln!(self.out, "#{}", self.tick)?;
+        if self.is_told {
+            return Ok(());
         }
-        Ok(())
+        self.is_told = true;
+        writeln!(self.out, "#{}", self.tick)
     }
 
     /// From here to the end of the initial values each variable is written.
@@ -41,34 +70,9 @@ impl<'w, W: Write> TickChanges<'w, W> {
         self.out.write_all(b"$end\n")
     }
 
-    /// A wire is high or low.
-    pub(crate) fn wire(&mut self, variable: Variable, is_high: bool) -> io::Result<()> {
+    /// Writes what becomes of a variable. An error is a failed write.
+    pub(crate) fn write(&mut self, variable: Variable, change: Change<'_>) -> io::Result<()> {
         self.tell_time()?;
-        let level = u8::from(is_high);
-        writeln!(self.out, "{level}{variable}")
-    }
-
-    /// A vector has that number, in binary without leading zeros.
-    pub(crate) fn vector(&mut self, variable: Variable, number: u8) -> io::Result<()> {
-        self.tell_time()?;
-        writeln!(self.out, "b{number:b} {variable}")
-    }
-
-    /// A vector has no value.
-    pub(crate) fn unknown(&mut self, variable: Variable) -> io::Result<()> {
-        self.tell_time()?;
-        writeln!(self.out, "bx {variable}")
-    }
-
-    /// A string variable has that text, which has no space.
-    pub(crate) fn string(&mut self, variable: Variable, text: &str) -> io::Result<()> {
-        self.tell_time()?;
-        writeln!(self.out, "s{text} {variable}")
-    }
-
-    /// An event fires.
-    pub(crate) fn event(&mut self, variable: Variable) -> io::Result<()> {
-        self.tell_time()?;
-        writeln!(self.out, "1{variable}")
+        writeln!(self.out, "{change}{variable}")
     }
 }

@@ -6,7 +6,7 @@ use crate::last_value::LastValue;
 use crate::routine_values::RoutineValues;
 use crate::shown_names::{executor_name, holder_name};
 use crate::task_values::TaskValues;
-use crate::tick_changes::TickChanges;
+use crate::tick_changes::{Change, TickChanges};
 use crate::variable::Variable;
 use arrayvec::ArrayVec;
 use observations::{Holder, MAX_HELD, Observation, RoutineSeen, TaskSeen};
@@ -58,7 +58,7 @@ fn write_holders<W: Write>(
         if let Some(holder) = values[number].change_to(seen[number]) {
             let resource = resource_at(system, number);
             let name = holder_name(system.names(), holder);
-            changes.string(Variable::Holder(resource), name)?;
+            changes.write(Variable::Holder(resource), Change::String(name))?;
         }
     }
     Ok(())
@@ -100,10 +100,8 @@ impl<'s> ValueChanges<'s> {
         changes: &mut TickChanges<'_, W>,
     ) -> io::Result<()> {
         if let Some(executor) = self.executor.change_to(seen.executor) {
-            changes.string(
-                Variable::Executor,
-                executor_name(self.system.names(), executor),
-            )?;
+            let name = executor_name(self.system.names(), executor);
+            changes.write(Variable::Executor, Change::String(name))?;
         }
         write_tasks(&mut self.tasks, &seen.tasks, changes)?;
         write_routines(&mut self.routines, &seen.routines, changes)?;

@@ -5,4 +5,3 @@ pub mod EventRuns
 pub mod AlarmRuns
 pub mod InterruptRuns
 pub mod PartitionRuns
-pub mod ClassRuns

@@ -1,113 +1,62 @@
 -- Partitions, no part of the standards. Worked checks, views and upper parts by themselves.
-use Rattle.std.specs.Prelude.{true, ◌≡◌, IsTrue, [], ◌∷◌, Some, None, codes, bytes_eq}
+use Rattle.std.specs.Prelude.{ℕ, true, ◌≡◌, IsTrue, List, [], ◌∷◌, Option, Some, None, codes, bytes_eq}
 use Rattle.std.specs.List.{concat, flat_map}
+use Rattle.osek_base.specs.declared.arrivals.Arrival.{Arrival}
 use Rattle.osek_base.specs.declared.ids.Owner.{Owner}
 use Rattle.osek_base.specs.declared.task.Property.{Property}
-use Rattle.osek_base.specs.declared.ids.ResId.TheVariants.{Declared, Scheduler}
-use Rattle.osek_base.specs.System.{System}
+use Rattle.osek_base.specs.declared.ids.ResId.TheVariants.{Scheduler}
+use Rattle.osek_base.specs.System.{System, Task}
 use Rattle.osek_base.specs.Proper.{IsProper}
 use Rattle.osek_base.specs.Trace.{run}
 use Rattle.osek_base.specs.Separable.{first_denial}
 use Rattle.osek_base.specs.Agree.{upper_part, upper_core}
 use Rattle.osek_base.specs.View.{view, view_lines}
-use Rattle.worked_runs.specs.Worked.{quiet, one_mode, no_hooks, task, autostarted, non, listing_resources, activating_from, IsWorkedRun, nop, li, st, jmp, act, term, gtid, gtst, getr, relr, srel, cana, galm, sai, rai, soi, reti}
+use Rattle.worked_runs.specs.Worked.{no_hooks, task, autostarted, non, listing_resources, activating_from, to_seven, declared, arrival_in, of_tasks, with_routine, with_resource, with_event, with_alarm, with_hooks, IsWorkedRun, nop, li, st, jmp, act, term, gtid, gtst, getr, relr, srel, cana, galm, sai, rai, soi, reti}
 
--- an upper task beside a lower one that ends
+-- ---- what holds of a system at 5
+
+-- a proper system that is denied at 5, first by that rule, in that subject, at that place
+pub record IsDenied (S : System) (rule : ℕ) (subject : Owner) (place : Option ℕ) : Type 0 where
+  pub proper : IsProper S
+  pub denied : first_denial S 5 ≡ Some (record { rule = rule; subject = subject; place = place })
+
+-- the lines of a view in one text, and the words of its windows in one list
+abbrev pub view_text : System → List Arrival → ℕ → List ℕ
+view_text S arrivals n = concat (view_lines S 5 (run S 0 arrivals n))
+
+abbrev pub view_windows : System → List Arrival → ℕ → List ℕ
+view_windows S arrivals n = flat_map (λ seen. concat seen.windows) (view S 5 (run S 0 arrivals n))
+
+-- a system has the view of its upper core
+abbrev pub HasViewOfItsCore : System → List Arrival → ℕ → Type 0
+HasViewOfItsCore S arrivals n = IsTrue (bytes_eq (view_text S arrivals n) (view_text (upper_core S 5) arrivals n))
+
+abbrev pub HasWindowsOfItsCore : System → List Arrival → ℕ → Type 0
+HasWindowsOfItsCore S arrivals n = IsTrue (bytes_eq (view_windows S arrivals n) (view_windows (upper_core S 5) arrivals n))
+
+-- ---- systems
+
+-- an upper task U, which an alarm activates in tick 2 and in each third tick from then on, beside a lower task L
+abbrev pub beside : Task → Task → System
+beside upper lower = with_alarm (activating_from 2 3 0) (of_tasks (codes "U" ∷ codes "L" ∷ []) (upper ∷ lower ∷ []))
+
+abbrev pub upper : Task
+upper = task 5 (li 1 9 ∷ term ∷ [])
+
+-- a lower task that ends; the systems with it, and with one that goes round
+abbrev pub ending : Task
+ending = autostarted (task 1 (term ∷ []))
+
 abbrev pub lower_ends : System
-lower_ends =
-    record quiet {
-      names = record one_mode { tasks = codes "U" ∷ codes "L" ∷ []; alarms = codes "AL" ∷ [] };
-      tasks =
-          task 5 (li 1 9 ∷ term ∷ [])
-          ∷ autostarted (task 1 (term ∷ []))
-          ∷ [];
-      counters = record { max_allowed_value = 7; ticks_per_base = 1; min_cycle = 1 } ∷ [];
-      alarms = activating_from 2 3 0 ∷ [];
-    }
+lower_ends = beside upper ending
 
-abbrev pub RunLowerEnds : Type 0
-RunLowerEnds =
-    IsWorkedRun lower_ends [] 7
-    (codes "0 L 0 TERM = 0"
-    ∷ codes "1 idle"
-    ∷ codes "2 U 0 LI r1, 9 -> 9"
-    ∷ codes "3 U 1 TERM = 0"
-    ∷ codes "4 idle"
-    ∷ codes "5 U 0 LI r1, 9 -> 9"
-    ∷ codes "6 U 1 TERM = 0"
-    ∷ [])
-
-abbrev pub ViewLowerEnds : Type 0
-ViewLowerEnds =
-    view_lines lower_ends 5 (run lower_ends 0 [] 7)
-    ≡ codes "0 other"
-    ∷ codes "1 other"
-    ∷ codes "2 U 0 LI r1, 9 -> 9"
-    ∷ codes "3 U 1 TERM = 0"
-    ∷ codes "4 other"
-    ∷ codes "5 U 0 LI r1, 9 -> 9"
-    ∷ codes "6 U 1 TERM = 0"
-    ∷ []
-
-abbrev pub AloneLowerEnds : Type 0
-AloneLowerEnds =
-    view_lines (upper_part lower_ends 5) 5 (run (upper_part lower_ends 5) 0 [] 7)
-    ≡ codes "0 other"
-    ∷ codes "1 other"
-    ∷ codes "2 U 0 LI r1, 9 -> 9"
-    ∷ codes "3 U 1 TERM = 0"
-    ∷ codes "4 other"
-    ∷ codes "5 U 0 LI r1, 9 -> 9"
-    ∷ codes "6 U 1 TERM = 0"
-    ∷ []
-
-abbrev pub CheckLowerEndsAt5 : Type 0
-CheckLowerEndsAt5 =
-    first_denial lower_ends 5 ≡ None
-
-abbrev pub CheckLowerEndsAt6 : Type 0
-CheckLowerEndsAt6 =
-    first_denial lower_ends 6 ≡ None
-
-abbrev pub CoreLowerEnds : Type 0
-CoreLowerEnds =
-    IsTrue (bytes_eq (concat (view_lines lower_ends 5 (run lower_ends 0 [] 7)))
-    (concat (view_lines (upper_core lower_ends 5) 5 (run (upper_core lower_ends 5) 0 [] 7))))
-
-abbrev pub WindowsLowerEnds : Type 0
-WindowsLowerEnds =
-    IsTrue (bytes_eq (flat_map (λ seen. concat seen.windows) (view lower_ends 5 (run lower_ends 0 [] 7)))
-    (flat_map (λ seen. concat seen.windows) (view (upper_core lower_ends 5) 5 (run (upper_core lower_ends 5) 0 [] 7))))
-
--- an upper task beside a lower one that goes round
 abbrev pub lower_goes_round : System
-lower_goes_round =
-    record quiet {
-      names = record one_mode { tasks = codes "U" ∷ codes "L" ∷ []; alarms = codes "AL" ∷ [] };
-      tasks =
-          task 5 (li 1 9 ∷ term ∷ [])
-          ∷ autostarted (task 1 (act (Some 1) ∷ jmp 0 ∷ []))
-          ∷ [];
-      counters = record { max_allowed_value = 7; ticks_per_base = 1; min_cycle = 1 } ∷ [];
-      alarms = activating_from 2 3 0 ∷ [];
-    }
+lower_goes_round = beside upper (autostarted (task 1 (act (Some 1) ∷ jmp 0 ∷ [])))
 
-abbrev pub RunLowerGoesRound : Type 0
-RunLowerGoesRound =
-    IsWorkedRun lower_goes_round [] 7
-    (codes "0 L 0 ACT L = 4"
-    ∷ codes "1 L 1 JMP 0"
-    ∷ codes "2 U 0 LI r1, 9 -> 9"
-    ∷ codes "3 U 1 TERM = 0"
-    ∷ codes "4 L 0 ACT L = 4"
-    ∷ codes "5 U 0 LI r1, 9 -> 9"
-    ∷ codes "6 U 1 TERM = 0"
-    ∷ [])
-
-abbrev pub ViewLowerGoesRound : Type 0
-ViewLowerGoesRound =
-    view_lines lower_goes_round 5 (run lower_goes_round 0 [] 7)
-    ≡ codes "0 other"
+-- the view of both at 5, in 7 ticks
+abbrev pub every_third_tick : List (List ℕ)
+every_third_tick =
+    codes "0 other"
     ∷ codes "1 other"
     ∷ codes "2 U 0 LI r1, 9 -> 9"
     ∷ codes "3 U 1 TERM = 0"
@@ -115,245 +64,84 @@ ViewLowerGoesRound =
     ∷ codes "5 U 0 LI r1, 9 -> 9"
     ∷ codes "6 U 1 TERM = 0"
     ∷ []
-
-abbrev pub AloneLowerGoesRound : Type 0
-AloneLowerGoesRound =
-    view_lines (upper_part lower_goes_round 5) 5 (run (upper_part lower_goes_round 5) 0 [] 7)
-    ≡ codes "0 other"
-    ∷ codes "1 other"
-    ∷ codes "2 U 0 LI r1, 9 -> 9"
-    ∷ codes "3 U 1 TERM = 0"
-    ∷ codes "4 other"
-    ∷ codes "5 U 0 LI r1, 9 -> 9"
-    ∷ codes "6 U 1 TERM = 0"
-    ∷ []
-
-abbrev pub CheckLowerGoesRound : Type 0
-CheckLowerGoesRound =
-    first_denial lower_goes_round 5 ≡ None
-
-abbrev pub CoreLowerGoesRound : Type 0
-CoreLowerGoesRound =
-    IsTrue (bytes_eq (concat (view_lines lower_goes_round 5 (run lower_goes_round 0 [] 7)))
-    (concat (view_lines (upper_core lower_goes_round 5) 5 (run (upper_core lower_goes_round 5) 0 [] 7))))
-
-abbrev pub WindowsLowerGoesRound : Type 0
-WindowsLowerGoesRound =
-    IsTrue (bytes_eq (flat_map (λ seen. concat seen.windows) (view lower_goes_round 5 (run lower_goes_round 0 [] 7)))
-    (flat_map (λ seen. concat seen.windows) (view (upper_core lower_goes_round 5) 5 (run (upper_core lower_goes_round 5) 0 [] 7))))
-
--- a lower task names RES_SCHEDULER
-abbrev pub lower_takes_scheduler : System
-lower_takes_scheduler =
-    record quiet {
-      names = record one_mode { tasks = codes "U" ∷ codes "L" ∷ []; alarms = codes "AL" ∷ [] };
-      tasks =
-          task 5 (li 1 9 ∷ term ∷ [])
-          ∷ autostarted (task 1 (getr (Some Scheduler) ∷ term ∷ []))
-          ∷ [];
-      counters = record { max_allowed_value = 7; ticks_per_base = 1; min_cycle = 1 } ∷ [];
-      alarms = activating_from 2 3 0 ∷ [];
-    }
-
-abbrev pub ProperLowerTakesScheduler : Type 0
-ProperLowerTakesScheduler =
-    IsProper lower_takes_scheduler
-
-abbrev pub CheckLowerTakesScheduler : Type 0
-CheckLowerTakesScheduler =
-    first_denial lower_takes_scheduler 5 ≡ Some (record { rule = 3; subject = Owner.Task 1; place = Some 0 })
-
--- a routine asks which task runs
-abbrev pub routine_asks_task : System
-routine_asks_task =
-    record quiet {
-      names = record one_mode { tasks = codes "U" ∷ codes "L" ∷ []; routines = codes "I" ∷ []; alarms = codes "AL" ∷ [] };
-      tasks =
-          task 5 (li 1 9 ∷ term ∷ [])
-          ∷ autostarted (task 1 (term ∷ []))
-          ∷ [];
-      routines =
-          record { priority = 1; program = gtid ∷ reti ∷ [] }
-          ∷ [];
-      counters = record { max_allowed_value = 7; ticks_per_base = 1; min_cycle = 1 } ∷ [];
-      alarms = activating_from 2 3 0 ∷ [];
-    }
-
-abbrev pub ProperRoutineAsksTask : Type 0
-ProperRoutineAsksTask =
-    IsProper routine_asks_task
-
-abbrev pub CheckRoutineAsksTask : Type 0
-CheckRoutineAsksTask =
-    first_denial routine_asks_task 5 ≡ Some (record { rule = 7; subject = Owner.Routine 0; place = Some 0 })
-
--- a lower task is not preemptable
-abbrev pub lower_non_preemptable : System
-lower_non_preemptable =
-    record quiet {
-      names = record one_mode { tasks = codes "U" ∷ codes "L" ∷ []; alarms = codes "AL" ∷ [] };
-      tasks =
-          task 5 (li 1 9 ∷ term ∷ [])
-          ∷ non (autostarted (task 1 (term ∷ [])))
-          ∷ [];
-      counters = record { max_allowed_value = 7; ticks_per_base = 1; min_cycle = 1 } ∷ [];
-      alarms = activating_from 2 3 0 ∷ [];
-    }
-
-abbrev pub ProperLowerNonPreemptable : Type 0
-ProperLowerNonPreemptable =
-    IsProper lower_non_preemptable
-
-abbrev pub CheckLowerNonPreemptable : Type 0
-CheckLowerNonPreemptable =
-    first_denial lower_non_preemptable 5 ≡ Some (record { rule = 1; subject = Owner.Task 1; place = None })
-
--- an internal resource is shared
-abbrev pub shared_internal : System
-shared_internal =
-    record quiet {
-      names = record one_mode { tasks = codes "U" ∷ codes "L" ∷ []; resources = codes "I" ∷ []; alarms = codes "AL" ∷ [] };
-      tasks =
-          listing_resources (0 ∷ []) (task 5 (li 1 9 ∷ term ∷ []))
-          ∷ listing_resources (0 ∷ []) (autostarted (task 1 (term ∷ [])))
-          ∷ [];
-      resources = Property.Internal ∷ [];
-      counters = record { max_allowed_value = 7; ticks_per_base = 1; min_cycle = 1 } ∷ [];
-      alarms = activating_from 2 3 0 ∷ [];
-    }
-
-abbrev pub ProperSharedInternal : Type 0
-ProperSharedInternal =
-    IsProper shared_internal
-
-abbrev pub CheckSharedInternal : Type 0
-CheckSharedInternal =
-    first_denial shared_internal 5 ≡ Some (record { rule = 2; subject = Owner.Task 1; place = None })
-
--- a lower task turns interrupts off
-abbrev pub lower_suspends : System
-lower_suspends =
-    record quiet {
-      names = record one_mode { tasks = codes "U" ∷ codes "L" ∷ []; alarms = codes "AL" ∷ [] };
-      tasks =
-          task 5 (li 1 9 ∷ term ∷ [])
-          ∷ autostarted (task 1 (soi ∷ term ∷ []))
-          ∷ [];
-      counters = record { max_allowed_value = 7; ticks_per_base = 1; min_cycle = 1 } ∷ [];
-      alarms = activating_from 2 3 0 ∷ [];
-    }
-
-abbrev pub ProperLowerSuspends : Type 0
-ProperLowerSuspends =
-    IsProper lower_suspends
-
-abbrev pub CheckLowerSuspends : Type 0
-CheckLowerSuspends =
-    first_denial lower_suspends 5 ≡ Some (record { rule = 4; subject = Owner.Task 1; place = Some 0 })
-
--- a lower task names an upper alarm
-abbrev pub lower_names_upper : System
-lower_names_upper =
-    record quiet {
-      names = record one_mode { tasks = codes "U" ∷ codes "L" ∷ []; alarms = codes "AL" ∷ [] };
-      tasks =
-          task 5 (li 1 9 ∷ term ∷ [])
-          ∷ autostarted (task 1 (nop ∷ cana (Some 0) ∷ term ∷ []))
-          ∷ [];
-      counters = record { max_allowed_value = 7; ticks_per_base = 1; min_cycle = 1 } ∷ [];
-      alarms = activating_from 2 3 0 ∷ [];
-    }
-
-abbrev pub ProperLowerNamesUpper : Type 0
-ProperLowerNamesUpper =
-    IsProper lower_names_upper
-
-abbrev pub CheckLowerNamesUpper : Type 0
-CheckLowerNamesUpper =
-    first_denial lower_names_upper 5 ≡ Some (record { rule = 5; subject = Owner.Task 1; place = Some 1 })
-
--- an upper task names a lower one
-abbrev pub upper_names_lower : System
-upper_names_lower =
-    record quiet {
-      names = record one_mode { tasks = codes "U" ∷ codes "L" ∷ []; alarms = codes "AL" ∷ [] };
-      tasks =
-          task 5 (gtst (Some 1) ∷ term ∷ [])
-          ∷ autostarted (task 1 (term ∷ []))
-          ∷ [];
-      counters = record { max_allowed_value = 7; ticks_per_base = 1; min_cycle = 1 } ∷ [];
-      alarms = activating_from 2 3 0 ∷ [];
-    }
-
-abbrev pub ProperUpperNamesLower : Type 0
-ProperUpperNamesLower =
-    IsProper upper_names_lower
-
-abbrev pub CheckUpperNamesLower : Type 0
-CheckUpperNamesLower =
-    first_denial upper_names_lower 5 ≡ Some (record { rule = 6; subject = Owner.Task 0; place = Some 0 })
-
--- two rules are broken
-abbrev pub two_breaches : System
-two_breaches =
-    record quiet {
-      names = record one_mode { tasks = codes "U" ∷ codes "L" ∷ []; routines = codes "I" ∷ []; alarms = codes "AL" ∷ [] };
-      tasks =
-          task 5 (li 1 9 ∷ term ∷ [])
-          ∷ non (autostarted (task 1 (term ∷ [])))
-          ∷ [];
-      routines =
-          record { priority = 1; program = gtid ∷ reti ∷ [] }
-          ∷ [];
-      counters = record { max_allowed_value = 7; ticks_per_base = 1; min_cycle = 1 } ∷ [];
-      alarms = activating_from 2 3 0 ∷ [];
-    }
-
-abbrev pub ProperTwoBreaches : Type 0
-ProperTwoBreaches =
-    IsProper two_breaches
-
-abbrev pub CheckTwoBreaches : Type 0
-CheckTwoBreaches =
-    first_denial two_breaches 5 ≡ Some (record { rule = 1; subject = Owner.Task 1; place = None })
 
 -- lower objects declared before upper ones
 abbrev pub mixed : System
 mixed =
-    record quiet {
-      names = record one_mode { tasks = codes "V" ∷ codes "U" ∷ codes "L" ∷ []; routines = codes "I" ∷ []; resources = codes "Q" ∷ codes "R" ∷ []; events = codes "E" ∷ []; alarms = codes "LA" ∷ codes "AL" ∷ [] };
-      tasks =
-          listing_resources (1 ∷ []) (task 7 (getr (Some (Declared 1)) ∷ relr (Some (Declared 1)) ∷ li 2 1
-          ∷ li 1 2 ∷ srel (Some 1) 1 0 ∷ term ∷ []))
-          ∷ listing_resources (1 ∷ []) (task 5 (getr (Some (Declared 1)) ∷ act (Some 0) ∷ st 0 3
-          ∷ relr (Some (Declared 1)) ∷ li 1 70 ∷ st 1 1 ∷ term ∷ []))
-          ∷ listing_resources (0 ∷ []) (autostarted (task 1 (getr (Some (Declared 0)) ∷ li 1 3 ∷ st 1 1
-          ∷ relr (Some (Declared 0)) ∷ galm (Some 0) ∷ jmp 6 ∷ term ∷ [])))
-          ∷ [];
-      routines =
-          record { priority = 1; program = sai ∷ act (Some 0) ∷ rai ∷ act (Some 0) ∷ reti ∷ [] }
-          ∷ [];
+    let S =
+    with_routine 1 (sai ∷ act (Some 0) ∷ rai ∷ act (Some 0) ∷ reti ∷ [])
+    (with_event
+    (with_hooks (record no_hooks { error = true; pre_task = true; post_task = true })
+    (of_tasks (codes "V" ∷ codes "U" ∷ codes "L" ∷ [])
+    (listing_resources (1 ∷ []) (task 7 (getr (declared 1) ∷ relr (declared 1) ∷ li 2 1 ∷ li 1 2 ∷ srel (Some 1) 1 0
+    ∷ term ∷ []))
+    ∷ listing_resources (1 ∷ []) (task 5 (getr (declared 1) ∷ act (Some 0) ∷ st 0 3 ∷ relr (declared 1) ∷ li 1 70
+    ∷ st 1 1 ∷ term ∷ []))
+    ∷ listing_resources (0 ∷ []) (autostarted (task 1 (getr (declared 0) ∷ li 1 3 ∷ st 1 1 ∷ relr (declared 0)
+    ∷ galm (Some 0) ∷ jmp 6 ∷ term ∷ [])))
+    ∷ []))))
+    in
+    record S {
+      names = record S.names { resources = codes "Q" ∷ codes "R" ∷ []; alarms = codes "LA" ∷ codes "AL" ∷ [] };
       resources = Property.Standard ∷ Property.Standard ∷ [];
-      events = 1 ∷ [];
-      counters = record { max_allowed_value = 7; ticks_per_base = 1; min_cycle = 1 } ∷ [];
+      counters = to_seven ∷ [];
       alarms = activating_from 3 2 2 ∷ activating_from 2 0 1 ∷ [];
-      hooks = record no_hooks { error = true; pre_task = true; post_task = true };
     }
 
-abbrev pub ProperMixed : Type 0
-ProperMixed =
-    IsProper mixed
+abbrev pub two_arrivals : List Arrival
+two_arrivals = arrival_in 1 ∷ arrival_in 9 ∷ []
 
-abbrev pub CheckMixed : Type 0
-CheckMixed =
-    first_denial mixed 5 ≡ None
+-- ---- runs, views and verdicts
 
-abbrev pub CoreMixed : Type 0
-CoreMixed =
-    IsTrue (bytes_eq (concat (view_lines mixed 5 (run mixed 0 (record { tick = 1; routine = 0 } ∷ record { tick = 9; routine = 0 } ∷ []) 14)))
-    (concat (view_lines (upper_core mixed 5) 5 (run (upper_core mixed 5) 0 (record { tick = 1; routine = 0 } ∷ record { tick = 9; routine = 0 } ∷ []) 14))))
-
-abbrev pub WindowsMixed : Type 0
-WindowsMixed =
-    IsTrue (bytes_eq (flat_map (λ seen. concat seen.windows) (view mixed 5 (run mixed 0 (record { tick = 1; routine = 0 } ∷ record { tick = 9; routine = 0 } ∷ []) 14)))
-    (flat_map (λ seen. concat seen.windows) (view (upper_core mixed 5) 5 (run (upper_core mixed 5) 0 (record { tick = 1; routine = 0 } ∷ record { tick = 9; routine = 0 } ∷ []) 14))))
+pub record PartitionRuns : Type 0 where
+  pub run_lower_ends :
+      IsWorkedRun lower_ends [] 7
+      (codes "0 L 0 TERM = 0"
+      ∷ codes "1 idle"
+      ∷ codes "2 U 0 LI r1, 9 -> 9"
+      ∷ codes "3 U 1 TERM = 0"
+      ∷ codes "4 idle"
+      ∷ codes "5 U 0 LI r1, 9 -> 9"
+      ∷ codes "6 U 1 TERM = 0"
+      ∷ [])
+  pub view_lower_ends : view_lines lower_ends 5 (run lower_ends 0 [] 7) ≡ every_third_tick
+  pub alone_lower_ends : view_lines (upper_part lower_ends 5) 5 (run (upper_part lower_ends 5) 0 [] 7) ≡ every_third_tick
+  pub check_lower_ends_at5 : first_denial lower_ends 5 ≡ None
+  pub check_lower_ends_at6 : first_denial lower_ends 6 ≡ None
+  pub core_lower_ends : HasViewOfItsCore lower_ends [] 7
+  pub windows_lower_ends : HasWindowsOfItsCore lower_ends [] 7
+  pub run_lower_goes_round :
+      IsWorkedRun lower_goes_round [] 7
+      (codes "0 L 0 ACT L = 4"
+      ∷ codes "1 L 1 JMP 0"
+      ∷ codes "2 U 0 LI r1, 9 -> 9"
+      ∷ codes "3 U 1 TERM = 0"
+      ∷ codes "4 L 0 ACT L = 4"
+      ∷ codes "5 U 0 LI r1, 9 -> 9"
+      ∷ codes "6 U 1 TERM = 0"
+      ∷ [])
+  pub view_lower_goes_round : view_lines lower_goes_round 5 (run lower_goes_round 0 [] 7) ≡ every_third_tick
+  pub alone_lower_goes_round :
+      view_lines (upper_part lower_goes_round 5) 5 (run (upper_part lower_goes_round 5) 0 [] 7) ≡ every_third_tick
+  pub check_lower_goes_round : first_denial lower_goes_round 5 ≡ None
+  pub core_lower_goes_round : HasViewOfItsCore lower_goes_round [] 7
+  pub windows_lower_goes_round : HasWindowsOfItsCore lower_goes_round [] 7
+  pub check_lower_takes_scheduler :
+      IsDenied (beside upper (autostarted (task 1 (getr (Some Scheduler) ∷ term ∷ [])))) 3 (Owner.Task 1) (Some 0)
+  pub check_routine_asks_task :
+      IsDenied (with_routine 1 (gtid ∷ reti ∷ []) (beside upper ending)) 7 (Owner.Routine 0) (Some 0)
+  pub check_lower_non_preemptable : IsDenied (beside upper (non ending)) 1 (Owner.Task 1) None
+  pub check_shared_internal :
+      IsDenied (with_resource Property.Internal
+      (beside (listing_resources (0 ∷ []) upper) (listing_resources (0 ∷ []) ending))) 2 (Owner.Task 1) None
+  pub check_lower_suspends : IsDenied (beside upper (autostarted (task 1 (soi ∷ term ∷ [])))) 4 (Owner.Task 1) (Some 0)
+  pub check_lower_names_upper :
+      IsDenied (beside upper (autostarted (task 1 (nop ∷ cana (Some 0) ∷ term ∷ [])))) 5 (Owner.Task 1) (Some 1)
+  pub check_upper_names_lower : IsDenied (beside (task 5 (gtst (Some 1) ∷ term ∷ [])) ending) 6 (Owner.Task 0) (Some 0)
+  -- two rules are broken
+  pub check_two_breaches :
+      IsDenied (with_routine 1 (gtid ∷ reti ∷ []) (beside upper (non ending))) 1 (Owner.Task 1) None
+  pub proper_mixed : IsProper mixed
+  pub check_mixed : first_denial mixed 5 ≡ None
+  pub core_mixed : HasViewOfItsCore mixed two_arrivals 14
+  pub windows_mixed : HasWindowsOfItsCore mixed two_arrivals 14

@@ -9,6 +9,8 @@ use Rattle.osek_base.specs.declared.instr.Service.{Service}
 use Rattle.osek_base.specs.declared.instr.Control.{Control}
 use Rattle.osek_base.specs.declared.instr.Instr.{Instr}
 use Rattle.osek_base.specs.declared.task.Schedule.{Schedule}
+use Rattle.osek_base.specs.declared.task.Property.{Property}
+use Rattle.osek_base.specs.declared.task.Counter.{Counter}
 use Rattle.osek_base.specs.declared.task.Action.{Action}
 use Rattle.osek_base.specs.declared.task.Hooks.{Hooks}
 use Rattle.osek_base.specs.Names.{Names}
@@ -154,6 +156,20 @@ abbrev pub activating_from : ℕ → ℕ → ℕ → Alarm
 activating_from time cycle t =
     record { counter = 0; action = Action.ActivateTask t; autostart = Some (record { time = time; cycle = cycle; modes = 0 ∷ [] }) }
 
+-- a counter that counts to 7, once a tick
+abbrev pub to_seven : Counter
+to_seven = record { max_allowed_value = 7; ticks_per_base = 1; min_cycle = 1 }
+
+-- the resource of that number, as an operand
+abbrev pub declared : ℕ → Option ResId
+declared r = Some (ResId.Declared r)
+
+-- routine 0 arrives in a tick
+abbrev pub arrival_in : ℕ → Arrival
+arrival_in tick = record { tick = tick; routine = 0 }
+
+-- ---- systems
+
 abbrev pub no_hooks : Hooks
 no_hooks = record { startup = false; error = false; shutdown = false; pre_task = false; post_task = false }
 
@@ -175,6 +191,36 @@ quiet =
       hooks = no_hooks;
       use_res_scheduler = true;
     }
+
+-- tasks of these names
+abbrev pub of_tasks : List (List ℕ) → List Task → System
+of_tasks names tasks = record quiet { names = record one_mode { tasks = names }; tasks = tasks }
+
+-- one task A of that program, which starts by itself
+abbrev pub alone : List Instr → System
+alone program = of_tasks (codes "A" ∷ []) (autostarted (task 1 program) ∷ [])
+
+-- the same with one more kind of object: a routine I, a resource R, an event E, or an alarm AL on a counter to 7
+abbrev pub with_routine : ℕ → List Instr → System → System
+with_routine priority program S =
+    record S {
+      names = record S.names { routines = codes "I" ∷ [] };
+      routines = record { priority = priority; program = program } ∷ [];
+    }
+
+abbrev pub with_resource : Property → System → System
+with_resource property S =
+    record S { names = record S.names { resources = codes "R" ∷ [] }; resources = property ∷ [] }
+
+abbrev pub with_event : System → System
+with_event S = record S { names = record S.names { events = codes "E" ∷ [] }; events = 1 ∷ [] }
+
+abbrev pub with_alarm : Alarm → System → System
+with_alarm a S =
+    record S { names = record S.names { alarms = codes "AL" ∷ [] }; counters = to_seven ∷ []; alarms = a ∷ [] }
+
+abbrev pub with_hooks : Hooks → System → System
+with_hooks hooks S = record S { hooks = hooks }
 
 -- ---- runs
 

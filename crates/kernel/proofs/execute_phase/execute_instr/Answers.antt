@@ -6,10 +6,11 @@ use Rattle.services.specs.Objects.{kept_in}
 use Rattle.kernel.specs.Looking.{executed_by_looked}
 use Rattle.kernel.proofs.UnendedLemmas.{control_looked, plain_looked}
 use Rattle.kernel.proofs.execute_phase.execute_instr.Goals as goal
+use Rattle.kernel.specs.Run.{executing}
 
 pub returns-in-Plain-clause-stamps : goal.returns-in-Plain-clause-stamps
 returns-in-Plain-clause-stamps g c =
-    let e = c.args.execution.now in
+    let e = executing c.args.core.now c.args.owner.now in
     let next : c.args.instr.now ≡ Instr.Plain c.in-Plain.plain = cc in
     plain_looked c.args.system.now e c.in-Plain.plain c.args.windows.now c.execute_plain.new.windows c.args.core.now c.execute_plain.new.core
     c.args.tick c.args.stamps.now c.execute_plain.ensures.kept
@@ -17,7 +18,7 @@ returns-in-Plain-clause-stamps g c =
 
 pub returns-in-Control-clause-stamps : goal.returns-in-Control-clause-stamps
 returns-in-Control-clause-stamps g c =
-    let e = c.args.execution.now in
+    let e = executing c.args.core.now c.args.owner.now in
     let next : c.args.instr.now ≡ Instr.Control c.in-Control.control = cc in
     control_looked c.args.system.now e c.in-Control.control c.args.windows.now c.args.core.now c.execute_control.new.core
     c.args.tick c.args.stamps.now (c.execute_control.ensures.kept (word c.args.windows.now))
@@ -26,7 +27,7 @@ returns-in-Control-clause-stamps g c =
 pub returns-in-Control-clause-events : goal.returns-in-Control-clause-events
 returns-in-Control-clause-events g c =
     let S = c.args.system.now in
-    let e = c.args.execution.now in
+    let e = executing c.args.core.now c.args.owner.now in
     let w = word c.args.windows.now in
     let next : c.args.instr.now ≡ Instr.Control c.in-Control.control = cc in
     c.execute_control.ensures.events w

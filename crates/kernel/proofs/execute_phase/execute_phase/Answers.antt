@@ -1,8 +1,10 @@
 use Rattle.std.proofs.Common.{◌++◌, sym, ◌∙◌, ap}
 use Rattle.machine.specs.Windows.{word}
 use Rattle.kept_state.specs.Moves.{KeptRecorded}
+use Rattle.kernel.proofs.ExecutedStamps.{executed_stamps}
 use Rattle.kernel.proofs.ExecutionLemmas.{execute_phase-some, execute_phase-none}
 use Rattle.kernel.proofs.execute_phase.execute_phase.Goals as goal
+use Rattle.kernel.specs.Run.{executing}
 
 pub returns-in-None-clause-kept : goal.returns-in-None-clause-kept
 returns-in-None-clause-kept g c =
@@ -18,10 +20,15 @@ pub returns-in-Some-clause-kept : goal.returns-in-Some-clause-kept
 returns-in-Some-clause-kept g c =
     let w = word c.args.windows.now in
     c.execute.ensures.kept
-    ∙ ap (λ (r : KeptRecorded). r.state) (sym (execute_phase-some c.args.system.now w c.args.core.now c.in-Some.execution c.in-Some.ensures.value))
+    ∙ ap (λ (r : KeptRecorded). r.state) (sym (execute_phase-some c.args.system.now w c.args.core.now (executing c.args.core.now c.in-Some.owner) c.in-Some.ensures.value))
 
 pub returns-in-Some-clause-events : goal.returns-in-Some-clause-events
 returns-in-Some-clause-events g c =
     let w = word c.args.windows.now in
     c.execute.ensures.events
-    ∙ ap (λ (r : KeptRecorded). c.args.record_of_tick.now ++ r.events) (sym (execute_phase-some c.args.system.now w c.args.core.now c.in-Some.execution c.in-Some.ensures.value))
+    ∙ ap (λ (r : KeptRecorded). c.args.record_of_tick.now ++ r.events) (sym (execute_phase-some c.args.system.now w c.args.core.now (executing c.args.core.now c.in-Some.owner) c.in-Some.ensures.value))
+
+pub returns-in-Some-clause-stamps : goal.returns-in-Some-clause-stamps
+returns-in-Some-clause-stamps g c =
+    executed_stamps c.args.system.now c.args.tick (word c.args.windows.now) (word c.execute.new.windows) c.args.core.now c.execute.new.core c.in-Some.owner
+    c.args.stamps.now c.execute.new.stamps c.in-Some.ensures.value c.execute.ensures.kept c.execute.ensures.stamps

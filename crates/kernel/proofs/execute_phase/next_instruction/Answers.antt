@@ -7,11 +7,10 @@ use Rattle.kernel.proofs.execute_phase.next_instruction.Goals as goal
 pub fetch-requires : goal.fetch-requires
 fetch-requires c =
     let S = c.args._system.now in
-    let e = c.args.execution.now in
-    subst (λ (p : List Instr). c.place.result < length p) (sym (program_there S c.args.code.now e.owner c.requires.code))
-    (subst (λ (n : ℕ). n < length (program S e.owner)) (sym c.place.ensures) c.requires.placed.place)
+    subst (λ (p : List Instr). c.place.result < length p) (sym (program_there S c.args.code.now c.args.owner.now c.requires.code))
+    (subst (λ (n : ℕ). n < length (program S c.args.owner.now)) (sym c.place.ensures) c.requires.placed.place)
 
 pub returns : goal.returns
 returns c =
-    let same = program_there c.args._system.now c.args.code.now c.args.execution.now.owner c.requires.code in
+    let same = program_there c.args._system.now c.args.code.now c.args.owner.now c.requires.code in
     sym (c.fetch.ensures ∙ ap₂ (λ (p : List Instr) (n : ℕ). instruction_in p n) same c.place.ensures)

@@ -1,4 +1,4 @@
-use Rattle.tracer.proofs.SinkLemmas.{on_ok_map}
+use Rattle.trace_lines.proofs.SinkLemmas.{on_ok_map}
 use Rattle.tracer.proofs.TraceLemmas.{if_err_map}
 use Rattle.tracer.proofs.AloneLemmas.{shown_alone, refused_alone}
 use Rattle.tracer.proofs.upper_run.write_alone.Goals as goal

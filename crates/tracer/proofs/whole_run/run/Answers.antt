@@ -1,6 +1,6 @@
 use Rattle.std.proofs.Common.{Err, inl, inr, ◌∙◌, ap}
 use Rattle.std.proofs.lemmas.Result.{err_from_is_err_and}
-use Rattle.tracer.proofs.SinkLemmas.{on_ok_map}
+use Rattle.trace_lines.proofs.SinkLemmas.{on_ok_map}
 use Rattle.tracer.proofs.TraceLemmas.{trace_of, if_err, if_err_map, no_write_of_system}
 use Rattle.tracer.proofs.whole_run.run.Goals as goal
 

@@ -1,10 +1,13 @@
 use Rattle.std.proofs.Common.{ℕ, ◌+◌, Option, ◌++◌, sym, ap, subst, ◌∙◌}
+use Rattle.std.specs.List.{AllByRecursion}
 use Rattle.osek_base.specs.System.{System}
 use Rattle.kernel.specs.Run.{Run, is_over}
 use Rattle.blocking_laws.specs.Steps.{record_at}
+use Rattle.trace_lines.specs.Programs.{IsOfProgram}
 use Rattle.tracer.specs.Shown.{numbers_shown, records_shown}
-use Rattle.tracer.specs.Sinks.{AppendsSome, Passes}
-use Rattle.tracer.proofs.SinkLemmas.{passes_none, on_err}
+use Rattle.trace_lines.specs.Sinks.{AppendsSome, Passes}
+use Rattle.tracer.proofs.ProgramRecords.{shown_of_program}
+use Rattle.trace_lines.proofs.SinkLemmas.{passes_none, on_err}
 use Rattle.tracer.proofs.RunTextLemmas.{same_tick_text, text_begun, passes_tick, passes_part, passed_whole}
 use Rattle.tracer.proofs.written_ticks.pass_ticks.Goals as goal
 
@@ -21,6 +24,16 @@ ticks-init g c =
       still = c.requires.fresh;
     }
 
+pub write_tick-requires-clause-listed : goal.write_tick-requires-clause-listed
+write_tick-requires-clause-listed g c =
+    let k : Run = c.args.kernel.now in
+    let V : System = c.args.system.now in
+    let records =
+    c.tick_shown-number.ensures.records
+    ∙ ap (λ (r : Run). records_shown V c.args.shown (record_at r.system r.mode r.arrivals r.ticks)) c.ticks.invariant.at in
+    subst (λ (S : System). AllByRecursion (IsOfProgram S) c.tick_shown-number.new.records) (c.requires.system ∙ sym c.requires.texts)
+    (subst (AllByRecursion (IsOfProgram k.system)) (sym records) (shown_of_program k.system V c.args.shown k.mode k.arrivals c.ticks.tick))
+
 pub ticks-preserved : goal.ticks-preserved
 ticks-preserved g c =
     let k : Run = c.args.kernel.now in
@@ -34,7 +47,7 @@ ticks-preserved g c =
     let number =
     c.tick_shown-number.ensures.number
     ∙ ap (λ (r : Run). numbers_shown c.args.shown r.system r.mode r.arrivals r.ticks) v.at in
-    let text = same_tick_text _ _ c.ticks.tick _ _ _ _ c.requires.texts number records in
+    let text = same_tick_text _ _ c.ticks.tick _ _ _ _ (ap (λ (S : System). S.names) c.requires.texts) number records in
     record {
       so_far =
           passes_tick V c.args.shown numbers k.system k.mode k.arrivals _ _ _ _ _ _ c.ticks.tick going v.so_far
@@ -57,7 +70,7 @@ returns-in_err-write_tick-clause-beginning g c =
     let number =
     c.tick_shown-number.ensures.number
     ∙ ap (λ (r : Run). numbers_shown c.args.shown r.system r.mode r.arrivals r.ticks) v.at in
-    let text = same_tick_text _ _ c.ticks.tick _ _ _ _ c.requires.texts number records in
+    let text = same_tick_text _ _ c.ticks.tick _ _ _ _ (ap (λ (S : System). S.names) c.requires.texts) number records in
     on_err c.from_residual.result _
     (passes_part V c.args.shown numbers k.system k.mode k.arrivals _ _ _ _ _ c.ticks.tick c.args.ticks c.ticks-test.true going v.so_far
     (subst (λ t. AppendsSome (g.S.Sink.taken c.ticks.out) (g.S.Sink.taken c.write_tick.new.out) (c.ticks.text ++ t)) text (rw (v.counted) at c.in_err-write_tick.ensures.beginning)))

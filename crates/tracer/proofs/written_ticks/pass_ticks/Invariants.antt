@@ -1,7 +1,7 @@
 use Rattle.std.proofs.Common.{◌≡◌, false}
 use Rattle.osek_base.specs.Trace.{run}
 use Rattle.tracer.specs.Shown.{numbers_shown, text_shown}
-use Rattle.tracer.specs.Sinks.{Passes}
+use Rattle.trace_lines.specs.Sinks.{Passes}
 use Rattle.tracer.proofs.written_ticks.pass_ticks.Given as goal
 
 abbrev pub invariant-ticks : goal.invariant-ticks

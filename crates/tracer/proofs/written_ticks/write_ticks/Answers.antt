@@ -1,4 +1,4 @@
-use Rattle.tracer.proofs.SinkLemmas.{passed_some, on_err_map}
+use Rattle.trace_lines.proofs.SinkLemmas.{passed_some, on_err_map}
 use Rattle.tracer.proofs.written_ticks.write_ticks.Goals as goal
 
 pub returns-clause-beginning : goal.returns-clause-beginning

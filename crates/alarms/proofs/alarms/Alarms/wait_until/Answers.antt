@@ -1,8 +1,8 @@
-use Rattle.std.proofs.Common.{ℕ, ◌≡◌, ◌+◌, ◌%◌, ◌∙◌, subst}
+use Rattle.std.proofs.Common.{◌≡◌, ◌+◌, ◌∙◌, subst}
 use Rattle.std.proofs.lemmas.List.{get_or_default}
 use Rattle.osek_base.specs.Alarm.{next_count}
 use Rattle.alarms.specs.declared.counter_alarms.CounterAlarms.{CounterAlarms}
-use Rattle.alarms.specs.Counters.{counter_with, count_of, no_alarms, number_of, IsReady}
+use Rattle.alarms.specs.Counters.{counter_with, count_of, no_alarms, number_of}
 use Rattle.alarms.proofs.PlaceLemmas.{known_there, counter_there, count_there}
 use Rattle.alarms.proofs.alarms.Alarms.wait_until.Goals as goal
 
@@ -18,12 +18,10 @@ returns-clause-value c =
     let are : c.deref-2.result.now ≡ c.self.inside.counters.items = c.deref-2.ensures.0 in
     let low = known_there c.self.inside.tick c.self.inside.counters.items c.self.inside.numbers.items c.args.self.now c.args.alarm c.self.view_is c.requires.alarm in
     let known = c.self.invariant.known c.args.alarm low in
-    let ready : IsReady c.self.inside.tick (counter_with c.self.inside.counters.items c.self.inside.numbers.items c.args.alarm) =
-    c.self.invariant.ready (number_of c.self.inside.numbers.items c.args.alarm) known in
     let element : c.index-deref-number.result ≡ counter_with c.self.inside.counters.items c.self.inside.numbers.items c.args.alarm =
     rw (are, is, c.number.ensures.is) at c.index-deref-number.is
     ∙ get_or_default c.self.inside.counters.items (number_of c.self.inside.numbers.items c.args.alarm) c.index-deref-number.result no_alarms known in
-    let next = subst (λ (k : CounterAlarms). (n : ℕ) → k.value ≡ n % (k.counter.max_allowed_value + 1) → n + c.wait_until.result ≡ next_count k.counter n c.args.start)
+    let next = subst (λ (k : CounterAlarms). count_of c.self.inside.tick k + c.wait_until.result ≡ next_count k.counter (count_of c.self.inside.tick k) c.args.start)
     element c.wait_until.ensures.value in
     rw (← c.self.view_is, count_there c.self.inside.tick c.self.inside.counters.items c.self.inside.numbers.items c.args.alarm low, counter_there c.self.inside.tick c.self.inside.counters.items c.self.inside.numbers.items c.args.alarm low)
-    (next (count_of c.self.inside.tick (counter_with c.self.inside.counters.items c.self.inside.numbers.items c.args.alarm)) ready.value_is)
+    next

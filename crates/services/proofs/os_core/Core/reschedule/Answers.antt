@@ -1,19 +1,18 @@
+use Rattle.std.proofs.Common.{◌||◌, sym, ◌∙◌, ap}
 use Rattle.services.proofs.StandsLemmas.{fit_where_stands, stands_rescheduled}
+use Rattle.services.proofs.RescheduledLemmas.{core_rescheduled}
 use Rattle.services.proofs.os_core.Core.reschedule.Goals as goal
-use Rattle.std.proofs.Common.{sym, ◌∙◌}
 
 pub reschedule-requires-clause-fit : goal.reschedule-requires-clause-fit
 reschedule-requires-clause-fit g c = fit_where_stands c.self.inside.objects c.self.invariant.stands
 
 pub invariant_of-self : goal.invariant_of-self
 invariant_of-self g c =
+    let was = c.self.inside.is_dispatched in
     record {
       stands =
           stands_rescheduled c.self.inside.objects c.reschedule.new.self c.reschedule.ensures.system c.self.invariant.stands c.reschedule.ensures.kept;
-      dispatched = λ known. sym c.is_dispatched-self-inside.ensures ∙ known;
+      dispatched = λ known.
+          core_rescheduled c.self.inside.objects c.reschedule.new.self was c.reschedule.ensures.system c.self.invariant c.reschedule.ensures.kept
+          (sym (ap (λ b. was || b) c.may_dispatch-could.ensures) ∙ sym c.becomes_known-self-inside.ensures ∙ known);
     }
-
-pub is_dispatched-self-inside-requires : goal.is_dispatched-self-inside-requires
-is_dispatched-self-inside-requires g c =
-    fit_where_stands c.reschedule.new.self
-    (stands_rescheduled c.self.inside.objects c.reschedule.new.self c.reschedule.ensures.system c.self.invariant.stands c.reschedule.ensures.kept)

@@ -1,0 +1,3 @@
+pub mod SinkLemmas
+pub mod NumberLemmas
+pub mod EachLemmas

@@ -1,0 +1,120 @@
+-- How the bytes that a sink takes add up over several writes.
+use Rattle.std.proofs.Common.{◌≡◌, ℕ, ◌+◌, ◌-◌, List, [], ◌++◌, length, take, drop, Option, Some, None, Result, Ok, Err, sym, ap, subst, ◌∙◌, append_assoc, append-nil}
+use Rattle.std.proofs.KnownBytes.{Appends-nil}
+use Rattle.std.proofs.lemmas.List.{take_rest, take-append-drop}
+use Rattle.std.proofs.Math.Seq.{take-add}
+use Rattle.std.specs.Io.KnownBytes.{Appends, Keeps}
+use Rattle.std.specs.Result.{OnOk, OnErr}
+use Rattle.trace_lines.specs.Sinks.{AppendsSome, Passes}
+
+pub appends_more : (a b c : Option (List ℕ)) (xs ys : List ℕ) → Appends a b xs → Appends b c ys → Appends a c (xs ++ ys)
+appends_more None b c xs ys p q = tt
+appends_more (Some a) None c xs ys p q = absurd p
+appends_more (Some a) (Some b) None xs ys p q = absurd q
+appends_more (Some a) (Some b) (Some c) xs ys p q = q ∙ ap (λ t. t ++ ys) p ∙ append_assoc a xs ys
+
+pub appends_kept : (a b c : Option (List ℕ)) (xs : List ℕ) → Appends a b xs → Keeps b c → Appends a c xs
+appends_kept None b c xs p q = tt
+appends_kept (Some a) None c xs p q = absurd p
+appends_kept (Some a) (Some b) None xs p q = absurd q
+appends_kept (Some a) (Some b) (Some c) xs p q = q ∙ p
+
+-- one more write of what is left
+pub taken_more : (a b c : Option (List ℕ)) (bytes : List ℕ) (done count : ℕ) → Appends a b (take done bytes)
+    → Appends b c (take count (take (length bytes - done) (drop done bytes))) → Appends a c (take (done + count) bytes)
+taken_more a b c bytes done count p q =
+    rw (take-add done count bytes)
+    (appends_more a b c (take done bytes) (take count (drop done bytes)) p (rw (take_rest bytes done) at q))
+
+-- ---- beginnings
+
+pub begins : (a b : Option (List ℕ)) (bytes : List ℕ) (n : ℕ) → Appends a b (take n bytes) → AppendsSome a b bytes
+begins a b bytes n p = record { front = take n bytes; rest = drop n bytes; whole = take-append-drop n bytes; taken = p }
+
+pub begins_longer : (a b : Option (List ℕ)) (xs ys : List ℕ) → AppendsSome a b xs → AppendsSome a b (xs ++ ys)
+begins_longer a b xs ys p =
+    record {
+      front = p.front;
+      rest = p.rest ++ ys;
+      whole = sym (append_assoc p.front p.rest ys) ∙ ap (λ t. t ++ ys) p.whole;
+      taken = p.taken;
+    }
+
+pub begins_later : (a b c : Option (List ℕ)) (xs ys : List ℕ) → Appends a b xs → AppendsSome b c ys → AppendsSome a c (xs ++ ys)
+begins_later a b c xs ys p q =
+    record {
+      front = xs ++ q.front;
+      rest = q.rest;
+      whole = append_assoc xs q.front q.rest ∙ ap (λ t. xs ++ t) q.whole;
+      taken = appends_more a b c xs q.front p q.taken;
+    }
+
+-- ---- bytes that wait
+
+-- nothing is done
+pub passes_none : (a : Option (List ℕ)) (p : List ℕ) → Passes a a p p []
+passes_none a p = record { front = []; whole = sym (append-nil p); taken = Appends-nil a }
+
+-- all that waited is taken
+pub passes_all : (a b : Option (List ℕ)) (p q : List ℕ) → q ≡ [] → Appends a b p → Passes a b p q []
+passes_all a b p q e h = record { front = p; whole = ap (λ t. p ++ t) e; taken = h }
+
+-- more waits
+pub waits_more : (a b : Option (List ℕ)) (p q xs ys : List ℕ) → Passes a b p q xs → Passes a b p (q ++ ys) (xs ++ ys)
+waits_more a b p q xs ys h =
+    record {
+      front = h.front;
+      whole = sym (append_assoc h.front q ys) ∙ ap (λ t. t ++ ys) h.whole ∙ append_assoc p xs ys;
+      taken = h.taken;
+    }
+
+joined : (f g p q r xs ys : List ℕ) → f ++ q ≡ p ++ xs → g ++ r ≡ q ++ ys → (f ++ g) ++ r ≡ p ++ (xs ++ ys)
+joined f g p q r xs ys h k =
+    append_assoc f g r ∙ ap (λ t. f ++ t) k ∙ sym (append_assoc f q ys) ∙ ap (λ t. t ++ ys) h ∙ append_assoc p xs ys
+
+pub passes_more : (a b c : Option (List ℕ)) (p q r xs ys : List ℕ) → Passes a b p q xs → Passes b c q r ys
+    → Passes a c p r (xs ++ ys)
+passes_more a b c p q r xs ys h k =
+    record {
+      front = h.front ++ k.front;
+      whole = joined h.front k.front p q r xs ys h.whole k.whole;
+      taken = appends_more a b c h.front k.front h.taken k.taken;
+    }
+
+pub stops_later : (a b c : Option (List ℕ)) (p q xs ys : List ℕ) → Passes a b p q xs → AppendsSome b c (q ++ ys)
+    → AppendsSome a c (p ++ (xs ++ ys))
+stops_later a b c p q xs ys h k =
+    record {
+      front = h.front ++ k.front;
+      rest = k.rest;
+      whole = joined h.front k.front p q k.rest xs ys h.whole k.whole;
+      taken = appends_more a b c h.front k.front h.taken k.taken;
+    }
+
+-- what waits is taken at the end, or a part of it
+pub passed_all : (a b c : Option (List ℕ)) (p q xs : List ℕ) → Passes a b p q xs → Appends b c q → Appends a c (p ++ xs)
+passed_all a b c p q xs h k = subst (Appends a c) h.whole (appends_more a b c h.front q h.taken k)
+
+pub passed_some : (a b c : Option (List ℕ)) (p q xs : List ℕ) → Passes a b p q xs → AppendsSome b c q
+    → AppendsSome a c (p ++ xs)
+passed_some a b c p q xs h k =
+    record {
+      front = h.front ++ k.front;
+      rest = k.rest;
+      whole = append_assoc h.front k.front k.rest ∙ ap (λ t. h.front ++ t) k.whole ∙ h.whole;
+      taken = appends_more a b c h.front k.front h.taken k.taken;
+    }
+
+-- ---- results
+
+pub on_err : {T E : Type 0} (r : Result T E) (P : Type 0) → P → OnErr r P
+on_err (Ok x) P p = tt
+on_err (Err e) P p = p
+
+pub on_ok_map : {T E : Type 0} (r : Result T E) (P Q : Type 0) → (P → Q) → OnOk r P → OnOk r Q
+on_ok_map (Ok x) P Q f p = f p
+on_ok_map (Err e) P Q f p = tt
+
+pub on_err_map : {T E : Type 0} (r : Result T E) (P Q : Type 0) → (P → Q) → OnErr r P → OnErr r Q
+on_err_map (Ok x) P Q f p = tt
+on_err_map (Err e) P Q f p = f p

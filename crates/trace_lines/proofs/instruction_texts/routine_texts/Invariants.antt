@@ -1,0 +1,11 @@
+use Rattle.std.proofs.Common.{◌≡◌, length}
+use Rattle.osek_base.specs.declared.ids.Owner.{Owner}
+use Rattle.trace_lines.specs.Programs.{AreTextsOf, EachAt}
+use Rattle.trace_lines.proofs.instruction_texts.routine_texts.Given as goal
+
+abbrev pub invariant-routines : goal.invariant-routines
+invariant-routines l =
+    record {
+      numbered : length l.programs.items ≡ l.number;
+      told : EachAt (λ n. AreTextsOf l.system (Owner.Routine n)) l.programs.items;
+    }

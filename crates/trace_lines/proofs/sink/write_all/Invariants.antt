@@ -1,0 +1,14 @@
+use Rattle.std.proofs.Common.{length, ◌-◌, ◌≡◌, ◌≤◌, take, false}
+use Rattle.std.specs.Io.KnownBytes.{Appends}
+use Rattle.trace_lines.proofs.sink.write_all.Given as goal
+
+abbrev pub invariant-writes : goal.invariant-writes
+invariant-writes g l =
+    record {
+      within : l.done ≤ length l.bytes;
+      so_far : Appends (g.S.Sink.taken l.initial.out) (g.S.Sink.taken l.out) (take l.done l.bytes);
+      still : g.S.Sink.has_failed l.out ≡ false;
+    }
+
+abbrev pub decreases-writes : goal.decreases-writes
+decreases-writes g l = length l.bytes - l.done

@@ -1,0 +1,156 @@
+//! Lines that wait to be written, no part of the standards.
+
+ghost use Rattle.std.specs.Prelude.{◌≡◌, ◌+◌, ◌<◌, ◌≤◌, [], ◌∷◌, ◌++◌, length, take, false, true, OnOk, OnErr};
+ghost use Rattle.std.specs.Io.KnownBytes.{Appends};
+ghost use Rattle.trace_lines.specs.Sinks.{AppendsSome, Passes};
+
+use crate::short_text::ShortText;
+use crate::sink::{Sink, SinkFault, write_all};
+use crate::text::Text;
+use std::marker::Model;
+
+/// How many bytes a block has room for.
+pub(crate) const BLOCK_SIZE: usize = 4096;
+
+/// The room that a record needs at most: its line, a number of blockers, the line's end, and the places that are copied with
+/// a short text.
+pub(crate) const RECORD_SIZE: usize = 256;
+
+/// Bytes that wait to be written, at most [`BLOCK_SIZE`]. Seen as their list.
+#[derive(Drop)]
+pub struct Block {
+    cells: [u8; BLOCK_SIZE],
+    len: usize,
+}
+
+impl Model for Block {
+    ghost use Rattle.std.specs.Prelude.{◌≡◌, ◌≤◌, ℕ, List, length, take};
+    ghost use Rattle.trace_lines.specs.declared.block.TheConstants.{BLOCK_SIZE};
+
+    ghost Value = { List ℕ };
+
+    ghost view = { λ b. take b.len b.cells };
+
+    ghost invariant = { λ b. (b.len ≤ BLOCK_SIZE) × (length b.cells ≡ BLOCK_SIZE) };
+}
+
+/// Writes bytes over the cells from `start` on.
+#[inline(always)]
+fn copy_in(cells: &mut [u8; BLOCK_SIZE], start: usize, bytes: &[u8])
+    requires { start + length bytes.now ≤ BLOCK_SIZE }
+    ensures front { take (start + length bytes.now) cells.new ≡ take start cells.old ++ bytes.now }
+    ensures len { length cells.new ≡ BLOCK_SIZE }
+{
+    cells[..start + bytes.len()][start..].copy_from_slice(bytes);
+}
+
+impl Block {
+    /// A block with no byte.
+    pub fn new() -> Self
+        ensures { result ≡ [] }
+    {
+        Block {
+            cells: [0; BLOCK_SIZE],
+            len: 0,
+        }
+    }
+
+    /// The number of bytes.
+    #[inline(always)]
+    pub(crate) fn len(&self) -> usize
+        ensures value { result ≡ length self.now }
+        ensures fits { result ≤ BLOCK_SIZE }
+    {
+        self.len
+    }
+
+    /// The bytes.
+    pub(crate) fn as_slice(&self) -> &[u8]
+        ensures { result.now ≡ self.now }
+    {
+        &self.cells[..self.len]
+    }
+
+    /// Takes all bytes out.
+    pub(crate) fn clear(&mut self)
+        ensures { self.new ≡ [] }
+    {
+        self.len = 0;
+    }
+
+    /// Appends a byte.
+    #[inline(always)]
+    pub(crate) fn push(&mut self, byte: u8)
+        requires { length self.old < BLOCK_SIZE }
+        ensures same { self.new ≡ self.old ++ byte ∷ [] }
+        ensures len { length self.new ≡ length self.old + 1 }
+    {
+        self.cells[self.len] = byte;
+        self.len += 1;
+    }
+
+    /// Appends a short text. All its places are copied, whose number is known when this is built.
+    #[inline(always)]
+    pub(crate) fn push_short<const N: usize>(&mut self, text: &ShortText<N>)
+        requires { length self.old + N ≤ BLOCK_SIZE }
+        ensures same { self.new ≡ self.old ++ text.now }
+        ensures short { length self.new ≤ length self.old + N }
+    {
+        copy_in(&mut self.cells, self.len, text.cells());
+        self.len += text.len();
+    }
+
+    /// Appends some bytes.
+    #[inline(always)]
+    pub(crate) fn push_bytes(&mut self, bytes: &[u8])
+        requires { length self.old + length bytes.now ≤ BLOCK_SIZE }
+        ensures { self.new ≡ self.old ++ bytes.now }
+    {
+        copy_in(&mut self.cells, self.len, bytes);
+        self.len += bytes.len();
+    }
+}
+
+impl Text for Block {
+    ghost use Rattle.trace_lines.specs.declared.block.TheConstants.{BLOCK_SIZE};
+
+    ghost bytes = { λ b. b };
+
+    ghost room = { BLOCK_SIZE };
+
+    #[inline(always)]
+    fn push_str(&mut self, piece: &str) {
+        self.push_bytes(piece.as_bytes());
+    }
+}
+
+/// Writes what waits. The first write that fails ends it.
+#[inline(never)]
+pub fn flush<S: Sink>(text: &mut Block, out: &mut S) -> Result<(), SinkFault>
+    requires { S.has_failed out.old ≡ false }
+    ensures empty { OnOk result (text.new ≡ []) }
+    ensures written { OnOk result (Appends (S.taken out.old) (S.taken out.new) text.old) }
+    ensures beginning { OnErr result (AppendsSome (S.taken out.old) (S.taken out.new) text.old) }
+    ensures still { OnOk result (S.has_failed out.new ≡ false) }
+    ensures failed { OnErr result (S.has_failed out.new ≡ true) }
+{
+    write_all(out, text.as_slice())?;
+    text.clear();
+    Ok(())
+}
+
+/// Writes what waits where the next record might find no room.
+#[inline(always)]
+pub(crate) fn make_room<S: Sink>(text: &mut Block, out: &mut S) -> Result<(), SinkFault>
+    requires { S.has_failed out.old ≡ false }
+    ensures room { OnOk result (length text.new + RECORD_SIZE ≤ BLOCK_SIZE) }
+    ensures written { OnOk result (Passes (S.taken out.old) (S.taken out.new) text.old text.new []) }
+    ensures beginning { OnErr result (AppendsSome (S.taken out.old) (S.taken out.new) text.old) }
+    ensures still { OnOk result (S.has_failed out.new ≡ false) }
+    ensures failed { OnErr result (S.has_failed out.new ≡ true) }
+{
+    if text.len() > BLOCK_SIZE - RECORD_SIZE {
+        flush(text, out)?;
+    }
+    Ok(())
+}

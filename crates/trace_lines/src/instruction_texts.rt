@@ -1,0 +1,116 @@
+//! The texts of a system's instructions, made before the first tick, no part of the standards.
+
+ghost use Rattle.std.specs.Prelude.{◌≡◌, ◌+◌, ◌<◌, ◌≤◌, ◌∷◌, ◌++◌, [], IfOk, IfSome, OnOk, length};
+ghost use Rattle.osek_base.specs.Text.{line};
+ghost use Rattle.osek_base.specs.declared.ids.Owner.{Owner};
+ghost use Rattle.trace_lines.specs.Programs.{AreTextsOf, EachAt, IsOfProgram, IsTextAt};
+
+use crate::block::{BLOCK_SIZE, Block, RECORD_SIZE};
+use crate::kept_text::KeptText;
+use crate::line::{push_event, push_outcome};
+use crate::program_texts::ProgramTexts;
+use crate::tick_text::TickText;
+use osek_base::{IsrId, Owner, Place, System, TaskId, TraceEvent};
+use std::alloc::{AllocError, Global};
+use std::marker::Model;
+
+fn push_program(programs: &mut Vec<ProgramTexts>, program: ProgramTexts) -> Result<(), AllocError>
+    ensures { OnOk result (programs.new.items ≡ programs.old.items ++ program ∷ []) }
+{
+    programs.push(program)?;
+    Ok(())
+}
+
+/// The texts of the tasks' programs, by number.
+fn task_texts(alloc: Global, system: &System) -> Result<Vec<ProgramTexts>, AllocError>
+    ensures { IfOk result (λ r. EachAt (λ t. AreTextsOf system.now (Owner.Task t)) r.items) }
+{
+    let mut programs = Vec::new(alloc);
+    system.names();
+    'tasks: for number in 0..system.task_count() {
+        let who = Owner::Task(TaskId::new(number as u8));
+        push_program(&mut programs, ProgramTexts::of(alloc, system, &who)?)?;
+    }
+    Ok(programs)
+}
+
+/// The texts of the routines' programs, by number.
+fn routine_texts(alloc: Global, system: &System) -> Result<Vec<ProgramTexts>, AllocError>
+    ensures { IfOk result (λ r. EachAt (λ i. AreTextsOf system.now (Owner.Routine i)) r.items) }
+{
+    let mut programs = Vec::new(alloc);
+    system.names();
+    'routines: for number in 0..system.routine_count() {
+        let who = Owner::Routine(IsrId::new(number as u8));
+        push_program(&mut programs, ProgramTexts::of(alloc, system, &who)?)?;
+    }
+    Ok(programs)
+}
+
+/// The texts of all instructions of a system. Seen as the system.
+#[derive(Drop)]
+pub struct InstructionTexts<'s> {
+    system: &'s System,
+    tasks: Vec<ProgramTexts>,
+    routines: Vec<ProgramTexts>,
+}
+
+impl<'s> Model for InstructionTexts<'s> {
+    ghost use Rattle.osek_base.specs.System.{System};
+    ghost use Rattle.osek_base.specs.declared.ids.Owner.{Owner};
+    ghost use Rattle.trace_lines.specs.Programs.{AreTextsOf, EachAt};
+
+    ghost Value = { System };
+
+    ghost view = { λ s. s.system.now };
+
+    ghost invariant = { λ s.
+        EachAt (λ t. AreTextsOf s.system.now (Owner.Task t)) s.tasks.items
+        × EachAt (λ i. AreTextsOf s.system.now (Owner.Routine i)) s.routines.items };
+}
+
+impl<'s> InstructionTexts<'s> {
+    /// The texts of all instructions of that system.
+    pub fn new(alloc: Global, system: &'s System) -> Result<Self, AllocError>
+        ensures { IfOk result (λ t. t ≡ system.now) }
+    {
+        let tasks = task_texts(alloc, system)?;
+        let routines = routine_texts(alloc, system)?;
+        Ok(InstructionTexts {
+            system,
+            tasks,
+            routines,
+        })
+    }
+
+    /// The text of the instruction at a place of a task's or routine's program.
+    #[inline(always)]
+    fn text_at(&self, who: &Owner, place: &Place) -> Option<&KeptText>
+        ensures { IfSome result (λ text. IsTextAt self.now who.now place.now text.now) }
+    {
+        let program = match who {
+            Owner::Task(task) => self.tasks.get(task.number() as usize)?,
+            Owner::Routine(routine) => self.routines.get(routine.number() as usize)?,
+        };
+        program.at(place)
+    }
+
+    /// Appends the line of a record of that tick, without the line's end; an instruction isn't spelled again.
+    #[inline(always)]
+    pub(crate) fn push_line(&self, tick: &TickText, event: &TraceEvent, text: &mut Block)
+        requires listed { IsOfProgram self.now event.now }
+        requires room { length text.old + RECORD_SIZE ≤ BLOCK_SIZE }
+        ensures same { text.new ≡ text.old ++ line self.now.names tick.now event.now }
+        ensures short { length text.new ≤ length text.old + 238 }
+    {
+        tick.push_to(text);
+        if let TraceEvent::Executed(who, place, _, outcome) = event
+            && let Some(executed) = self.text_at(who, place)
+        {
+            executed.push_to(text);
+            push_outcome(text, outcome);
+        } else {
+            push_event(text, self.system.names(), event);
+        }
+    }
+}

@@ -1,0 +1,22 @@
+//! The lines of a trace: their text, the view of a tick's records, and how they reach a sink by way of a block.
+#![tactic(auto)]
+
+mod block;
+mod instruction_texts;
+mod kept_text;
+mod line;
+mod program_texts;
+mod short_text;
+mod sink;
+mod text;
+mod tick_text;
+mod view;
+mod written_records;
+
+pub use block::{Block, flush};
+pub use instruction_texts::InstructionTexts;
+pub use line::{LineText, line_text};
+pub use sink::{Sink, SinkFault, StdSink};
+pub use tick_text::TickText;
+pub use view::{upper_view, upper_view_into};
+pub use written_records::write_tick;

@@ -1,0 +1,111 @@
+//! Where a trace is written, no part of the standards.
+
+ghost use Rattle.std.specs.Prelude.{◌≡◌, ◌≤◌, ◌||◌, ℕ, Bool, List, None, IfOk, OnOk, OnErr, length, take, true, false};
+ghost use Rattle.std.specs.Io.KnownBytes.{Appends, WriteAppends};
+ghost use Rattle.trace_lines.specs.Sinks.{is_failed_write, AppendsSome};
+
+use std::io::Write;
+use std::marker::Model;
+
+/// A write failed. It says no more, since nothing is tried again.
+#[derive(Clone, Copy, Debug, PartialEq, Eq)]
+pub struct SinkFault;
+
+/// Where bytes are written to. A write may take fewer bytes than it is given.
+pub trait Sink {
+    ghost use Rattle.std.specs.declared.option.Option.{Option};
+
+    /// The bytes taken so far, where they are known.
+    ghost taken: { Self → Option (List ℕ) } = { λ _. None };
+
+    /// Whether a write has failed so far.
+    ghost has_failed: { Self → Bool };
+
+    /// Writes some of the bytes, from the first on, and answers how many it took.
+    fn write(&mut self, bytes: &[u8]) -> Result<usize, SinkFault>
+        ensures bound { IfOk result (λ n. n ≤ length bytes.now) }
+        ensures bytes { WriteAppends (taken self.old) (taken self.new) result bytes.now }
+        ensures failed { has_failed self.new ≡ (has_failed self.old || is_failed_write result (length bytes.now)) };
+
+    /// Whether a write answered an error, or took none of at least one byte.
+    fn failed(&self) -> bool
+        ensures { result ≡ has_failed self.now };
+}
+
+/// A sink over a writer of std. Its bytes are those that the writer tells.
+#[derive(Debug, Drop)]
+pub struct StdSink<W> {
+    writer: W,
+    failed: bool,
+}
+
+impl<W> Model for StdSink<W> {
+    ghost use Rattle.trace_lines.specs.Sinks.{Watched};
+
+    ghost Value = { Watched W };
+
+    ghost view = { λ s. record { writer = s.writer; failed = s.failed } };
+}
+
+impl<W> StdSink<W> {
+    /// A sink to which nothing was written.
+    pub fn new(writer: W) -> Self
+        ensures writer { result.writer ≡ writer }
+        ensures failed { result.failed ≡ false }
+    {
+        StdSink {
+            writer,
+            failed: false,
+        }
+    }
+
+    /// The writer, back from the sink.
+    pub fn into_writer(self) -> W
+        ensures { result ≡ self.writer }
+    {
+        self.writer
+    }
+}
+
+impl<W: Write> Sink for StdSink<W> {
+    ghost taken = { λ s. W.contents s.writer };
+
+    ghost has_failed = { λ s. s.failed };
+
+    fn write(&mut self, bytes: &[u8]) -> Result<usize, SinkFault> {
+        match self.writer.write(bytes) {
+            Ok(0) if !bytes.is_empty() => {
+                self.failed = true;
+                Ok(0)
+            }
+            Ok(count) => Ok(count),
+            Err(_) => {
+                self.failed = true;
+                Err(SinkFault)
+            }
+        }
+    }
+
+    fn failed(&self) -> bool {
+        self.failed
+    }
+}
+
+/// Writes all the bytes, by as many writes as it takes. The first that fails ends it.
+pub(crate) fn write_all<S: Sink>(out: &mut S, bytes: &[u8]) -> Result<(), SinkFault>
+    requires { S.has_failed out.old ≡ false }
+    ensures ok { OnOk result (Appends (S.taken out.old) (S.taken out.new) bytes.now) }
+    ensures still { OnOk result (S.has_failed out.new ≡ false) }
+    ensures beginning { OnErr result (AppendsSome (S.taken out.old) (S.taken out.new) bytes.now) }
+    ensures failed { OnErr result (S.has_failed out.new ≡ true) }
+{
+    let mut done = 0;
+    'writes: while done < bytes.len() {
+        let count = out.write(&bytes[done..])?;
+        if count == 0 {
+            return Err(SinkFault);
+        }
+        done += count;
+    }
+    Ok(())
+}

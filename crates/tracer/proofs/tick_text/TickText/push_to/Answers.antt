@@ -1,9 +1,0 @@
-use Rattle.tracer.proofs.NumberLemmas.{tick_pushed}
-use Rattle.tracer.proofs.tick_text.TickText.push_to.Goals as goal
-
-pub returns-clause-same : goal.returns-clause-same
-returns-clause-same c =
-    let inside = c.self.inside in
-    rw (← c.self.view_is)
-    (tick_pushed c.args.text.now c.push_short.new.self c.push.new.self c.push-2.new.self inside.tens inside.last
-    c.self.invariant.0 c.self.invariant.2 (rw (← c.self.invariant.1) c.push_short.ensures.same) c.push.ensures.same c.push-2.ensures.same)
