@@ -5,8 +5,10 @@
 
    HARM says what goes wrong:
      growths  each growth of memory is refused, one in each child
-     texts    the file HARM_FILE is cut, or has a byte changed, at each HARM_STEPth place
-     streams  each call that opens, reads or writes fails or does less than was asked
+     texts    the file HARM_FILE is cut, or has a byte changed, at each HARM_STEPth place; HARM_VALUES tells to which
+              values: `all`, or the `signs` that mean something; without it two of four
+     streams  each call that opens, reads or writes fails or does less than was asked; standard output takes at most
+              HARM_TAKES bytes, or 300
      count    nothing: how often memory grew is told
    HARM_EXPLAINED tells that the command has `--explain`. HARM_NAME begins a message about a wrong answer, which goes to
    standard error. The sums go to the end of the file HARM_TOLD: children, wrong answers, how often memory grew, and the

@@ -52,9 +52,12 @@ static int ill_read(int file)
 static int ill_outs(void)
 {
     static const enum ill ills[] = {FAILS, NOTHING};
-    long most = usual->out_length < 300 ? (long)usual->out_length : 300;
+    const char *bound = getenv("HARM_TAKES");
+    long most = bound ? atol(bound) : 300;
     if (role != JUDGE || harm != STREAMS || is_outs_tried++)
         return 0;
+    if (most > (long)usual->out_length)
+        most = (long)usual->out_length;
     for (taken = 0; taken <= most; taken++)
         for (int i = 0; i < 2; i++) {
             outs = ills[i];

@@ -90,12 +90,33 @@ static int is_answer(char kind, size_t length, int is_cut_short)
            || (kind == 'o' && (is_fault("irq: fault ", " at line ", 5, 65537, &number) || says("boot: fault 1\n")));
 }
 
+/* The bytes to which one is changed in a text of that kind, how many they are, and each which of them is tried at a
+   place. By HARM_VALUES they are all bytes, or the signs that mean something there; else four. */
+static const char *values_of(char kind, int *count, int *skip)
+{
+    static char all[256];
+    static const char oil[] = "{}=;/*\"0A_ \n", asm_text[] = "\0\t\n\r ,+:;.0A8_r\x7f\xff";
+    const char *which = getenv("HARM_VALUES");
+    *skip = which ? 1 : 2;
+    if (which && !strcmp(which, "all")) {
+        for (int i = 0; i < 256; i++)
+            all[i] = (char)i;
+        *count = 256;
+        return all;
+    }
+    *count = !which ? 4 : kind == 'o' ? (int)sizeof oil - 1 : (int)sizeof asm_text - 1;
+    if (which)
+        return kind == 'o' ? oil : asm_text;
+    return kind == 'o' ? "}9\x80\"" : kind == 'a' ? ":7\x80\n" : "9 \n\x80";
+}
+
 /* Tries each damage of the text; returns 1 in a child. */
 static int damages(void)
 {
     const char *file = getenv("HARM_FILE"), *dot = strrchr(file, '.');
     char kind = dot ? dot[1] : 'o';
-    const char *values = kind == 'o' ? "}9\x80\"" : kind == 'a' ? ":7\x80\n" : "9 \n\x80";
+    int count, skip;
+    const char *values = values_of(kind, &count, &skip);
     size_t step = strtoul(getenv("HARM_STEP"), 0, 10);
     size_t whole = text_length, last = whole;
     while (last > 0 && text[last - 1] != ';')
@@ -108,7 +129,7 @@ static int damages(void)
         judge(is_answer(kind, at, is_oil_read && at < last), "cut at %ld", at, 0);
         text_length = whole;
         char was = text[at];
-        for (int i = at % 2; i < 4; i += 2) {
+        for (int i = at % skip; i < count; i += skip) {
             if (values[i] == was)
                 continue;
             text[at] = values[i];

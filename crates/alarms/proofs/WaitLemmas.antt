@@ -1,7 +1,7 @@
 -- Waits of lists of differences.
-use Rattle.std.proofs.Common.{ℕ, zero, suc, ◌≡◌, ◌<◌, ◌≤◌, ◌+◌, ◌-◌, List, [], ◌∷◌, ◌++◌, map, take, drop, length, get_or, None, Some, Bool, true, false, ◌&&◌, refl, sym, ◌∙◌, ap, arith, eqb, ltb, add-zero, append_assoc, ◌||◌}
+use Rattle.std.proofs.Common.{ℕ, zero, suc, ◌≡◌, ◌<◌, ◌≤◌, ◌+◌, ◌-◌, List, [], ◌∷◌, ◌++◌, map, take, drop, length, get_or, set, None, Some, Bool, true, false, ◌&&◌, refl, sym, ◌∙◌, ap, arith, eqb, ltb, add-zero, append_assoc, ◌||◌}
 use Rattle.std.proofs.Math.Seq.{drop-cons, take-suc, take-suc-set, drop-set-lt, set_split}
-use Rattle.std.proofs.lemmas.List.{take-append-drop, drop_all, append-nil}
+use Rattle.std.proofs.lemmas.List.{take-append-drop, drop_all, append-nil, length-set, get_or-set_same}
 use Rattle.std.specs.List.{insert, remove}
 use Rattle.std.proofs.lemmas.Bool.Decides.{nat_tests}
 use Rattle.std.proofs.lemmas.Bool.{ltb-true, lt-ltb, ltb-false, ne_eqb, and_parts}
@@ -341,3 +341,10 @@ one_at_least n h = grind (arith, nat_tests)
 
 pub over_test : (es : List Entry) (n : ℕ) → n ≡ length es → 0 < n → eqb (get_or es (n - 1) no_entry).difference 0 ≡ false → are_ahead (waits es) ≡ true
 over_test es n all more test = all_ahead es n all more (one_at_least _ test)
+
+-- the last wait was written, and isn't over
+pub written_ahead : (es : List Entry) (n : ℕ) (e : Entry) → n ≡ length es → 0 < n → eqb e.difference 0 ≡ false → are_ahead (waits (set es (n - 1) e)) ≡ true
+written_ahead es n e all more test =
+    let long : length (set es (n - 1) e) ≡ length es = length-set es (n - 1) e in
+    let here : get_or (set es (n - 1) e) (n - 1) no_entry ≡ e = get_or-set_same es (n - 1) e no_entry (omega (arith, all)) in
+    over_test (set es (n - 1) e) n (all ∙ sym long) more (ap (λ (x : Entry). eqb x.difference 0) here ∙ test)

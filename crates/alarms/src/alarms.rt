@@ -149,6 +149,7 @@ impl Alarms {
 
     /// The next tick begins, and the alarms that are due in it expire: each expires again a cycle later, or goes off. The
     /// content of `due` becomes these alarms, in declaration order.
+    #[inline(always)]
     pub fn advance(&mut self, system: &System, due: &mut ArrayVec<AlarmId, MAX_ALARMS>)
         requires table { IsTableOf system.now self.old }
         requires last { self.old.tick + 1 < MAX_TICKS }
@@ -162,6 +163,7 @@ impl Alarms {
 
     /// The next tick begins, and the alarms that are due in it expire: each expires again a cycle later, or goes off. The
     /// answer has these alarms.
+    #[inline(always)]
     pub fn expire(&mut self) -> DueAlarms
         requires last { self.old.tick + 1 < MAX_TICKS }
         ensures due { (S : Configured) → IsTableOf S self.old → filter (λ a. is_raised a result) (below (length S.alarms)) ≡ due_of S (next_tick self.old) }
@@ -169,8 +171,9 @@ impl Alarms {
         ensures table { (S : Configured) → IsTableOf S self.old → IsTableOf S self.new }
     {
         let mut due = DueAlarms::none();
-        advance_each(&mut self.counters, self.tick, &mut due);
-        self.tick += 1;
+        let tick = self.tick;
+        advance_each(&mut self.counters, tick, &mut due);
+        self.tick = tick + 1;
         due
     }
 

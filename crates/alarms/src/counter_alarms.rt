@@ -41,6 +41,7 @@ impl CounterAlarms {
     }
 
     /// The tick after `tick`: where the counter grows, its alarms that are due expire, and are added to `due`.
+    #[inline(always)]
     pub fn advance(&mut self, tick: u32, due: &mut DueAlarms)
         requires tick { tick + 1 < MAX_TICKS }
         requires ready { IsReady tick self.old }

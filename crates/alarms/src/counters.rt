@@ -37,6 +37,7 @@ pub fn counter_numbers(alarms: &[Alarm]) -> ArrayVec<u8, MAX_ALARMS>
 }
 
 /// The tick after `tick`: the alarms of all counters that are due expire, and are added to `due`.
+#[inline(always)]
 pub fn advance_each(
     counters: &mut ArrayVec<CounterAlarms, MAX_COUNTERS>,
     tick: u32,

@@ -95,15 +95,18 @@ impl DifferenceList {
         }
     }
 
-    /// One count passes, where no wait is over.
-    pub fn count_down(&mut self)
+    /// One count passes, where no wait is over. Answers whether one is over then.
+    #[inline(always)]
+    pub fn count_down(&mut self) -> bool
         requires { are_ahead self.old ≡ true }
-        ensures { self.new ≡ map one_less self.old }
+        ensures waits { self.new ≡ map one_less self.old }
+        ensures ahead { result ≡ false → are_ahead self.new ≡ true }
     {
-        cut_last(&mut self.entries);
+        cut_last(&mut self.entries)
     }
 
     /// Takes the last wait out, where it is over. None where no wait is over.
+    #[inline(always)]
     pub fn take_due(&mut self) -> Option<Due>
         ensures due { IfSome result (λ d. self.old ≡ self.new ++ record { alarm = d.alarm; left = 0; cycle = d.cycle } ∷ []) }
         ensures none { IfNone result (self.new ≡ self.old) }
@@ -121,6 +124,7 @@ impl DifferenceList {
 
     /// The next count of the counter: one count passes, and the alarms whose wait is over are added to `due` and start
     /// again with their cycle, or go off.
+    #[inline(always)]
     pub fn advance(&mut self, due: &mut DueAlarms)
         requires ahead { are_ahead self.old ≡ true }
         requires apart { are_apart self.old ≡ true }
@@ -129,11 +133,13 @@ impl DifferenceList {
         ensures apart { are_apart self.new ≡ true }
         ensures ahead { are_ahead self.new ≡ true }
     {
-        self.count_down();
-        self.expire(due);
+        if self.count_down() {
+            self.expire(due);
+        }
     }
 
     /// The alarms whose wait is over are added to `due`, and start again with their cycle, or go off.
+    #[inline(never)]
     fn expire(&mut self, due: &mut DueAlarms)
         requires { are_apart self.old ≡ true }
         ensures waits { (a : ℕ) → wait_of a self.new ≡ again (wait_of a self.old) }
@@ -190,6 +196,7 @@ fn span_from(entries: &ArrayVec<Entry, MAX_ALARMS>, place: usize) -> u32
 }
 
 /// Whether the last wait is over.
+#[inline(always)]
 fn is_over(entries: &ArrayVec<Entry, MAX_ALARMS>) -> bool
     ensures some { result ≡ true → 0 < length entries.now.items }
     ensures over { result ≡ true → (slice_index_or entries.now.items (length entries.now.items - 1) no_entry).difference ≡ 0 }
@@ -200,6 +207,7 @@ fn is_over(entries: &ArrayVec<Entry, MAX_ALARMS>) -> bool
 }
 
 /// Takes the last entry out.
+#[inline(always)]
 fn take_last(entries: &mut ArrayVec<Entry, MAX_ALARMS>) -> Entry
     requires { 0 < length entries.old.items }
     ensures value { result ≡ slice_index_or entries.old.items (length entries.old.items - 1) no_entry }
@@ -209,16 +217,20 @@ fn take_last(entries: &mut ArrayVec<Entry, MAX_ALARMS>) -> Entry
     entries.remove(last)
 }
 
-/// The last wait is one count shorter.
-fn cut_last(entries: &mut ArrayVec<Entry, MAX_ALARMS>)
+/// The last wait is one count shorter. Answers whether it is over.
+#[inline(always)]
+fn cut_last(entries: &mut ArrayVec<Entry, MAX_ALARMS>) -> bool
     requires { 0 < length entries.old.items → 1 ≤ (slice_index_or entries.old.items (length entries.old.items - 1) no_entry).difference }
-    ensures { entries.new.items ≡ cut_at entries.old.items (length entries.old.items) 1 }
+    ensures items { entries.new.items ≡ cut_at entries.old.items (length entries.old.items) 1 }
+    ensures ahead { result ≡ false → are_ahead (waits entries.new.items) ≡ true }
 {
     let len = entries.len();
-    if len > 0 {
-        let last = &mut entries[len - 1];
-        last.difference -= 1;
+    if len == 0 {
+        return false;
     }
+    let last = &mut entries[len - 1];
+    last.difference -= 1;
+    last.difference == 0
 }
 
 /// Takes an entry out, whose difference the entry before it gets.

@@ -27,6 +27,7 @@ impl Model for DueAlarms {
 
 impl DueAlarms {
     /// No alarm is due.
+    #[inline(always)]
     pub fn none() -> Self
         ensures { (a : ℕ) → is_raised a result ≡ false }
     {
@@ -34,6 +35,7 @@ impl DueAlarms {
     }
 
     /// An alarm is due.
+    #[inline(always)]
     pub fn raise(&mut self, alarm: AlarmId)
         ensures { (a : ℕ) → is_raised a self.new ≡ (is_raised a self.old || alarm == a) }
     {
@@ -48,6 +50,7 @@ impl DueAlarms {
     }
 
     /// The content of `due` becomes the alarms that are due, of the first `count`, in declaration order.
+    #[inline(always)]
     pub fn list(&self, count: usize, due: &mut ArrayVec<AlarmId, MAX_ALARMS>)
         requires { count ≤ MAX_ALARMS }
         ensures { due.new.items ≡ filter (λ a. is_raised a self.now) (below count) }
@@ -60,6 +63,7 @@ impl DueAlarms {
 }
 
 /// Adds the alarms whose bits are set, of the first `count`, in declaration order.
+#[inline(never)]
 fn list_set(word: u64, count: usize, due: &mut ArrayVec<AlarmId, MAX_ALARMS>)
     requires count { count ≤ MAX_ALARMS }
     requires none { due.old.items ≡ [] }

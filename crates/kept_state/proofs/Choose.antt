@@ -15,7 +15,7 @@ use Rattle.run_laws.proofs.Lists.{Pairs, clash, all_weaker, all_both, all_any, p
 use Rattle.run_laws.proofs.Foremost.{AreApart, same_ids, same_self, equal, static_le}
 use Rattle.run_laws.proofs.Ranked.{IsBehind}
 use Rattle.kept_state.specs.Kept.{is_at, is_queued, task_of, queue}
-use Rattle.kept_state.specs.Moves.{put_first, without_first, rest, first, highest}
+use Rattle.ready_queues.specs.Moves.{put_first, without_first_at_level, rest, first, highest}
 use Rattle.kept_state.proofs.Parts.{filter_same, filter_twice, filter_all, any_has}
 
 -- ---- the best of a list
@@ -297,7 +297,7 @@ module _ (S : System) where
         go y h false k = refl
         go y h true k = sym (rw (ap (λ z. dynamic_priority S z == l) (h k) ∙ e) (no (is_ready y)))
 
-    pub taken_out : (l : ℕ) → queue S (Some c.id) jobs l ≡ without_first (all_ready jobs) (dynamic_priority S c) l
+    pub taken_out : (l : ℕ) → queue S (Some c.id) jobs l ≡ without_first_at_level (all_ready jobs) (dynamic_priority S c) l
     taken_out l = go (dynamic_priority S c == l) refl
       where
         go : (b : Bool) → (dynamic_priority S c == l) ≡ b

@@ -14,7 +14,8 @@ use Rattle.run_laws.proofs.Lists.{Pairs, clash, all_weaker, all_any, all_kept, a
 use Rattle.run_laws.proofs.Foremost.{same_ids, same_self, equal, idle_priority}
 use Rattle.run_laws.proofs.Single.{IsSoundJob, IsSoundPair}
 use Rattle.kept_state.specs.Kept.{Slot, unbegun, slot_with, slot_of, slots_of, runs, is_at, task_of, queue, is_gone, kept}
-use Rattle.kept_state.specs.Moves.{changed_at, put_last, one_more, activated_in, ended_in, slot_changed}
+use Rattle.ready_queues.specs.Moves.{changed_at, put_last}
+use Rattle.kept_state.specs.Moves.{one_more, activated_in, ended_in, slot_changed}
 use Rattle.kept_state.proofs.Parts.{filter_unmoved, filter_moved, filter_same, filter_twice, filter_all, map_unmoved, any_moved, filter_swap, IsOldest}
 
 pub differ : (m n : ℕ) → (m == n) ≡ false → m ≡ n → ⊥

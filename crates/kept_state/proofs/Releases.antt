@@ -13,7 +13,8 @@ use Rattle.run_laws.proofs.Lists.{Pairs, clash, all_weaker, all_any, all_filter,
 use Rattle.run_laws.proofs.Foremost.{same_self, equal, idle_priority}
 use Rattle.run_laws.proofs.Single.{IsSoundPair}
 use Rattle.kept_state.specs.Kept.{slot_of, slots_of, runs, is_at, task_of, queue, is_gone, kept}
-use Rattle.kept_state.specs.Moves.{changed_at, put_last, slot_woken, released_in}
+use Rattle.ready_queues.specs.Moves.{changed_at, put_last}
+use Rattle.kept_state.specs.Moves.{slot_woken, released_in}
 use Rattle.kept_state.proofs.Parts.{filter_same, filter_twice, filter_all, any_parts, IsOldest}
 use Rattle.kept_state.proofs.JobMoves.{newest_queue, but_of, elsewhere}
 

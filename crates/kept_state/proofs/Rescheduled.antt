@@ -22,7 +22,8 @@ use Rattle.run_laws.proofs.Single.{IsSoundPair, HasRunner, AreSingle, IsSingle}
 use Rattle.run_laws.proofs.SingleMoves.{other_way, chosen_single, is_best}
 use Rattle.run_laws.proofs.Ranked.{IsBehind}
 use Rattle.kept_state.specs.Kept.{Slot, slot_with, slot_of, slots_of, runs, is_at, is_queued, task_of, task_in, queue, is_gone, kept}
-use Rattle.kept_state.specs.Moves.{kept_recorded, left_in, entered_in, changed_at, put_first, first, dynamic_in, highest, slot_entered, stays, entered_as, dispatched, contender_of, contender, chosen, rescheduled}
+use Rattle.ready_queues.specs.Moves.{changed_at, put_first, first, highest}
+use Rattle.kept_state.specs.Moves.{kept_recorded, left_in, entered_in, dynamic_in, slot_entered, stays, entered_as, dispatched, contender_of, contender, chosen, rescheduled}
 use Rattle.kept_state.proofs.Parts.{filter_same, any_moved, found_any, none_of, IsOldest, oldest}
 use Rattle.kept_state.proofs.JobMoves.{one_changed, keeps_id, changed_queue, changed_gone, changed_of, changed_slots}
 use Rattle.kept_state.proofs.Choose.{best_same, highest_queue, is_ready, IsClear, clear_behind, best_against, first_of_level, all_ready, taken_out, put_back, first_is}

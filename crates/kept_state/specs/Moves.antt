@@ -1,33 +1,12 @@
 -- OSEK/VDX OS: task management. What the code does to what it keeps.
-use Rattle.std.specs.Prelude.{ℕ, zero, suc, ◌+◌, ◌-◌, max, Bool, true, false, not, ◌&&◌, ◌==◌, nat_le, nat_lt, ◌||◌, if◌then◌else◌, List, [], ◌∷◌, ◌++◌, map, Option, Some, None, is_some, slice_set, unwrap_or}
+use Rattle.std.specs.Prelude.{ℕ, suc, ◌+◌, ◌-◌, max, Bool, true, false, not, ◌&&◌, ◌==◌, nat_le, nat_lt, ◌||◌, if◌then◌else◌, List, [], ◌++◌, map, Option, Some, None, is_some, slice_set, unwrap_or}
 use Rattle.osek_base.specs.declared.trace_event.TraceEvent.{TraceEvent}
 use Rattle.osek_base.specs.Reschedule.{hooked, Recorded}
-use Rattle.osek_base.specs.Lists.{is_empty, greatest}
+use Rattle.osek_base.specs.Lists.{greatest}
 use Rattle.osek_base.specs.System.{System, priority_of, is_extended}
 use Rattle.osek_base.specs.Ceiling.{ceiling, internal_ceiling, top_priority}
+use Rattle.ready_queues.specs.Moves.{changed_at, put_last, put_first, first, without_first_at_level, highest}
 use Rattle.kept_state.specs.Kept.{Kept, Slot, unbegun, kept}
-
--- one value of a function is another
-abbrev pub changed_at : {X : Type 0} → (ℕ → X) → ℕ → X → ℕ → X
-changed_at f n x m = if n == m then x else f m
-
--- a queue gets a task at its end; at its front; loses its first
-abbrev pub put_last : (ℕ → List ℕ) → ℕ → ℕ → ℕ → List ℕ
-put_last q l t = changed_at q l (q l ++ t ∷ [])
-
-abbrev pub put_first : (ℕ → List ℕ) → ℕ → ℕ → ℕ → List ℕ
-put_first q l t = changed_at q l (t ∷ q l)
-
-abbrev pub rest : List ℕ → List ℕ
-rest [] = []
-rest (t ∷ ts) = ts
-
-abbrev pub first : List ℕ → ℕ
-first [] = 0
-first (t ∷ ts) = t
-
-abbrev pub without_first : (ℕ → List ℕ) → ℕ → ℕ → List ℕ
-without_first q l = changed_at q l (rest (q l))
 
 -- a task has one more job
 abbrev pub one_more : Slot → Slot
@@ -69,11 +48,6 @@ dynamic_in S t a =
     max (priority_of S t)
     (max (greatest (map (ceiling S) a.held)) (if a.taken then unwrap_or (internal_ceiling S t) 0 else 0))
 
--- the highest level below n whose queue isn't empty
-unfoldable pub highest : ℕ → (ℕ → List ℕ) → Option ℕ
-highest zero q = None
-highest (suc l) q = if is_empty (q l) then highest l q else Some l
-
 abbrev pub slot_entered : System → ℕ → Slot → Slot
 slot_entered S t a = record a { begun = true; taken = is_some (internal_ceiling S t) }
 
@@ -101,7 +75,7 @@ stays S t o = record { events = []; state = slot_changed t (slot_entered S t) o 
 abbrev pub entered_as : System → ℕ → ℕ → (ℕ → List ℕ) → Kept → Kept
 entered_as S t l q o =
     record o {
-      queues = without_first q l;
+      queues = without_first_at_level q l;
       slots = changed_at o.slots t (slot_entered S t (o.slots t));
       running = Some t;
       gone = false;

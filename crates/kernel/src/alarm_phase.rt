@@ -22,9 +22,12 @@ use ready_queues::ReadyQueues;
 use services::Core;
 
 /// Counters advance, and the due alarms act in declaration order. In the first tick the counters stand, and none is due.
+/// `due` is room for these alarms.
+#[inline(always)]
 pub fn alarm_phase<Q: ReadyQueues>(
     core: &mut Core<'_, Q>,
     system: &System,
+    due: &mut ArrayVec<AlarmId, MAX_ALARMS>,
     stamps: &mut JobStamps,
     tick: u32,
     record_of_tick: &mut TickRecord,
@@ -48,14 +51,16 @@ pub fn alarm_phase<Q: ReadyQueues>(
     ensures sized { length stamps.new ≡ length stamps.old }
 {
     if 0 < tick {
-        advance(core, system, stamps, tick, record_of_tick);
+        advance(core, system, due, stamps, tick, record_of_tick);
     }
 }
 
 /// The next tick begins: counters advance, and the due alarms act in declaration order.
+#[inline(always)]
 fn advance<Q: ReadyQueues>(
     core: &mut Core<'_, Q>,
     system: &System,
+    due: &mut ArrayVec<AlarmId, MAX_ALARMS>,
     stamps: &mut JobStamps,
     tick: u32,
     record_of_tick: &mut TickRecord,
@@ -74,8 +79,7 @@ fn advance<Q: ReadyQueues>(
     ensures stamps { stamps.new ≡ alarm_phase_looked system.now tick (kept_in (at_tick core.old (core.old.tick + 1))) stamps.old }
     ensures sized { length stamps.new ≡ length stamps.old }
 {
-    let mut due: ArrayVec<AlarmId, MAX_ALARMS> = ArrayVec::new();
-    core.advance(&mut due);
+    core.advance(due);
     for number in 0..due.len() {
         alarm_seen(core, system, due[number], stamps, tick, record_of_tick);
     }
@@ -93,6 +97,7 @@ fn acting_task(system: &System, alarm: AlarmId) -> TaskId
 }
 
 /// An alarm acts, and the task on which it acts is looked at before and after.
+#[inline(never)]
 fn alarm_seen<Q: ReadyQueues>(
     core: &mut Core<'_, Q>,
     system: &System,

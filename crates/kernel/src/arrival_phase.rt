@@ -12,6 +12,7 @@ use ready_queues::ReadyQueues;
 use services::Core;
 
 /// The interrupts that arrive at a tick set pending flags. Answers how many of the list have arrived by its end.
+#[inline(always)]
 pub fn arrival_phase<Q: ReadyQueues>(
     core: &mut Core<'_, Q>,
     list: &[Arrival],

@@ -15,6 +15,7 @@ use ready_queues::ReadyQueues;
 use services::Core;
 
 /// The static priority of a task.
+#[inline(always)]
 fn level_of(system: &System, task: TaskId) -> u8
     requires proper { IsProper system.now }
     requires task { task < length system.now.tasks }
@@ -25,6 +26,7 @@ fn level_of(system: &System, task: TaskId) -> u8
 }
 
 /// How many blockers a job of a level had, where it has a stamp: 1 where a job of a lower level has executed since, else 0.
+#[inline(always)]
 fn count(behind: &LastTicks, level: u8, stamp: Option<u32>) -> Option<u32>
     requires { level ≤ MAX_TASK_PRIORITY }
     ensures { result ≡ option_map (count_below level behind.now) stamp }
@@ -43,6 +45,7 @@ fn count(behind: &LastTicks, level: u8, stamp: Option<u32>) -> Option<u32>
 
 /// Where a task executes, the stamp of its job is taken and its level noted. Answers how many blockers the job had, where it
 /// had a stamp.
+#[inline(always)]
 pub fn begin<Q: ReadyQueues>(
     core: &Core<'_, Q>,
     system: &System,

@@ -14,18 +14,22 @@ ghost use Rattle.kernel.specs.Looking.{AreCounted};
 use crate::alarm_phase::alarm_phase;
 use crate::arrival_phase::arrival_phase;
 use crate::stamping::reschedule;
-use osek_base::{Arrival, MAX_ALARMS, MAX_TICKS, System, TickRecord};
+use arrayvec::ArrayVec;
+use osek_base::{AlarmId, Arrival, MAX_ALARMS, MAX_TICKS, System, TickRecord};
 use readiness::JobStamps;
 use ready_queues::ReadyQueues;
 use services::Core;
 
 /// The first four phases of a tick: alarms act, interrupts arrive, the task that is to run becomes the running one, and a
-/// routine starts. Answers how many of the list of arrivals have arrived by its end.
+/// routine starts. Answers how many of the list of arrivals have arrived by its end. `due` is room for the alarms that are
+/// due.
+#[inline(always)]
 pub fn before_execution<Q: ReadyQueues>(
     core: &mut Core<'_, Q>,
     system: &System,
     list: &[Arrival],
     arrived: usize,
+    due: &mut ArrayVec<AlarmId, MAX_ALARMS>,
     stamps: &mut JobStamps,
     tick: u32,
     record_of_tick: &mut TickRecord,
@@ -51,7 +55,7 @@ pub fn before_execution<Q: ReadyQueues>(
     ensures sized { length stamps.new ≡ length stamps.old }
     ensures left { AreLeft list.now result (tick + 1) }
 {
-    alarm_phase(core, system, stamps, tick, record_of_tick);
+    alarm_phase(core, system, due, stamps, tick, record_of_tick);
     let next = arrival_phase(core, list, arrived, tick);
     reschedule(core, stamps, tick, record_of_tick);
     core.start_routine();

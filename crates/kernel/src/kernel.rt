@@ -4,12 +4,12 @@ ghost use Rattle.std.specs.Prelude.{◌≡◌, ◌<◌, ◌≤◌, ◌+◌, ◌-
 ghost use Rattle.osek_base.specs.BlockingText.{blockers_at};
 ghost use Rattle.osek_base.specs.Names.{number_of};
 ghost use Rattle.osek_base.specs.Proper.{IsProper};
-ghost use Rattle.services.specs.Levels.{level_lists};
+ghost use Rattle.ready_queues.specs.LevelLists.{level_lists, by_level};
 ghost use Rattle.osek_base.specs.State.{Words, shared_window};
 ghost use Rattle.kept_state.specs.Kept.{kept};
 ghost use Rattle.kept_state.specs.KeptTick.{last_phase_in};
 ghost use Rattle.kept_state.specs.Moves.{rescheduled};
-ghost use Rattle.services.specs.Objects.{by_level, kept_in, kept_of};
+ghost use Rattle.services.specs.Objects.{kept_in, kept_of};
 ghost use Rattle.kernel.specs.declared.boot.BootFault.{BootFault};
 ghost use Rattle.kernel.specs.Run.{AreKnown, IsLawful, is_over, run_of};
 ghost use Rattle.blocking_laws.specs.Steps.{record_at};
@@ -20,10 +20,11 @@ use crate::boot::{BootFault, begun_stamps, booted};
 use crate::early_phases::before_execution;
 use crate::execute_phase::execute_phase;
 use crate::stamping::reschedule;
+use arrayvec::ArrayVec;
 use machine::{Code, Windows};
 use osek_base::{
-    Arrivals, MAX_RECORDS, MAX_TICKS, ModeId, Owner, ResourceNumber, SHARED_WORDS, System,
-    TickRecord, WINDOW_WORDS,
+    AlarmId, Arrivals, MAX_ALARMS, MAX_RECORDS, MAX_TICKS, ModeId, Owner, ResourceNumber,
+    SHARED_WORDS, System, TickRecord, WINDOW_WORDS,
 };
 use readiness::{JobStamps, LastTicks};
 use ready_queues::ReadyQueues;
@@ -44,6 +45,8 @@ pub struct Kernel<'s, Q: ReadyQueues> {
     windows: Windows,
     code: Code,
     opening: TickRecord,
+    /// Room for the alarms that are due in a tick.
+    due: ArrayVec<AlarmId, MAX_ALARMS>,
     stamps: JobStamps,
     behind: LastTicks,
     blockers: Option<u32>,
@@ -66,6 +69,7 @@ impl<'s, Q: ReadyQueues> Model for Kernel<'s, Q> {
 }
 
 /// Puts in the records that stand before a tick's own: those of boot in tick 0, else none.
+#[inline(always)]
 fn put_first(opening: &mut TickRecord, tick: u32, record_of_tick: &mut TickRecord)
     requires { 1 ≤ tick → length opening.old ≤ 0 }
     ensures value { record_of_tick.new ≡ opening.old }
@@ -115,6 +119,7 @@ impl<'s, Q: ReadyQueues> Kernel<'s, Q> {
             windows: Windows::new(),
             code,
             opening,
+            due: ArrayVec::new(),
             stamps,
             behind: LastTicks::new(),
             blockers: None,
@@ -122,6 +127,7 @@ impl<'s, Q: ReadyQueues> Kernel<'s, Q> {
     }
 
     /// Whether the run is over: after a ShutdownOS, or when [`MAX_TICKS`](osek_base::MAX_TICKS) are done.
+    #[inline(always)]
     pub fn is_over(&self) -> bool
         ensures { result ≡ is_over self.now }
     {
@@ -174,6 +180,7 @@ impl<'s, Q: ReadyQueues> Kernel<'s, Q> {
     }
 
     /// Does one tick, and leaves its records in place of those of an earlier one. That spares making a list a tick.
+    #[inline(always)]
     pub fn tick_into(&mut self, record_of_tick: &mut TickRecord)
         requires { is_over self.old ≡ false }
         ensures records { record_of_tick.new ≡ record_at self.old.system self.old.mode self.old.arrivals self.old.ticks }
@@ -186,10 +193,12 @@ impl<'s, Q: ReadyQueues> Kernel<'s, Q> {
             self.system,
             self.arrivals.list(),
             self.arrived,
+            &mut self.due,
             &mut self.stamps,
             self.ticks,
             record_of_tick,
         );
+        let owner = self.core.executor();
         self.blockers = begin(
             &self.core,
             self.system,
@@ -203,6 +212,7 @@ impl<'s, Q: ReadyQueues> Kernel<'s, Q> {
             &mut self.windows,
             &self.code,
             self.system,
+            owner,
             &mut self.stamps,
             self.ticks,
             record_of_tick,
@@ -212,6 +222,7 @@ impl<'s, Q: ReadyQueues> Kernel<'s, Q> {
 }
 
 /// The task that is to run becomes the running one, which is left out after ShutdownOS.
+#[inline(always)]
 fn last_phase<Q: ReadyQueues>(
     core: &mut Core<'_, Q>,
     stamps: &mut JobStamps,
@@ -231,6 +242,7 @@ fn last_phase<Q: ReadyQueues>(
 }
 
 /// After an instruction the task that is to run becomes the running one.
+#[inline(always)]
 fn dispatch_again<Q: ReadyQueues>(
     core: &mut Core<'_, Q>,
     stamps: &mut JobStamps,

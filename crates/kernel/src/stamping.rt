@@ -20,6 +20,7 @@ pub struct Look {
 }
 
 /// What is seen of a task before something.
+#[inline(always)]
 pub fn seen<Q: ReadyQueues>(core: &Core<'_, Q>, task: TaskId) -> Look
     requires { task < length core.now.system.tasks }
     ensures { result ≡ seen (kept_in core.now) task }
@@ -33,6 +34,7 @@ pub fn seen<Q: ReadyQueues>(core: &Core<'_, Q>, task: TaskId) -> Look
 
 /// A task that was looked at before something: where it has a job more, the new one is ready; where its oldest job waited and
 /// doesn't any more, that one is.
+#[inline(always)]
 pub fn looked_at<Q: ReadyQueues>(
     core: &Core<'_, Q>,
     stamps: &mut JobStamps,
@@ -52,6 +54,7 @@ pub fn looked_at<Q: ReadyQueues>(
 }
 
 /// What is seen of a task before something, where there is one.
+#[inline(always)]
 pub fn seen_if<Q: ReadyQueues>(core: &Core<'_, Q>, task: Option<TaskId>) -> Option<Look>
     requires { IfSome task (λ t. t < length core.now.system.tasks) }
     ensures { result ≡ seen_if (kept_in core.now) task }
@@ -63,6 +66,7 @@ pub fn seen_if<Q: ReadyQueues>(core: &Core<'_, Q>, task: Option<TaskId>) -> Opti
 }
 
 /// Whether a task is the running one.
+#[inline(always)]
 fn is_running<Q: ReadyQueues>(core: &Core<'_, Q>, task: TaskId) -> bool
     ensures { result ≡ is_task task core.now.running }
 {
@@ -70,6 +74,7 @@ fn is_running<Q: ReadyQueues>(core: &Core<'_, Q>, task: TaskId) -> bool
 }
 
 /// Whether a task is that one, where there is one.
+#[inline(always)]
 fn is_that(running: &Option<TaskId>, task: TaskId) -> bool
     ensures { result ≡ is_task task running.now }
 {
@@ -80,6 +85,7 @@ fn is_that(running: &Option<TaskId>, task: TaskId) -> bool
 }
 
 /// A job that ran, and neither ended nor waits, is ready again where its task runs no more.
+#[inline(always)]
 fn preempted<Q: ReadyQueues>(
     core: &Core<'_, Q>,
     stamps: &mut JobStamps,
@@ -98,6 +104,7 @@ fn preempted<Q: ReadyQueues>(
 
 /// The task that is to run becomes the running one, as in `Core::reschedule`. Nothing is done where it is known to run
 /// already.
+#[inline(always)]
 pub fn reschedule<Q: ReadyQueues>(
     core: &mut Core<'_, Q>,
     stamps: &mut JobStamps,
@@ -113,9 +120,28 @@ pub fn reschedule<Q: ReadyQueues>(
     ensures stamps { stamps.new ≡ reschedule_looked core.old.system tick (kept_in core.old) stamps.old }
     ensures sized { length stamps.new ≡ length stamps.old }
 {
-    if core.is_dispatched() {
-        return;
+    if !core.is_dispatched() {
+        reschedule_anew(core, stamps, tick, record_of_tick);
     }
+}
+
+/// The task that is to run becomes the running one.
+#[inline(never)]
+fn reschedule_anew<Q: ReadyQueues>(
+    core: &mut Core<'_, Q>,
+    stamps: &mut JobStamps,
+    tick: u32,
+    record_of_tick: &mut TickRecord,
+)
+    requires room { length record_of_tick.old + 2 ≤ MAX_RECORDS }
+    requires size { length stamps.old ≡ length core.old.system.tasks }
+    ensures system { core.new.system ≡ core.old.system }
+    ensures kept { kept_in core.new ≡ (rescheduled core.old.system (kept_in core.old)).state }
+    ensures events { record_of_tick.new ≡ record_of_tick.old ++ (rescheduled core.old.system (kept_in core.old)).events }
+    ensures few { length record_of_tick.new ≤ length record_of_tick.old + 2 }
+    ensures stamps { stamps.new ≡ reschedule_looked core.old.system tick (kept_in core.old) stamps.old }
+    ensures sized { length stamps.new ≡ length stamps.old }
+{
     let runner = core.contender();
     core.reschedule(record_of_tick);
     preempted(core, stamps, runner, tick);
@@ -123,6 +149,7 @@ pub fn reschedule<Q: ReadyQueues>(
 
 /// After an instruction: the job of the task that ran may have ended, and the task on which the instruction acts, which was
 /// looked at before, is looked at again.
+#[inline(always)]
 pub fn executed_since<Q: ReadyQueues>(
     core: &Core<'_, Q>,
     stamps: &mut JobStamps,
@@ -147,6 +174,7 @@ pub fn executed_since<Q: ReadyQueues>(
 }
 
 /// The job of the running task has ended, or not.
+#[inline(always)]
 fn ended(stamps: &mut JobStamps, running: &Option<TaskId>, has_ended: bool)
     requires { IfSome running.now (λ t. t < length stamps.old) }
     ensures value { stamps.new ≡ ended_of running.now has_ended stamps.old }
@@ -160,6 +188,7 @@ fn ended(stamps: &mut JobStamps, running: &Option<TaskId>, has_ended: bool)
 }
 
 /// What was seen of a task, without the job of the running task where that has ended.
+#[inline(always)]
 fn without_ended(before: &Look, running: &Option<TaskId>, has_ended: bool) -> Look
     ensures { result ≡ ended_since before.now running.now has_ended }
 {

@@ -38,6 +38,7 @@ impl Code {
     }
 
     /// The instruction at a place of a task's or routine's program: one word is read and unpacked.
+    #[inline(always)]
     pub fn fetch(&self, owner: Owner, place: Place) -> Instr
         requires { place < length (program_in self.now owner) }
         ensures { result ≡ instruction_in (program_in self.now owner) place }
@@ -46,6 +47,7 @@ impl Code {
     }
 
     /// The program of a task or routine.
+    #[inline(always)]
     fn program(&self, owner: Owner) -> &PackedProgram
         requires { 0 < length (program_in self.now owner) }
         ensures { result.now ≡ program_in self.now owner }

@@ -37,6 +37,7 @@ impl Cpu {
     }
 
     /// The place of the next instruction, counted from 0.
+    #[inline(always)]
     pub fn place(&self) -> Place
         ensures { result ≡ self.now.place }
     {
@@ -44,6 +45,7 @@ impl Cpu {
     }
 
     /// The value of a register.
+    #[inline(always)]
     pub fn value(&self, register: Register) -> u32
         ensures { result ≡ value self.now register }
     {
@@ -51,6 +53,7 @@ impl Cpu {
     }
 
     /// Gives a register a value; the place stays.
+    #[inline(always)]
     pub fn set(&mut self, register: Register, new: u32)
         ensures { self.new ≡ with_value self.old register new }
     {
@@ -58,6 +61,7 @@ impl Cpu {
     }
 
     /// Goes on to the next instruction; the registers stay.
+    #[inline(always)]
     pub fn go_on(&mut self)
         requires { self.old.place + 1 < MAX_INSTRUCTIONS }
         ensures { self.new ≡ next self.old }
@@ -66,6 +70,7 @@ impl Cpu {
     }
 
     /// Goes on at a place; the registers stay.
+    #[inline(always)]
     pub fn jump(&mut self, to: Place)
         ensures { self.new ≡ record self.old { place = to } }
     {
@@ -73,6 +78,7 @@ impl Cpu {
     }
 
     /// Takes what a service answers: the status into r0, the results into r1 to r3. Goes on to the next instruction.
+    #[inline(always)]
     pub fn answer(&mut self, status: Status, results: Results)
         requires { self.old.place + 1 < MAX_INSTRUCTIONS }
         ensures { self.new ≡ answered status results self.old }
@@ -91,6 +97,7 @@ impl Cpu {
     }
 
     /// A service of a program with the values of its registers.
+    #[inline(always)]
     pub fn with_values(&self, service: &Service<Register>) -> Service<u32>
         ensures { result ≡ at_values self.now service.now }
     {
@@ -127,6 +134,7 @@ impl Cpu {
 }
 
 /// The number of a status, as r0 shows it.
+#[inline(always)]
 fn number_of(status: Status) -> u32
     ensures { result ≡ status_number status }
 {

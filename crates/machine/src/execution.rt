@@ -17,6 +17,7 @@ use osek_base::{
 /// address modulo
 /// the words of a window; no other word is touched. Sums, differences and products wrap. At the last place only a jump may
 /// stand.
+#[inline(always)]
 pub fn exec_plain(cpu: &mut Cpu, windows: &mut Windows, owner: Owner, instruction: &Plain) -> Effect
     requires { HasNext instruction.now cpu.old }
     ensures effect { result ≡ (plain instruction.now cpu.old (word windows.old owner)).effect }
@@ -57,6 +58,7 @@ pub fn exec_plain(cpu: &mut Cpu, windows: &mut Windows, owner: Owner, instructio
 }
 
 /// Gives a register a value, which is shown, and goes on.
+#[inline(always)]
 fn set(cpu: &mut Cpu, to: Register, new: u32) -> Effect
     requires { cpu.old.place + 1 < MAX_INSTRUCTIONS }
     ensures effect { result ≡ (sets cpu.old to new).effect }
@@ -68,6 +70,7 @@ fn set(cpu: &mut Cpu, to: Register, new: u32) -> Effect
 }
 
 /// The index that an address means in a window.
+#[inline(always)]
 fn index_of(address: u32) -> u8
     ensures value { result ≡ address % WINDOW_WORDS }
     ensures low { result < WINDOW_WORDS }
@@ -76,6 +79,7 @@ fn index_of(address: u32) -> u8
 }
 
 /// Sums, differences and products of 32 bits wrap.
+#[inline(always)]
 fn compute(operation: Operation, a: u32, b: u32) -> u32
     ensures { result ≡ operate operation a b }
 {
@@ -90,6 +94,7 @@ fn compute(operation: Operation, a: u32, b: u32) -> u32
 }
 
 /// Whether a jump is taken.
+#[inline(always)]
 fn compare(test: Comparison, a: u32, b: u32) -> bool
     ensures { result ≡ holds test a b }
 {

@@ -29,6 +29,7 @@ impl Fields {
     }
 
     /// The fields in a word.
+    #[inline(always)]
     pub fn in_word(word: u64) -> Fields
         ensures { result ≡ fields_in word }
     {

@@ -41,6 +41,7 @@ impl PackedProgram {
     }
 
     /// The instruction at a place.
+    #[inline(always)]
     pub fn at(&self, place: Place) -> Instr
         requires { place < length self.now }
         ensures { result ≡ instruction_in self.now place }

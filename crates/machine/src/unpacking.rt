@@ -40,6 +40,7 @@ pub fn unpack(word: u64) -> Option<Instr>
 }
 
 /// The instruction that a word tells, where it is known to be the word of one: what isn't used is not looked at.
+#[inline(always)]
 pub fn decode(word: u64) -> Instr
     ensures { result ≡ instr_at (fields_in word) }
 {
@@ -47,6 +48,7 @@ pub fn decode(word: u64) -> Instr
 }
 
 /// What fields tell, whatever stands in those that aren't used; 0 for a number beyond its limit.
+#[inline(always)]
 fn instr_at(fields: &Fields) -> Instr
     ensures { result ≡ instr_at fields.now }
 {
@@ -59,6 +61,7 @@ fn instr_at(fields: &Fields) -> Instr
     }
 }
 
+#[inline(always)]
 fn plain_at(fields: &Fields) -> Plain
     ensures { result ≡ plain_at fields.now }
 {
@@ -81,6 +84,7 @@ fn plain_at(fields: &Fields) -> Plain
     }
 }
 
+#[inline(always)]
 fn service_at(fields: &Fields) -> Service<Register>
     ensures { result ≡ service_at fields.now }
 {
@@ -116,6 +120,7 @@ fn service_at(fields: &Fields) -> Service<Register>
     }
 }
 
+#[inline(never)]
 fn control_at(fields: &Fields) -> Control
     ensures { result ≡ control_at fields.now }
 {
@@ -154,6 +159,7 @@ fn comparison_at(number: u8) -> Comparison
     }
 }
 
+#[inline(always)]
 fn register_at(number: u8) -> Register
     ensures { result ≡ register_at number }
 {
@@ -164,6 +170,7 @@ fn register_at(number: u8) -> Register
     }
 }
 
+#[inline(always)]
 fn place_at(number: u32) -> Place
     ensures { result ≡ place_at number }
 {
@@ -174,6 +181,7 @@ fn place_at(number: u32) -> Place
     }
 }
 
+#[inline(always)]
 fn task_at(number: u8) -> Option<TaskId>
     ensures { result ≡ task_at number }
 {
@@ -186,6 +194,7 @@ fn task_at(number: u8) -> Option<TaskId>
     }
 }
 
+#[inline(always)]
 fn alarm_at(number: u8) -> Option<AlarmId>
     ensures { result ≡ alarm_at number }
 {
@@ -198,6 +207,7 @@ fn alarm_at(number: u8) -> Option<AlarmId>
     }
 }
 
+#[inline(always)]
 fn resource_at(number: u8) -> Option<ResId>
     ensures { result ≡ resource_at number }
 {

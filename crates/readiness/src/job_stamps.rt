@@ -61,6 +61,7 @@ impl JobStamps {
     }
 
     /// The oldest job of a task executes: its stamp is taken.
+    #[inline(always)]
     pub fn take(&mut self, task: TaskId) -> Option<u32>
         requires { task < length self.old }
         ensures stamp { result ≡ stamp_of_oldest (slice_index_or self.old task []) }

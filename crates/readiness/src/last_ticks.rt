@@ -33,6 +33,7 @@ impl LastTicks {
     }
 
     /// A job of a level executes in a tick.
+    #[inline(always)]
     pub fn note(&mut self, level: u8, tick: u32)
         requires level { level ≤ MAX_TASK_PRIORITY }
         requires tick { tick < MAX_TICKS }

@@ -67,6 +67,7 @@ impl TaskStamps {
     }
 
     /// The oldest job executes: its stamp is taken.
+    #[inline(always)]
     pub fn take(&mut self) -> Option<u32>
         ensures stamp { result ≡ stamp_of_oldest self.old }
         ensures after { self.new ≡ spent_oldest self.old }

@@ -41,6 +41,7 @@ impl Level {
     }
 
     /// Whether it has no task.
+    #[inline(always)]
     pub fn is_empty(&self) -> bool
         ensures { result ≡ is_empty self.now.items }
     {
@@ -48,6 +49,7 @@ impl Level {
     }
 
     /// Adds a task behind the others.
+    #[inline(always)]
     pub fn put_newest(&mut self, task: TaskId)
         requires { length self.old.items < self.old.capacity }
         ensures { self.new ≡ buffer (self.old.items ++ task ∷ []) self.old.capacity }
@@ -57,6 +59,7 @@ impl Level {
 
     /// Adds a task before the others. Where the slot is occupied, its task goes to the front of
     /// the ring first, which moves each task of the ring once.
+    #[inline(always)]
     pub fn put_oldest(&mut self, task: TaskId)
         requires { length self.old.items < self.old.capacity }
         ensures { self.new ≡ buffer (task ∷ self.old.items) self.old.capacity }
@@ -68,6 +71,7 @@ impl Level {
     }
 
     /// Takes the first task.
+    #[inline(always)]
     pub fn take_first(&mut self) -> Option<TaskId>
         ensures value { result ≡ slice_get self.old.items 0 }
         ensures tasks { self.new ≡ buffer (drop 1 self.old.items) self.old.capacity }
@@ -81,6 +85,7 @@ impl Level {
 
 /// Puts a task at the front of a ring: by a push behind, after which each task that stood there
 /// moves once from front to back.
+#[inline(never)]
 fn put_in_front(ring: &mut HeapCircularBuffer<TaskId>, task: TaskId)
     requires { length ring.old.items < ring.old.capacity }
     ensures { ring.new ≡ buffer (task ∷ ring.old.items) ring.old.capacity }

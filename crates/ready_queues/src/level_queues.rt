@@ -54,10 +54,12 @@ impl ReadyQueues for LevelQueues {
         self.count < self.room
     }
 
+    #[inline(always)]
     fn top(&self) -> Option<u8> {
         self.occupied.highest()
     }
 
+    #[inline(always)]
     fn put_newest(&mut self, level: u8, task: TaskId) {
         let tasks = &mut self.levels[level as usize];
         tasks.put_newest(task);
@@ -65,6 +67,7 @@ impl ReadyQueues for LevelQueues {
         self.count += 1;
     }
 
+    #[inline(always)]
     fn put_oldest(&mut self, level: u8, task: TaskId) {
         let tasks = &mut self.levels[level as usize];
         tasks.put_oldest(task);
@@ -72,6 +75,7 @@ impl ReadyQueues for LevelQueues {
         self.count += 1;
     }
 
+    #[inline(always)]
     fn take_first(&mut self) -> Option<TaskId> {
         let top = self.top()?;
         let tasks = &mut self.levels[top as usize];

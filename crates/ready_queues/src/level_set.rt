@@ -32,6 +32,7 @@ impl LevelSet {
     }
 
     /// Adds a level.
+    #[inline(always)]
     pub fn insert(&mut self, level: u8)
         requires { level < LEVELS }
         ensures { IsWithBit level 1 self.old self.new }
@@ -40,6 +41,7 @@ impl LevelSet {
     }
 
     /// Removes a level.
+    #[inline(always)]
     pub fn remove(&mut self, level: u8)
         requires { level < LEVELS }
         ensures { IsWithBit level 0 self.old self.new }
@@ -48,6 +50,7 @@ impl LevelSet {
     }
 
     /// The highest level of the set.
+    #[inline(always)]
     pub fn highest(&self) -> Option<u8>
         ensures none { IfNone result (self.now ≡ 0) }
         ensures some { IfSome result (λ level. IsHighest level self.now) }

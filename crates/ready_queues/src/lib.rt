@@ -14,8 +14,6 @@ mod level_queues;
 mod level_set;
 mod list_queues;
 mod ready_queues;
-#[cfg(test)]
-mod tests;
 
 pub use level_queues::LevelQueues;
 pub use list_queues::ListQueues;

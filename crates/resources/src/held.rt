@@ -42,6 +42,14 @@ impl Held {
         }
     }
 
+    /// Nothing is held any more.
+    #[inline(always)]
+    pub fn clear(&mut self)
+        ensures { self.new ≡ [] }
+    {
+        self.resources.clear();
+    }
+
     /// Gets a resource that isn't held: it is the last.
     pub fn get(&mut self, resource: ResId)
         requires { IsFalse (is_held resource self.old) }
@@ -50,13 +58,6 @@ impl Held {
         let number = number_of(&resource);
         prove!(number <= MAX_RESOURCES as u8);
         self.resources.push(resource);
-    }
-
-    /// Releases the resource that was got last; where nothing is held, nothing changes.
-    pub fn release_last(&mut self)
-        ensures { self.new ≡ without_last self.old }
-    {
-        self.resources.pop();
     }
 
     /// ReleaseResource: the resource that was got last isn't held any more. E_OS_NOFUNC where it is another one or isn't
@@ -68,12 +69,13 @@ impl Held {
         if !self.is_last(resource) {
             return Status::NoFunc;
         }
-        self.release_last();
+        self.resources.pop();
         Status::Ok
     }
 
     /// The dynamic priority of a job of the task that holds this: the greatest of the task's priority, the ceilings of
     /// the resources and, where `taken`, the task's internal ceiling.
+    #[inline(always)]
     pub fn dynamic(&self, system: &System, task: TaskId, taken: bool) -> u8
         requires { task < length system.now.tasks }
         ensures { result ≡ priority_with system.now task self.now taken }
@@ -83,11 +85,16 @@ impl Held {
         } else {
             0
         };
-        let declared = highest_ceiling(system, self.resources.as_slice());
+        let declared = if self.resources.is_empty() {
+            0
+        } else {
+            highest_ceiling(system, self.resources.as_slice())
+        };
         system.priority_of(task).max(declared.max(internal))
     }
 
     /// Whether nothing is held.
+    #[inline(always)]
     pub fn holds_none(&self) -> bool
         ensures { result ≡ is_empty self.now }
     {
@@ -101,15 +108,8 @@ impl Held {
         self.resources.iter().any(|held| is_same(resource, *held))
     }
 
-    /// What is held, in the order got.
-    pub fn held(&self) -> &[ResId]
-        ensures { result.now ≡ self.now }
-    {
-        self.resources.as_slice()
-    }
-
     /// Whether a resource is the one that was got last.
-    pub fn is_last(&self, resource: ResId) -> bool
+    fn is_last(&self, resource: ResId) -> bool
         ensures { result ≡ is_last resource self.now }
     {
         match self.resources.as_slice().last() {

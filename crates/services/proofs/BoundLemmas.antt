@@ -13,7 +13,8 @@ use Rattle.osek_base.proofs.PlaceLemmas.{and_split}
 use Rattle.run_laws.proofs.Known.{proper_at}
 use Rattle.ready_queues.specs.Queues.{total}
 use Rattle.kept_state.specs.Kept.{Kept, unbegun}
-use Rattle.kept_state.specs.Moves.{highest, put_first, first, contender, contender_of}
+use Rattle.ready_queues.specs.Moves.{highest, put_first, first}
+use Rattle.kept_state.specs.Moves.{contender, contender_of}
 use Rattle.kept_state.specs.KeptService.{KeptCaller, ByTask, ByRoutine, ByNobody, caller_in, caller_by, is_own_in, is_full_in, caller_ended_in}
 use Rattle.kept_state.specs.Standing.{Fits, room_for}
 use Rattle.kept_state.proofs.Rescheduled.{at_most}

@@ -1,4 +1,3 @@
-pub mod LevelLemmas
 pub mod BoundLemmas
 pub mod HeldLemmas
 pub mod RoutineLemmas

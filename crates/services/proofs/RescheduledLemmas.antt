@@ -8,7 +8,8 @@ use Rattle.osek_base.specs.Reschedule.{reschedule}
 use Rattle.run_laws.proofs.Foremost.{self_equal}
 use Rattle.run_laws.proofs.RankedMoves.{IsAfterReschedule, reschedule_ordered}
 use Rattle.kept_state.specs.Kept.{Kept, Slot, kept}
-use Rattle.kept_state.specs.Moves.{KeptRecorded, changed_at, chosen, contender, contender_of, dispatched, dynamic_in, first, highest, may_dispatch_in, put_first, rescheduled, slot_entered, stays}
+use Rattle.ready_queues.specs.Moves.{changed_at, first, highest, put_first}
+use Rattle.kept_state.specs.Moves.{KeptRecorded, chosen, contender, contender_of, dispatched, dynamic_in, may_dispatch_in, rescheduled, slot_entered, stays}
 use Rattle.kept_state.specs.KeptService.{is_above}
 use Rattle.kept_state.specs.Standing.{IsStanding, is_overtaken, is_overtaken_by, runner_waits, waits_in}
 use Rattle.kept_state.proofs.Runner.{unwaiting}

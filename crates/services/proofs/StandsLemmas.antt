@@ -1,6 +1,6 @@
 -- What stands for a state of a run stands for one after each step.
-use Rattle.std.proofs.Common.{◌≡◌, ℕ, ◌+◌, ◌<◌, ◌≤◌, true, false, length, refl, sym, ◌∙◌, ap, subst, arith}
-use Rattle.std.specs.Prelude.{Option, Some, None, IfSome, slice_set}
+use Rattle.std.proofs.Common.{◌≡◌, ℕ, Bool, ◌+◌, ◌<◌, ◌≤◌, true, false, cond, length, refl, sym, ◌∙◌, ap, subst, arith}
+use Rattle.std.specs.Prelude.{Option, Some, None, IfSome, is_some, slice_set}
 use Rattle.std.specs.Option.{option_map}
 use Rattle.osek_base.specs.declared.ids.Owner.{Owner}
 use Rattle.osek_base.specs.declared.limits.TheConstants.{MAX_ACTIVATION}
@@ -17,8 +17,8 @@ use Rattle.osek_base.specs.Trace.{starting_alarms}
 use Rattle.run_laws.proofs.Known.{ActivatesKnown}
 use Rattle.run_laws.proofs.Formed.{IsPlaced}
 use Rattle.kept_state.specs.Kept.{Kept, kept, task_in}
-use Rattle.kept_state.specs.Moves.{KeptRecorded, contender, rescheduled}
-use Rattle.kept_state.specs.KeptService.{ByTask, ByRoutine, ByNobody, KeptReply, bare, caller_in, unmasked_in, service_in, moved_in}
+use Rattle.kept_state.specs.Moves.{slot_changed, KeptRecorded, contender, rescheduled}
+use Rattle.kept_state.specs.KeptService.{slot_moved, ByTask, ByRoutine, ByNobody, KeptReply, bare, caller_in, unmasked_in, service_in, moved_in}
 use Rattle.kept_state.specs.KeptTick.{still_in, start_phase_in, controlled_in, with_context_in}
 use Rattle.kept_state.specs.Standing.{IsStanding, Fits, MayServe, IsRunnerPlaced, runner_waits, is_overtaken_by}
 use Rattle.kept_state.proofs.Fitting.{fits_where_standing}
@@ -28,7 +28,7 @@ use Rattle.services.specs.declared.calls.Call.{Call}
 use Rattle.services.specs.Objects.{Objects, StandsFor, Stands, AreFit, by_task, kept_in, kept_of}
 use Rattle.services.specs.Dispatched.{IsCore}
 use Rattle.services.proofs.BoundLemmas.{activation_few}
-use Rattle.services.specs.Calls.{IsKnown, IsKnownCall, MayGoOn, IsRoutineOrNone, caller_as, call_in}
+use Rattle.services.specs.Calls.{IsKnown, IsKnownCall, IsThere, MayGoOn, IsRoutineOrNone, caller_as, call_in}
 
 -- no words matter to a step
 abbrev pub IsWordless : (Kept → Kept) → Type 0
@@ -188,3 +188,22 @@ module _ (o n : Objects) (system : n.system ≡ o.system) where
     where
       that : (a : Active) → a.routine ≡ i → IsPlaced o.system (Owner.Routine a.routine) x
       that a e = subst (λ u. IsPlaced o.system (Owner.Routine u) x) (sym e) placed
+
+  stands_as_before : Stands o → kept_in n ≡ kept_in o → Stands n
+  stands_as_before (s, stands) new = stands_after o n s s (λ k. k) stands system (λ w k. refl) new (stands.standing, refl)
+
+  -- who executed goes on, if it is still there
+  pub stands_gone_on_there : (owner : Owner) (x : Context) → Stands o → MayGoOn o owner → (IsThere o owner → IsPlaced o.system owner x)
+      → kept_in n ≡ with_context_in (caller_as owner) x (kept_in o) → Stands n
+  stands_gone_on_there (Owner.Task t) x stands who placed new = go o.gone refl
+    where
+      go : (g : Bool) → o.gone ≡ g → Stands n
+      go true e = stands_as_before stands (new ∙ ap (λ b. cond b (kept_in o) (slot_changed t (slot_moved x) (kept_in o))) e)
+      go false e = stands_gone_on (Owner.Task t) x stands who (placed (who, e)) new
+  stands_gone_on_there (Owner.Routine i) x stands who placed new = go o.active refl
+    where
+      go : (a : Option Active) → o.active ≡ a → Stands n
+      go None e =
+          stands_as_before stands
+          (new ∙ ap (λ a. record (kept_in o) { active = option_map (moved x) a }) e ∙ ap (λ a. record (kept_in o) { active = a }) (sym e))
+      go (Some a) e = stands_gone_on (Owner.Routine i) x stands who (placed (ap (λ (v : Option Active). is_some v) e)) new

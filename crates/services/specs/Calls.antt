@@ -116,7 +116,8 @@ abbrev pub MayGoOn : Objects → Owner → Type 0
 MayGoOn o (Owner.Task t) = o.running ≡ Some t
 MayGoOn o (Owner.Routine i) = IsRoutineOrNone o.active i
 
--- the running task stays, and so does the active routine, unless it ends
+-- the running task stays, and so does the active routine, unless it ends; unless a job ends, all have the registers and
+-- places that they had
 abbrev pub IsSameActive : Option Active → Option Active → Type 0
 IsSameActive a None = Unit {0}
 IsSameActive a (Some b) = a ≡ Some b
@@ -124,3 +125,4 @@ IsSameActive a (Some b) = a ≡ Some b
 pub record IsSameCaller (o n : Objects) : Type 0 where
   pub running : n.running ≡ o.running
   pub active : IsSameActive o.active n.active
+  pub contexts : (t : ℕ) → n.gone ≡ false → context_in (kept_in n) (Owner.Task t) ≡ context_in (kept_in o) (Owner.Task t)

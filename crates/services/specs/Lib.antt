@@ -1,5 +1,4 @@
 pub mod Objects
 pub mod Calls
 pub mod Dispatched
-pub mod Levels
 pub mod Seen

@@ -1,10 +1,11 @@
 -- OSEK/VDX OS: system services. What services read and change of a running system, with queues and control blocks by
 -- number: all that is kept of a state but the words of tasks and routines.
-use Rattle.std.specs.Prelude.{ℕ, ◌≡◌, ◌<◌, Bool, List, [], Option, slice_index_or, length}
+use Rattle.std.specs.Prelude.{ℕ, ◌≡◌, ◌<◌, Bool, List, Option, slice_index_or, length}
 use Rattle.osek_base.specs.System.{System, activation_of}
 use Rattle.osek_base.specs.Ceiling.{top_priority}
 use Rattle.osek_base.specs.State.{State, Active, Expiry, Words}
 use Rattle.ready_queues.specs.declared.ready_queues.TheConstants.{LEVELS}
+use Rattle.ready_queues.specs.LevelLists.{by_level}
 use Rattle.alarms.specs.Alarms.{AlarmTable, IsTableOf}
 use Rattle.kept_state.specs.Kept.{Kept, Slot, unbegun, kept}
 use Rattle.kept_state.specs.Standing.{IsStanding, Fits, room_for}
@@ -29,10 +30,7 @@ pub record Objects : Type 0 where
   pub tick : ℕ
   pub over : Bool
 
--- the queue of a level, and the slot of a task
-abbrev pub by_level : List (List ℕ) → ℕ → List ℕ
-by_level queues l = slice_index_or queues l []
-
+-- the slot of a task
 abbrev pub by_task : List Slot → ℕ → Slot
 by_task slots t = slice_index_or slots t (unbegun 0)
 

@@ -54,6 +54,7 @@ impl<'s, Q: ReadyQueues> Objects<'s, Q> {
 
     /// How many counts an alarm has before it expires. E_OS_NOFUNC where it is off.
     #[tactic(auto, unfolding(kept_state::specs::KeptService::unmasked_in))]
+    #[inline(always)]
     pub fn get_alarm(&self, alarm: AlarmId) -> Answer
         requires alarm { alarm < length self.now.system.alarms }
         ensures status { result.status ≡ Some (unmasked self.now (Service.GetAlarm (Some alarm))).status }
@@ -66,6 +67,7 @@ impl<'s, Q: ReadyQueues> Objects<'s, Q> {
     }
 
     /// The MAXALLOWEDVALUE, TICKSPERBASE and MINCYCLE of an alarm's counter.
+    #[inline(always)]
     pub fn get_alarm_base(&self, alarm: AlarmId) -> Answer
         requires { alarm < length self.now.system.alarms }
         ensures status { result.status ≡ Some Status.Ok }
@@ -77,6 +79,7 @@ impl<'s, Q: ReadyQueues> Objects<'s, Q> {
 
     /// The next tick begins, and the alarms that are due in it expire. The content of `due` becomes these alarms, in
     /// declaration order.
+    #[inline(always)]
     pub fn advance(&mut self, due: &mut ArrayVec<AlarmId, MAX_ALARMS>)
         requires { self.old.tick + 1 < MAX_TICKS }
         ensures due { due.new.items ≡ due_alarms self.old.system (bare (record (kept_in self.old) { tick = self.old.tick + 1 })) }

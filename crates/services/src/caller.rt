@@ -1,20 +1,23 @@
 //! OSEK/VDX OS: system services. Who calls: the active routine, or else the running task.
 
-ghost use Rattle.std.specs.Prelude.{◌≡◌, ◌<◌, MatchOption, IfSome, ℕ, is_some, length};
+ghost use Rattle.std.specs.Prelude.{◌≡◌, ◌<◌, ◌+◌, MatchOption, IfSome, ℕ, is_some, length};
 ghost use Rattle.osek_base.specs.Instruction.{plain};
 ghost use Rattle.run_laws.proofs.Formed.{IsPlaced};
-ghost use Rattle.kept_state.specs.KeptService.{ByNobody, by_routine_in, caller_in, holds_any_in, is_above_ceiling_in, is_basic_in, is_outranked_in, is_own_in, may_take_in, got_last_in, caller_holds_in, running_number, with_caller_in, caller_ended_in, slot_given_up};
+ghost use Rattle.kept_state.specs.KeptService.{ByNobody, by_routine_in, caller_in, holds_any_in, is_above_ceiling_in, is_basic_in, is_outranked_in, is_own_in, may_take_in, caller_holds_in, running_number, with_caller_in, caller_ended_in, slot_given_up};
 ghost use Rattle.kept_state.specs.KeptTick.{with_context_in};
 ghost use Rattle.services.specs.Objects.{kept_in, AreFit};
 ghost use Rattle.services.specs.Calls.{calling_task, caller_as, context_in, IsExecuting, IsThere, MayGoOn};
 ghost use Rattle.osek_base.specs.declared.ids.Owner.{Owner};
 ghost use Rattle.osek_base.specs.State.{words_after};
+ghost use Rattle.osek_base.specs.Tick.{answered, at_values};
 ghost use Rattle.machine.specs.Windows.{word};
 ghost use Rattle.machine.specs.Execution.{HasNext};
 
 use crate::objects::Objects;
 use machine::{Cpu, Windows};
-use osek_base::{Effect, Owner, Plain, ResId, TaskId};
+use osek_base::{
+    Effect, MAX_INSTRUCTIONS, Owner, Plain, Register, ResId, Results, Service, Status, TaskId,
+};
 use ready_queues::ReadyQueues;
 
 /// What GetTaskID answers where no task is running.
@@ -22,6 +25,7 @@ const INVALID_TASK: u32 = u32::MAX;
 
 impl<'s, Q: ReadyQueues> Objects<'s, Q> {
     /// Whether a routine calls.
+    #[inline(always)]
     pub fn by_routine(&self) -> bool
         ensures { result ≡ by_routine_in (caller_in (kept_in self.now)) }
     {
@@ -29,6 +33,7 @@ impl<'s, Q: ReadyQueues> Objects<'s, Q> {
     }
 
     /// The task that calls, if no routine does.
+    #[inline(always)]
     pub fn calling_task(&self) -> Option<TaskId>
         requires { AreFit self.now }
         ensures value { result ≡ calling_task (caller_in (kept_in self.now)) }
@@ -44,6 +49,7 @@ impl<'s, Q: ReadyQueues> Objects<'s, Q> {
     }
 
     /// Whether the caller holds a resource, the internal one aside.
+    #[inline(always)]
     pub fn holds_any(&self) -> bool
         requires { AreFit self.now }
         ensures { result ≡ holds_any_in (kept_in self.now) (caller_in (kept_in self.now)) }
@@ -104,20 +110,6 @@ impl<'s, Q: ReadyQueues> Objects<'s, Q> {
         }
     }
 
-    /// Whether a resource is the last that the caller got and still holds.
-    pub fn got_last(&self, resource: &ResId) -> bool
-        requires { AreFit self.now }
-        ensures { result ≡ got_last_in (kept_in self.now) (caller_in (kept_in self.now)) resource.now }
-    {
-        match self.calling_task() {
-            None => false,
-            Some(task) => {
-                let slot = &self.slots[task.number() as usize];
-                slot.got_last(resource)
-            }
-        }
-    }
-
     /// Whether the caller is a job that holds a resource.
     pub fn caller_holds(&self, resource: &ResId) -> bool
         requires { AreFit self.now }
@@ -147,6 +139,7 @@ impl<'s, Q: ReadyQueues> Objects<'s, Q> {
     }
 
     /// The running task, also where its job has ended.
+    #[inline(always)]
     pub fn running(&self) -> Option<TaskId>
         requires { AreFit self.now }
         ensures value { result ≡ self.now.running }
@@ -169,6 +162,7 @@ impl<'s, Q: ReadyQueues> Objects<'s, Q> {
     }
 
     /// The calling job ends.
+    #[inline(always)]
     pub fn end_caller(&mut self)
         requires { AreFit self.old }
         ensures system { self.new.system ≡ self.old.system }
@@ -194,6 +188,7 @@ impl<'s, Q: ReadyQueues> Objects<'s, Q> {
     }
 
     /// Who executes: the active routine, else the running task.
+    #[inline(always)]
     pub fn executor(&self) -> Option<Owner>
         requires { AreFit self.now }
         ensures value { MatchOption result (caller_in (kept_in self.now) ≡ ByNobody) (IsExecuting (kept_in self.now)) }
@@ -209,6 +204,7 @@ impl<'s, Q: ReadyQueues> Objects<'s, Q> {
     }
 
     /// The registers and the place of who executes.
+    #[inline(always)]
     pub fn cpu_of(&self, owner: Owner) -> Cpu
         requires fit { AreFit self.now }
         requires who { IsThere self.now owner }
@@ -226,7 +222,27 @@ impl<'s, Q: ReadyQueues> Objects<'s, Q> {
         }
     }
 
+    /// A service of a program with the values of the registers of who executes.
+    #[inline(always)]
+    pub fn with_values(&self, owner: Owner, service: &Service<Register>) -> Service<u32>
+        requires fit { AreFit self.now }
+        requires who { IsThere self.now owner }
+        ensures { result ≡ at_values (context_in (kept_in self.now) owner) service.now }
+    {
+        match owner {
+            Owner::Task(task) => {
+                let slot = &self.slots[task.number() as usize];
+                slot.with_values(service)
+            }
+            Owner::Routine(_) => match &self.active {
+                None => unreachable!(),
+                Some(active) => active.cpu().with_values(service),
+            },
+        }
+    }
+
     /// A plain instruction of who executes, on its registers, its place and its window.
+    #[inline(always)]
     pub fn exec_plain(&mut self, windows: &mut Windows, owner: Owner, instr: &Plain) -> Effect
         requires fit { AreFit self.old }
         requires who { IsThere self.old owner }
@@ -243,12 +259,13 @@ impl<'s, Q: ReadyQueues> Objects<'s, Q> {
             }
             Owner::Routine(_) => match &mut self.active {
                 None => unreachable!(),
-                Some(active) => active.exec_plain(windows, owner, instr),
+                Some(active) => active.exec_plain(windows, owner, *instr),
             },
         }
     }
 
     /// Gives who executed other registers and another place, where it is still there.
+    #[inline(always)]
     pub fn go_on(&mut self, owner: Owner, cpu: Cpu)
         requires fit { AreFit self.old }
         requires who { MayGoOn self.old owner }
@@ -264,6 +281,31 @@ impl<'s, Q: ReadyQueues> Objects<'s, Q> {
             }
             Owner::Routine(_) => {
                 if let Some(active) = &mut self.active {
+                    active.go_on(cpu);
+                }
+            }
+        }
+    }
+    /// Who called takes what a service answers, and goes on to the next instruction, where it is still there.
+    #[inline(always)]
+    pub fn answer(&mut self, owner: Owner, status: Status, results: Results)
+        requires fit { AreFit self.old }
+        requires who { MayGoOn self.old owner }
+        requires room { IsThere self.old owner → (context_in (kept_in self.old) owner).place + 1 < MAX_INSTRUCTIONS }
+        ensures system { self.new.system ≡ self.old.system }
+        ensures kept { kept_in self.new ≡ with_context_in (caller_as owner) (answered status results (context_in (kept_in self.old) owner)) (kept_in self.old) }
+    {
+        match owner {
+            Owner::Task(task) => {
+                if !self.gone {
+                    let slot = &mut self.slots[task.number() as usize];
+                    slot.answer(status, results);
+                }
+            }
+            Owner::Routine(_) => {
+                if let Some(active) = &mut self.active {
+                    let mut cpu = active.cpu();
+                    cpu.answer(status, results);
                     active.go_on(cpu);
                 }
             }

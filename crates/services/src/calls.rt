@@ -3,12 +3,14 @@
 ghost use Rattle.std.specs.Prelude.{◌≡◌, ◌<◌, ◌+◌, ◌^◌, Some, None, length};
 ghost use Rattle.osek_base.specs.declared.status.Status.{Status};
 ghost use Rattle.osek_base.specs.declared.trace_event.Results.{Results};
+ghost use Rattle.osek_base.specs.Tick.{at_values};
 ghost use Rattle.services.specs.Dispatched.{is_refusal};
 ghost use Rattle.services.specs.Objects.{kept_in, AreFit};
-ghost use Rattle.services.specs.Calls.{call_in, unmasked, IsKnown, IsKnownCall, IsOnAlarm};
+ghost use Rattle.services.specs.declared.calls.Call.{Call as CallOf};
+ghost use Rattle.services.specs.Calls.{call_in, context_in, unmasked, IsKnown, IsKnownCall, IsOnAlarm, IsThere};
 
 use crate::objects::Objects;
-use osek_base::{Control, Results, Service, Status};
+use osek_base::{Control, Owner, Register, Results, Service, Status};
 use ready_queues::ReadyQueues;
 
 /// A call of a system service, with the values of its registers: one with a status, or one without.
@@ -28,6 +30,7 @@ pub struct Answer {
 
 impl Answer {
     /// A service without a status answers nothing.
+    #[inline(always)]
     pub(crate) fn silent() -> Self
         ensures { result ≡ record { status = None; results = Results.Nothing } }
     {
@@ -38,6 +41,7 @@ impl Answer {
     }
 
     /// A status without results.
+    #[inline(always)]
     pub(crate) fn plain(status: Status) -> Self
         ensures { result ≡ record { status = Some status; results = Results.Nothing } }
     {
@@ -48,6 +52,7 @@ impl Answer {
     }
 
     /// Whether it is a refusal. A service that is refused changes nothing.
+    #[inline(always)]
     pub(crate) fn is_refusal(&self) -> bool
         ensures { result ≡ is_refusal self.now.status }
     {
@@ -61,6 +66,7 @@ impl Answer {
     }
 
     /// E_OK with results.
+    #[inline(always)]
     pub(crate) fn of(results: Results) -> Self
         ensures { result ≡ record { status = Some Status.Ok; results = results } }
     {
@@ -71,6 +77,7 @@ impl Answer {
     }
 
     /// E_OK with one result.
+    #[inline(always)]
     pub(crate) fn one(value: u32) -> Self
         ensures { result ≡ record { status = Some Status.Ok; results = Results.One value } }
     {
@@ -81,6 +88,7 @@ impl Answer {
 impl<'s, Q: ReadyQueues> Objects<'s, Q> {
     /// A service with a status is refused with 32 while interrupts are off.
     #[tactic(auto, unfolding(kept_state::specs::KeptService::service_in, kept_state::specs::KeptService::unmasked_in))]
+    #[inline(always)]
     pub fn call(&mut self, call: &Call) -> Answer
         requires fit { AreFit self.old }
         requires known { IsKnownCall self.old.system call.now }
@@ -105,8 +113,29 @@ impl<'s, Q: ReadyQueues> Objects<'s, Q> {
         }
     }
 
+    /// A service of a program with a status, by who executes, with the values of its registers. It is refused with 32 while
+    /// interrupts are off.
+    #[tactic(auto, unfolding(kept_state::specs::KeptService::service_in, kept_state::specs::KeptService::unmasked_in))]
+    #[inline(always)]
+    pub fn serve_program(&mut self, owner: Owner, service: &Service<Register>) -> Answer
+        requires fit { AreFit self.old }
+        requires who { IsThere self.old owner }
+        requires known { IsKnown self.old.system (at_values (context_in (kept_in self.old) owner) service.now) }
+        ensures system { self.new.system ≡ self.old.system }
+        ensures status { result.status ≡ (call_in self.old.system (kept_in self.old) (CallOf.Service (at_values (context_in (kept_in self.old) owner) service.now))).status }
+        ensures results { result.results ≡ (call_in self.old.system (kept_in self.old) (CallOf.Service (at_values (context_in (kept_in self.old) owner) service.now))).results }
+        ensures kept { kept_in self.new ≡ (call_in self.old.system (kept_in self.old) (CallOf.Service (at_values (context_in (kept_in self.old) owner) service.now))).state }
+    {
+        if self.interrupts_off() {
+            return Answer::plain(Status::SysDisabled);
+        }
+        let call = self.with_values(owner, service);
+        self.serve(&call)
+    }
+
     /// A service with a status, interrupts being off aside.
     #[tactic(auto, unfolding(kept_state::specs::KeptService::unmasked_in))]
+    #[inline(always)]
     fn serve(&mut self, service: &Service<u32>) -> Answer
         requires fit { AreFit self.old }
         requires known { IsKnown self.old.system service.now }
@@ -160,6 +189,7 @@ impl<'s, Q: ReadyQueues> Objects<'s, Q> {
 
     /// A service on alarms.
     #[tactic(auto, unfolding(kept_state::specs::KeptService::unmasked_in))]
+    #[inline(always)]
     fn serve_alarm(&mut self, service: &Service<u32>) -> Answer
         requires known { IsKnown self.old.system service.now }
         requires alarm { IsOnAlarm service.now }

@@ -4,9 +4,11 @@ ghost use Rattle.std.specs.Prelude.{◌≡◌, ◌<◌, ◌≤◌, ◌+◌, ◌+
 ghost use Rattle.osek_base.specs.System.{activation_of, priority_of};
 ghost use Rattle.osek_base.specs.Ceiling.{top_priority};
 ghost use Rattle.ready_queues.specs.Queues.{total};
-ghost use Rattle.kept_state.specs.Moves.{activated_in, released_in, contender, put_first, first, dynamic_in, highest, changed_at, slot_entered, nobody, stays, dispatched, rescheduled, left_in, entered_in};
+ghost use Rattle.ready_queues.specs.Moves.{put_first, first, highest, changed_at};
+ghost use Rattle.kept_state.specs.Moves.{activated_in, released_in, contender, dynamic_in, may_dispatch_in, slot_entered, nobody, stays, dispatched, rescheduled, left_in, entered_in};
 ghost use Rattle.kept_state.specs.Standing.{room_for};
-ghost use Rattle.services.specs.Objects.{by_level, by_task, kept_in, AreFit};
+ghost use Rattle.ready_queues.specs.LevelLists.{by_level};
+ghost use Rattle.services.specs.Objects.{by_task, kept_in, AreFit};
 
 use crate::objects::Objects;
 use osek_base::{MAX_RECORDS, System, TaskId, TickRecord, TraceEvent};
@@ -14,6 +16,7 @@ use ready_queues::{LEVELS, ReadyQueues};
 
 impl<'s, Q: ReadyQueues> Objects<'s, Q> {
     /// A new job of a task is the newest of its level. The events of an extended task that had no job are cleared.
+    #[inline(always)]
     pub fn add(&mut self, task: TaskId)
         requires task { task < length self.old.system.tasks }
         requires count { (by_task self.old.slots task).count ≤ activation_of self.old.system task }
@@ -44,6 +47,7 @@ impl<'s, Q: ReadyQueues> Objects<'s, Q> {
     }
 
     /// The level of a task: its static priority.
+    #[inline(always)]
     fn level_of(&self, task: TaskId) -> u8
         requires { task < length self.now.system.tasks }
         ensures value { result ≡ priority_of self.now.system task }
@@ -53,6 +57,7 @@ impl<'s, Q: ReadyQueues> Objects<'s, Q> {
     }
 
     /// The running task, if its job stands and doesn't wait.
+    #[inline(always)]
     pub fn contender(&self) -> Option<TaskId>
         requires { AreFit self.now }
         ensures { result ≡ contender (kept_in self.now) }
@@ -70,6 +75,7 @@ impl<'s, Q: ReadyQueues> Objects<'s, Q> {
     }
 
     /// The highest level that has a task.
+    #[inline(always)]
     pub fn highest(&self) -> Option<u8>
         requires { AreFit self.now }
         ensures { result ≡ highest (suc (top_priority self.now.system)) (by_level self.now.queues) }
@@ -78,6 +84,7 @@ impl<'s, Q: ReadyQueues> Objects<'s, Q> {
     }
 
     /// The dynamic priority of a task's oldest job.
+    #[inline(always)]
     fn dynamic(&self, task: TaskId) -> u8
         requires { task < length self.now.system.tasks }
         ensures { result ≡ dynamic_in self.now.system task (by_task self.now.slots task) }
@@ -87,6 +94,7 @@ impl<'s, Q: ReadyQueues> Objects<'s, Q> {
     }
 
     /// No task runs.
+    #[inline(never)]
     fn stop(&mut self, record_of_tick: &mut TickRecord)
         requires { length record_of_tick.old < MAX_RECORDS }
         ensures system { self.new.system ≡ self.old.system }
@@ -100,6 +108,7 @@ impl<'s, Q: ReadyQueues> Objects<'s, Q> {
     }
 
     /// The running task runs on, and takes its internal resource.
+    #[inline(always)]
     fn stay(&mut self, task: TaskId)
         requires { task < length self.old.system.tasks }
         ensures system { self.new.system ≡ self.old.system }
@@ -111,6 +120,7 @@ impl<'s, Q: ReadyQueues> Objects<'s, Q> {
     }
 
     /// A task that left its queue runs.
+    #[inline(always)]
     fn enter(&mut self, task: TaskId)
         requires { task < length self.old.system.tasks }
         ensures system { self.new.system ≡ self.old.system }
@@ -128,6 +138,7 @@ impl<'s, Q: ReadyQueues> Objects<'s, Q> {
     }
 
     /// The first of the highest level leaves its queue and runs.
+    #[inline(always)]
     fn dispatch(&mut self, level: u8, record_of_tick: &mut TickRecord)
         requires level { level ≤ top_priority self.old.system }
         requires some { 0 < length (by_level self.old.queues level) }
@@ -146,6 +157,7 @@ impl<'s, Q: ReadyQueues> Objects<'s, Q> {
     }
 
     /// The running task goes before all others of its level, and the first of a higher level runs.
+    #[inline(always)]
     fn preempt(&mut self, task: TaskId, own: u8, level: u8, record_of_tick: &mut TickRecord)
         requires own { own < level }
         requires level { level ≤ top_priority self.old.system }
@@ -164,6 +176,7 @@ impl<'s, Q: ReadyQueues> Objects<'s, Q> {
     }
 
     /// A preempted task goes before all others of its level.
+    #[inline(always)]
     fn put_back(&mut self, level: u8, task: TaskId)
         requires level { level ≤ top_priority self.old.system }
         requires room { total (by_level self.old.queues) < room_for self.old.system }
@@ -175,18 +188,20 @@ impl<'s, Q: ReadyQueues> Objects<'s, Q> {
 
     /// With no routine active and interrupts on, the task that is to run becomes the running one: the first of the highest
     /// level, where that is above the running task's dynamic priority. Where the running job changes, there is a Post record
-    /// of the old one's task and a Pre record of the new one's.
+    /// of the old one's task and a Pre record of the new one's. Answers whether it could dispatch.
     #[tactic(auto, unfolding(kept_state::specs::Moves::rescheduled))]
-    pub fn reschedule(&mut self, record_of_tick: &mut TickRecord)
+    #[inline(always)]
+    pub fn reschedule(&mut self, record_of_tick: &mut TickRecord) -> bool
         requires fit { AreFit self.old }
         requires room { length record_of_tick.old + 2 ≤ MAX_RECORDS }
+        ensures could { result ≡ may_dispatch_in (kept_in self.old) }
         ensures system { self.new.system ≡ self.old.system }
         ensures kept { kept_in self.new ≡ (rescheduled self.old.system (kept_in self.old)).state }
         ensures events { record_of_tick.new ≡ record_of_tick.old ++ (rescheduled self.old.system (kept_in self.old)).events }
         ensures few { length record_of_tick.new ≤ length record_of_tick.old + 2 }
     {
         if !self.may_dispatch() {
-            return;
+            return false;
         }
         let highest = self.highest();
         match self.contender() {
@@ -206,10 +221,12 @@ impl<'s, Q: ReadyQueues> Objects<'s, Q> {
                 }
             },
         }
+        true
     }
 }
 
 /// Records that a task leaves running, where PostTaskHook is on.
+#[inline(always)]
 fn record_left(system: &System, task: &Option<TaskId>, record_of_tick: &mut TickRecord)
     requires { length record_of_tick.old < MAX_RECORDS }
     ensures events { record_of_tick.new ≡ record_of_tick.old ++ left_in system.now task.now }
@@ -223,6 +240,7 @@ fn record_left(system: &System, task: &Option<TaskId>, record_of_tick: &mut Tick
 }
 
 /// Records that a task enters running, where PreTaskHook is on.
+#[inline(always)]
 fn record_entered(system: &System, task: TaskId, record_of_tick: &mut TickRecord)
     requires { length record_of_tick.old < MAX_RECORDS }
     ensures events { record_of_tick.new ≡ record_of_tick.old ++ entered_in system.now task }

@@ -61,6 +61,7 @@ impl<'s, Q: ReadyQueues> Objects<'s, Q> {
 
     /// A task's events. E_OS_ACCESS where it is basic, E_OS_STATE where it is suspended.
     #[tactic(auto, unfolding(kept_state::specs::KeptService::unmasked_in))]
+    #[inline(always)]
     pub fn get_event(&self, task: TaskId) -> Answer
         requires fit { AreFit self.now }
         requires task { task < length self.now.system.tasks }

@@ -44,13 +44,14 @@ impl Active {
     }
 
     /// A plain instruction of the routine, on its registers, its place and its owner's window.
-    pub fn exec_plain(&mut self, windows: &mut Windows, owner: Owner, instr: &Plain) -> Effect
-        requires { HasNext instr.now self.old.context }
-        ensures effect { result ≡ (plain instr.now self.old.context (word windows.old owner)).effect }
+    #[inline(never)]
+    pub fn exec_plain(&mut self, windows: &mut Windows, owner: Owner, instr: Plain) -> Effect
+        requires { HasNext instr self.old.context }
+        ensures effect { result ≡ (plain instr self.old.context (word windows.old owner)).effect }
         ensures words { (o : Owner) (i : ℕ) → word windows.new o i ≡ words_after (word windows.old) owner result o i }
-        ensures context { self.new ≡ moved (plain instr.now self.old.context (word windows.old owner)).context self.old }
+        ensures context { self.new ≡ moved (plain instr self.old.context (word windows.old owner)).context self.old }
     {
-        exec_plain(&mut self.cpu, windows, owner, instr)
+        exec_plain(&mut self.cpu, windows, owner, &instr)
     }
 
     /// The routine gets other registers and another place.
@@ -113,18 +114,20 @@ impl<'s, Q: ReadyQueues> Objects<'s, Q> {
     /// Where no routine is active and interrupts are on, the pending routine of greatest PRIORITY starts, of equals the
     /// first declared: its registers and its place are 0, and its flag is cleared.
     #[tactic(auto, unfolding(kept_state::specs::KeptTick::start_phase_in))]
+    #[inline(always)]
     pub fn start_routine(&mut self)
         ensures system { self.new.system ≡ self.old.system }
         ensures kept { kept_in self.new ≡ start_phase_in self.old.system (kept_in self.old) }
     {
-        if self.may_dispatch()
-            && let Some(routine) = self.pending_routine()
+        if let Some(routine) = self.pending_routine()
+            && self.may_dispatch()
         {
             self.start(routine);
         }
     }
 
     /// Among the pending routines the first declared with the greatest priority.
+    #[inline(always)]
     fn pending_routine(&self) -> Option<IsrId>
         ensures choice { result ≡ routine_choice self.now.system (bare (kept_in self.now)) }
         ensures known { IfSome result (λ i. i < length self.now.system.routines) }
@@ -133,6 +136,7 @@ impl<'s, Q: ReadyQueues> Objects<'s, Q> {
     }
 
     /// A routine is active with registers and place 0, and its flag is cleared.
+    #[inline(never)]
     fn start(&mut self, routine: IsrId)
         requires { routine < length self.old.system.routines }
         ensures system { self.new.system ≡ self.old.system }
@@ -147,6 +151,7 @@ impl<'s, Q: ReadyQueues> Objects<'s, Q> {
 }
 
 /// Among the routines whose flags are set the first declared with the greatest priority.
+#[inline(always)]
 fn best_pending(system: &System, flags: &[bool]) -> Option<IsrId>
     requires { length flags.now ≡ length system.now.routines }
     ensures choice { result ≡ foremost (λ i. slice_index_or flags.now i false) (λ i. (routine system.now i).priority) (below (length system.now.routines)) }

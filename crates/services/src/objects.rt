@@ -138,6 +138,7 @@ impl<'s, Q: ReadyQueues> Objects<'s, Q> {
     }
 
     /// Whether a task has as many jobs as its ACTIVATION allows.
+    #[inline(always)]
     pub fn is_full(&self, task: TaskId) -> bool
         requires { task < length self.now.system.tasks }
         ensures { result ≡ is_full_in self.now.system (kept_in self.now) task }
@@ -147,6 +148,7 @@ impl<'s, Q: ReadyQueues> Objects<'s, Q> {
     }
 
     /// Whether a task has no job.
+    #[inline(always)]
     pub fn is_suspended(&self, task: TaskId) -> bool
         requires { task < length self.now.system.tasks }
         ensures { result ≡ is_suspended_in (kept_in self.now) task }
@@ -156,6 +158,7 @@ impl<'s, Q: ReadyQueues> Objects<'s, Q> {
     }
 
     /// How many jobs a task has.
+    #[inline(always)]
     pub fn job_count(&self, task: TaskId) -> u8
         requires { task < length self.now.system.tasks }
         ensures { result ≡ (by_task self.now.slots task).count }
@@ -165,6 +168,7 @@ impl<'s, Q: ReadyQueues> Objects<'s, Q> {
     }
 
     /// Whether the oldest job of a task waits for an event.
+    #[inline(always)]
     pub fn waits(&self, task: TaskId) -> bool
         requires { task < length self.now.system.tasks }
         ensures { result ≡ is_some (by_task self.now.slots task).waits_for }

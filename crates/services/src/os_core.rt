@@ -6,6 +6,7 @@ ghost use Rattle.osek_base.specs.declared.ids.Owner.{Owner};
 ghost use Rattle.osek_base.specs.Instruction.{plain};
 ghost use Rattle.osek_base.specs.State.{Words, shared_window, words_after};
 ghost use Rattle.machine.specs.Windows.{word};
+ghost use Rattle.osek_base.specs.Tick.{answered, at_values};
 ghost use Rattle.machine.specs.Execution.{HasNext};
 ghost use Rattle.osek_base.specs.Alarm.{due_alarms, alarms_advanced};
 ghost use Rattle.osek_base.specs.Trace.{starting_alarms};
@@ -15,17 +16,19 @@ ghost use Rattle.kept_state.specs.KeptTick.{silent_in, start_phase_in, still_in,
 ghost use Rattle.kept_state.specs.Moves.{contender, rescheduled};
 ghost use Rattle.kept_state.specs.Standing.{MayServe, runner_waits};
 ghost use Rattle.services.specs.Dispatched.{is_refusal};
-ghost use Rattle.services.specs.Levels.{level_lists};
+ghost use Rattle.ready_queues.specs.LevelLists.{level_lists};
 ghost use Rattle.services.specs.Objects.{kept_in, kept_of};
-ghost use Rattle.services.specs.Calls.{IsExecuting, IsKnownCall, MayGoOn, IsSameCaller, call_in, caller_as, calling_task, context_in};
+ghost use Rattle.services.specs.declared.calls.Call.{Call as CallOf};
+ghost use Rattle.services.specs.Calls.{IsExecuting, IsKnown, IsKnownCall, IsThere, MayGoOn, IsSameCaller, call_in, caller_as, calling_task, context_in};
 
 use crate::calls::{Answer, Call};
 use crate::objects::Objects;
 use arrayvec::ArrayVec;
 use machine::{Cpu, Windows};
 use osek_base::{
-    AlarmId, Effect, IsrId, MAX_ACTIVATION, MAX_ALARMS, MAX_RECORDS, MAX_TICKS, ModeId, Owner,
-    Plain, ResourceNumber, SHARED_WORDS, Status, System, TaskId, TickRecord,
+    AlarmId, Effect, IsrId, MAX_ACTIVATION, MAX_ALARMS, MAX_INSTRUCTIONS, MAX_RECORDS, MAX_TICKS,
+    ModeId, Owner, Plain, Register, ResourceNumber, Results, SHARED_WORDS, Service, Status, System,
+    TaskId, TickRecord,
 };
 use ready_queues::ReadyQueues;
 use std::alloc::{AllocError, Global};
@@ -53,6 +56,7 @@ impl<'s, Q: ReadyQueues> Model for Core<'s, Q> {
 }
 
 /// Whether a reschedule is still known to change nothing after a call: a refused one changed nothing.
+#[inline(always)]
 fn stays_known(known: bool, answer: &Answer) -> bool
     ensures { result ≡ (known && is_refusal answer.now.status) }
 {
@@ -60,6 +64,7 @@ fn stays_known(known: bool, answer: &Answer) -> bool
 }
 
 /// Whether a reschedule is known to change nothing after one, which could dispatch or not.
+#[inline(always)]
 fn becomes_known(known: bool, could: bool) -> bool
     ensures { result ≡ (known || could) }
 {
@@ -104,6 +109,7 @@ impl<'s, Q: ReadyQueues> Core<'s, Q> {
     }
 
     /// Whether the run is over, by ShutdownOS.
+    #[inline(always)]
     pub fn is_over(&self) -> bool
         ensures { result ≡ self.now.over }
     {
@@ -111,6 +117,7 @@ impl<'s, Q: ReadyQueues> Core<'s, Q> {
     }
 
     /// How many jobs a task has.
+    #[inline(always)]
     pub fn job_count(&self, task: TaskId) -> u8
         requires { task < length self.now.system.tasks }
         ensures value { result ≡ ((kept_in self.now).slots task).count }
@@ -120,6 +127,7 @@ impl<'s, Q: ReadyQueues> Core<'s, Q> {
     }
 
     /// Whether the oldest job of a task waits for an event.
+    #[inline(always)]
     pub fn waits(&self, task: TaskId) -> bool
         requires { task < length self.now.system.tasks }
         ensures { result ≡ is_some ((kept_in self.now).slots task).waits_for }
@@ -128,6 +136,7 @@ impl<'s, Q: ReadyQueues> Core<'s, Q> {
     }
 
     /// The running task, if its job stands and doesn't wait.
+    #[inline(always)]
     pub fn contender(&self) -> Option<TaskId>
         ensures value { result ≡ contender (kept_in self.now) }
         ensures known { IfSome result (λ t. t < length self.now.system.tasks) }
@@ -136,6 +145,7 @@ impl<'s, Q: ReadyQueues> Core<'s, Q> {
     }
 
     /// The running task, also where its job has ended.
+    #[inline(always)]
     pub fn running(&self) -> Option<TaskId>
         ensures value { result ≡ self.now.running }
         ensures known { IfSome result (λ t. t < length self.now.system.tasks) }
@@ -144,6 +154,7 @@ impl<'s, Q: ReadyQueues> Core<'s, Q> {
     }
 
     /// Whether the job of the running task has ended.
+    #[inline(always)]
     pub fn is_gone(&self) -> bool
         ensures { result ≡ self.now.gone }
     {
@@ -151,6 +162,7 @@ impl<'s, Q: ReadyQueues> Core<'s, Q> {
     }
 
     /// The task that executes, if no routine does.
+    #[inline(always)]
     pub fn executing_task(&self) -> Option<TaskId>
         ensures value { result ≡ calling_task (caller_in (kept_in self.now)) }
         ensures known { IfSome result (λ t. t < length self.now.system.tasks) }
@@ -160,6 +172,7 @@ impl<'s, Q: ReadyQueues> Core<'s, Q> {
 
     /// ActivateTask by an alarm, or at boot: a new job of a task, or E_OS_LIMIT where it has as many as its ACTIVATION
     /// allows.
+    #[inline(always)]
     pub fn activate(&mut self, task: TaskId) -> Status
         requires { task < length self.old.system.tasks }
         ensures system { self.new.system ≡ self.old.system }
@@ -185,6 +198,7 @@ impl<'s, Q: ReadyQueues> Core<'s, Q> {
 
     /// A service is called by the active routine, or else by the running task. While interrupts are off, one with a status
     /// is answered 32, and nothing changes.
+    #[inline(always)]
     pub fn call(&mut self, call: &Call) -> Answer
         requires known { IsKnownCall self.old.system call.now }
         requires serves { MayServe self.old.system (kept_in self.old) }
@@ -201,7 +215,26 @@ impl<'s, Q: ReadyQueues> Core<'s, Q> {
         answer
     }
 
+    /// A service of a program with a status, by who executes, with the values of its registers. While interrupts are off, it
+    /// is answered 32, and nothing changes.
+    #[inline(always)]
+    pub fn serve(&mut self, owner: Owner, service: &Service<Register>) -> Answer
+        requires who { IsExecuting (kept_in self.old) owner }
+        requires known { IsKnown self.old.system (at_values (context_in (kept_in self.old) owner) service.now) }
+        requires serves { MayServe self.old.system (kept_in self.old) }
+        ensures system { self.new.system ≡ self.old.system }
+        ensures caller { IsSameCaller self.old self.new }
+        ensures status { result.status ≡ (call_in self.old.system (kept_in self.old) (CallOf.Service (at_values (context_in (kept_in self.old) owner) service.now))).status }
+        ensures results { result.results ≡ (call_in self.old.system (kept_in self.old) (CallOf.Service (at_values (context_in (kept_in self.old) owner) service.now))).results }
+        ensures kept { kept_in self.new ≡ (call_in self.old.system (kept_in self.old) (CallOf.Service (at_values (context_in (kept_in self.old) owner) service.now))).state }
+    {
+        let answer = self.objects.serve_program(owner, service);
+        self.is_dispatched = stays_known(self.is_dispatched, &answer);
+        answer
+    }
+
     /// Whether a reschedule is known to change nothing: none of the steps since the last one calls for another.
+    #[inline(always)]
     pub fn is_dispatched(&self) -> bool
         ensures { result ≡ true → rescheduled self.now.system (kept_in self.now) ≡ silent_in (kept_in self.now) }
     {
@@ -210,6 +243,7 @@ impl<'s, Q: ReadyQueues> Core<'s, Q> {
 
     /// With no routine active and interrupts on, the task that is to run becomes the running one, with a Post record of the
     /// old one and a Pre record of the new one where the running job changes.
+    #[inline(always)]
     pub fn reschedule(&mut self, record_of_tick: &mut TickRecord)
         requires { length record_of_tick.old + 2 ≤ MAX_RECORDS }
         ensures system { self.new.system ≡ self.old.system }
@@ -217,13 +251,13 @@ impl<'s, Q: ReadyQueues> Core<'s, Q> {
         ensures events { record_of_tick.new ≡ record_of_tick.old ++ (rescheduled self.old.system (kept_in self.old)).events }
         ensures few { length record_of_tick.new ≤ length record_of_tick.old + 2 }
     {
-        let could = self.objects.may_dispatch();
-        self.objects.reschedule(record_of_tick);
+        let could = self.objects.reschedule(record_of_tick);
         self.is_dispatched = becomes_known(self.is_dispatched, could);
     }
 
     /// The next tick begins, and the alarms that are due in it expire. The content of `due` becomes these alarms, in
     /// declaration order.
+    #[inline(always)]
     pub fn advance(&mut self, due: &mut ArrayVec<AlarmId, MAX_ALARMS>)
         requires { self.old.tick + 1 < MAX_TICKS }
         ensures due { due.new.items ≡ due_alarms self.old.system (bare (record (kept_in self.old) { tick = self.old.tick + 1 })) }
@@ -242,6 +276,7 @@ impl<'s, Q: ReadyQueues> Core<'s, Q> {
 
     /// Where no routine is active and interrupts are on, the pending routine of greatest PRIORITY starts, of equals the
     /// first declared: its registers and its place are 0, and its flag is cleared.
+    #[inline(always)]
     pub fn start_routine(&mut self)
         ensures system { self.new.system ≡ self.old.system }
         ensures kept { kept_in self.new ≡ start_phase_in self.old.system (kept_in self.old) }
@@ -250,6 +285,7 @@ impl<'s, Q: ReadyQueues> Core<'s, Q> {
     }
 
     /// Who executes: the active routine, else the running task.
+    #[inline(always)]
     pub fn executor(&self) -> Option<Owner>
         ensures value { MatchOption result (caller_in (kept_in self.now) ≡ ByNobody) (IsExecuting (kept_in self.now)) }
         ensures placed { IfSome result (λ w. IsPlaced self.now.system w (context_in (kept_in self.now) w)) }
@@ -258,6 +294,7 @@ impl<'s, Q: ReadyQueues> Core<'s, Q> {
     }
 
     /// The registers and the place of who executes.
+    #[inline(always)]
     pub fn cpu_of(&self, owner: Owner) -> Cpu
         requires { IsExecuting (kept_in self.now) owner }
         ensures { result ≡ context_in (kept_in self.now) owner }
@@ -266,6 +303,7 @@ impl<'s, Q: ReadyQueues> Core<'s, Q> {
     }
 
     /// A plain instruction of who executes, on its registers, its place and its window.
+    #[inline(always)]
     pub fn exec_plain(&mut self, windows: &mut Windows, owner: Owner, instr: &Plain) -> Effect
         requires who { IsExecuting (kept_in self.old) owner }
         requires next { HasNext instr.now (context_in (kept_in self.old) owner) }
@@ -279,6 +317,7 @@ impl<'s, Q: ReadyQueues> Core<'s, Q> {
     }
 
     /// Gives who executed other registers and another place, where it is still there.
+    #[inline(always)]
     pub fn go_on(&mut self, owner: Owner, cpu: Cpu)
         requires who { MayGoOn self.old owner }
         requires placed { IsPlaced self.old.system owner cpu }
@@ -286,5 +325,16 @@ impl<'s, Q: ReadyQueues> Core<'s, Q> {
         ensures kept { kept_in self.new ≡ with_context_in (caller_as owner) cpu (kept_in self.old) }
     {
         self.objects.go_on(owner, cpu);
+    }
+    /// Who called takes what a service answers, and goes on to the next instruction, where it is still there.
+    #[inline(always)]
+    pub fn answer(&mut self, owner: Owner, status: Status, results: Results)
+        requires who { MayGoOn self.old owner }
+        requires room { IsThere self.old owner → (context_in (kept_in self.old) owner).place + 1 < MAX_INSTRUCTIONS }
+        requires placed { IsThere self.old owner → IsPlaced self.old.system owner (answered status results (context_in (kept_in self.old) owner)) }
+        ensures system { self.new.system ≡ self.old.system }
+        ensures kept { kept_in self.new ≡ with_context_in (caller_as owner) (answered status results (context_in (kept_in self.old) owner)) (kept_in self.old) }
+    {
+        self.objects.answer(owner, status, results);
     }
 }

@@ -2,9 +2,8 @@
 
 ghost use Rattle.std.specs.Prelude.{◌≡◌, ◌<◌, ◌≤◌, suc, [], IfOk, replicate, length, ℕ};
 ghost use Rattle.ready_queues.specs.Queues.{total};
-ghost use Rattle.kept_state.specs.Moves.{put_last, put_first, without_first, first, highest};
-ghost use Rattle.services.specs.Objects.{by_level};
-ghost use Rattle.services.specs.Levels.{level_lists};
+ghost use Rattle.ready_queues.specs.Moves.{put_last, put_first, without_first_at_level, first, highest};
+ghost use Rattle.ready_queues.specs.LevelLists.{by_level, level_lists};
 
 use osek_base::TaskId;
 use ready_queues::{LEVELS, ReadyQueues};
@@ -18,7 +17,8 @@ pub struct ReadyList<Q: ReadyQueues> {
 }
 
 impl<Q: ReadyQueues> Model for ReadyList<Q> {
-    ghost use Rattle.services.specs.Levels.{Levels, level_lists};
+    ghost use Rattle.ready_queues.specs.LevelLists.{level_lists};
+    ghost use Rattle.ready_queues.specs.Kept.{Levels};
 
     ghost Value = { Levels };
 
@@ -44,6 +44,7 @@ impl<Q: ReadyQueues> ReadyList<Q> {
     }
 
     /// Adds a task behind those of its level.
+    #[inline(always)]
     pub fn put_last(&mut self, level: u8, task: TaskId)
         requires level { level < LEVELS }
         requires room { total (by_level self.old.lists) < self.old.room }
@@ -54,6 +55,7 @@ impl<Q: ReadyQueues> ReadyList<Q> {
     }
 
     /// Adds a task before those of its level.
+    #[inline(always)]
     pub fn put_first(&mut self, level: u8, task: TaskId)
         requires level { level < LEVELS }
         requires room { total (by_level self.old.lists) < self.old.room }
@@ -64,6 +66,7 @@ impl<Q: ReadyQueues> ReadyList<Q> {
     }
 
     /// The highest level that has a task, where none above `top` has.
+    #[inline(always)]
     pub fn highest(&self, top: u8) -> Option<u8>
         requires none { (l : ℕ) → top < l → by_level self.now.lists l ≡ [] }
         requires top { top < LEVELS }
@@ -73,12 +76,13 @@ impl<Q: ReadyQueues> ReadyList<Q> {
     }
 
     /// Takes the first task of the highest level that has one.
+    #[inline(always)]
     pub fn take_first(&mut self, level: u8) -> TaskId
         requires some { 0 < length (by_level self.old.lists level) }
         requires none { (l : ℕ) → level < l → by_level self.old.lists l ≡ [] }
         requires level { level < LEVELS }
         ensures task { result ≡ first (by_level self.old.lists level) }
-        ensures lists { by_level self.new.lists ≡ without_first (by_level self.old.lists) level }
+        ensures lists { by_level self.new.lists ≡ without_first_at_level (by_level self.old.lists) level }
         ensures room { self.new.room ≡ self.old.room }
     {
         match self.queues.take_first() {

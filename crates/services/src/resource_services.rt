@@ -1,9 +1,10 @@
 //! OSEK/VDX OS: resource management. GetResource and ReleaseResource.
 
-ghost use Rattle.std.specs.Prelude.{◌≡◌, Some, false};
+ghost use Rattle.std.specs.Prelude.{if◌then◌else◌, ◌≡◌, Some, false};
 ghost use Rattle.std.specs.List.{list_any};
 ghost use Rattle.osek_base.specs.declared.instr.Service.{Service};
-ghost use Rattle.kept_state.specs.KeptService.{caller_in, holds_in, is_held_in, slot_gets, slot_releases, with_caller_in};
+ghost use Rattle.osek_base.specs.declared.status.Status.{Status};
+ghost use Rattle.kept_state.specs.KeptService.{caller_in, got_last_in, holds_in, is_held_in, slot_gets, slot_releases, with_caller_in};
 ghost use Rattle.services.specs.Objects.{kept_in, AreFit};
 ghost use Rattle.services.specs.Calls.{unmasked};
 
@@ -50,11 +51,7 @@ impl<'s, Q: ReadyQueues> Objects<'s, Q> {
         if self.is_above_ceiling(resource) {
             return Status::Access;
         }
-        if !self.got_last(resource) {
-            return Status::NoFunc;
-        }
-        self.release_last();
-        Status::Ok
+        self.release_held(resource)
     }
 
     /// Whether a job holds a resource.
@@ -77,15 +74,20 @@ impl<'s, Q: ReadyQueues> Objects<'s, Q> {
         }
     }
 
-    /// The calling job releases the resource that it got last.
-    fn release_last(&mut self)
+    /// The calling job releases a resource. E_OS_NOFUNC where it isn't the last that the job got and still holds; then
+    /// nothing changes.
+    fn release_held(&mut self, resource: &ResId) -> Status
         requires { AreFit self.old }
         ensures system { self.new.system ≡ self.old.system }
-        ensures kept { kept_in self.new ≡ with_caller_in (caller_in (kept_in self.old)) slot_releases (kept_in self.old) }
+        ensures status { result ≡ (if got_last_in (kept_in self.old) (caller_in (kept_in self.old)) resource.now then Status.Ok else Status.NoFunc) }
+        ensures kept { kept_in self.new ≡ (if got_last_in (kept_in self.old) (caller_in (kept_in self.old)) resource.now then with_caller_in (caller_in (kept_in self.old)) slot_releases (kept_in self.old) else kept_in self.old) }
     {
-        if let Some(task) = self.calling_task() {
-            let slot = &mut self.slots[task.number() as usize];
-            slot.release_last();
+        match self.calling_task() {
+            None => Status::NoFunc,
+            Some(task) => {
+                let slot = &mut self.slots[task.number() as usize];
+                slot.release(resource)
+            }
         }
     }
 }

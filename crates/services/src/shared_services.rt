@@ -18,6 +18,7 @@ impl<'s, Q: ReadyQueues> Objects<'s, Q> {
     /// The word of a resource's window at an index, which counts mod [`SHARED_WORDS`](osek_base::SHARED_WORDS).
     /// E_OS_ACCESS in a routine, for RES_SCHEDULER, or where the caller doesn't hold the resource.
     #[tactic(auto, unfolding(kept_state::specs::KeptService::unmasked_in))]
+    #[inline(always)]
     pub fn load_shared(&self, resource: &ResId, index: u32) -> Answer
         requires fit { AreFit self.now }
         requires known { IsSharedOperand self.now.system (Some resource.now) }
@@ -60,6 +61,7 @@ impl<'s, Q: ReadyQueues> Objects<'s, Q> {
     }
 
     /// The word of a resource's window, 0 for RES_SCHEDULER, which has none.
+    #[inline(always)]
     fn word_of(&self, resource: &ResId, index: u32) -> u32
         requires { IsSharedOperand self.now.system (Some resource.now) }
         ensures { result ≡ word_of self.now.shared resource.now index }

@@ -1,12 +1,14 @@
 //! OSEK/VDX OS: task management, task state model. The control block of a task.
 
-ghost use Rattle.std.specs.Prelude.{◌≡◌, ◌<◌, ◌+◌, ◌-◌, ℕ, IsFalse, is_some, length};
+ghost use Rattle.std.specs.Prelude.{if◌then◌else◌, ◌≡◌, ◌<◌, ◌+◌, ◌-◌, ℕ, IsFalse, is_some, length};
 ghost use Rattle.osek_base.specs.Lists.{is_empty};
 ghost use Rattle.osek_base.specs.Service.{is_met, is_resource};
 ghost use Rattle.osek_base.specs.Lists.{last_of};
 ghost use Rattle.osek_base.specs.declared.ids.Owner.{Owner};
+ghost use Rattle.osek_base.specs.declared.status.Status.{Status};
 ghost use Rattle.osek_base.specs.Instruction.{plain};
 ghost use Rattle.osek_base.specs.State.{words_after};
+ghost use Rattle.osek_base.specs.Tick.{answered, at_values};
 ghost use Rattle.machine.specs.Windows.{word};
 ghost use Rattle.machine.specs.Execution.{HasNext};
 ghost use Rattle.kept_state.specs.Kept.{unbegun};
@@ -14,7 +16,10 @@ ghost use Rattle.kept_state.specs.KeptService.{slot_given_up, slot_gets, slot_re
 ghost use Rattle.kept_state.specs.Moves.{one_more, slot_entered, slot_woken, dynamic_in};
 
 use machine::{Cpu, Windows, exec_plain};
-use osek_base::{Effect, Owner, Plain, ResId, System, TaskId};
+use osek_base::{
+    Effect, MAX_INSTRUCTIONS, Owner, Plain, Register, ResId, Results, Service, Status, System,
+    TaskId,
+};
 use resources::Held;
 use std::marker::Model;
 
@@ -60,6 +65,7 @@ impl Slot {
     }
 
     /// How many jobs the task has.
+    #[inline(always)]
     pub fn count(&self) -> u8
         ensures value { result ≡ self.now.count }
         ensures low { result < 256 }
@@ -68,6 +74,7 @@ impl Slot {
     }
 
     /// One job more.
+    #[inline(always)]
     pub fn add(&mut self)
         requires { self.old.count < 255 }
         ensures { self.new ≡ one_more self.old }
@@ -76,19 +83,21 @@ impl Slot {
     }
 
     /// The oldest job ends; the others haven't begun.
+    #[inline(always)]
     pub fn end(&mut self)
         requires { 0 < self.old.count }
         ensures { self.new ≡ unbegun (self.old.count - 1) }
     {
         self.count -= 1;
         self.begun = false;
-        self.held = Held::new();
+        self.held.clear();
         self.taken = false;
         self.waits_for = None;
         self.cpu = Cpu::new();
     }
 
     /// Whether the oldest job waits for an event.
+    #[inline(always)]
     pub fn waits(&self) -> bool
         ensures { result ≡ is_some self.now.waits_for }
     {
@@ -128,6 +137,7 @@ impl Slot {
     }
 
     /// The oldest job enters running: it is begun, and takes its internal resource where its task has one.
+    #[inline(always)]
     pub fn enter(&mut self, system: &System, task: TaskId)
         ensures { self.new ≡ slot_entered system.now task self.old }
     {
@@ -143,6 +153,7 @@ impl Slot {
     }
 
     /// The dynamic priority of the oldest job.
+    #[inline(always)]
     pub fn dynamic(&self, system: &System, task: TaskId) -> u8
         requires { task < length system.now.tasks }
         ensures { result ≡ dynamic_in system.now task self.now }
@@ -151,6 +162,7 @@ impl Slot {
     }
 
     /// Whether the oldest job holds no resource, the internal one aside.
+    #[inline(always)]
     pub fn holds_none(&self) -> bool
         ensures { result ≡ is_empty self.now.held }
     {
@@ -164,13 +176,6 @@ impl Slot {
         self.held.holds(*resource)
     }
 
-    /// Whether a resource is the last that the oldest job got and still holds.
-    pub fn got_last(&self, resource: &ResId) -> bool
-        ensures { result ≡ is_resource (last_of self.now.held) resource.now }
-    {
-        self.held.is_last(*resource)
-    }
-
     /// The oldest job gets a resource that it doesn't hold.
     pub fn get(&mut self, resource: &ResId)
         requires { IsFalse (holds_in resource.now self.old) }
@@ -179,14 +184,17 @@ impl Slot {
         self.held.get(*resource);
     }
 
-    /// The oldest job releases the resource that it got last.
-    pub fn release_last(&mut self)
-        ensures { self.new ≡ slot_releases self.old }
+    /// The oldest job releases a resource. E_OS_NOFUNC where it isn't the last that it got and still holds; then nothing
+    /// changes.
+    pub fn release(&mut self, resource: &ResId) -> Status
+        ensures status { result ≡ (if is_resource (last_of self.old.held) resource.now then Status.Ok else Status.NoFunc) }
+        ensures slot { self.new ≡ (if is_resource (last_of self.old.held) resource.now then slot_releases self.old else self.old) }
     {
-        self.held.release_last();
+        self.held.release(*resource)
     }
 
     /// The registers and the place of the oldest job.
+    #[inline(always)]
     pub fn cpu(&self) -> Cpu
         ensures { result ≡ self.now.context }
     {
@@ -194,6 +202,7 @@ impl Slot {
     }
 
     /// The oldest job gets other registers and another place.
+    #[inline(always)]
     pub fn go_on(&mut self, cpu: Cpu)
         ensures { self.new ≡ slot_moved cpu self.old }
     {
@@ -201,6 +210,7 @@ impl Slot {
     }
 
     /// A plain instruction of the oldest job, on its registers, its place and its owner's window.
+    #[inline(always)]
     pub fn exec_plain(&mut self, windows: &mut Windows, owner: Owner, instr: &Plain) -> Effect
         requires { HasNext instr.now self.old.context }
         ensures effect { result ≡ (plain instr.now self.old.context (word windows.old owner)).effect }
@@ -208,5 +218,21 @@ impl Slot {
         ensures context { self.new ≡ slot_moved (plain instr.now self.old.context (word windows.old owner)).context self.old }
     {
         exec_plain(&mut self.cpu, windows, owner, instr)
+    }
+    /// A service of a program with the values of the oldest job's registers.
+    #[inline(always)]
+    pub fn with_values(&self, service: &Service<Register>) -> Service<u32>
+        ensures { result ≡ at_values self.now.context service.now }
+    {
+        self.cpu.with_values(service)
+    }
+
+    /// The oldest job takes what a service answers, and goes on to the next instruction.
+    #[inline(always)]
+    pub fn answer(&mut self, status: Status, results: Results)
+        requires { self.old.context.place + 1 < MAX_INSTRUCTIONS }
+        ensures { self.new ≡ slot_moved (answered status results self.old.context) self.old }
+    {
+        self.cpu.answer(status, results);
     }
 }

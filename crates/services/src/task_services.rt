@@ -14,6 +14,7 @@ use ready_queues::ReadyQueues;
 impl<'s, Q: ReadyQueues> Objects<'s, Q> {
     /// A new job of a task is the newest. E_OS_LIMIT where the task has as many as its ACTIVATION allows.
     #[tactic(auto, unfolding(kept_state::specs::KeptService::unmasked_in))]
+    #[inline(always)]
     pub fn activate(&mut self, task: TaskId) -> Status
         requires fit { AreFit self.old }
         requires task { task < length self.old.system.tasks }
@@ -30,6 +31,7 @@ impl<'s, Q: ReadyQueues> Objects<'s, Q> {
 
     /// The calling job ends. E_OS_CALLEVEL in a routine, E_OS_RESOURCE where the job holds a resource.
     #[tactic(auto, unfolding(kept_state::specs::KeptService::unmasked_in))]
+    #[inline(always)]
     pub fn terminate(&mut self) -> Status
         requires { AreFit self.old }
         ensures system { self.new.system ≡ self.old.system }
@@ -50,6 +52,7 @@ impl<'s, Q: ReadyQueues> Objects<'s, Q> {
     /// E_OS_RESOURCE where the job holds a resource, E_OS_LIMIT where the task is another one and has as many jobs as its
     /// ACTIVATION allows.
     #[tactic(auto, unfolding(kept_state::specs::KeptService::unmasked_in))]
+    #[inline(never)]
     pub fn chain(&mut self, task: Option<TaskId>) -> Status
         requires fit { AreFit self.old }
         requires known { IsTaskOperand self.old.system task }
@@ -87,6 +90,7 @@ impl<'s, Q: ReadyQueues> Objects<'s, Q> {
     /// Where a task is ready above the caller's static priority, the caller gives up its internal resource.
     /// E_OS_CALLEVEL in a routine, E_OS_RESOURCE where the job holds a resource.
     #[tactic(auto, unfolding(kept_state::specs::KeptService::unmasked_in))]
+    #[inline(never)]
     pub fn schedule(&mut self) -> Status
         requires { AreFit self.old }
         ensures system { self.new.system ≡ self.old.system }

@@ -85,8 +85,9 @@ impl Block {
         ensures same { self.new ≡ self.old ++ byte ∷ [] }
         ensures len { length self.new ≡ length self.old + 1 }
     {
-        self.cells[self.len] = byte;
-        self.len += 1;
+        let start = self.len;
+        self.cells[start] = byte;
+        self.len = start + 1;
     }
 
     /// Appends a short text. All its places are copied, whose number is known when this is built.
@@ -96,8 +97,9 @@ impl Block {
         ensures same { self.new ≡ self.old ++ text.now }
         ensures short { length self.new ≤ length self.old + N }
     {
-        copy_in(&mut self.cells, self.len, text.cells());
-        self.len += text.len();
+        let start = self.len;
+        copy_in(&mut self.cells, start, text.cells());
+        self.len = start + text.len();
     }
 
     /// Appends some bytes.
@@ -106,8 +108,9 @@ impl Block {
         requires { length self.old + length bytes.now ≤ BLOCK_SIZE }
         ensures { self.new ≡ self.old ++ bytes.now }
     {
-        copy_in(&mut self.cells, self.len, bytes);
-        self.len += bytes.len();
+        let start = self.len;
+        copy_in(&mut self.cells, start, bytes);
+        self.len = start + bytes.len();
     }
 }
 

@@ -1,6 +1,6 @@
 //! The ticks of a run as text, no part of the standards.
 
-ghost use Rattle.std.specs.Prelude.{◌≡◌, ◌+◌, ◌<◌, ◌≤◌, ◌++◌, codes, decimal, length};
+ghost use Rattle.std.specs.Prelude.{◌≡◌, ◌+◌, ◌-◌, ◌<◌, ◌≤◌, ◌++◌, codes, decimal, length};
 ghost use Rattle.trace_lines.specs.Lines.{front_digits};
 
 use crate::block::{BLOCK_SIZE, Block};
@@ -32,16 +32,34 @@ impl Model for TickText {
     ghost invariant = { λ t. (t.last < 10) × (t.text ≡ front_digits t.tens ++ (48 + t.last) ∷ 32 ∷ []) × (t.tens * 10 + t.last ≤ MAX_TICKS) };
 }
 
-/// The digits of ten times a number, and a space.
+/// The text becomes the digits of ten times a number, and a space.
 #[inline(never)]
-fn spelled_tens(tens: u32) -> ShortText<16>
-    ensures { result ≡ decimal tens ++ codes "0 " }
+fn spell_tens(tens: u32, spelled: &mut ShortText<16>)
+    ensures { spelled.new ≡ decimal tens ++ codes "0 " }
 {
     let mut buffer = Buffer::new();
     let mut text: ArrayString<16> = ArrayString::new();
     text.push_str(buffer.format(tens));
     text.push_str("0 ");
-    ShortText::of(text.as_str().as_bytes())
+    *spelled = ShortText::of(text.as_str().as_bytes());
+}
+
+/// The digits of ten times a number, behind those of the last tick before: where only two of them differ, these are written.
+#[inline(never)]
+fn next_tens(tens: u32, text: &mut ShortText<16>)
+    requires some { 0 < tens }
+    requires few { tens ≤ MAX_TICKS }
+    requires before { text.old ≡ front_digits (tens - 1) ++ codes "9 " }
+    ensures { text.new ≡ decimal tens ++ codes "0 " }
+{
+    let digit = tens % 10;
+    if tens > 1 && digit != 0 {
+        let end = text.len();
+        text.set(end - 3, b'0' + digit as u8);
+        text.set(end - 2, b'0');
+    } else {
+        spell_tens(tens, text);
+    }
 }
 
 impl TickText {
@@ -66,10 +84,9 @@ impl TickText {
             self.last += 1;
             self.text.set(self.text.len() - 2, b'0' + self.last);
         } else {
-            let tens = self.tens + 1;
-            self.tens = tens;
+            self.tens += 1;
             self.last = 0;
-            self.text = spelled_tens(tens);
+            next_tens(self.tens, &mut self.text);
         }
     }
 

@@ -4,6 +4,7 @@ ghost use Rattle.std.specs.Prelude.{◌≡◌, ◌≤◌, ◌+◌, ◌++◌, [],
 ghost use Rattle.std.specs.Io.KnownBytes.{Appends};
 ghost use Rattle.std.specs.List.{AllByRecursion};
 ghost use Rattle.osek_base.specs.Trace.{run};
+ghost use Rattle.osek_base.specs.View.{view_records};
 ghost use Rattle.kernel.specs.Run.{is_over};
 ghost use Rattle.blocking_laws.specs.Steps.{record_at};
 ghost use Rattle.trace_lines.specs.Programs.{IsOfProgram};
@@ -18,8 +19,26 @@ use trace_lines::{
     Block, InstructionTexts, Sink, SinkFault, TickText, flush, upper_view_into, write_tick,
 };
 
+/// Does a tick, and leaves its records that are in the view at a priority. `all` is room for all of them.
+#[inline(never)]
+fn tick_viewed(
+    kernel: &mut Kernel<'_, LevelQueues>,
+    system: &System,
+    p: u8,
+    all: &mut TickRecord,
+    records: &mut TickRecord,
+)
+    requires { is_over kernel.old ≡ false }
+    ensures records { records.new ≡ view_records system.now p (record_at kernel.old.system kernel.old.mode kernel.old.arrivals kernel.old.ticks) }
+    ensures next { kernel.new ≡ record kernel.old { ticks = kernel.old.ticks + 1 } }
+{
+    kernel.tick_into(all);
+    upper_view_into(system, p, all, records);
+}
+
 /// Does a tick, leaves its records that are written, and answers the number of blockers where it is. `all` is room for the
 /// records of which a view is taken.
+#[inline(always)]
 fn tick_shown(
     kernel: &mut Kernel<'_, LevelQueues>,
     system: &System,
@@ -32,20 +51,14 @@ fn tick_shown(
     ensures records { records.new ≡ records_shown system.now shown (record_at kernel.old.system kernel.old.mode kernel.old.arrivals kernel.old.ticks) }
     ensures next { kernel.new ≡ record kernel.old { ticks = kernel.old.ticks + 1 } }
 {
+    if let Shown::View(p) = shown {
+        tick_viewed(kernel, system, p, all, records);
+        return None;
+    }
+    kernel.tick_into(records);
     match shown {
-        Shown::All => {
-            kernel.tick_into(records);
-            None
-        }
-        Shown::Blocking => {
-            kernel.tick_into(records);
-            kernel.blockers()
-        }
-        Shown::View(p) => {
-            kernel.tick_into(all);
-            upper_view_into(system, p, all, records);
-            None
-        }
+        Shown::Blocking => kernel.blockers(),
+        Shown::All | Shown::View(_) => None,
     }
 }
 

@@ -6,9 +6,9 @@ use Rattle.kernel.proofs.execute_phase.execute.Goals as goal
 
 pub next_instruction-instr-requires-clause-placed : goal.next_instruction-instr-requires-clause-placed
 next_instruction-instr-requires-clause-placed g c =
-    subst (λ (x : Context). IsPlaced c.args.system.now c.args.owner.now x) (sym c.cpu_of-cpu.ensures) c.requires.placed
+    subst (λ (x : Context). IsPlaced c.args.system.now c.args.owner x) (sym c.cpu_of-cpu.ensures) c.requires.placed
 
 pub execute_instr-requires-clause-instruction : goal.execute_instr-requires-clause-instruction
 execute_instr-requires-clause-instruction g c =
-    subst (λ (x : Context). IsNext c.args.system.now (record { owner = c.args.owner.now; cpu = x }) c.next_instruction-instr.result)
+    subst (λ (x : Context). IsNext c.args.system.now (record { owner = c.args.owner; cpu = x }) c.next_instruction-instr.result)
     c.cpu_of-cpu.ensures c.next_instruction-instr.ensures

@@ -16,7 +16,7 @@ use Rattle.kernel.specs.Run.{executing}
 pub seen_if-before-requires : goal.seen_if-before-requires
 seen_if-before-requires g c =
     let S = c.args.system.now in
-    let e = executing c.args.core.now c.args.owner.now in
+    let e = executing c.args.core.now c.args.owner in
     let k : KnownPlace S e.owner e.cpu.place = placed_known S e.owner e.cpu c.requires.proper c.requires.placed in
     subst (λ (r : Option ℕ). IfSome r (λ t. t < length c.args.core.now.system.tasks)) (sym c.acting_task.ensures)
     (subst (λ (T : System). IfSome (named_by (Instr.Service c.args.service.now)) (λ t. t < length T.tasks)) (sym c.requires.system)
@@ -25,7 +25,7 @@ seen_if-before-requires g c =
 pub executed_since-requires-clause-task : goal.executed_since-requires-clause-task
 executed_since-requires-clause-task g c =
     let S = c.args.system.now in
-    let e = executing c.args.core.now c.args.owner.now in
+    let e = executing c.args.core.now c.args.owner in
     let o : Objects = c.args.core.now in
     let k : KnownPlace S e.owner e.cpu.place = placed_known S e.owner e.cpu c.requires.proper c.requires.placed in
     subst (λ (T : System). IfSome c.seen_if-before.result (λ b. b.task < length T.tasks)) (sym (c.execute_service.ensures.system ∙ c.requires.system))

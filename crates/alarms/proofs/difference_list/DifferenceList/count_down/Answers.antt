@@ -11,9 +11,9 @@ cut_last-requires c = λ more.
 pub invariant_of-self : goal.invariant_of-self
 invariant_of-self c =
     let least = counted_span c.self.inside.entries.items (length c.self.inside.entries.items) refl in
-    rw c.cut_last.ensures (omega arith)
+    rw c.cut_last.ensures.items (omega arith)
 
-pub returns : goal.returns
-returns c =
+pub returns-clause-waits : goal.returns-clause-waits
+returns-clause-waits c =
     let ahead : are_ahead (waits c.self.inside.entries.items) ≡ true = ap are_ahead c.self.view_is ∙ c.requires in
-    rw (c.cut_last.ensures, ← c.self.view_is) (counted c.self.inside.entries.items (length c.self.inside.entries.items) refl ahead)
+    rw (c.cut_last.ensures.items, ← c.self.view_is) (counted c.self.inside.entries.items (length c.self.inside.entries.items) refl ahead)

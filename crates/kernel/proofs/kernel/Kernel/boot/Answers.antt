@@ -33,7 +33,7 @@ invariant_of-result g c =
       none_later = λ later. absurd (omega (arith, later));
       stamped = boot_listed S c.in-Some.mode c.args.arrivals (kept_in o) c.begun_stamps-stamps.result proper
           (ap (λ (k : Kept). k.slots) (begun_is S proper c.in-Some.mode c.args.arrivals w o none s.kept)) c.begun_stamps-stamps.ensures;
-      levels = boot_last S c.in-Some.mode c.args.arrivals c.new-2.result c.new-2.ensures;
+      levels = boot_last S c.in-Some.mode c.args.arrivals c.new-3.result c.new-3.ensures;
       counted = λ later. absurd (omega (arith, later));
     }
 

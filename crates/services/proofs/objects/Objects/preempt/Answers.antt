@@ -1,8 +1,10 @@
 use Rattle.std.proofs.Common.{ℕ, ◌<◌, ◌≤◌, ◌++◌, ◌∙◌, List, length, subst, sym, ap, arith}
 use Rattle.osek_base.specs.System.{System}
 use Rattle.osek_base.specs.Ceiling.{top_priority}
-use Rattle.kept_state.specs.Moves.{first, dispatched}
-use Rattle.services.specs.Objects.{Objects, kept_in, by_level}
+use Rattle.ready_queues.specs.Moves.{first}
+use Rattle.kept_state.specs.Moves.{dispatched}
+use Rattle.ready_queues.specs.LevelLists.{by_level}
+use Rattle.services.specs.Objects.{Objects, kept_in}
 use Rattle.services.proofs.BoundLemmas.{put_below}
 use Rattle.services.proofs.objects.Objects.preempt.Goals as goal
 

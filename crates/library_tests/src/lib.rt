@@ -1,0 +1,18 @@
+//! Tests of what the program doesn't show: printed OIL, both kinds of ready lists and the runs over
+//! them, a run over ready lists of another make, and instructions as words.
+#![tactic(auto)]
+
+#[cfg(test)]
+mod counting_queues;
+#[cfg(test)]
+mod instruction_words;
+#[cfg(test)]
+mod most_objects;
+#[cfg(test)]
+mod printed_files;
+#[cfg(test)]
+mod queue_runs;
+#[cfg(test)]
+mod ready_lists;
+#[cfg(test)]
+mod three_tasks;

@@ -1,0 +1,33 @@
+//! A system of three tasks and four resources.
+
+use oil_reader::read_oil;
+use osek_base::System;
+use std::alloc::Global;
+use std::test::Fail;
+use system_gen::generate;
+use task_asm::assemble;
+
+const OIL: &str = "OIL_VERSION = \"2.5\";
+CPU c {
+  OS o { STATUS = EXTENDED; STARTUPHOOK = FALSE; ERRORHOOK = FALSE;
+    SHUTDOWNHOOK = FALSE; PRETASKHOOK = FALSE; POSTTASKHOOK = FALSE; };
+  APPMODE M {};
+  TASK A { PRIORITY = 1; SCHEDULE = FULL; ACTIVATION = 1; AUTOSTART = TRUE { APPMODE = M; }; };
+  TASK B { PRIORITY = 1; SCHEDULE = FULL; ACTIVATION = 1; AUTOSTART = FALSE; };
+  TASK C { PRIORITY = 2; SCHEDULE = FULL; ACTIVATION = 1; AUTOSTART = FALSE; };
+  RESOURCE R0 { RESOURCEPROPERTY = STANDARD; };
+  RESOURCE R1 { RESOURCEPROPERTY = STANDARD; };
+  RESOURCE R2 { RESOURCEPROPERTY = STANDARD; };
+  RESOURCE R3 { RESOURCEPROPERTY = STANDARD; };
+};
+";
+
+/// C preempts A, which goes on before B of its priority.
+const PROGRAMS: &str = ".task A\nACT B\nACT C\nNOP\nTERM\nz: JMP z
+.task B\nTERM\nz: JMP z\n.task C\nTERM\nz: JMP z\n";
+
+pub fn three_tasks(alloc: Global) -> Result<System, Fail> {
+    let file = read_oil(alloc, OIL.as_bytes())?;
+    let programs = assemble(alloc, PROGRAMS.as_bytes())?;
+    Ok(generate(alloc, file, programs)?)
+}

@@ -1,0 +1,3 @@
+.task A
+GETR RES_SCHEDULER
+z: JMP z

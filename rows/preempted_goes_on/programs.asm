@@ -1,0 +1,9 @@
+.task U
+TERM
+z: JMP z
+.task L
+ACT K
+z: JMP z
+.task K
+TERM
+z: JMP z
