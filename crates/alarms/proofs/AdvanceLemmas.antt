@@ -4,7 +4,6 @@ use Rattle.std.specs.List.{filter, list_any}
 use Rattle.std.proofs.lemmas.List.{length-set, get_or-set_same, get_or-set_other}
 use Rattle.std.proofs.lemmas.List.Folds.{list_any_more}
 use Rattle.std.proofs.lemmas.Bool.{cases_eq}
-use Rattle.osek_base.specs.declared.limits.TheConstants.{MAX_TICKS}
 use Rattle.osek_base.specs.declared.task.Counter.{Counter}
 use Rattle.osek_base.specs.Lists.{below}
 use Rattle.osek_base.specs.System.{System}
@@ -65,16 +64,6 @@ or-assoc : (a b c : Bool) → ((a || b) || c) ≡ (a || (b || c))
 or-assoc true b c = refl
 or-assoc false b c = refl
 
-pub none_through : (tick : ℕ) (old : List CounterAlarms) (flags : ℕ) → AreThrough tick old old flags flags 0
-none_through tick old flags = record {
-  same = refl;
-  ready = λ k low. absurd (omega arith);
-  counters = λ k low. absurd (omega arith);
-  expiries = λ k a low. absurd (omega arith);
-  rest = λ k low. refl;
-  raised = λ a. sym (or_false (is_raised a flags));
-}
-
 module _ (tick : ℕ) (old new : List CounterAlarms) (first before flags : ℕ) (i : ℕ) (x : CounterAlarms)
     (done : AreThrough tick old new first before i) (low : i < length old) (one : IsThrough tick (counter_at new i) x before flags) where
   next_here : (k : ℕ) → k ≡ i → counter_at (set new i x) k ≡ x
@@ -128,27 +117,7 @@ module _ (tick : ℕ) (old new : List CounterAlarms) (first before flags : ℕ) 
     raised = next_raised;
   }
 
-pub through_all : (tick : ℕ) (old new : List CounterAlarms) (before flags : ℕ) → AreThrough tick old new before flags (length old)
-    → AreAdvanced tick old new
-through_all tick old new before flags done = record {
-  same = done.same;
-  ready = done.ready;
-  counters = done.counters;
-  expiries = done.expiries;
-}
-
 module _ (tick : ℕ) (ks new : List CounterAlarms) (numbers : List ℕ) (whole : AreWhole tick ks numbers) (all : AreAdvanced tick ks new) where
-  pub advanced_whole : tick + 1 < MAX_TICKS → AreWhole (tick + 1) new numbers
-  advanced_whole early = record {
-    early = omega arith;
-    few = whole.few;
-    ready = λ k inside. all.ready k (rw all.same at inside);
-    known = λ a inside. rw all.same (whole.known a inside);
-    own = λ k a inside other.
-        let low : k < length ks = rw all.same at inside in
-        all.expiries k a low ∙ ap (expired_at (count_of (tick + 1) (counter_at ks k))) (whole.own k a low other);
-  }
-
   advanced_counters : (ns : List ℕ) → ((a : ℕ) → a < length ns → number_of ns a < length ks) → counters_of new ns ≡ counters_of ks ns
   advanced_counters [] known = refl
   advanced_counters (n ∷ ns) known =

@@ -3,12 +3,12 @@ use Rattle.std.proofs.Common.{ℕ, zero, suc, ◌≡◌, ◌<◌, ◌≤◌, ◌
 use Rattle.std.specs.List.{list_all}
 use Rattle.std.proofs.lemmas.Nat.{div-mul-add, div-add-mod'}
 use Rattle.std.proofs.Math.Nat.{add-div_left, mod-lt, mod-add-mod}
-use Rattle.std.proofs.lemmas.Bool.{cases_Bool, and_parts, eqb-true, ltb-true, lt-ltb}
+use Rattle.std.proofs.lemmas.Bool.{cases_Bool, and_parts, eqb-true, ltb-true, lt-ltb, not-true}
 use Rattle.std.proofs.lemmas.Bool.Decides.{nat_tests}
 use Rattle.alarms.specs.Waits.{Wait, wait_of, less, again, is_over, expiry_at, has, are_apart, are_ahead, without, one_less, is_none_over, are_low, overs, inserted, is_sooner, left_in}
 use Rattle.alarms.specs.Alarms.{expired_at, remaining_at}
 use Rattle.osek_base.specs.Alarm.{is_due_at}
-use Rattle.alarms.proofs.ExpiryLemmas.{expiry-less, expiry-again, due-over, ahead-over, wait_of-less, wait_of-inserted, wait_of-without, or_first, or_second, not_false}
+use Rattle.alarms.proofs.ExpiryLemmas.{expiry-less, expiry-again, due-over, ahead-over, wait_of-less, wait_of-inserted, wait_of-without, or_first, or_second}
 
 -- the count at the next tick
 pub count_stays : (t b : ℕ) → 0 < b → (t + 1 ≡ t / b * b + b → ⊥) → (t + 1) / b ≡ t / b
@@ -77,7 +77,7 @@ not_in : (ws : List Wait) (b : ℕ) → are_apart ws ≡ true → has b (without
 not_in [] b apart = refl
 not_in (w ∷ ws) b apart =
     let parts = and_parts (not (has w.alarm ws)) (are_apart ws) apart in
-    let alone : has w.alarm ws ≡ false = not_false _ parts.0 in
+    let alone : has w.alarm ws ≡ false = not-true _ parts.0 in
     elim (cases_Bool (eqb w.alarm b)) [
       | inl found ↦ rw found (rw (eqb-true w.alarm b found) at alone)
       | inr other ↦ rw (other, other) (not_in ws b parts.1)
@@ -87,7 +87,7 @@ pub apart-without : (ws : List Wait) (b : ℕ) → are_apart ws ≡ true → are
 apart-without [] b apart = refl
 apart-without (w ∷ ws) b apart =
     let parts = and_parts (not (has w.alarm ws)) (are_apart ws) apart in
-    let alone : has w.alarm ws ≡ false = not_false _ parts.0 in
+    let alone : has w.alarm ws ≡ false = not-true _ parts.0 in
     elim (cases_Bool (eqb w.alarm b)) [
       | inl found ↦ rw found parts.1
       | inr other ↦ rw (other, has-without ws w.alarm b alone) (apart-without ws b parts.1)
@@ -116,7 +116,7 @@ low-without [] n low apart = refl
 low-without (w ∷ ws) n low apart =
     let all = and_parts (ltb w.alarm (suc n)) (are_low (suc n) ws) low in
     let parts = and_parts (not (has w.alarm ws)) (are_apart ws) apart in
-    let alone : has w.alarm ws ≡ false = not_false _ parts.0 in
+    let alone : has w.alarm ws ≡ false = not-true _ parts.0 in
     elim (cases_Bool (eqb w.alarm n)) [
       | inl found ↦
           let none : has n ws ≡ false = rw (eqb-true w.alarm n found) at alone in

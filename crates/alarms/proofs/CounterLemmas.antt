@@ -1,21 +1,14 @@
 -- The counters and the starts of a proper system's alarms.
-use Rattle.std.proofs.Common.{ℕ, ◌≡◌, ◌<◌, ◌≤◌, inl, inr, Bool, true, ◌&&◌, ◌||◌, eqb, leb, List, length, Option, Some, None, sym, ◌∙◌, subst, arith}
-use Rattle.std.specs.List.{list_all}
+use Rattle.std.proofs.Common.{ℕ, ◌≡◌, ◌<◌, ◌≤◌, inl, inr, true, ◌&&◌, ◌||◌, eqb, leb, length, Option, Some, None, subst, arith}
 use Rattle.std.proofs.lemmas.Grind.{common_steps}
-use Rattle.std.proofs.lemmas.Bool.{cases_Bool, false≢true, and_parts, leb-true, ltb-true}
-use Rattle.std.proofs.lemmas.List.Folds.{list_all_at}
+use Rattle.std.proofs.lemmas.Bool.{cases_Bool, and_parts, leb-true, ltb-true}
 use Rattle.std.specs.Prelude.{slice_index_or}
 use Rattle.osek_base.specs.declared.limits.TheConstants.{MAX_COUNTS, MAX_ALARMS}
 use Rattle.osek_base.specs.declared.task.Counter.{Counter}
 use Rattle.osek_base.specs.Lists.{is_in}
 use Rattle.osek_base.specs.System.{System, AlarmStart, alarm, counter_of, no_alarm, no_counter, alarm_start_in, start_in}
 use Rattle.osek_base.specs.Proper.{IsProper, is_proper_alarm, is_proper_counter, is_proper_start}
-
-all_at : {X : Type 0} (test : X → Bool) (xs : List X) (i : ℕ) (d : X) → i < length xs → list_all test xs ≡ true → test (slice_index_or xs i d) ≡ true
-all_at test xs i d low all = elim (cases_Bool (test (slice_index_or xs i d))) [
-  | inl holds ↦ holds
-  | inr fails ↦ absurd (false≢true (sym (list_all_at test xs i d low fails) ∙ all))
-]
+use Rattle.osek_base.proofs.PlaceLemmas.{all_at}
 
 alarm_proper : (S : System) (a : ℕ) → IsProper S → a < length S.alarms → is_proper_alarm S (alarm S a) ≡ true
 alarm_proper S a proper low = all_at (is_proper_alarm S) S.alarms a no_alarm low (and_parts _ _ proper.objects).1

@@ -1,7 +1,7 @@
 -- The wait of each alarm through changes of the list.
-use Rattle.std.proofs.Common.{ℕ, ◌≡◌, ◌<◌, ◌≤◌, ◌+◌, ◌-◌, List, [], ◌∷◌, ◌++◌, map, length, Option, None, Some, Bool, true, false, cond, not, ◌&&◌, ◌||◌, inl, inr, refl, sym, ◌∙◌, ap, arith, eqb}
+use Rattle.std.proofs.Common.{ℕ, ◌≡◌, ◌<◌, ◌≤◌, ◌+◌, ◌-◌, List, [], ◌∷◌, ◌++◌, map, length, Option, None, Some, Bool, true, false, cond, not, ◌||◌, inl, inr, refl, sym, ◌∙◌, ap, arith, eqb}
 use Rattle.std.specs.List.{list_all}
-use Rattle.std.proofs.lemmas.Bool.{cases_Bool, false≢true, and_parts, eqb-true, ne_eqb, ltb-true}
+use Rattle.std.proofs.lemmas.Bool.{cases_Bool, and_parts, eqb-true, ne_eqb, ltb-true, or_from, and_from, not-true, not_from_false}
 use Rattle.std.proofs.lemmas.Bool.Decides.{nat_tests}
 use Rattle.std.proofs.lemmas.List.Folds.{list_any-append}
 use Rattle.osek_base.specs.declared.limits.TheConstants.{MAX_ALARMS}
@@ -16,13 +16,6 @@ or_first false b h = refl
 pub or_second : (a b : Bool) → (a || b) ≡ false → b ≡ false
 or_second true b h = absurd (cc)
 or_second false b h = h
-
-pub not_false : (b : Bool) → not b ≡ true → b ≡ false
-not_false true h = absurd (false≢true h)
-not_false false h = refl
-
-false_not : (b : Bool) → b ≡ false → not b ≡ true
-false_not b h = rw h refl
 
 -- two alarms apart aren't both the one asked for
 one_alone : (x t a : ℕ) → eqb x t ≡ false → eqb x a ≡ true → eqb t a ≡ false
@@ -75,7 +68,7 @@ apart-inserted (x ∷ rest) t none apart =
     let away : eqb t.alarm x.alarm ≡ false = eqb_swap _ _ (or_first _ _ none) in
     let others : has t.alarm rest ≡ false = or_second _ _ none in
     let parts = and_parts (not (has x.alarm rest)) (are_apart rest) apart in
-    let first : has x.alarm rest ≡ false = not_false _ parts.0 in
+    let first : has x.alarm rest ≡ false = not-true _ parts.0 in
     elim (cases_Bool (list_all (is_sooner t) (x ∷ rest))) [
       | inl all ↦ rw (all, none) apart
       | inr some ↦ rw (some, has-inserted rest t x.alarm, away, first) (apart-inserted rest t others parts.1)
@@ -85,24 +78,18 @@ pub record IsApartLast (rest : List Wait) (w : Wait) : Type 0 where
   pub apart : are_apart rest ≡ true
   pub none : has w.alarm rest ≡ false
 
-or_of : (a b : Bool) → a ≡ false → b ≡ false → (a || b) ≡ false
-or_of a b p q = rw p q
-
-and_of : (a b : Bool) → a ≡ true → b ≡ true → (a && b) ≡ true
-and_of a b p q = rw p q
-
 pub apart-last : (rest : List Wait) (w : Wait) → are_apart (rest ++ w ∷ []) ≡ true → IsApartLast rest w
 apart-last [] w apart = record { apart = refl; none = refl }
 apart-last (x ∷ rest) w apart =
     let parts = and_parts (not (has x.alarm (rest ++ w ∷ []))) (are_apart (rest ++ w ∷ [])) apart in
     let behind = apart-last rest w parts.1 in
     let split : has x.alarm (rest ++ w ∷ []) ≡ (has x.alarm rest || has x.alarm (w ∷ [])) = list_any-append (λ v. eqb v.alarm x.alarm) rest (w ∷ []) in
-    let free : (has x.alarm rest || has x.alarm (w ∷ [])) ≡ false = sym split ∙ not_false _ parts.0 in
+    let free : (has x.alarm rest || has x.alarm (w ∷ [])) ≡ false = sym split ∙ not-true _ parts.0 in
     let first : has x.alarm rest ≡ false = or_first _ _ free in
     let last : eqb w.alarm x.alarm ≡ false = or_first _ _ (or_second (has x.alarm rest) (has x.alarm (w ∷ [])) free) in
     record {
-      apart = and_of _ _ (false_not _ first) behind.apart;
-      none = or_of _ _ (eqb_swap w.alarm x.alarm last) behind.none;
+      apart = and_from _ _ (not_from_false _ first) behind.apart;
+      none = or_from _ _ (eqb_swap w.alarm x.alarm last) behind.none;
     }
 
 pub overs-last : (rest : List Wait) (w : Wait) → w.left ≡ 0 → overs (rest ++ w ∷ []) ≡ overs rest + 1
@@ -310,7 +297,7 @@ pub wait_of-without : (ws : List Wait) (b a : ℕ) → are_apart ws ≡ true →
 wait_of-without [] b a apart = elim (cases_Bool (eqb b a)) [ inl here ↦ rw here refl | inr away ↦ rw away refl ]
 wait_of-without (w ∷ ws) b a apart =
     let parts = and_parts (not (has w.alarm ws)) (are_apart ws) apart in
-    let alone : has w.alarm ws ≡ false = not_false _ parts.0 in
+    let alone : has w.alarm ws ≡ false = not-true _ parts.0 in
     elim (cases_Bool (eqb w.alarm b)) [
       | inl found ↦
           let same : w.alarm ≡ b = eqb-true w.alarm b found in

@@ -4,7 +4,7 @@ use Rattle.std.proofs.Math.Seq.{drop-cons, take-suc, take-suc-set, drop-set-lt, 
 use Rattle.std.proofs.lemmas.List.{take-append-drop, drop_all, append-nil, length-set, get_or-set_same}
 use Rattle.std.specs.List.{insert, remove}
 use Rattle.std.proofs.lemmas.Bool.Decides.{nat_tests}
-use Rattle.std.proofs.lemmas.Bool.{ltb-true, lt-ltb, ltb-false, ne_eqb, and_parts}
+use Rattle.std.proofs.lemmas.Bool.{ltb-true, lt-ltb, ltb-false, ne_eqb, and_parts, and_right}
 use Rattle.std.specs.List.{list_all, list_any}
 use Rattle.alarms.specs.declared.difference_list.Entry.{Entry}
 use Rattle.alarms.specs.Waits.{Wait, span, wait_before, waits, is_sooner, inserted, without, wait_of, left_in, one_less, cut, no_entry, cut_at, grown, grown_at, is_of, are_ahead}
@@ -20,9 +20,6 @@ length-waits (x ∷ xs) = ap suc (length-waits xs)
 and-false : (b : Bool) → (b && false) ≡ false
 and-false true = refl
 and-false false = refl
-
-and-false_of : (a b : Bool) → b ≡ false → (a && b) ≡ false
-and-false_of a b e = rw e (and-false a)
 
 -- where one wait isn't sooner, not all are
 not_all : (t : Wait) (front after : List Entry) (e : Entry) → is_sooner t (wait_before (span after) e) ≡ false
@@ -53,7 +50,7 @@ put_between t new e [] after is all late low =
     let same : (e.difference - new.difference) + (new.difference + span after) ≡ e.difference + span after = omega arith in
     rw (late, ← put_first t new after is all, same) refl
 put_between t new e (x ∷ front) after is all late low =
-    rw (and-false_of (is_sooner t (wait_before (span (front ++ e ∷ after)) x)) _ (not_all t front after e late), span-put new e front after low, put_between t new e front after is all late low) refl
+    rw (and_right (is_sooner t (wait_before (span (front ++ e ∷ after)) x)) _ (not_all t front after e late), span-put new e front after low, put_between t new e front after is all late low) refl
 
 -- a test sees only how far two waits are apart
 shift_lt : (a b n : ℕ) → ltb (a + n) (b + n) ≡ ltb a b
@@ -294,9 +291,6 @@ all_ahead_front (x ∷ front) e some =
     let least : 1 ≤ span (front ++ e ∷ []) = rest.0 in
     let here : ltb 0 (x.difference + span (front ++ e ∷ [])) ≡ true = lt-ltb 0 (x.difference + span (front ++ e ∷ [])) (omega arith) in
     (omega arith, rw (here, rest.1) refl)
-
-pub none_ahead : (es : List Entry) → length es ≡ 0 → are_ahead (waits es) ≡ true
-none_ahead es none = rw (nothing es none) refl
 
 pub all_ahead : (es : List Entry) (n : ℕ) → n ≡ length es → 0 < n → 1 ≤ (get_or es (n - 1) no_entry).difference → are_ahead (waits es) ≡ true
 all_ahead es zero all more some = absurd (omega arith)

@@ -1,7 +1,7 @@
 -- OSEK/VDX OS: alarms, counters and alarm management. The alarms of a system with their expiries, by counts that never wrap.
 use Rattle.std.specs.Prelude.{ℕ, ◌+◌, ◌-◌, ◌/◌, ◌≡◌, if◌then◌else◌, List, map, Option, None, Some, length, slice_index_or}
 use Rattle.osek_base.specs.declared.status.Status.{Status}
-use Rattle.osek_base.specs.declared.instr.Service.{Service}
+use Rattle.osek_base.specs.Types.{ServiceCall}
 use Rattle.osek_base.specs.declared.task.Counter.{Counter}
 use Rattle.osek_base.specs.System.{System, counter, no_counter}
 use Rattle.osek_base.specs.State.{Expiry, State, still}
@@ -31,13 +31,13 @@ abbrev pub state_of : System → AlarmTable → State
 state_of S a = record (still S) { alarms = a.expiries; tick = a.tick }
 
 -- the refusal of a call, its status, and the expiries after it, by the service table
-abbrev pub refusal : System → AlarmTable → Service ℕ → Option Status
+abbrev pub refusal : System → AlarmTable → ServiceCall → Option Status
 refusal S a call = first_refusal (refusals S NobodyCalls (state_of S a) call)
 
-abbrev pub status_of : System → AlarmTable → Service ℕ → Status
+abbrev pub status_of : System → AlarmTable → ServiceCall → Status
 status_of S a call = answer (refusal S a call)
 
-abbrev pub after_call : System → AlarmTable → Service ℕ → AlarmTable
+abbrev pub after_call : System → AlarmTable → ServiceCall → AlarmTable
 after_call S a call = record a { expiries = (changed S NobodyCalls (state_of S a) call (refusal S a call)).alarms }
 
 -- how many counts an expiry is ahead of a count

@@ -213,8 +213,10 @@ fn take_last(entries: &mut ArrayVec<Entry, MAX_ALARMS>) -> Entry
     ensures value { result ≡ slice_index_or entries.old.items (length entries.old.items - 1) no_entry }
     ensures items { entries.new.items ≡ remove entries.old.items (length entries.old.items - 1) }
 {
-    let last = entries.len() - 1;
-    entries.remove(last)
+    match entries.pop() {
+        Some(last) => last,
+        None => unreachable!(),
+    }
 }
 
 /// The last wait is one count shorter. Answers whether it is over.
@@ -258,7 +260,11 @@ fn put_in(entries: &mut ArrayVec<Entry, MAX_ALARMS>, place: usize, entry: Entry)
         let before = &mut entries[place - 1];
         before.difference -= entry.difference;
     }
-    entries.insert(place, entry);
+    if place == entries.len() {
+        entries.push(entry);
+    } else {
+        entries.insert(place, entry);
+    }
 }
 
 /// Where an alarm that is to expire in `wait` counts goes, and what is left of its wait there.

@@ -1,7 +1,7 @@
 -- Texts cut at the first of a byte: lines at LF, and a line's parts at its space.
 use Rattle.std.proofs.Common.{◌≡◌, ℕ, ◌+◌, ◌<◌, Bool, true, false, not, ◌&&◌, ◌==◌, List, [], ◌∷◌, ◌++◌, length, take, drop, get_or, refl, sym, ap, ◌∙◌, add-one, eq-eqb, ne_eqb}
 use Rattle.std.proofs.Math.Seq.{drop-cons}
-use Rattle.std.proofs.lemmas.Bool.{false≢true}
+use Rattle.std.proofs.lemmas.Bool.{false≢true, not-true}
 use Rattle.std.proofs.lemmas.List.{take-append-drop}
 use Rattle.std.specs.List.{list_all}
 use Rattle.osek_base.specs.Words.{is_digit}
@@ -19,23 +19,11 @@ both_right false b e = absurd (false≢true e)
 
 -- ---- the first of a byte
 
-pub not_true : (t : Bool) → not t ≡ true → t ≡ false
-not_true true e = absurd (false≢true e)
-not_true false e = refl
-
 lacks_first : (byte b : ℕ) (bytes : List ℕ) → lacks byte (b ∷ bytes) ≡ true → (b == byte) ≡ false
-lacks_first byte b bytes e = not_true (b == byte) (both_left (not (b == byte)) (lacks byte bytes) e)
+lacks_first byte b bytes e = not-true (b == byte) (both_left (not (b == byte)) (lacks byte bytes) e)
 
 lacks_rest : (byte b : ℕ) (bytes : List ℕ) → lacks byte (b ∷ bytes) ≡ true → lacks byte bytes ≡ true
 lacks_rest byte b bytes e = both_right (not (b == byte)) (lacks byte bytes) e
-
-lacks_itself : (byte : ℕ) (bytes : List ℕ) → lacks byte (byte ∷ bytes) ≡ true → false ≡ true
-lacks_itself byte bytes e = sym (lacks_first byte byte bytes e) ∙ eq-eqb byte byte refl
-
--- a text without the byte doesn't go on with it
-pub lacks_any : (byte : ℕ) (front bytes : List ℕ) → lacks byte (front ++ byte ∷ bytes) ≡ true → false ≡ true
-lacks_any byte [] bytes e = lacks_itself byte bytes e
-lacks_any byte (b ∷ front) bytes e = lacks_any byte front bytes (lacks_rest byte b (front ++ byte ∷ bytes) e)
 
 -- a text is what stands before a place, the byte there, and what follows
 pub cut_at : (byte : ℕ) (text : List ℕ) (i : ℕ) → i < length text → get_or text i 0 ≡ byte

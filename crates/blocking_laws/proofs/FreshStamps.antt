@@ -6,6 +6,7 @@ use Rattle.osek_base.specs.declared.arrivals.Arrival.{Arrival}
 use Rattle.osek_base.specs.declared.ids.Owner.{Owner}
 use Rattle.osek_base.specs.declared.instr.Instr.{Instr}
 use Rattle.osek_base.specs.declared.instr.Service.{Service}
+use Rattle.osek_base.specs.Types.{ServiceCall}
 use Rattle.osek_base.specs.declared.instr.Control.{Control}
 use Rattle.osek_base.specs.declared.status.Status.{Status}
 use Rattle.osek_base.specs.System.{System, alarm, instruction_at}
@@ -16,10 +17,10 @@ use Rattle.osek_base.specs.Reschedule.{reschedule}
 use Rattle.osek_base.specs.Blocker.{is_in_state, executing_job, is_number}
 use Rattle.osek_base.specs.Service.{Caller, JobCalls, RoutineCalls, NobodyCalls, caller_ended, with_caller, is_outranked, given_up, gets, releases, waiting_for, meets, is_met, released_by, with_events, event_set, events_cleared, event_awaited, effect, first_refusal, refusals, reply_to, service, unmasked_service, controlled}
 use Rattle.osek_base.specs.Alarm.{due_alarms, alarms_advanced}
-use Rattle.osek_base.specs.Tick.{Step, alarm_acts, alarms_act, alarm_phase, arrival_phase, start_phase, before_execution, with_context, executed, caller_executes, executor, execute_phase, last_phase, action_call, at_values, tick}
+use Rattle.osek_base.specs.Tick.{Step, alarm_acts, alarms_act, alarm_phase, arrival_phase, start_phase, before_execution, executed, caller_executes, executor, execute_phase, last_phase, action_call, at_values, tick}
 use Rattle.osek_base.specs.Trace.{boot, run, arriving}
 use Rattle.osek_base.specs.Proper.{IsProper}
-use Rattle.run_laws.proofs.Lists.{found}
+use Rattle.run_laws.proofs.Lists.{cond_both, found}
 use Rattle.run_laws.proofs.Foremost.{same_ids}
 use Rattle.run_laws.proofs.Single.{IsSoundJob, IsSingle}
 use Rattle.run_laws.proofs.SingleMoves.{reschedule_single}
@@ -90,9 +91,6 @@ unfolding activated
 activated_since S t s u = one_more s.made t u
 
 module _ (S : System) (s : State) where
-  nothing_since : (e : State) → e.made ≡ s.made → IsMadeSince s e
-  nothing_since e same = since_itself s e same
-
   caller_since : (c : Caller) (f : Job → Job) → (with_caller c f s).made ≡ s.made
   caller_since (JobCalls j) f = refl
   caller_since (RoutineCalls a) f = refl
@@ -103,10 +101,6 @@ module _ (S : System) (s : State) where
   ended_since (RoutineCalls a) = refl
   ended_since NobodyCalls = refl
 
-  cond_made : (b : Bool) (x y : State) → x.made ≡ s.made → y.made ≡ s.made → (cond b x y).made ≡ s.made
-  cond_made true x y a b = a
-  cond_made false x y a b = b
-
   set_made : (t m : ℕ) → (event_set t m s).made ≡ s.made
   unfolding released
   set_made t m = go (jobs_of t s.jobs)
@@ -116,7 +110,7 @@ module _ (S : System) (s : State) where
           ≡ s.made
       go [] = refl
       go (j ∷ js) =
-          cond_made (is_met (bit_or (slice_index s.masks t) m) j.waits_for)
+          cond_both (λ (e : State). e.made ≡ s.made) (is_met (bit_or (slice_index s.masks t) m) j.waits_for)
           (released j.id (with_events t (bit_or (slice_index s.masks t) m) s))
           (with_events t (bit_or (slice_index s.masks t) m) s)
           refl refl
@@ -127,12 +121,12 @@ module _ (S : System) (s : State) where
   cleared_made NobodyCalls m = refl
 
   awaited_made : (c : Caller) (m : ℕ) → (event_awaited c m s).made ≡ s.made
-  awaited_made (JobCalls j) m = cond_made (meets m (slice_index s.masks j.id.task)) s
+  awaited_made (JobCalls j) m = cond_both (λ (e : State). e.made ≡ s.made) (meets m (slice_index s.masks j.id.task)) s
       (with_caller (JobCalls j) (waiting_for m) s) refl refl
   awaited_made (RoutineCalls a) m = refl
   awaited_made NobodyCalls m = refl
 
-  effect_since : (c : Caller) (call : Service ℕ) → IsMadeSince s (effect S c s call)
+  effect_since : (c : Caller) (call : ServiceCall) → IsMadeSince s (effect S c s call)
   effect_since c (Service.ActivateTask None) = since_itself s s refl
   effect_since c (Service.ActivateTask (Some t)) = activated_since S t s
   effect_since c Service.TerminateTask = since_itself s (caller_ended c s) (ended_since c)
@@ -143,7 +137,7 @@ module _ (S : System) (s : State) where
       (activated_since S t (caller_ended c s))
   effect_since c Service.Schedule =
       since_itself s (cond (is_outranked S c s.jobs) (with_caller c given_up s) s)
-      (cond_made (is_outranked S c s.jobs) (with_caller c given_up s) s (caller_since c given_up) refl)
+      (cond_both (λ (e : State). e.made ≡ s.made) (is_outranked S c s.jobs) (with_caller c given_up s) s (caller_since c given_up) refl)
   effect_since c Service.GetTaskId = since_itself s s refl
   effect_since c (Service.GetTaskState o) = since_itself s s refl
   effect_since c (Service.GetResource None) = since_itself s s refl
@@ -167,15 +161,15 @@ module _ (S : System) (s : State) where
   effect_since c (Service.GetAlarm o) = since_itself s s refl
   effect_since c (Service.GetAlarmBase o) = since_itself s s refl
 
-  reply_since : (c : Caller) (call : Service ℕ) (o : Option Status) → IsMadeSince s (reply_to S c s call o).state
+  reply_since : (c : Caller) (call : ServiceCall) (o : Option Status) → IsMadeSince s (reply_to S c s call o).state
   reply_since c call None = effect_since c call
   reply_since c call (Some refusal) = since_itself s s refl
 
-  pub service_since : (c : Caller) (call : Service ℕ) → IsMadeSince s (service S c s call).state
+  pub service_since : (c : Caller) (call : ServiceCall) → IsMadeSince s (service S c s call).state
   unfolding service
   service_since c call = reply_since c call (first_refusal ((interrupts_off s, Status.SysDisabled) ∷ refusals S c s call))
 
-  pub unmasked_since : (c : Caller) (call : Service ℕ) → IsMadeSince s (unmasked_service S c s call).state
+  pub unmasked_since : (c : Caller) (call : ServiceCall) → IsMadeSince s (unmasked_service S c s call).state
   unfolding unmasked_service
   unmasked_since c call = reply_since c call (first_refusal (refusals S c s call))
 
@@ -208,10 +202,7 @@ module _ (S : System) where
       (since_both flagged (reschedule S flagged).state (before_execution S arrived s).state (reschedule_since flagged)
       (start_since (reschedule S flagged).state))
 
-  context_made : (c : Caller) (x : Context) (s : State) → (with_context c x s).made ≡ s.made
-  context_made c x s = refl
-
-  control_made : (control : Control) (s : State) → (controlled control s).made ≡ s.made
+  control_made : (control : Control ℕ) (s : State) → (controlled control s).made ≡ s.made
   control_made Control.DisableAllInterrupts s = refl
   control_made _ s = refl
 

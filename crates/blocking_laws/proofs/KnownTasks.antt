@@ -3,17 +3,17 @@ use Rattle.std.proofs.Common.{◌≡◌, ℕ, ◌<◌, true, length, subst}
 use Rattle.osek_base.specs.declared.task.Action.{Action}
 use Rattle.osek_base.specs.System.{System, alarm}
 use Rattle.osek_base.specs.Proper.{IsProper, is_proper_action}
-use Rattle.osek_base.proofs.PlaceLemmas.{and_split}
 use Rattle.run_laws.proofs.Known.{proper_alarm_at}
 use Rattle.run_laws.proofs.SingleTick.{true_lt}
 use Rattle.blocking_laws.specs.Looks.{acting_task}
+use Rattle.std.proofs.lemmas.Bool.{and_parts}
 
 -- the task on which an alarm acts exists
 task_known : (S : System) (action : Action) → is_proper_action S action ≡ true → acting_task action < length S.tasks
 task_known S (Action.ActivateTask t) h = true_lt t (length S.tasks) h
-task_known S (Action.SetEvent t m) h = true_lt t (length S.tasks) (and_split _ _ (and_split _ _ h).0).0
+task_known S (Action.SetEvent t m) h = true_lt t (length S.tasks) (and_parts _ _ (and_parts _ _ h).0).0
 
 pub acts_task : (S : System) (a : ℕ) (action : Action) → IsProper S → a < length S.alarms → (alarm S a).action ≡ action
     → acting_task action < length S.tasks
 acts_task S a action proper inside is =
-    task_known S action (subst (λ v. is_proper_action S v ≡ true) is (and_split _ _ (and_split _ _ (proper_alarm_at S a proper inside)).0).1)
+    task_known S action (subst (λ v. is_proper_action S v ≡ true) is (and_parts _ _ (and_parts _ _ (proper_alarm_at S a proper inside)).0).1)

@@ -1,5 +1,5 @@
 -- An instruction leaves who runs.
-use Rattle.std.proofs.Common.{◌≡◌, refl}
+use Rattle.std.proofs.Common.{ℕ, ◌≡◌, refl}
 use Rattle.osek_base.specs.declared.ids.Owner.{Owner}
 use Rattle.osek_base.specs.declared.instr.Instr.{Instr}
 use Rattle.osek_base.specs.declared.instr.Control.{Control}
@@ -9,15 +9,9 @@ use Rattle.osek_base.specs.State.{State}
 use Rattle.osek_base.specs.Service.{Caller, JobCalls, RoutineCalls, NobodyCalls, service, controlled}
 use Rattle.osek_base.specs.Tick.{executed, caller_executes, executor, execute_phase}
 
-control_running : (control : Control) (s : State) → (controlled control s).running ≡ s.running
+control_running : (control : Control ℕ) (s : State) → (controlled control s).running ≡ s.running
 control_running Control.DisableAllInterrupts s = refl
-control_running Control.EnableAllInterrupts s = refl
-control_running Control.SuspendAllInterrupts s = refl
-control_running Control.ResumeAllInterrupts s = refl
-control_running Control.SuspendOsInterrupts s = refl
-control_running Control.ResumeOsInterrupts s = refl
-control_running (Control.ShutdownOs n) s = refl
-control_running Control.ReturnFromInterrupt s = refl
+control_running _ s = refl
 
 executed_running : (S : System) (who : Owner) (c : Caller) (x : Context) (what : Instr) (s : State)
     → (executed S who c x what s).state.running ≡ s.running

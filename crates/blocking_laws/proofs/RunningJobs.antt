@@ -6,13 +6,14 @@ use Rattle.std.specs.List.{AllByRecursion}
 use Rattle.osek_base.specs.System.{System}
 use Rattle.osek_base.specs.State.{Job, JobId, State, same_id, waits, job_of, jobs_of}
 use Rattle.osek_base.specs.Blocker.{becomes_ready, is_in_state, waits_in, runs_in, is_job, is_waiting_job}
-use Rattle.run_laws.proofs.Lists.{clash, all_weaker, all_any}
+use Rattle.run_laws.proofs.Lists.{all_weaker, all_any}
 use Rattle.run_laws.proofs.Foremost.{equal, same_ids, same_self}
 use Rattle.kept_state.proofs.JobMoves.{elsewhere}
 use Rattle.kept_state.proofs.Parts.{IsOldest}
 use Rattle.readiness.specs.Stamps.{stamp_oldest}
 use Rattle.blocking_laws.specs.Stamps.{Stamps, stamped, listed}
 use Rattle.blocking_laws.proofs.ReadyLemmas.{keeps_stamp, map_same, map_twice, found_map, jobs_of_map}
+use Rattle.run_laws.proofs.SingleMoves.{other_way}
 
 -- whether the running job of that id is taken out of running though it neither ended nor waits
 abbrev pub is_taken_out : State → State → JobId → Bool
@@ -86,13 +87,6 @@ module _ (S : System) (s e : State) (u : ℕ) (p : Stamps) (g : Job → Job) (id
         → listed (stamped s e u p) v e.jobs ≡ cond (r.task == v) (stamp_oldest u (listed p v s.jobs)) (listed p v s.jobs)
     taken_out_listed o others out v = same_ids_listed (stamped s e u p) v ∙ go (r.task == v) refl
       where
-        turned : (a b : JobId) → same_id a b ≡ false → same_id b a ≡ false
-        turned a b h = pick (same_id b a) refl
-          where
-            pick : (c : Bool) → same_id b a ≡ c → c ≡ false
-            pick false k = refl
-            pick true k = clash (sym (same_self a) ∙ ap (same_id a) (sym (same_ids b a k)) ∙ h)
-
         stamp_here : (q : Option ℕ) (later : List (Option ℕ)) → option_or q (Some u) ∷ later ≡ stamp_oldest u (q ∷ later)
         stamp_here None later = refl
         stamp_here (Some w) later = refl
@@ -106,7 +100,7 @@ module _ (S : System) (s e : State) (u : ℕ) (p : Stamps) (g : Job → Job) (id
             ∙ rw (
               first,
               map_same (λ j. stamped s e u p j.id) (λ j. p j.id) o.others (all_weaker (λ k. same_id k.id r
-                  ≡ false) (λ k. stamped s e u p k.id ≡ p k.id) o.others (λ k h. other_keeps k.id (turned k.id r h)) others),
+                  ≡ false) (λ k. stamped s e u p k.id ≡ p k.id) o.others (λ k h. other_keeps k.id (other_way S k.id r h)) others),
             )
             (stamp_here (p o.job.id) (map (λ j. p j.id) o.others))
             ∙ sym (ap (λ js. stamp_oldest u (map (λ j. p j.id) js)) o.is)
@@ -118,4 +112,4 @@ module _ (S : System) (s e : State) (u : ℕ) (p : Stamps) (g : Job → Job) (id
         go false h =
             map_same (λ j. stamped s e u p j.id) (λ j. p j.id) (jobs_of v s.jobs)
             (all_weaker (λ k. same_id k.id r ≡ false) (λ k. stamped s e u p k.id
-            ≡ p k.id) (jobs_of v s.jobs) (λ k m. other_keeps k.id (turned k.id r m)) (elsewhere S r s.jobs v h))
+            ≡ p k.id) (jobs_of v s.jobs) (λ k m. other_keeps k.id (other_way S k.id r m)) (elsewhere S r s.jobs v h))

@@ -8,6 +8,7 @@ use Rattle.osek_base.specs.declared.status.Status.{Status}
 use Rattle.osek_base.specs.declared.instr.Instr.{Instr}
 use Rattle.osek_base.specs.declared.instr.Control.{Control}
 use Rattle.osek_base.specs.declared.instr.Service.{Service}
+use Rattle.osek_base.specs.Types.{ServiceCall}
 use Rattle.osek_base.specs.System.{System}
 use Rattle.osek_base.specs.Instruction.{Context, next, plain}
 use Rattle.osek_base.specs.State.{Job, JobId, State, same_id, waits, interrupts_off, jobs_of, jobs_but, words_after}
@@ -147,7 +148,7 @@ module _ (S : System) (e : State) (u : ℕ) (p : Stamps) where
             pick true = released_gone j.id (with_events t set e) e.running
             pick false = refl
 
-    effect_told : (c : Caller) → IsCaller e c → (call : Service ℕ)
+    effect_told : (c : Caller) → IsCaller e c → (call : ServiceCall)
         → IsTold S u (named_by (Instr.Service call)) e (with_objects_of e (effect S c e call)) p
     effect_told c calls (Service.ActivateTask None) = still_told None (with_objects_of e e) refl refl refl
     effect_told c calls (Service.ActivateTask (Some t)) = made_told t
@@ -184,7 +185,7 @@ module _ (S : System) (e : State) (u : ℕ) (p : Stamps) where
     effect_told c calls (Service.GetAlarm o) = still_told None (with_objects_of e e) refl refl refl
     effect_told c calls (Service.GetAlarmBase o) = still_told None (with_objects_of e e) refl refl refl
 
-    pub service_told : (c : Caller) → IsCaller e c → (call : Service ℕ)
+    pub service_told : (c : Caller) → IsCaller e c → (call : ServiceCall)
         → IsTold S u (named_by (Instr.Service call)) e (service S c e call).state p
     unfolding service
     service_told c calls call = go (first_refusal ((interrupts_off e, Status.SysDisabled) ∷ refusals S c e call))
@@ -244,7 +245,7 @@ module _ (S : System) (e : State) (u : ℕ) (p : Stamps) where
 
   -- ---- instructions
 
-  named_same : (x : Context) (call : Service ℕ) → named_by (Instr.Service (at_values x call)) ≡ named_by (Instr.Service call)
+  named_same : (x : Context) (call : ServiceCall) → named_by (Instr.Service (at_values x call)) ≡ named_by (Instr.Service call)
   named_same x (Service.ActivateTask o) = refl
   named_same x Service.TerminateTask = refl
   named_same x (Service.ChainTask o) = refl
@@ -265,7 +266,7 @@ module _ (S : System) (e : State) (u : ℕ) (p : Stamps) where
   named_same x (Service.GetAlarm o) = refl
   named_same x (Service.GetAlarmBase o) = refl
 
-  controlled_told : (control : Control) → IsTold S u None e (controlled control e) p
+  controlled_told : (control : Control ℕ) → IsTold S u None e (controlled control e) p
   controlled_told Control.DisableAllInterrupts = still_told None (controlled Control.DisableAllInterrupts e) refl refl refl
   controlled_told Control.EnableAllInterrupts = still_told None (controlled Control.EnableAllInterrupts e) refl refl refl
   controlled_told Control.SuspendAllInterrupts = still_told None (controlled Control.SuspendAllInterrupts e) refl refl refl
@@ -275,7 +276,7 @@ module _ (S : System) (e : State) (u : ℕ) (p : Stamps) where
   controlled_told (Control.ShutdownOs n) = still_told None (controlled (Control.ShutdownOs n) e) refl refl refl
   controlled_told Control.ReturnFromInterrupt = still_told None (controlled Control.ReturnFromInterrupt e) refl refl refl
 
-  controlled_none : (control : Control) → HasNone S e → HasNone S (controlled control e)
+  controlled_none : (control : Control ℕ) → HasNone S e → HasNone S (controlled control e)
   controlled_none Control.DisableAllInterrupts none = none
   controlled_none Control.EnableAllInterrupts none = none
   controlled_none Control.SuspendAllInterrupts none = none

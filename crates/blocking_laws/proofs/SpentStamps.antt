@@ -6,8 +6,8 @@ use Rattle.osek_base.specs.System.{System}
 use Rattle.osek_base.specs.State.{Job, JobId, State, same_id, jobs_of}
 use Rattle.osek_base.specs.Blocker.{calling_job}
 use Rattle.osek_base.specs.Service.{Caller, JobCalls, RoutineCalls, NobodyCalls}
-use Rattle.run_laws.proofs.Lists.{clash, all_weaker}
-use Rattle.run_laws.proofs.Foremost.{equal, same_ids, same_self}
+use Rattle.run_laws.proofs.Lists.{all_weaker}
+use Rattle.run_laws.proofs.Foremost.{equal, same_self}
 use Rattle.run_laws.proofs.Known.{IsCaller, IsRunningCaller}
 use Rattle.run_laws.proofs.Single.{IsSoundJob}
 use Rattle.kept_state.specs.KeptService.{KeptCaller, ByTask, ByRoutine, ByNobody, kept_caller}
@@ -19,6 +19,7 @@ use Rattle.blocking_laws.specs.Stamps.{Stamps, spent, listed}
 use Rattle.blocking_laws.specs.Looks.{StampLists, stamps_at, spent_of}
 use Rattle.blocking_laws.proofs.ReadyLemmas.{map_same}
 use Rattle.blocking_laws.proofs.ListLemmas.{changed_any, changed_count}
+use Rattle.run_laws.proofs.SingleMoves.{other_way}
 
 -- ---- the job that executes
 
@@ -29,13 +30,6 @@ others_apart S s n settled o =
     all_weaker (λ k. IsLater k × (same_id k.id n ≡ false)) (λ k. same_id k.id n ≡ false) o.others (λ k h. h.1)
     (others_later S s.made n s.jobs settled.single.each
     (all_weaker (IsSoundJob S s.made) IsFresh s.jobs (λ j h. h.fresh) settled.single.each) settled.single.pairs o)
-
-pub turned : (a b : JobId) → same_id a b ≡ false → same_id b a ≡ false
-turned a b h = pick (same_id b a) refl
-  where
-    pick : (c : Bool) → same_id b a ≡ c → c ≡ false
-    pick false k = refl
-    pick true k = clash (sym (same_self a) ∙ ap (same_id a) (sym (same_ids b a k)) ∙ h)
 
 -- what becomes of the stamps of one task
 abbrev pub spent_here : KeptCaller → ℕ → List (Option ℕ) → List (Option ℕ)
@@ -59,7 +53,7 @@ module _ (S : System) (s : State) (settled : IsSettled S s) (p : Stamps) where
   others_keep j js all =
       map_same (λ k. spent (Some j) p k.id) (λ k. p k.id) js
       (all_weaker (λ k. same_id k.id j.id ≡ false) (λ k. spent (Some j) p k.id ≡ p k.id) js
-      (λ k h. ap (λ b. cond b None (p k.id)) (turned k.id j.id h)) all)
+      (λ k h. ap (λ b. cond b None (p k.id)) (other_way S k.id j.id h)) all)
 
   spent_job : (j : Job) → IsRunningCaller s j → (v : ℕ)
       → listed (spent (Some j) p) v s.jobs ≡ cond (j.id.task == v) (spent_oldest (listed p v s.jobs)) (listed p v s.jobs)

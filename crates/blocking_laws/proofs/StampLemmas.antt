@@ -2,10 +2,9 @@
 use Rattle.std.proofs.Common.{◌≡◌, ap₂, ℕ, zero, suc, ◌+◌, ◌<◌, Bool, true, false, ◌&&◌, ◌||◌, nat_le, nat_lt, List, [], ◌∷◌, ◌++◌, length, length-append, refl, sym, ◌∙◌, ap, subst, arith}
 use Rattle.std.specs.Prelude.{Option, Some, None, slice_get}
 use Rattle.std.specs.Option.{option_map, option_or}
-use Rattle.std.specs.List.{find, list_any}
+use Rattle.std.specs.List.{list_any}
 use Rattle.std.proofs.Math.Path.{fun_ext}
 use Rattle.std.proofs.Math.Numerals.{add-one}
-use Rattle.std.proofs.lemmas.List.Folds.{find-append}
 use Rattle.osek_base.specs.declared.arrivals.Arrival.{Arrival}
 use Rattle.osek_base.specs.Lists.{below}
 use Rattle.osek_base.specs.System.{System, priority_of}
@@ -15,7 +14,7 @@ use Rattle.osek_base.specs.Trace.{Run, boot, run}
 use Rattle.osek_base.specs.Blocker.{becomes_ready, becomes_ready_in, becomes_ready_after, state_after, executing_job, is_ready_from, is_number}
 use Rattle.osek_base.specs.BlockingText.{executes_in, behind_last, ready_since, blockers_at}
 use Rattle.osek_base.specs.Proper.{IsProper}
-use Rattle.run_laws.proofs.Stamps.{stamp_if, unless, since_next}
+use Rattle.run_laws.proofs.Stamps.{stamp_if, unless, since_next, same_found}
 use Rattle.run_laws.proofs.Counting.{one_if}
 use Rattle.run_laws.proofs.Between.{behind, at_level, counted_since, blockers_at_counted}
 use Rattle.blocking_laws.specs.Steps.{step_at}
@@ -46,13 +45,6 @@ module _ (S : System) (booted : State) (n : JobId) (xs ys : List Step) where
       ≡ is_ready_from S booted ys u n
   same_ready zero same = rw (same 0 (omega arith)) refl
   same_ready (suc u) same = rw (same u (omega arith), same (suc u) (omega arith)) refl
-
-  same_found : (f g : ℕ → Bool) (m : ℕ) → ((k : ℕ) → k < m → f k ≡ g k) → find f (below m) ≡ find g (below m)
-  same_found f g zero same = refl
-  same_found f g (suc m) same =
-      find-append f (below m) (m ∷ [])
-      ∙ rw (same_found f g m (λ k less. same k (omega (arith, less))), same m (omega arith))
-      (sym (find-append g (below m) (m ∷ [])))
 
   same_since : (v : ℕ) → ((k : ℕ) → k < suc v → slice_get xs k ≡ slice_get ys k) → ready_since S booted xs n v
       ≡ ready_since S booted ys n v

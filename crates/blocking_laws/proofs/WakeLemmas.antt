@@ -10,12 +10,13 @@ use Rattle.osek_base.specs.State.{Job, JobId, State, same_id, waits, job_of, job
 use Rattle.osek_base.specs.Activation.{woken}
 use Rattle.osek_base.specs.Blocker.{becomes_ready, is_in_state, waits_in, runs_in, is_waiting_job}
 use Rattle.run_laws.proofs.Lists.{clash, all_weaker, all_kept}
-use Rattle.run_laws.proofs.Foremost.{equal, same_ids, same_self}
+use Rattle.run_laws.proofs.Foremost.{equal, same_self}
 use Rattle.kept_state.proofs.JobMoves.{but_of, elsewhere}
 use Rattle.kept_state.proofs.Parts.{filter_all}
 use Rattle.readiness.specs.Stamps.{stamp_oldest}
 use Rattle.blocking_laws.specs.Stamps.{Stamps, stamp_where, stamped, listed}
 use Rattle.blocking_laws.proofs.ReadyLemmas.{not_ready, keeps_stamp, map_same, but_found, there_of}
+use Rattle.run_laws.proofs.SingleMoves.{other_way}
 
 -- ---- a job that waits is released
 
@@ -23,13 +24,6 @@ module _ (S : System) (s e : State) (u : ℕ) (p : Stamps) (n : JobId) (j : Job)
     (found : job_of n s.jobs ≡ Some j) (alone : jobs_of n.task s.jobs ≡ j ∷ []) (jobs : e.jobs
     ≡ jobs_but n s.jobs ++ woken j ∷ [])
     (running : e.running ≡ s.running) where
-  turned : (a b : JobId) → same_id a b ≡ false → same_id b a ≡ false
-  turned a b h = pick (same_id b a) refl
-    where
-      pick : (c : Bool) → same_id b a ≡ c → c ≡ false
-      pick false k = refl
-      pick true k = clash (sym (same_self a) ∙ ap (same_id a) (sym (same_ids b a k)) ∙ h)
-
   or_none : (o : Option Job) → option_or o None ≡ o
   or_none None = refl
   or_none (Some k) = refl
@@ -38,7 +32,7 @@ module _ (S : System) (s e : State) (u : ℕ) (p : Stamps) (n : JobId) (j : Job)
   other_found m other =
       ap (job_of m) jobs ∙ find-append (λ k. same_id k.id m) (jobs_but n s.jobs) (woken j ∷ [])
       ∙ ap (λ b. option_or (job_of m (jobs_but n s.jobs)) (cond b (Some (woken j)) None)) (ap (λ i. same_id i m) id
-      ∙ turned m n other)
+      ∙ other_way S m n other)
       ∙ or_none (job_of m (jobs_but n s.jobs)) ∙ but_found n m false other s.jobs
 
   other_stays : (m : JobId) → same_id m n ≡ false → stamped s e u p m ≡ p m

@@ -1,5 +1,5 @@
 -- What the kernel does to the stamps of all tasks' jobs in a tick, over what is kept of a state. No part of the standards.
-use Rattle.std.specs.Prelude.{ℕ, suc, Bool, false, not, ◌&&◌, ◌==◌, nat_lt, if◌then◌else◌, List, [], ◌∷◌, ◌++◌, Option, Some, None, is_some, length, slice_index_or, slice_set, ◌≡◌}
+use Rattle.std.specs.Prelude.{ℕ, Bool, false, not, ◌&&◌, ◌==◌, nat_lt, if◌then◌else◌, List, [], ◌∷◌, ◌++◌, Option, Some, None, is_some, length, slice_index_or, slice_set, ◌≡◌}
 use Rattle.std.specs.Option.{option_map}
 use Rattle.osek_base.specs.declared.task.Action.{Action}
 use Rattle.osek_base.specs.declared.ids.Owner.{Owner}
@@ -11,7 +11,7 @@ use Rattle.osek_base.specs.Alarm.{due_alarms, alarms_advanced}
 use Rattle.kept_state.specs.Kept.{Kept}
 use Rattle.kept_state.specs.Moves.{contender, rescheduled}
 use Rattle.kept_state.specs.KeptService.{KeptCaller, ByTask, ByRoutine, ByNobody, bare, caller_in}
-use Rattle.kept_state.specs.KeptTick.{alarm_acts_in, alarm_phase_in, arrival_phase_in, execute_phase_in, last_phase_in}
+use Rattle.kept_state.specs.KeptTick.{alarm_acts_in, alarm_phase_in, arrival_phase_in, execute_phase_in}
 use Rattle.readiness.specs.Stamps.{stamp_oldest, spent_oldest, without_oldest}
 use Rattle.blocking_laws.specs.Stamps.{Stamps, listed}
 

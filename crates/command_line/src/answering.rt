@@ -1,192 +1,20 @@
-//! Answers to command lines: what is printed, and the exit status.
+//! Answers to command lines: what is asked is written, and then how it ended.
 
-use crate::explaining::{Texts, explain_cut, explain_fault};
-use crate::host_files::{FileFault, Files};
-use crate::line_watch::LineWatch;
-use crate::request::{Question, Request, RunLine, View, read_line};
+use crate::explaining::{explain_fault, explain_verdict};
+use crate::host_files::Files;
+use crate::inputs::{Texts, read_texts, system_of};
+use crate::partitions::{write_check, write_partitions};
+use crate::request::{Question, Request, read_line};
+use crate::runs::{write_lines, write_view};
+use crate::status::{DONE, REFUSED, REFUSED_LINE, Verdict, WRITE_FAILED, status_of};
 use clap::Error as LineError;
 use clap::error::ErrorKind;
-use osek_base::{MAX_TICKS, System};
-use partition_check::{NamedDenial, check_partition};
-use run_views::{Progress, RunInput, write_stats, write_timeline, write_vcd};
+use run_views::Progress;
 use std::alloc::Global;
 use std::convert::AsStr;
-use std::io::{self, Write};
+use std::io::Write;
 use system_gen::class_of;
-use thiserror::Error;
-use tracer::{RunFault, StdSink, read_system, run, run_blocking, run_upper};
-
-/// Exit status: the line is answered, also one that asks for help.
-pub const DONE: u8 = 0;
-
-/// Exit status: an input is refused, a file is unreadable, or memory was refused.
-pub const REFUSED: u8 = 1;
-
-/// Exit status: the line itself is refused.
-pub const REFUSED_LINE: u8 = 2;
-
-/// Exit status: a partition is denied.
-pub const DENIED: u8 = 3;
-
-/// Exit status: a write failed.
-pub const WRITE_FAILED: u8 = 4;
-
-/// Why a file of a command line could not be had.
-#[derive(Clone, Copy, Debug, PartialEq, Eq, Drop, Error)]
-enum Unread<'a> {
-    #[error("file: {0}")]
-    File(&'a str),
-    #[error("memory")]
-    Memory,
-}
-
-/// What is written of a request that wasn't refused.
-#[derive(Debug, Drop)]
-enum Verdict {
-    Done,
-    /// A partition is denied at a priority.
-    Denied(u8, NamedDenial),
-}
-
-impl Verdict {
-    fn status(&self) -> u8 {
-        match self {
-            Verdict::Done => DONE,
-            Verdict::Denied(..) => DENIED,
-        }
-    }
-}
-
-fn read_file<'a, F: Files>(
-    alloc: Global,
-    files: &mut F,
-    name: &'a str,
-) -> Result<Vec<u8>, Unread<'a>> {
-    match files.read(alloc, name) {
-        Ok(bytes) => Ok(bytes),
-        Err(FileFault::Unreadable) => Err(Unread::File(name)),
-        Err(FileFault::Memory) => Err(Unread::Memory),
-    }
-}
-
-fn read_texts<'a, F: Files>(
-    alloc: Global,
-    request: &Request<'a>,
-    files: &mut F,
-) -> Result<Texts, Unread<'a>> {
-    let oil = read_file(alloc, files, request.oil)?;
-    let asm = read_file(alloc, files, request.asm)?;
-    let irq = match request.question.run_line() {
-        Some(line) => read_file(alloc, files, line.irq)?,
-        None => Vec::new(alloc),
-    };
-    Ok(Texts { oil, asm, irq })
-}
-
-fn system_of(alloc: Global, texts: &Texts) -> Result<System, RunFault> {
-    read_system(alloc, &texts.oil, &texts.asm)
-}
-
-/// The fault of a write, where it failed.
-fn written(outcome: io::Result<()>) -> Result<(), RunFault> {
-    match outcome {
-        Ok(()) => Ok(()),
-        Err(_) => Err(RunFault::Write),
-    }
-}
-
-/// Writes a denial at a priority: the rule, its subject by name, and a place where the rule is on programs.
-fn write_denial<O: Write>(
-    priority: u8,
-    denial: NamedDenial,
-    out: &mut O,
-) -> Result<Verdict, RunFault> {
-    written(writeln!(out, "denied: {denial}"))?;
-    Ok(Verdict::Denied(priority, denial))
-}
-
-/// Writes whether the part of a system from a priority upward is separable, or the first denial.
-fn write_check<O: Write>(system: &System, priority: u8, out: &mut O) -> Result<Verdict, RunFault> {
-    match check_partition(system, priority) {
-        Ok(()) => {
-            written(writeln!(out, "accepted"))?;
-            Ok(Verdict::Done)
-        }
-        Err(denial) => write_denial(priority, denial.named(system), out),
-    }
-}
-
-/// Writes the same for each priority from 0 to the greatest of a task, a line each.
-fn write_partitions<O: Write>(system: &System, out: &mut O) -> Result<Verdict, RunFault> {
-    for priority in 0..=system.top_priority() {
-        written(write!(out, "{priority}: "))?;
-        write_check(system, priority, out)?;
-    }
-    Ok(Verdict::Done)
-}
-
-/// Writes the trace of a run, with or without the numbers of blockers.
-fn write_trace<O: Write, E: Write>(
-    alloc: Global,
-    texts: &Texts,
-    line: RunLine<'_>,
-    blocking: bool,
-    progress: &mut Progress<'_, E>,
-    out: &mut O,
-) -> Result<Verdict, RunFault> {
-    let Texts { oil, asm, irq } = texts;
-    let ticks = line.ticks.min(MAX_TICKS);
-    let mut sink = StdSink::new(LineWatch::new(&mut *out, progress, ticks));
-    if blocking {
-        run_blocking(alloc, oil, asm, irq, line.mode, ticks, &mut sink)?;
-    } else {
-        run(alloc, oil, asm, irq, line.mode, ticks, &mut sink)?;
-    }
-    Ok(Verdict::Done)
-}
-
-/// Writes the view of a run at a priority, or the first denial.
-fn write_upper<O: Write, E: Write>(
-    alloc: Global,
-    texts: &Texts,
-    line: RunLine<'_>,
-    p: u8,
-    alone: bool,
-    progress: &mut Progress<'_, E>,
-    out: &mut O,
-) -> Result<Verdict, RunFault> {
-    let Texts { oil, asm, irq } = texts;
-    let ticks = line.ticks.min(MAX_TICKS);
-    let mut sink = StdSink::new(LineWatch::new(&mut *out, progress, ticks));
-    match run_upper(alloc, oil, asm, irq, line.mode, ticks, p, alone, &mut sink) {
-        Ok(()) => Ok(Verdict::Done),
-        Err(RunFault::Denied(denial)) => write_denial(p, denial, out),
-        Err(fault) => Err(fault),
-    }
-}
-
-/// Writes what else is shown of a run.
-fn write_view<O: Write, E: Write>(
-    alloc: Global,
-    texts: &Texts,
-    line: RunLine<'_>,
-    view: View,
-    progress: &mut Progress<'_, E>,
-    out: &mut O,
-) -> Result<Verdict, RunFault> {
-    let system = system_of(alloc, texts)?;
-    let input = RunInput {
-        irqs: &texts.irq,
-        mode: line.mode,
-        ticks: line.ticks,
-    };
-    match view {
-        View::Vcd => write_vcd(alloc, &system, input, progress, out)?,
-        View::Timeline { from } => write_timeline(alloc, &system, input, from, progress, out)?,
-        View::Stats(form) => write_stats(alloc, &system, input, form, progress, out)?,
-    }
-    Ok(Verdict::Done)
-}
+use tracer::RunFault;
 
 /// Writes the answer to a question.
 fn write_answer<O: Write, E: Write>(
@@ -197,56 +25,15 @@ fn write_answer<O: Write, E: Write>(
     out: &mut O,
 ) -> Result<Verdict, RunFault> {
     match question {
-        Question::Trace { line, blocking } => {
-            write_trace(alloc, texts, line, blocking, progress, out)
-        },
-        Question::Upper {
-            line,
-            priority,
-            alone,
-        } => write_upper(alloc, texts, line, priority, alone, progress, out),
+        Question::Lines { line, lines } => write_lines(alloc, texts, line, lines, progress, out),
         Question::View { line, view } => write_view(alloc, texts, line, view, progress, out),
         Question::Check { priority } => write_check(&system_of(alloc, texts)?, priority, out),
         Question::Partitions => write_partitions(&system_of(alloc, texts)?, out),
         Question::Class => {
             let class = class_of(&system_of(alloc, texts)?);
-            written(writeln!(out, "{}", class.name()))?;
+            writeln!(out, "{}", class.name())?;
             Ok(Verdict::Done)
         }
-    }
-}
-
-/// Explains why a system can't be cut at the priorities at which it can't.
-fn explain_partitions<E: Write>(
-    alloc: Global,
-    request: &Request<'_>,
-    texts: &Texts,
-    err: &mut E,
-) -> Result<(), RunFault> {
-    let system = system_of(alloc, texts)?;
-    for priority in 0..=system.top_priority() {
-        if let Err(denial) = check_partition(&system, priority) {
-            let denial = denial.named(&system);
-            written(write!(err, "{priority}: "))?;
-            written(explain_cut(alloc, request, texts, priority, &denial, err))?;
-        }
-    }
-    Ok(())
-}
-
-/// Explains what was denied, as far as memory and `err` allow.
-fn explain_verdict<E: Write>(
-    alloc: Global,
-    request: &Request<'_>,
-    texts: &Texts,
-    verdict: &Verdict,
-    err: &mut E,
-) {
-    if let Verdict::Denied(priority, denial) = verdict {
-        let _ = explain_cut(alloc, request, texts, *priority, denial, err);
-    }
-    if let Question::Partitions = request.question {
-        let _ = explain_partitions(alloc, request, texts, err);
     }
 }
 
@@ -263,7 +50,7 @@ fn answer_texts<O: Write, E: Write>(
     let outcome = write_answer(alloc, texts, request.question, &mut progress, out);
     progress.end();
     let verdict = outcome?;
-    written(out.flush())?;
+    out.flush()?;
     if request.is_explained {
         explain_verdict(alloc, request, texts, &verdict, err);
     }
@@ -283,10 +70,7 @@ fn refuse<E: Write>(
     if request.is_explained {
         let _ = explain_fault(alloc, request, texts, &fault, err);
     }
-    match fault {
-        RunFault::Write => WRITE_FAILED,
-        _ => REFUSED,
-    }
+    status_of(&fault)
 }
 
 /// Answers a request, and gives the exit status.

@@ -1,23 +1,17 @@
-//! What is written behind the line of a refusal, where it is asked for.
+//! What is written behind the line of a refusal or a denial, where it is asked for.
 
-use crate::request::{Request, RunLine};
+use crate::inputs::{Texts, system_of};
+use crate::request::{Question, Request, RunLine};
+use crate::status::Verdict;
 use arrival_lists::IrqFault;
 use explanations::{explain_denial, explain_generation};
-use partition_check::NamedDenial;
+use partition_check::{NamedDenial, check_partition};
 use std::alloc::Global;
 use std::io::{self, Write};
 use text_explanations::{
     LineFault, Source, explain_arrivals, explain_mode, explain_oil, explain_programs,
 };
 use tracer::RunFault;
-
-/// The bytes of a request's files. Where no run is asked for, the arrival list is empty.
-#[derive(Drop)]
-pub(crate) struct Texts {
-    pub oil: Vec<u8>,
-    pub asm: Vec<u8>,
-    pub irq: Vec<u8>,
-}
 
 /// The OIL file of a request.
 fn oil<'t>(request: &Request<'t>, texts: &'t Texts) -> Source<'t> {
@@ -86,7 +80,7 @@ pub(crate) fn explain_fault<W: Write>(
 }
 
 /// Writes of a denial at a priority what is named or listed, where, and what would be allowed.
-pub(crate) fn explain_cut<W: Write>(
+fn explain_cut<W: Write>(
     alloc: Global,
     request: &Request<'_>,
     texts: &Texts,
@@ -102,4 +96,38 @@ pub(crate) fn explain_cut<W: Write>(
         denial,
         out,
     )
+}
+
+/// Explains why a system can't be cut at the priorities at which it can't.
+fn explain_partitions<E: Write>(
+    alloc: Global,
+    request: &Request<'_>,
+    texts: &Texts,
+    err: &mut E,
+) -> Result<(), RunFault> {
+    let system = system_of(alloc, texts)?;
+    for priority in 0..=system.top_priority() {
+        if let Err(denial) = check_partition(&system, priority) {
+            let denial = denial.named(&system);
+            write!(err, "{priority}: ")?;
+            explain_cut(alloc, request, texts, priority, &denial, err)?;
+        }
+    }
+    Ok(())
+}
+
+/// Explains what was denied, as far as memory and `err` allow.
+pub(crate) fn explain_verdict<E: Write>(
+    alloc: Global,
+    request: &Request<'_>,
+    texts: &Texts,
+    verdict: &Verdict,
+    err: &mut E,
+) {
+    if let Verdict::Denied(priority, denial) = verdict {
+        let _ = explain_cut(alloc, request, texts, *priority, denial, err);
+    }
+    if let Question::Partitions = request.question {
+        let _ = explain_partitions(alloc, request, texts, err);
+    }
 }

@@ -5,9 +5,14 @@ mod answering;
 mod explaining;
 mod help;
 mod host_files;
+mod inputs;
 mod line_watch;
 mod lines;
+mod partitions;
 mod request;
+mod runs;
+mod status;
 
-pub use answering::{DENIED, DONE, REFUSED, REFUSED_LINE, WRITE_FAILED, command};
+pub use answering::command;
 pub use host_files::{FileFault, Files, HostFiles};
+pub use status::{DENIED, DONE, REFUSED, REFUSED_LINE, WRITE_FAILED};

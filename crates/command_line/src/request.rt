@@ -16,6 +16,16 @@ pub struct RunLine<'a> {
     pub ticks: u32,
 }
 
+/// Which lines of a run's trace are shown.
+#[derive(Clone, Copy, Debug)]
+pub enum Lines {
+    All,
+    /// All, with the numbers of blockers.
+    Blocking,
+    /// The view at a priority: of the system, or of its upper part by itself.
+    Upper { priority: u8, alone: bool },
+}
+
 /// What is shown of a run besides its trace.
 #[derive(Clone, Copy, Debug)]
 pub enum View {
@@ -30,26 +40,12 @@ pub enum View {
 /// What is asked of a system.
 #[derive(Clone, Copy, Debug)]
 pub enum Question<'a> {
-    /// The trace of a run, with or without the numbers of blockers.
-    Trace {
-        line: RunLine<'a>,
-        blocking: bool,
-    },
-    /// The view of a run at a priority: of the system, or of its upper part by itself.
-    Upper {
-        line: RunLine<'a>,
-        priority: u8,
-        alone: bool,
-    },
+    /// Lines of the trace of a run.
+    Lines { line: RunLine<'a>, lines: Lines },
     /// What else is shown of a run.
-    View {
-        line: RunLine<'a>,
-        view: View,
-    },
+    View { line: RunLine<'a>, view: View },
     /// Whether the part from a priority upward is separable from what is below.
-    Check {
-        priority: u8,
-    },
+    Check { priority: u8 },
     /// At which priorities that is so.
     Partitions,
     /// The conformance class.
@@ -60,9 +56,7 @@ impl<'a> Question<'a> {
     /// What the run is of, where one is asked for.
     pub fn run_line(&self) -> Option<RunLine<'a>> {
         match *self {
-            Question::Trace { line, .. }
-            | Question::Upper { line, .. }
-            | Question::View { line, .. } => Some(line),
+            Question::Lines { line, .. } | Question::View { line, .. } => Some(line),
             Question::Check { .. } | Question::Partitions | Question::Class => None,
         }
     }
@@ -133,13 +127,24 @@ fn picture_fault(question: &Question<'_>) -> Option<&'static str> {
     }
 }
 
+/// All lines, with the numbers of blockers where they are wanted.
+fn trace(matches: &ArgMatches<'_>) -> Lines {
+    if matches.get_flag("blocking") {
+        Lines::Blocking
+    } else {
+        Lines::All
+    }
+}
+
 /// What a subcommand asks for.
 fn asked<'a>(subcommand: &str, matches: &ArgMatches<'a>) -> Question<'a> {
     match subcommand {
-        "upper" => Question::Upper {
+        "upper" => Question::Lines {
             line: run_line(matches),
-            priority: priority(matches),
-            alone: matches.get_flag("alone"),
+            lines: Lines::Upper {
+                priority: priority(matches),
+                alone: matches.get_flag("alone"),
+            },
         },
         "vcd" => Question::View {
             line: run_line(matches),
@@ -152,9 +157,9 @@ fn asked<'a>(subcommand: &str, matches: &ArgMatches<'a>) -> Question<'a> {
         },
         "partitions" => Question::Partitions,
         "class" => Question::Class,
-        _ => Question::Trace {
+        _ => Question::Lines {
             line: run_line(matches),
-            blocking: matches.get_flag("blocking"),
+            lines: trace(matches),
         },
     }
 }

@@ -2,15 +2,15 @@
 
 use crate::declared::{attribute, level, object, word_of};
 use crate::instructions::{mnemonic_at, named_kind, operand_of, owner_word};
-use crate::parsed::Parsed;
+use crate::parsed::{Parsed, Parts};
 use oil_reader::{Kind, Object, Setting, SyntaxTree};
 use osek_base::Owner;
 use partition_check::{NamedDenial, Rule};
 use std::alloc::{AllocError, Global};
 use std::io::{self, Write};
-use task_asm::{ProgramKind, tokenize};
+use task_asm::ProgramKind;
 use text_explanations::Piece::{self, Named, Number, Text};
-use text_explanations::{CodeWord, Source, code_words, names, tree_of, write_first_names};
+use text_explanations::{CodeWord, Source, names, write_first_names};
 
 /// A denial at a priority.
 #[derive(Drop)]
@@ -240,18 +240,8 @@ pub fn explain_denial<'a, W: Write>(
     denial: &'a NamedDenial,
     out: &mut W,
 ) -> io::Result<()> {
-    let Some(tree) = tree_of(alloc, oil.text) else {
+    let Some(parts) = Parts::of(alloc, oil, asm)? else {
         return Ok(());
-    };
-    let Ok(tokens) = tokenize(alloc, asm.text) else {
-        return Ok(());
-    };
-    let words = code_words(alloc, &tokens)?;
-    let parsed = Parsed {
-        oil,
-        tree: &tree,
-        asm,
-        words: &words,
     };
     let denied = denial.denial;
     let cut = Cut {
@@ -261,5 +251,5 @@ pub fn explain_denial<'a, W: Write>(
         place: denied.place,
         name: denial.name.as_str(),
     };
-    explain_cut(alloc, parsed, &cut, out)
+    explain_cut(alloc, parts.parsed(oil, asm), &cut, out)
 }

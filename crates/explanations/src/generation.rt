@@ -2,7 +2,7 @@
 
 use crate::declared::{attribute, is_internal, is_set, object, word_of};
 use crate::instructions::{first_of, last_mnemonic, owner_word};
-use crate::parsed::Parsed;
+use crate::parsed::{Parsed, Parts};
 use crate::references::explain_unknown_name;
 use crate::times::{explain_alarm, explain_counter};
 use oil_reader::{Attribute, Kind, Object, SyntaxTree};
@@ -12,9 +12,9 @@ use osek_base::{
 use std::alloc::Global;
 use std::io::{self, Write};
 use system_gen::{GenFault, ObjectKind};
-use task_asm::{ProgramKind, tokenize};
+use task_asm::ProgramKind;
 use text_explanations::Piece::{self, Named, Number, Text};
-use text_explanations::{CodeWord, Source, code_words, kind_word, tree_of};
+use text_explanations::{CodeWord, Source, kind_word};
 
 /// The kind of objects of which there are too many, and how many are allowed.
 fn limit(kind: ObjectKind) -> (Kind, usize) {
@@ -232,18 +232,8 @@ pub fn explain_generation<'a, W: Write>(
     fault: &'a GenFault,
     out: &mut W,
 ) -> io::Result<()> {
-    let Some(tree) = tree_of(alloc, oil.text) else {
+    let Some(parts) = Parts::of(alloc, oil, asm)? else {
         return Ok(());
     };
-    let Ok(tokens) = tokenize(alloc, asm.text) else {
-        return Ok(());
-    };
-    let words = code_words(alloc, &tokens)?;
-    let parsed = Parsed {
-        oil,
-        tree: &tree,
-        asm,
-        words: &words,
-    };
-    explain_fault(alloc, parsed, fault, out)
+    explain_fault(alloc, parts.parsed(oil, asm), fault, out)
 }

@@ -1,7 +1,9 @@
 //! The two texts of a system.
 
 use oil_reader::SyntaxTree;
-use text_explanations::{CodeWord, Source};
+use std::alloc::{AllocError, Global};
+use task_asm::tokenize;
+use text_explanations::{CodeWord, Source, code_words, tree_of};
 
 /// The two texts of a system, and what they consist of.
 #[derive(Clone, Copy)]
@@ -10,4 +12,39 @@ pub(crate) struct Parsed<'t, 'a> {
     pub tree: &'t SyntaxTree<'a>,
     pub asm: Source<'a>,
     pub words: &'t [CodeWord<'a>],
+}
+
+/// What the two texts of a system consist of.
+#[derive(Drop)]
+pub(crate) struct Parts<'a> {
+    tree: SyntaxTree<'a>,
+    words: Vec<CodeWord<'a>>,
+}
+
+impl<'a> Parts<'a> {
+    /// The parts of two texts, where both can be read.
+    pub(crate) fn of(
+        alloc: Global,
+        oil: Source<'a>,
+        asm: Source<'a>,
+    ) -> Result<Option<Self>, AllocError> {
+        let Some(tree) = tree_of(alloc, oil.text) else {
+            return Ok(None);
+        };
+        let Ok(tokens) = tokenize(alloc, asm.text) else {
+            return Ok(None);
+        };
+        let words = code_words(alloc, &tokens)?;
+        Ok(Some(Parts { tree, words }))
+    }
+
+    /// The two texts with their parts.
+    pub(crate) fn parsed(&self, oil: Source<'a>, asm: Source<'a>) -> Parsed<'_, 'a> {
+        Parsed {
+            oil,
+            tree: &self.tree,
+            asm,
+            words: &self.words,
+        }
+    }
 }

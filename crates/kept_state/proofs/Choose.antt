@@ -3,14 +3,13 @@ use Rattle.std.proofs.Common.{◌≡◌, ℕ, zero, suc, ◌<◌, ◌≤◌, ◌
 use Rattle.std.specs.Prelude.{Option, Some, None, ◌==◌}
 use Rattle.std.specs.Option.{option_map}
 use Rattle.std.specs.List.{filter, list_any, list_all, AllByRecursion}
-use Rattle.std.proofs.lemmas.Bool.{cases_lt}
+use Rattle.std.proofs.lemmas.Bool.{cases_lt, and_parts}
 use Rattle.osek_base.specs.Lists.{is_empty}
 use Rattle.osek_base.specs.System.{System}
 use Rattle.osek_base.specs.State.{Job, JobId, same_id, waits}
 use Rattle.osek_base.specs.Priority.{static_priority, dynamic_priority}
 use Rattle.osek_base.proofs.ForemostLemmas.{better, best, fits, bounded_best}
 use Rattle.osek_base.proofs.LevelLemmas.{level, IsFirst, best_first}
-use Rattle.osek_base.proofs.PlaceLemmas.{and_split}
 use Rattle.run_laws.proofs.Lists.{Pairs, clash, all_weaker, all_both, all_any, pairs_kept}
 use Rattle.run_laws.proofs.Foremost.{AreApart, same_ids, same_self, equal, static_le}
 use Rattle.run_laws.proofs.Ranked.{IsBehind}
@@ -77,7 +76,7 @@ module _ {X : Type 0} (rank : X → ℕ) where
   levels_beneath test [] k l h less = refl
   levels_beneath test (x ∷ xs) k l h less =
       let both =
-      and_split (not (test x) || nat_le (rank x) k) (list_all (λ y. not (test y) || nat_le (rank y) k) xs) h in
+      and_parts (not (test x) || nat_le (rank x) k) (list_all (λ y. not (test y) || nat_le (rank y) k) xs) h in
       rw (empty_step (test x) (rank x) k l both.0 less) (levels_beneath test xs k l both.1 less)
 
   -- above the best's level there is none

@@ -2,7 +2,7 @@
 use Rattle.std.proofs.Common.{◌≡◌, ℕ, zero, suc, ◌+◌, ◌-◌, ◌≤◌, Bool, true, false, cond, List, [], ◌∷◌, refl, arith}
 use Rattle.osek_base.specs.declared.ids.Owner.{Owner}
 use Rattle.osek_base.specs.declared.arrivals.Arrival.{Arrival}
-use Rattle.osek_base.specs.declared.instr.Service.{Service}
+use Rattle.osek_base.specs.Types.{ServiceCall}
 use Rattle.osek_base.specs.declared.instr.Control.{Control}
 use Rattle.osek_base.specs.declared.instr.Instr.{Instr}
 use Rattle.osek_base.specs.System.{System, alarm}
@@ -38,7 +38,7 @@ later n s nested = record {
 module _ (S : System) (n : ℕ) where
   -- ---- before and after an instruction
 
-  acts_nested : (s : State) (call : Service ℕ) → IsNested n s
+  acts_nested : (s : State) (call : ServiceCall) → IsNested n s
       → IsNested n (unmasked_service S NobodyCalls s call).state
   unfolding unmasked_service
   acts_nested s call nested = same_nested n s (unmasked_service S NobodyCalls s call).state refl refl nested
@@ -82,7 +82,7 @@ module _ (S : System) (n : ℕ) where
   fewer : (a b : ℕ) → a ≤ b → a - 1 ≤ b + 1
   fewer a b h = omega (arith, h)
 
-  controlled_nested : (control : Control) (s : State) → IsNested n s → IsNested (n + 1) (controlled control s)
+  controlled_nested : (control : Control ℕ) (s : State) → IsNested n s → IsNested (n + 1) (controlled control s)
   controlled_nested Control.DisableAllInterrupts s h = record { all = (later n s h).all; os = (later n s h).os }
   controlled_nested Control.EnableAllInterrupts s h = record { all = (later n s h).all; os = (later n s h).os }
   controlled_nested Control.SuspendAllInterrupts s h = record { all = (let k = h.all in omega (arith, k)); os = (later n s h).os }
@@ -92,7 +92,7 @@ module _ (S : System) (n : ℕ) where
   controlled_nested (Control.ShutdownOs x) s h = record { all = (later n s h).all; os = (later n s h).os }
   controlled_nested Control.ReturnFromInterrupt s h = record { all = omega arith; os = omega arith }
 
-  service_nested : (c : Caller) (call : Service ℕ) (s : State) → IsNested n s
+  service_nested : (c : Caller) (call : ServiceCall) (s : State) → IsNested n s
       → IsNested (n + 1) (service S c s call).state
   unfolding service
   service_nested c call s nested = same_nested (n + 1) s (service S c s call).state refl refl (later n s nested)

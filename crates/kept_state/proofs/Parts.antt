@@ -79,17 +79,6 @@ module _ {X : Type 0} where
       go true e k more = (x, e, all.0)
       go false e k more = more k
 
-  -- each fails where none passes
-  pub none_of : (p : X → Bool) (xs : List X) → list_any p xs ≡ false → AllByRecursion (λ x. p x ≡ false) xs
-  none_of p [] h = tt
-  none_of p (x ∷ xs) h = go (p x) refl h (none_of p xs)
-    where
-      go : (b : Bool) → p x ≡ b → (b || list_any p xs) ≡ false
-          → (list_any p xs ≡ false → AllByRecursion (λ y. p y ≡ false) xs)
-          → AllByRecursion (λ y. p y ≡ false) (x ∷ xs)
-      go true e k more = clash k
-      go false e k more = (e, more k)
-
   pub any_moved : (p : X → Bool) (g : X → X) → ((x : X) → p (g x) ≡ p x) → (xs : List X)
       → list_any p (map g xs) ≡ list_any p xs
   any_moved p g keep [] = refl

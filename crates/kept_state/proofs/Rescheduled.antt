@@ -13,10 +13,9 @@ use Rattle.osek_base.specs.State.{Job, JobId, State, same_id, jobs_of, with_job,
 use Rattle.osek_base.specs.Choice.{choice}
 use Rattle.osek_base.specs.Priority.{dynamic_priority}
 use Rattle.osek_base.specs.Reschedule.{entered, switched, switch_records, reschedule, with_dispatch_of}
-use Rattle.osek_base.proofs.PlaceLemmas.{and_split}
 use Rattle.osek_base.proofs.ForemostLemmas.{better, best, foremost-best}
 use Rattle.osek_base.proofs.LevelLemmas.{level, IsFirst, best_first}
-use Rattle.run_laws.proofs.Lists.{Pairs, EitherWay, clash, all_weaker, all_any, all_kept, found, pairs_weaker, either_way}
+use Rattle.run_laws.proofs.Lists.{Pairs, EitherWay, clash, all_weaker, all_any, all_kept, found, pairs_weaker, either_way, any_none}
 use Rattle.run_laws.proofs.Foremost.{AreApart, same_self, only}
 use Rattle.run_laws.proofs.Single.{IsSoundPair, HasRunner, AreSingle, IsSingle}
 use Rattle.run_laws.proofs.SingleMoves.{other_way, chosen_single, is_best}
@@ -24,9 +23,10 @@ use Rattle.run_laws.proofs.Ranked.{IsBehind}
 use Rattle.kept_state.specs.Kept.{Slot, slot_with, slot_of, slots_of, runs, is_at, is_queued, task_of, task_in, queue, is_gone, kept}
 use Rattle.ready_queues.specs.Moves.{changed_at, put_first, first, highest}
 use Rattle.kept_state.specs.Moves.{kept_recorded, left_in, entered_in, dynamic_in, slot_entered, stays, entered_as, dispatched, contender_of, contender, chosen, rescheduled}
-use Rattle.kept_state.proofs.Parts.{filter_same, any_moved, found_any, none_of, IsOldest, oldest}
+use Rattle.kept_state.proofs.Parts.{filter_same, any_moved, found_any, IsOldest, oldest}
 use Rattle.kept_state.proofs.JobMoves.{one_changed, keeps_id, changed_queue, changed_gone, changed_of, changed_slots}
 use Rattle.kept_state.proofs.Choose.{best_same, highest_queue, is_ready, IsClear, clear_behind, best_against, first_of_level, all_ready, taken_out, put_back, first_is}
+use Rattle.std.proofs.lemmas.Bool.{and_parts}
 
 -- ---- no priority is above the top
 
@@ -132,7 +132,7 @@ module _ (S : System) (s : State) (single : IsSingle S s) where
     c_ready : waits c ≡ false
     c_ready =
         unwait (waits c)
-        (and_split (is_ready S c) _ (found (λ x. Unit {0}) (is_best S s.jobs) s.jobs c (all_any _ s.jobs (λ x. tt)) falls).1).0
+        (and_parts (is_ready S c) _ (found (λ x. Unit {0}) (is_best S s.jobs) s.jobs c (all_any _ s.jobs (λ x. tt)) falls).1).0
       where
         unwait : (b : Bool) → not b ≡ true → b ≡ false
         unwait false h = refl
@@ -358,7 +358,7 @@ module _ (S : System) (s : State) (single : IsSingle S s) where
             ≡ chosen S (contender (kept S s)) (highest (suc (top_priority S)) (queue S s.running s.jobs)) (kept S s)
         gone n e none =
             none_contends
-            (all_weaker (λ j. same_id j.id n ≡ false) _ s.jobs (λ j h same. clash (sym same ∙ ap (λ m. runs m j) e ∙ h)) (none_of (λ j. same_id j.id n) s.jobs none))
+            (all_weaker (λ j. same_id j.id n ≡ false) _ s.jobs (λ j h same. clash (sym same ∙ ap (λ m. runs m j) e ∙ h)) (any_none (λ j. same_id j.id n) s.jobs none))
             ∙ ap (λ c. chosen S c (highest (suc (top_priority S)) (queue S s.running s.jobs)) (kept S s))
             (ap (λ b. cond (not b) None (cond (is_some (slots_of s.jobs n.task).waits_for) None (Some n.task))) (sym none) ∙ at (Some n) e)
 

@@ -5,13 +5,13 @@ use Rattle.std.specs.Option.{option_map}
 use Rattle.std.specs.List.{list_any, AllByRecursion}
 use Rattle.osek_base.specs.System.{System}
 use Rattle.osek_base.specs.State.{Job, JobId, State, same_id, waits}
-use Rattle.run_laws.proofs.Lists.{some_inside, none_some, Pairs, EitherWay, clash, all_weaker, all_any, all_kept, pairs_weaker, either_way}
+use Rattle.run_laws.proofs.Lists.{some_inside, none_some, Pairs, EitherWay, clash, all_weaker, all_any, all_kept, pairs_weaker, either_way, any_none}
 use Rattle.run_laws.proofs.Foremost.{AreApart, same_self, only}
 use Rattle.run_laws.proofs.Single.{IsSoundPair, HasRunner, IsSingle}
 use Rattle.run_laws.proofs.Ranked.{HasReady}
 use Rattle.kept_state.specs.Kept.{slot_of, slots_of, task_in, is_gone, kept}
 use Rattle.kept_state.specs.Standing.{waits_in, runner_waits}
-use Rattle.kept_state.proofs.Parts.{none_of, IsOldest, oldest}
+use Rattle.kept_state.proofs.Parts.{IsOldest, oldest}
 
 module _ (S : System) (s : State) (single : IsSingle S s) where
   apart : Pairs AreApart s.jobs
@@ -75,7 +75,7 @@ module _ (S : System) (s : State) (single : IsSingle S s) where
               → AllByRecursion (λ j. Some n ≡ Some j.id → waits j ≡ false) s.jobs
           at false k =
               all_weaker (λ j. same_id j.id n ≡ false) (λ j. Some n ≡ Some j.id → waits j ≡ false) s.jobs
-              (λ j other is. clash (sym (same j is) ∙ other)) (none_of (λ j. same_id j.id n) s.jobs k)
+              (λ j other is. clash (sym (same j is) ∙ other)) (any_none (λ j. same_id j.id n) s.jobs k)
           at true k =
               let o : IsOldest n s.jobs = runner_oldest n e k in
               all_weaker (λ j. same_id j.id n ≡ true → j ≡ o.job) (λ j. Some n ≡ Some j.id → waits j ≡ false) s.jobs

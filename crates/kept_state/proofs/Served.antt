@@ -5,6 +5,7 @@ use Rattle.std.specs.Option.{option_map}
 use Rattle.std.specs.List.{find, list_any, AllByRecursion}
 use Rattle.osek_base.specs.declared.ids.ResId.{ResId}
 use Rattle.osek_base.specs.declared.instr.Service.{Service}
+use Rattle.osek_base.specs.Types.{ServiceCall}
 use Rattle.osek_base.specs.declared.status.Status.{Status}
 use Rattle.osek_base.specs.System.{System, is_extended}
 use Rattle.osek_base.specs.Instruction.{Context}
@@ -93,11 +94,6 @@ module _ (S : System) (s : State) (settled : IsSettled S s) (known : AllByRecurs
   awaited_is (RoutineCalls a) m calls = refl
   awaited_is NobodyCalls m calls = refl
 
-  cleared_is : (c : Caller) (m : ℕ) → kept S (events_cleared c m s) ≡ events_cleared_in (kept_caller c) m (kept S s)
-  cleared_is (JobCalls j) m = refl
-  cleared_is (RoutineCalls a) m = refl
-  cleared_is NobodyCalls m = refl
-
   -- the first job of a task is released, if it waits for a set event
   set_is : (t m : ℕ) → HasReady s.running s.jobs → kept S (event_set t m s) ≡ event_set_in S t m (kept S s)
   set_is t m ready = go (jobs_of t s.jobs) refl
@@ -152,7 +148,7 @@ module _ (S : System) (s : State) (settled : IsSettled S s) (known : AllByRecurs
 
   -- ---- all services
 
-  pub effect_kept : (c : Caller) → IsCaller s c → HasReady s.running s.jobs → (call : Service ℕ)
+  pub effect_kept : (c : Caller) → IsCaller s c → HasReady s.running s.jobs → (call : ServiceCall)
       → kept S (with_objects_of s (effect S c s call)) ≡ effect_in S (kept_caller c) (kept S s) call
   unfolding activated released
   effect_kept c calls ready (Service.ActivateTask None) = refl
@@ -252,12 +248,12 @@ module _ (S : System) (s : State) (settled : IsSettled S s) (known : AllByRecurs
   effect_kept c calls ready (Service.GetAlarm o) = refl
   effect_kept c calls ready (Service.GetAlarmBase o) = refl
 
-  reply_kept : (c : Caller) → IsCaller s c → HasReady s.running s.jobs → (call : Service ℕ) (refusal : Option Status)
+  reply_kept : (c : Caller) → IsCaller s c → HasReady s.running s.jobs → (call : ServiceCall) (refusal : Option Status)
       → kept_reply S (reply_to S c s call refusal) ≡ reply_in S (kept_caller c) (kept S s) call refusal
   reply_kept c calls ready call None = λ i. record { status = Status.Ok; results = results_kept S s settled known call i; state = effect_kept c calls ready call i }
   reply_kept c calls ready call (Some refusal) = refl
 
-  pub service_kept : (c : Caller) → IsCaller s c → HasReady s.running s.jobs → (call : Service ℕ)
+  pub service_kept : (c : Caller) → IsCaller s c → HasReady s.running s.jobs → (call : ServiceCall)
       → kept_reply S (service S c s call) ≡ service_in S (kept_caller c) (kept S s) call
   unfolding service service_in
   service_kept c calls ready call =
@@ -265,7 +261,7 @@ module _ (S : System) (s : State) (settled : IsSettled S s) (known : AllByRecurs
       ∙ ap
       (λ rs. reply_in S (kept_caller c) (kept S s) call (first_refusal ((interrupts_off s, Status.SysDisabled) ∷ rs))) (refusals_kept S s settled known c calls call)
 
-  pub unmasked_kept : (c : Caller) → IsCaller s c → HasReady s.running s.jobs → (call : Service ℕ)
+  pub unmasked_kept : (c : Caller) → IsCaller s c → HasReady s.running s.jobs → (call : ServiceCall)
       → kept_reply S (unmasked_service S c s call) ≡ unmasked_in S (kept_caller c) (kept S s) call
   unfolding unmasked_service unmasked_in
   unmasked_kept c calls ready call =
@@ -334,12 +330,12 @@ moved_kept S s n x single e = go (list_any (λ j. same_id j.id n) s.jobs) refl
 
 -- ---- a service of whoever executes, and one of an alarm
 
-pub serves : (S : System) (s : State) → IsSettled S s → AreKnown S s → HasReady s.running s.jobs → (call : Service ℕ)
+pub serves : (S : System) (s : State) → IsSettled S s → AreKnown S s → HasReady s.running s.jobs → (call : ServiceCall)
     → kept_reply S (service S (executor s) s call) ≡ service_in S (caller_in (kept S s)) (kept S s) call
 serves S s settled known ready call =
     service_kept S s settled known (executor s) (executor_calls s) ready call
     ∙ ap (λ d. service_in S d (kept S s) call) (executor_kept S s)
 
-pub acts : (S : System) (s : State) → IsSettled S s → AreKnown S s → HasReady s.running s.jobs → (call : Service ℕ)
+pub acts : (S : System) (s : State) → IsSettled S s → AreKnown S s → HasReady s.running s.jobs → (call : ServiceCall)
     → kept_reply S (unmasked_service S NobodyCalls s call) ≡ unmasked_in S ByNobody (kept S s) call
 acts S s settled known ready call = unmasked_kept S s settled known NobodyCalls tt ready call

@@ -9,8 +9,7 @@ use Rattle.osek_base.specs.State.{Job, JobId, State, same_id, waits}
 use Rattle.osek_base.specs.Priority.{static_priority, dynamic_priority}
 use Rattle.osek_base.specs.GoodState.{is_raised}
 use Rattle.osek_base.proofs.ForemostLemmas.{best, fits, bounded_best}
-use Rattle.osek_base.proofs.PlaceLemmas.{and_split}
-use Rattle.run_laws.proofs.Lists.{some_inside, none_some, EitherWay, clash, all_weaker, all_any, all_both, pairs_weaker, pairs_both, pairs_of_all, either_way}
+use Rattle.run_laws.proofs.Lists.{some_inside, none_some, EitherWay, clash, all_weaker, all_any, all_both, pairs_weaker, pairs_both, pairs_of_all, either_way, any_none}
 use Rattle.run_laws.proofs.Foremost.{same_self, static_le}
 use Rattle.run_laws.proofs.Single.{IsSingle}
 use Rattle.run_laws.proofs.Ranked.{IsRankedPair, IsBehind, AreRanked, HasReady, IsUnder, IsBefore, IsDispatched, HasDispatched, raised_ready}
@@ -19,10 +18,11 @@ use Rattle.ready_queues.specs.Moves.{highest}
 use Rattle.kept_state.specs.Moves.{contender, contender_of, dynamic_in}
 use Rattle.kept_state.specs.KeptService.{is_above}
 use Rattle.kept_state.specs.Standing.{is_overtaken, is_overtaken_by}
-use Rattle.kept_state.proofs.Parts.{none_of, IsOldest}
+use Rattle.kept_state.proofs.Parts.{IsOldest}
 use Rattle.kept_state.proofs.Choose.{highest_queue}
 use Rattle.kept_state.proofs.Rescheduled.{dynamic_top}
 use Rattle.kept_state.proofs.Runner.{runner_oldest, runner_member, runner_itself, runner_slot}
+use Rattle.std.proofs.lemmas.Bool.{and_parts}
 
 -- ---- no job in a queue is above a priority
 
@@ -37,7 +37,7 @@ module _ (S : System) (running : Option JobId) (p : ℕ) where
   low_of [] h = tt
   low_of (k ∷ ks) h =
       let both =
-      and_split (not (is_queued running k) || nat_le (dynamic_priority S k) p)
+      and_parts (not (is_queued running k) || nat_le (dynamic_priority S k) p)
       (list_all (λ x. not (is_queued running x) || nat_le (dynamic_priority S x) p) ks) h in
       (λ e. one (is_queued running k) (dynamic_priority S k) both.0 e, low_of ks both.1)
     where
@@ -195,7 +195,7 @@ module _ (S : System) (s : State) (single : IsSingle S s) where
   ended_runner P n none =
       all_weaker (λ j. same_id j.id n ≡ false) (λ c. Some n ≡ Some c.id → P c) s.jobs
       (λ c other is. clash (sym (ap (λ m. same_id m n) (sym (some_inside n c.id is)) ∙ same_self n) ∙ other))
-      (none_of (λ j. same_id j.id n) s.jobs none)
+      (any_none (λ j. same_id j.id n) s.jobs none)
 
   the_runner : (P : Job → Type 0) (n : JobId) (o : IsOldest n s.jobs) → P o.job
       → AllByRecursion (λ c. Some n ≡ Some c.id → P c) s.jobs

@@ -8,6 +8,7 @@ use Rattle.osek_base.specs.declared.task.Action.{Action}
 use Rattle.osek_base.specs.declared.status.Status.{Status}
 use Rattle.osek_base.specs.declared.trace_event.Results.{Results}
 use Rattle.osek_base.specs.declared.instr.Service.{Service}
+use Rattle.osek_base.specs.Types.{ServiceCall}
 use Rattle.osek_base.specs.declared.instr.Control.{Control}
 use Rattle.osek_base.specs.System.{System}
 use Rattle.osek_base.specs.State.{JobId, State, Active, Expiry, may_dispatch, interrupts_off, same_id}
@@ -140,12 +141,12 @@ reschedule_stands S s standing = (
 
 -- ---- a service
 
-running_service : (S : System) (s : State) (c : Caller) (call : Service ℕ)
+running_service : (S : System) (s : State) (c : Caller) (call : ServiceCall)
     → (service S c s call).state.running ≡ s.running
 unfolding service
 running_service S s c call = refl
 
-module _ (S : System) (s : State) (standing : IsStanding S s) (call : Service ℕ) where
+module _ (S : System) (s : State) (standing : IsStanding S s) (call : ServiceCall) where
   -- interrupts are off: nothing changes
   disabled : interrupts_off s ≡ true
       → IsStanding S (service S (executor s) s call).state × (kept_reply S (service S (executor s) s call) ≡ service_in S (caller_in (kept S s)) (kept S s) call)
@@ -258,7 +259,7 @@ module _ (S : System) (s : State) (standing : IsStanding S s) where
     };
   }
 
-  controlled_stands : (control : Control) → IsStanding S (controlled control s)
+  controlled_stands : (control : Control ℕ) → IsStanding S (controlled control s)
   controlled_stands Control.DisableAllInterrupts =
       interrupts_stand s.pending s.active true s.suspended_all s.suspended_os s.over standing.form.pending standing.form.active
   controlled_stands Control.EnableAllInterrupts =

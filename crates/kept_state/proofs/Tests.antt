@@ -7,6 +7,7 @@ use Rattle.std.proofs.lemmas.Bool.{cases_lt}
 use Rattle.std.proofs.lemmas.List.Folds.{list_any-append}
 use Rattle.osek_base.specs.declared.ids.ResId.{ResId}
 use Rattle.osek_base.specs.declared.instr.Service.{Service}
+use Rattle.osek_base.specs.Types.{ServiceCall}
 use Rattle.osek_base.specs.declared.status.Status.{Status}
 use Rattle.osek_base.specs.declared.status.TaskState.{TaskState}
 use Rattle.osek_base.specs.declared.trace_event.Results.{Results}
@@ -262,7 +263,7 @@ module _ (S : System) (s : State) (settled : IsSettled S s) (known : AllByRecurs
   outranked_is (RoutineCalls a) calls = refl
   outranked_is NobodyCalls calls = refl
 
-  pub refusals_kept : (c : Caller) → IsCaller s c → (call : Service ℕ)
+  pub refusals_kept : (c : Caller) → IsCaller s c → (call : ServiceCall)
       → refusals S c s call ≡ refusals_in S (kept_caller c) (kept S s) call
   refusals_kept c calls (Service.ActivateTask None) = refl
   refusals_kept c calls (Service.ActivateTask (Some t)) = λ i. (full_is t i, Status.Limit) ∷ []
@@ -313,7 +314,7 @@ module _ (S : System) (s : State) (settled : IsSettled S s) (known : AllByRecurs
   refusals_kept c calls (Service.GetAlarmBase None) = refl
   refusals_kept c calls (Service.GetAlarmBase (Some a)) = refl
 
-  pub results_kept : (call : Service ℕ) → results S s call ≡ results_in S (kept S s) call
+  pub results_kept : (call : ServiceCall) → results S s call ≡ results_in S (kept S s) call
   results_kept Service.GetTaskId = ap Results.One (number_is s.running)
   results_kept (Service.GetTaskState (Some t)) = λ i. Results.One (state_number (state_is t i))
   results_kept (Service.GetTaskState None) = refl

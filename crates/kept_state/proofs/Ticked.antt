@@ -5,7 +5,7 @@ use Rattle.std.specs.List.{AllByRecursion}
 use Rattle.osek_base.specs.declared.ids.Owner.{Owner}
 use Rattle.osek_base.specs.declared.instr.Instr.{Instr}
 use Rattle.osek_base.specs.declared.instr.Control.{Control}
-use Rattle.osek_base.specs.declared.instr.Service.{Service}
+use Rattle.osek_base.specs.Types.{ServiceCall}
 use Rattle.osek_base.specs.declared.trace_event.TraceEvent.{TraceEvent}
 use Rattle.osek_base.specs.Lists.{below}
 use Rattle.osek_base.specs.System.{System, alarm, instruction_at}
@@ -22,7 +22,7 @@ use Rattle.run_laws.proofs.Lists.{all_weaker, all_kept}
 use Rattle.run_laws.proofs.Known.{IsCaller, ActivatesKnown, executor_calls, all_below}
 use Rattle.run_laws.proofs.Single.{IsSingle}
 use Rattle.run_laws.proofs.SingleService.{service_single}
-use Rattle.run_laws.proofs.SingleTick.{activated_running, begun, started_keep, CallerRuns, IsKnownInstr, at_known, any_instr_known, controlled_single, service_runs, execute_single, alarm_known}
+use Rattle.run_laws.proofs.SingleTick.{activated_running, begun, started_keep, CallerRuns, IsKnownInstr, at_known, any_instr_known, controlled_single, service_runs, execute_single, alarm_known, controlled_runs}
 use Rattle.run_laws.proofs.Ranked.{AreRanked}
 use Rattle.run_laws.proofs.RankedTick.{first_ordered, begun_ordered, run_ordered, IsRunState, IsExecuting, IsExecuted, action_run, alarm_phase_ordered, before_executing, execute_left}
 use Rattle.run_laws.proofs.Formed.{IsPlacedJob, HasForm}
@@ -55,7 +55,7 @@ module _ (S : System) (proper : IsProper S) where
       → kept_recorded S (alarms_act S due s) ≡ alarms_act_in S due (kept S s)
   alarms_kept [] all s good form = refl
   alarms_kept (a ∷ due) all s good form =
-      let call : Service ℕ = action_call (alarm S a).action in
+      let call : ServiceCall = action_call (alarm S a).action in
       let known : ActivatesKnown S (action_call (alarm S a).action) = alarm_known S a proper all.0 in
       let more =
       alarms_kept due all.1 (alarm_acts S a s).state (action_run S proper s (alarm S a).action known good)
@@ -111,25 +111,10 @@ module _ (S : System) (proper : IsProper S) where
   context_kept (RoutineCalls a) x e single runs = refl
   context_kept NobodyCalls x e single runs = refl
 
-  pub controlled_kept : (control : Control) (s : State)
+  pub controlled_kept : (control : Control ℕ) (s : State)
       → kept S (controlled control s) ≡ controlled_in control (kept S s)
   controlled_kept Control.DisableAllInterrupts s = refl
-  controlled_kept Control.EnableAllInterrupts s = refl
-  controlled_kept Control.SuspendAllInterrupts s = refl
-  controlled_kept Control.ResumeAllInterrupts s = refl
-  controlled_kept Control.SuspendOsInterrupts s = refl
-  controlled_kept Control.ResumeOsInterrupts s = refl
-  controlled_kept (Control.ShutdownOs n) s = refl
-  controlled_kept Control.ReturnFromInterrupt s = refl
-
-  control_runs : (control : Control) (c : Caller) (s : State) → IsCaller s c → CallerRuns (controlled control s) c
-  control_runs control (JobCalls j) s calls = go control
-    where
-      go : (control : Control) → (controlled control s).running ≡ Some j.id
-      go Control.DisableAllInterrupts = calls.runs
-      go _ = calls.runs
-  control_runs control (RoutineCalls a) s calls = tt
-  control_runs control NobodyCalls s calls = tt
+  controlled_kept _ s = refl
 
   words_run : (c : Caller) (s e : State) → e.running ≡ s.running → IsCaller s c → CallerRuns e c
   words_run (JobCalls j) s e same calls = same ∙ calls.runs
@@ -166,7 +151,7 @@ module _ (S : System) (proper : IsProper S) where
         events = (executed S who c x (Instr.Control control) s).events;
         state =
             context_kept c (next x) (controlled control s)
-            (controlled_single S proper control s executing.good.single) (control_runs control c s calls) i;
+            (controlled_single S proper control s executing.good.single) (controlled_runs S proper control c s calls) i;
       })
       ∙ (λ i. record {
         events = (executed S who c x (Instr.Control control) s).events;

@@ -2,6 +2,7 @@
 use Rattle.std.proofs.Common.{◌≡◌, ℕ, suc, Bool, true, false, cond, nat_le, [], ◌∷◌, refl, ◌∙◌, ap, ap₂}
 use Rattle.std.specs.Prelude.{Option, Some, None, slice_index, bit_or}
 use Rattle.osek_base.specs.declared.instr.Service.{Service}
+use Rattle.osek_base.specs.Types.{ServiceCall}
 use Rattle.osek_base.specs.declared.instr.Control.{Control}
 use Rattle.osek_base.specs.declared.status.Status.{Status}
 use Rattle.osek_base.specs.declared.trace_event.Results.{Results}
@@ -34,11 +35,11 @@ either w false x y = refl
 module _ (S : System) (w : Words) where
   -- ---- services
 
-  refusals_words : (d : KeptCaller) (o : Kept) (call : Service ℕ) → refusals_in S d (with_words w o) call ≡ refusals_in S d o call
+  refusals_words : (d : KeptCaller) (o : Kept) (call : ServiceCall) → refusals_in S d (with_words w o) call ≡ refusals_in S d o call
   refusals_words (ByTask u) o (Service.ActivateTask None) = refl
   refusals_words d o call = refl
 
-  results_words : (o : Kept) (call : Service ℕ) → results_in S (with_words w o) call ≡ results_in S o call
+  results_words : (o : Kept) (call : ServiceCall) → results_in S (with_words w o) call ≡ results_in S o call
   results_words o (Service.GetTaskState None) = refl
   results_words o call = refl
 
@@ -77,7 +78,7 @@ module _ (S : System) (w : Words) where
       ≡ with_words w (cond (is_met set (o.slots t).waits_for) (released_in S t (with_mask t set o)) (with_mask t set o))
   set_words t set o = either w (is_met set (o.slots t).waits_for) (released_in S t (with_mask t set o)) (with_mask t set o)
 
-  effect_words : (d : KeptCaller) (o : Kept) (call : Service ℕ) → effect_in S d (with_words w o) call ≡ with_words w (effect_in S d o call)
+  effect_words : (d : KeptCaller) (o : Kept) (call : ServiceCall) → effect_in S d (with_words w o) call ≡ with_words w (effect_in S d o call)
   effect_words d o (Service.ActivateTask None) = refl
   effect_words d o (Service.ActivateTask (Some t)) = refl
   effect_words d o Service.TerminateTask = ended_words d o
@@ -109,19 +110,19 @@ module _ (S : System) (w : Words) where
   effect_words d o (Service.GetAlarmBase (Some a)) = refl
   effect_words d o call = refl
 
-  reply_words : (d : KeptCaller) (o : Kept) (call : Service ℕ) (refusal : Option Status)
+  reply_words : (d : KeptCaller) (o : Kept) (call : ServiceCall) (refusal : Option Status)
       → reply_in S d (with_words w o) call refusal ≡ reply_with w (reply_in S d o call refusal)
   reply_words d o call None =
       ap₂ (λ (found : Results) (x : Kept). record { status = Status.Ok; results = found; state = x }) (results_words o call) (effect_words d o call)
   reply_words d o call (Some refusal) = refl
 
-  pub unmasked_words : (d : KeptCaller) (o : Kept) (call : Service ℕ) → unmasked_in S d (with_words w o) call ≡ reply_with w (unmasked_in S d o call)
+  pub unmasked_words : (d : KeptCaller) (o : Kept) (call : ServiceCall) → unmasked_in S d (with_words w o) call ≡ reply_with w (unmasked_in S d o call)
   unfolding unmasked_in
   unmasked_words d o call =
       ap (λ rs. reply_in S d (with_words w o) call (first_refusal rs)) (refusals_words d o call)
       ∙ reply_words d o call (first_refusal (refusals_in S d o call))
 
-  pub control_words : (o : Kept) (control : Control) → controlled_in control (with_words w o) ≡ with_words w (controlled_in control o)
+  pub control_words : (o : Kept) (control : Control ℕ) → controlled_in control (with_words w o) ≡ with_words w (controlled_in control o)
   control_words o Control.DisableAllInterrupts = refl
   control_words o control = refl
 
@@ -158,7 +159,7 @@ module _ (S : System) (w : Words) where
       ap (λ r. cond (may_dispatch_in o) r (record { events = []; state = with_words w o })) (chosen_words (contender o) (highest (suc (top_priority S)) o.queues) o)
       ∙ either_recorded (may_dispatch_in o) _ _
 
-  pub service_words : (d : KeptCaller) (o : Kept) (call : Service ℕ) → service_in S d (with_words w o) call ≡ reply_with w (service_in S d o call)
+  pub service_words : (d : KeptCaller) (o : Kept) (call : ServiceCall) → service_in S d (with_words w o) call ≡ reply_with w (service_in S d o call)
   unfolding service_in
   service_words d o call =
       ap (λ rs. reply_in S d (with_words w o) call (first_refusal ((interrupts_off (bare o), Status.SysDisabled) ∷ rs))) (refusals_words d o call)

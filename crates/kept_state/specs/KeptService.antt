@@ -3,6 +3,7 @@ use Rattle.std.specs.Prelude.{ℕ, suc, Bool, true, false, not, ◌&&◌, ◌==�
 use Rattle.std.specs.List.{list_any}
 use Rattle.osek_base.specs.declared.ids.ResId.{ResId}
 use Rattle.osek_base.specs.declared.instr.Service.{Service}
+use Rattle.osek_base.specs.Types.{ServiceCall}
 use Rattle.osek_base.specs.declared.status.Status.{Status}
 use Rattle.osek_base.specs.declared.status.TaskState.{TaskState}
 use Rattle.osek_base.specs.declared.trace_event.Results.{Results}
@@ -112,7 +113,7 @@ task_state_in o t =
     else (if is_some (o.slots t).waits_for then TaskState.Waiting
     else (if is_suspended_in o t then TaskState.Suspended else TaskState.Ready))
 
-abbrev pub refusals_in : System → KeptCaller → Kept → Service ℕ → List (Bool × Status)
+abbrev pub refusals_in : System → KeptCaller → Kept → ServiceCall → List (Bool × Status)
 refusals_in S d o (Service.ActivateTask (Some t)) = (is_full_in S o t, Status.Limit) ∷ []
 refusals_in S d o Service.TerminateTask = (by_routine_in d, Status.CallLevel) ∷ (holds_any_in o d, Status.Resource) ∷ []
 refusals_in S d o (Service.ChainTask None) = (by_routine_in d, Status.CallLevel) ∷ (true, Status.Id) ∷ []
@@ -140,7 +141,7 @@ refusals_in S d o (Service.WaitEvent m) =
     (by_routine_in d, Status.CallLevel) ∷ (is_basic_in S d, Status.Access) ∷ (holds_any_in o d, Status.Resource) ∷ []
 refusals_in S d o call = refusals S NobodyCalls (bare o) call
 
-abbrev pub results_in : System → Kept → Service ℕ → Results
+abbrev pub results_in : System → Kept → ServiceCall → Results
 results_in S o Service.GetTaskId = Results.One (running_number o.running)
 results_in S o (Service.GetTaskState (Some t)) = Results.One (state_number (task_state_in o t))
 results_in S o call = results S (bare o) call
@@ -185,7 +186,7 @@ abbrev pub event_awaited_in : KeptCaller → ℕ → Kept → Kept
 event_awaited_in (ByTask t) m o = if meets m (slice_index o.masks t) then o else slot_changed t (slot_waiting m) o
 event_awaited_in _ m o = o
 
-abbrev pub effect_in : System → KeptCaller → Kept → Service ℕ → Kept
+abbrev pub effect_in : System → KeptCaller → Kept → ServiceCall → Kept
 effect_in S d o (Service.ActivateTask (Some t)) = activated_in S t o
 effect_in S d o Service.TerminateTask = caller_ended_in d o
 effect_in S d o (Service.ChainTask (Some t)) = activated_in S t (caller_ended_in d o)
@@ -203,15 +204,15 @@ pub record KeptReply : Type 0 where
   pub results : Results
   pub state : Kept
 
-abbrev pub changed_in : System → KeptCaller → Kept → Service ℕ → Option Status → Kept
+abbrev pub changed_in : System → KeptCaller → Kept → ServiceCall → Option Status → Kept
 changed_in S d o call None = effect_in S d o call
 changed_in S d o call (Some refusal) = o
 
-abbrev pub results_told_in : System → Kept → Service ℕ → Option Status → Results
+abbrev pub results_told_in : System → Kept → ServiceCall → Option Status → Results
 results_told_in S o call None = results_in S o call
 results_told_in S o call (Some refusal) = Results.Nothing
 
-abbrev pub reply_in : System → KeptCaller → Kept → Service ℕ → Option Status → KeptReply
+abbrev pub reply_in : System → KeptCaller → Kept → ServiceCall → Option Status → KeptReply
 reply_in S d o call refusal =
     record {
       status = answer refusal;
@@ -219,10 +220,10 @@ reply_in S d o call refusal =
       state = changed_in S d o call refusal;
     }
 
-unfoldable pub unmasked_in : System → KeptCaller → Kept → Service ℕ → KeptReply
+unfoldable pub unmasked_in : System → KeptCaller → Kept → ServiceCall → KeptReply
 unmasked_in S d o call = reply_in S d o call (first_refusal (refusals_in S d o call))
 
-unfoldable pub service_in : System → KeptCaller → Kept → Service ℕ → KeptReply
+unfoldable pub service_in : System → KeptCaller → Kept → ServiceCall → KeptReply
 service_in S d o call =
     reply_in S d o call (first_refusal ((interrupts_off (bare o), Status.SysDisabled) ∷ refusals_in S d o call))
 

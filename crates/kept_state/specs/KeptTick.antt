@@ -1,17 +1,16 @@
 -- OSEK/VDX OS: one tick, over what the code keeps.
-use Rattle.std.specs.Prelude.{ℕ, ◌+◌, false, if◌then◌else◌, List, [], ◌∷◌, ◌++◌, Option, Some, None, slice_set, replicate, length, ◌≡◌}
+use Rattle.std.specs.Prelude.{ℕ, ◌+◌, false, if◌then◌else◌, List, [], ◌∷◌, ◌++◌, Option, Some, None, slice_set, ◌≡◌}
 use Rattle.std.specs.Option.{option_map}
 use Rattle.osek_base.specs.declared.ids.Owner.{Owner}
-use Rattle.osek_base.specs.declared.instr.Plain.{Plain}
 use Rattle.osek_base.specs.declared.instr.Instr.{Instr}
 use Rattle.osek_base.specs.declared.instr.Control.{Control}
-use Rattle.osek_base.specs.declared.instr.Service.{Service}
+use Rattle.osek_base.specs.Types.{ServiceCall, PlainInstr}
 use Rattle.osek_base.specs.declared.trace_event.TraceEvent.{TraceEvent}
 use Rattle.osek_base.specs.declared.trace_event.Outcome.{Outcome}
 use Rattle.osek_base.specs.declared.trace_event.Source.{Source}
 use Rattle.osek_base.specs.System.{System, alarm, instruction_at}
 use Rattle.osek_base.specs.Instruction.{Context, Done, next, plain}
-use Rattle.osek_base.specs.State.{Active, fresh_context, no_shared, words_after}
+use Rattle.osek_base.specs.State.{Active, fresh_context, still, words_after}
 use Rattle.osek_base.specs.Alarm.{due_alarms, alarms_advanced}
 use Rattle.osek_base.specs.Service.{controlled}
 use Rattle.osek_base.specs.Tick.{action_call, error_record, flagged, routine_choice, at_values, moved, answered, shutdown_record, Step, tick}
@@ -19,7 +18,7 @@ use Rattle.osek_base.specs.Reschedule.{hooked}
 use Rattle.osek_base.specs.Trace.{starting_tasks, starting_alarms, boot, run}
 use Rattle.osek_base.specs.Proper.{IsProper}
 use Rattle.osek_base.specs.declared.arrivals.Arrival.{Arrival}
-use Rattle.kept_state.specs.Kept.{Kept, unbegun, kept}
+use Rattle.kept_state.specs.Kept.{Kept, kept}
 use Rattle.kept_state.specs.Moves.{KeptRecorded, kept_recorded, activated_in, may_dispatch_in, rescheduled}
 use Rattle.kept_state.specs.KeptService.{KeptCaller, ByTask, ByRoutine, ByNobody, KeptReply, bare, unmasked_in, service_in, moved_in, caller_in}
 
@@ -59,19 +58,19 @@ with_context_in ByRoutine x o = record o { active = option_map (moved x) o.activ
 with_context_in ByNobody x o = o
 
 -- the state after a service without a status
-abbrev pub controlled_in : Control → Kept → Kept
+abbrev pub controlled_in : Control ℕ → Kept → Kept
 controlled_in control o =
     let s = controlled control (bare o) in
     record o { active = s.active; disabled = s.disabled; suspended_all = s.suspended_all; suspended_os = s.suspended_os; over = s.over }
 
-abbrev pub plain_done_in : Owner → KeptCaller → Context → Plain → Kept → Done → KeptRecorded
+abbrev pub plain_done_in : Owner → KeptCaller → Context → PlainInstr → Kept → Done → KeptRecorded
 plain_done_in who d x p o done =
     record {
       events = TraceEvent.Executed who x.place (Instr.Plain p) (Outcome.Plain done.effect) ∷ [];
       state = with_context_in d done.context (record o { words = words_after o.words who done.effect });
     }
 
-abbrev pub service_done_in : System → Owner → KeptCaller → Context → Service ℕ → KeptReply → KeptRecorded
+abbrev pub service_done_in : System → Owner → KeptCaller → Context → ServiceCall → KeptReply → KeptRecorded
 service_done_in S who d x call r =
     record {
       events =
@@ -125,26 +124,9 @@ tick_in S arrived o =
 
 -- ---- boot
 
--- no job, no routine, interrupts on, alarms off, all words and masks 0
+-- before anything starts
 abbrev pub still_in : System → Kept
-still_in S =
-    record {
-      queues = λ l. [];
-      slots = λ t. unbegun 0;
-      running = None;
-      gone = false;
-      active = None;
-      pending = replicate (length S.routines) false;
-      disabled = false;
-      suspended_all = 0;
-      suspended_os = 0;
-      alarms = replicate (length S.alarms) None;
-      words = λ owner index. 0;
-      masks = replicate (length S.tasks) 0;
-      shared = replicate (length S.resources) no_shared;
-      tick = 0;
-      over = false;
-    }
+still_in S = kept S (still S)
 
 -- and the alarms that start with the mode
 abbrev pub begun_in : System → ℕ → Kept

@@ -6,6 +6,7 @@ use Rattle.std.specs.List.{AllByRecursion}
 use Rattle.osek_base.specs.declared.ids.Owner.{Owner}
 use Rattle.osek_base.specs.declared.arrivals.Arrival.{Arrival}
 use Rattle.osek_base.specs.declared.instr.Service.{Service}
+use Rattle.osek_base.specs.Types.{ServiceCall}
 use Rattle.osek_base.specs.declared.instr.Control.{Control}
 use Rattle.osek_base.specs.System.{System, activation_of}
 use Rattle.osek_base.specs.Ceiling.{top_priority}
@@ -118,13 +119,13 @@ SetEventStands =
 -- a service of whoever executes
 abbrev pub ServiceStands : Type 0
 ServiceStands =
-    (S : System) (s : State) (call : Service ℕ) → IsStanding S s → MayServe S (kept S s) → ActivatesKnown S call
+    (S : System) (s : State) (call : ServiceCall) → IsStanding S s → MayServe S (kept S s) → ActivatesKnown S call
     → IsStanding S (service S (executor s) s call).state
     × (kept_reply S (service S (executor s) s call) ≡ service_in S (caller_in (kept S s)) (kept S s) call)
 
 abbrev pub ControlStands : Type 0
 ControlStands =
-    (S : System) (s : State) (control : Control) → IsStanding S s
+    (S : System) (s : State) (control : Control ℕ) → IsStanding S s
     → IsStanding S (controlled control s) × (kept S (controlled control s) ≡ controlled_in control (kept S s))
 
 abbrev pub RescheduleStands : Type 0

@@ -4,6 +4,7 @@ use Rattle.std.specs.Prelude.{Option, Some, None, IfSome, ◌==◌}
 use Rattle.osek_base.specs.declared.ids.Owner.{Owner}
 use Rattle.osek_base.specs.declared.instr.Instr.{Instr}
 use Rattle.osek_base.specs.declared.instr.Service.{Service}
+use Rattle.osek_base.specs.Types.{ServiceCall}
 use Rattle.osek_base.specs.System.{System, instruction_at}
 use Rattle.osek_base.specs.Instruction.{Context}
 use Rattle.osek_base.specs.Tick.{at_values}
@@ -21,7 +22,7 @@ operand_known : (S : System) (o : Option ℕ) → IsTaskOperand S o → IfSome o
 operand_known S None h = tt
 operand_known S (Some t) h = h
 
-call_known : (S : System) (x : Context) (call : Service ℕ) → IsKnown S (at_values x call)
+call_known : (S : System) (x : Context) (call : ServiceCall) → IsKnown S (at_values x call)
     → IfSome (named_by (Instr.Service call)) (λ t. t < length S.tasks)
 call_known S x (Service.ActivateTask t) h = operand_known S t h
 call_known S x (Service.ChainTask t) h = operand_known S t h

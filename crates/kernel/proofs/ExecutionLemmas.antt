@@ -5,9 +5,8 @@ use Rattle.std.specs.Prelude.{Option, Some, None, is_some}
 use Rattle.std.proofs.lemmas.Bool.{false≢true}
 use Rattle.osek_base.specs.declared.ids.Owner.{Owner}
 use Rattle.osek_base.specs.declared.instr.Instr.{Instr}
-use Rattle.osek_base.specs.declared.instr.Plain.{Plain}
 use Rattle.osek_base.specs.declared.instr.Control.{Control}
-use Rattle.osek_base.specs.declared.instr.Service.{Service}
+use Rattle.osek_base.specs.Types.{ServiceCall, PlainInstr}
 use Rattle.osek_base.specs.declared.trace_event.Effect.{Effect}
 use Rattle.osek_base.specs.declared.trace_event.Results.{Results}
 use Rattle.osek_base.specs.declared.trace_event.TraceEvent.{TraceEvent}
@@ -93,7 +92,7 @@ words_equal v w h = fun_ext (λ o. fun_ext (λ i. h o i))
 
 -- ---- plain instructions
 
-pub plain_goes : (S : System) (e : Execution) (p : Plain) (old new : List ℕ) (o after : Objects) (x : Context) (effect : Effect)
+pub plain_goes : (S : System) (e : Execution) (p : PlainInstr) (old new : List ℕ) (o after : Objects) (x : Context) (effect : Effect)
     → effect ≡ (plain p e.cpu (word old e.owner)).effect
     → x ≡ (plain p e.cpu (word old e.owner)).context
     → ((other : Owner) (i : ℕ) → word new other i ≡ words_after (word old) e.owner effect other i)
@@ -107,7 +106,7 @@ plain_goes S e p old new o after x effect effect_is x_is words after_is =
 
 -- ---- services
 
-pub service_goes : (S : System) (e : Execution) (call : Service ℕ) (w : Words) (o served after : Objects) (x : Context)
+pub service_goes : (S : System) (e : Execution) (call : ServiceCall) (w : Words) (o served after : Objects) (x : Context)
     (status : Status) (results : Results) → Executes (kept_in o) e.owner e.cpu
     → Some status ≡ (call_in S (kept_in o) (Call.Service (at_values e.cpu call))).status
     → results ≡ (call_in S (kept_in o) (Call.Service (at_values e.cpu call))).results
@@ -134,7 +133,7 @@ service_goes S e call w o served after x status results who status_is results_is
     ∙ ap₂ (λ (y : Context) (s : Kept). with_context_in d y s) at same_state
 
 -- what it records: its answer, and an error where it was refused
-pub service_told : (S : System) (e : Execution) (call : Service ℕ) (w : Words) (o : Objects) (status : Status) (results : Results)
+pub service_told : (S : System) (e : Execution) (call : ServiceCall) (w : Words) (o : Objects) (status : Status) (results : Results)
     → Executes (kept_in o) e.owner e.cpu
     → Some status ≡ (call_in S (kept_in o) (Call.Service (at_values e.cpu call))).status
     → results ≡ (call_in S (kept_in o) (Call.Service (at_values e.cpu call))).results
@@ -160,7 +159,7 @@ service_told S e call w o status results who status_is results_is earlier execut
 -- ---- services without a status
 
 -- behind the end of a routine nobody goes on
-goes_on : (who : Owner) (control : Control) (x : Context) (o : Kept) → (control ≡ Control.ReturnFromInterrupt → is_routine who ≡ true)
+goes_on : (who : Owner) (control : Control ℕ) (x : Context) (o : Kept) → (control ≡ Control.ReturnFromInterrupt → is_routine who ≡ true)
     → with_context_in (caller_as who) (control_context control x) (controlled_in control o)
     ≡ with_context_in (caller_as who) (next x) (controlled_in control o)
 goes_on (Owner.Task t) Control.ReturnFromInterrupt x o routine = absurd (false≢true (routine refl))
@@ -174,13 +173,13 @@ goes_on who Control.ResumeOsInterrupts x o routine = refl
 goes_on who (Control.ShutdownOs n) x o routine = refl
 
 -- only a routine returns from an interrupt
-pub returning_routine : (S : System) (owner : Owner) (place : ℕ) (control : Control) → KnownPlace S owner place
+pub returning_routine : (S : System) (owner : Owner) (place : ℕ) (control : Control ℕ) → KnownPlace S owner place
     → instruction_at S owner place ≡ Instr.Control control → control ≡ Control.ReturnFromInterrupt → is_routine owner ≡ true
 returning_routine S owner place control k next_is returns =
     let e : instruction_at S owner place ≡ Instr.Control Control.ReturnFromInterrupt = next_is ∙ ap (λ c. Instr.Control c) returns in
     rw e at k.operands
 
-pub control_goes : (S : System) (e : Execution) (control : Control) (w : Words) (o served after : Objects) (x : Context)
+pub control_goes : (S : System) (e : Execution) (control : Control ℕ) (w : Words) (o served after : Objects) (x : Context)
     → (control ≡ Control.ReturnFromInterrupt → is_routine e.owner ≡ true)
     → kept_in served ≡ (call_in S (kept_in o) (Call.Control control)).state
     → x ≡ control_context control e.cpu

@@ -9,6 +9,7 @@ use Rattle.osek_base.specs.declared.instr.Instr.{Instr}
 use Rattle.osek_base.specs.declared.instr.Plain.{Plain}
 use Rattle.osek_base.specs.declared.instr.Control.{Control}
 use Rattle.osek_base.specs.declared.instr.Service.{Service}
+use Rattle.osek_base.specs.Types.{ServiceCall, PlainInstr}
 use Rattle.osek_base.specs.System.{System, program, instruction_at}
 use Rattle.osek_base.specs.Instruction.{Context, plain, next}
 use Rattle.osek_base.specs.Proper.{is_proper_service, is_proper_instruction, is_end_instruction}
@@ -34,7 +35,7 @@ module _ (S : System) (owner : Owner) (x : Context) (k : KnownPlace S owner x.pl
       → is_proper_instruction S (is_routine owner) (length (program S owner)) i ≡ true
   proper_one i e = sym (ap (is_proper_instruction S (is_routine owner) (length (program S owner))) e) ∙ k.operands
 
-  pub has_next : (p : Plain) → instruction_at S owner x.place ≡ Instr.Plain p → HasNext p x
+  pub has_next : (p : PlainInstr) → instruction_at S owner x.place ≡ Instr.Plain p → HasNext p x
   has_next (Plain.Jmp to) e = tt
   has_next Plain.Nop e = omega (arith, follows _ e refl, k.short)
   has_next (Plain.Li d n) e = omega (arith, follows _ e refl, k.short)
@@ -45,24 +46,24 @@ module _ (S : System) (owner : Owner) (x : Context) (k : KnownPlace S owner x.pl
   has_next (Plain.JumpIf t a b to) e = omega (arith, follows _ e refl, k.short)
 
   -- a plain instruction leads to a place of the program
-  pub plain_stays : (proper : IsProper S) (p : Plain) (words : ℕ → ℕ) → instruction_at S owner x.place ≡ Instr.Plain p → IsPlaced S owner x
+  pub plain_stays : (proper : IsProper S) (p : PlainInstr) (words : ℕ → ℕ) → instruction_at S owner x.place ≡ Instr.Plain p → IsPlaced S owner x
       → IsPlaced S owner (plain p x words).context
   plain_stays proper p words e placed =
       plain_placed S proper owner (is_routine owner) x p words placed (proper_one (Instr.Plain p) e) (follows (Instr.Plain p) e)
 
-  pub service_stays : (proper : IsProper S) (call : Service ℕ) (status : Status) (found : Results)
+  pub service_stays : (proper : IsProper S) (call : ServiceCall) (status : Status) (found : Results)
       → instruction_at S owner x.place ≡ Instr.Service call → IsPlaced S owner x → IsPlaced S owner (answered status found x)
   service_stays proper call status found e placed =
       answered_placed S proper owner status found x placed (follows (Instr.Service call) e refl)
 
   -- behind a service there is an instruction, and the operands of the service exist
-  service_next : (call : Service ℕ) → instruction_at S owner x.place ≡ Instr.Service call → x.place + 1 < length (program S owner)
+  service_next : (call : ServiceCall) → instruction_at S owner x.place ≡ Instr.Service call → x.place + 1 < length (program S owner)
   service_next call e = follows _ e refl
 
-  pub service_short : (call : Service ℕ) → instruction_at S owner x.place ≡ Instr.Service call → x.place + 1 < 1024
+  pub service_short : (call : ServiceCall) → instruction_at S owner x.place ≡ Instr.Service call → x.place + 1 < 1024
   service_short call e = omega (arith, service_next call e, k.short)
 
-  pub control_next : (control : Control) → instruction_at S owner x.place ≡ Instr.Control control → ends_routine control ≡ false
+  pub control_next : (control : Control ℕ) → instruction_at S owner x.place ≡ Instr.Control control → ends_routine control ≡ false
       → x.place + 1 < length (program S owner)
   control_next Control.ReturnFromInterrupt e h = absurd (let t : true ≡ false = h in cc)
   control_next Control.DisableAllInterrupts e h = follows _ e refl
@@ -73,7 +74,7 @@ module _ (S : System) (owner : Owner) (x : Context) (k : KnownPlace S owner x.pl
   control_next Control.ResumeOsInterrupts e h = follows _ e refl
   control_next (Control.ShutdownOs n) e h = follows _ e refl
 
-  pub control_stays : (proper : IsProper S) (control : Control) → instruction_at S owner x.place ≡ Instr.Control control → IsPlaced S owner x
+  pub control_stays : (proper : IsProper S) (control : Control ℕ) → instruction_at S owner x.place ≡ Instr.Control control → IsPlaced S owner x
       → IsPlaced S owner (cond (ends_routine control) x (next x))
   control_stays proper control e placed = go (ends_routine control) refl
     where
@@ -81,7 +82,7 @@ module _ (S : System) (owner : Owner) (x : Context) (k : KnownPlace S owner x.pl
       go true h = placed
       go false h = next_placed S proper owner x (next x) placed (control_next control e h) refl refl
 
-  known_call : (call : Service ℕ) → is_proper_service S call ≡ true → IsKnown S (at_values x call)
+  known_call : (call : ServiceCall) → is_proper_service S call ≡ true → IsKnown S (at_values x call)
   known_call (Service.ActivateTask None) h = tt
   known_call (Service.ActivateTask (Some t)) h = ltb-true _ _ h
   known_call Service.TerminateTask h = tt
@@ -117,7 +118,7 @@ module _ (S : System) (owner : Owner) (x : Context) (k : KnownPlace S owner x.pl
   known_call (Service.GetAlarmBase None) h = tt
   known_call (Service.GetAlarmBase (Some a)) h = ltb-true _ _ h
 
-  pub service_known : (call : Service ℕ) → instruction_at S owner x.place ≡ Instr.Service call → IsKnown S (at_values x call)
+  pub service_known : (call : ServiceCall) → instruction_at S owner x.place ≡ Instr.Service call → IsKnown S (at_values x call)
   service_known call e = known_call call (proper_one _ e)
 
 -- who is at a place of a program is of the system

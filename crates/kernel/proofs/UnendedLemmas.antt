@@ -2,7 +2,7 @@
 use Rattle.std.proofs.Common.{◌≡◌, ℕ, Bool, true, false, cond, not, ◌&&◌, List, refl, ◌∙◌, ap, arith}
 use Rattle.std.specs.Prelude.{Option, Some, None}
 use Rattle.osek_base.specs.declared.instr.Instr.{Instr}
-use Rattle.osek_base.specs.declared.instr.Plain.{Plain}
+use Rattle.osek_base.specs.Types.{PlainInstr}
 use Rattle.osek_base.specs.declared.instr.Control.{Control}
 use Rattle.osek_base.specs.System.{System}
 use Rattle.osek_base.specs.Instruction.{Context, next, plain}
@@ -34,7 +34,7 @@ unended (Some t) false true xs same = absurd (grind arith)
 unended (Some t) false false xs same = refl
 
 module _ (S : System) (e : Execution) where
-  pub plain_looked : (p : Plain) (before after : List ℕ) (o n : Objects) (u : ℕ) (xs : StampLists)
+  pub plain_looked : (p : PlainInstr) (before after : List ℕ) (o n : Objects) (u : ℕ) (xs : StampLists)
       → kept_of (word after) n ≡ (executed_by S e (Instr.Plain p) (word before) o).state
       → xs ≡ executed_by_looked u (Instr.Plain p) (kept_in o) (kept_in n) xs
   plain_looked p before after o n u xs goes =
@@ -43,7 +43,7 @@ module _ (S : System) (e : Execution) where
       unended o.running o.gone n.gone xs
       (ap (λ (m : Kept). m.gone) goes ∙ moved_gone (caller_as e.owner) done.context (record k { words = words_after k.words e.owner done.effect }))
 
-  pub control_looked : (c : Control) (before : List ℕ) (o n : Objects) (u : ℕ) (xs : StampLists)
+  pub control_looked : (c : Control ℕ) (before : List ℕ) (o n : Objects) (u : ℕ) (xs : StampLists)
       → kept_of (word before) n ≡ (executed_by S e (Instr.Control c) (word before) o).state
       → xs ≡ executed_by_looked u (Instr.Control c) (kept_in o) (kept_in n) xs
   control_looked c before o n u xs goes =

@@ -1,5 +1,5 @@
 -- OSEK/VDX OS: system start-up. What a kernel keeps of a run.
-use Rattle.std.specs.Prelude.{ℕ, ◌≡◌, ◌≤◌, ◌-◌, ◌+◌, List, Option, length, slice_index_or}
+use Rattle.std.specs.Prelude.{ℕ, ◌≡◌, ◌≤◌, ◌-◌, ◌+◌, List, length, slice_index_or}
 use Rattle.osek_base.specs.declared.limits.TheConstants.{MAX_TICKS, MAX_TASK_PRIORITY}
 use Rattle.osek_base.specs.declared.arrivals.Arrival.{Arrival}
 use Rattle.osek_base.specs.declared.trace_event.TraceEvent.{TraceEvent}
@@ -11,6 +11,8 @@ use Rattle.kept_state.specs.Kept.{kept}
 use Rattle.machine.specs.Windows.{word}
 use Rattle.machine.specs.Code.{Programs, programs_of}
 use Rattle.services.specs.Objects.{Objects, kept_of}
+use Rattle.kernel.specs.declared.blocking.Begun.{Begun}
+use Rattle.kernel.specs.Looking.{number_since}
 use Rattle.kernel.specs.Run.{AreAhead, AreKnown, AreLeft, at_tick}
 use Rattle.blocking_laws.specs.Stamps.{levels_of, stamps_of}
 use Rattle.blocking_laws.specs.Looks.{AreListed, StampLists}
@@ -23,7 +25,7 @@ pub record AreLast (S : System) (mode : ℕ) (arrivals : List Arrival) (ticks : 
 -- what a kernel keeps after so many ticks: what is kept of the state of the run, with the number of the next tick, the
 -- programs of the system, and what tells the number of blockers
 pub record IsKept (S : System) (mode : ℕ) (arrivals : List Arrival) (ticks cursor : ℕ) (o : Objects) (words : List ℕ) (code : Programs) (opening : List TraceEvent)
-    (stamps : StampLists) (behind : List ℕ) (number : Option ℕ) : Type 0 where
+    (stamps : StampLists) (behind : List ℕ) (begun : Begun) : Type 0 where
   pub system : o.system ≡ S
   pub proper : IsProper S
   pub programs : code ≡ programs_of S
@@ -37,7 +39,8 @@ pub record IsKept (S : System) (mode : ℕ) (arrivals : List Arrival) (ticks cur
   pub unwritten : opening ≡ (run S mode arrivals ticks).unwritten
   pub few : length opening ≤ 3
   pub none_later : 1 ≤ ticks → length opening ≤ 0
-  -- the stamps of jobs, the last ticks of levels, and the number of blockers of the tick just done
+  -- the stamps of jobs, the last ticks of levels, and what tells the number of blockers of the tick just done
   pub stamped : AreListed S stamps (stamps_of S mode arrivals ticks) (run S mode arrivals ticks).state
   pub levels : AreLast S mode arrivals ticks behind
-  pub counted : 1 ≤ ticks → number ≡ blockers_at S mode arrivals (ticks - 1)
+  pub low : begun.level ≤ MAX_TASK_PRIORITY
+  pub counted : 1 ≤ ticks → number_since behind begun ≡ blockers_at S mode arrivals (ticks - 1)

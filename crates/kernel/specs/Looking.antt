@@ -9,6 +9,7 @@ use Rattle.kept_state.specs.Kept.{Kept}
 use Rattle.kept_state.specs.KeptService.{KeptCaller, ByTask, ByRoutine, ByNobody, caller_in}
 use Rattle.kept_state.specs.KeptTick.{execute_phase_in}
 use Rattle.readiness.specs.Stamps.{stamp_of_oldest}
+use Rattle.kernel.specs.declared.blocking.Begun.{Begun}
 use Rattle.kernel.specs.declared.stamping.Look.{Look}
 use Rattle.blocking_laws.specs.Looks.{StampLists, acting_task, changed_list, ended_if, instr_in, is_task, looked, looked_if, named_by, named_in, stamps_at, task_waits}
 
@@ -67,6 +68,9 @@ noted S u ByNobody behind = behind
 
 abbrev pub count_below : ℕ → List ℕ → ℕ → ℕ
 count_below level behind u = one_if (list_any (λ b. nat_lt u b) (take level behind))
+
+abbrev pub number_since : List ℕ → Begun → Option ℕ
+number_since behind b = option_map (count_below b.level behind) b.stamp
 
 abbrev pub number_for : System → KeptCaller → List ℕ → StampLists → Option ℕ
 number_for S (ByTask t) behind xs = option_map (count_below (priority_of S t) behind) (stamp_of_oldest (stamps_at xs t))

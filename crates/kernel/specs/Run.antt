@@ -80,12 +80,12 @@ abbrev pub executed_by : System → Execution → Instr → Words → Objects �
 executed_by S e i w o = executed_in S e.owner (caller_as e.owner) e.cpu i (kept_of w o)
 
 -- whether a routine ends, so that nothing follows
-abbrev pub ends_routine : Control → Bool
+abbrev pub ends_routine : Control ℕ → Bool
 ends_routine Control.ReturnFromInterrupt = true
 ends_routine _ = false
 
 -- the registers and the place after a service without a status
-abbrev pub control_context : Control → Context → Context
+abbrev pub control_context : Control ℕ → Context → Context
 control_context control x = if ends_routine control then x else next x
 
 -- what boot leaves: what is kept of the state before the first tick, and the records that stand in it

@@ -15,7 +15,7 @@ ghost use Rattle.kernel.specs.Run.{AreKnown, IsLawful, is_over, run_of};
 ghost use Rattle.blocking_laws.specs.Steps.{record_at};
 ghost use Rattle.blocking_laws.specs.Looks.{last_looked, reschedule_looked};
 
-use crate::blocking::begin;
+use crate::blocking::{Begun, begin, number_since};
 use crate::boot::{BootFault, begun_stamps, booted};
 use crate::early_phases::before_execution;
 use crate::execute_phase::execute_phase;
@@ -49,7 +49,7 @@ pub struct Kernel<'s, Q: ReadyQueues> {
     due: ArrayVec<AlarmId, MAX_ALARMS>,
     stamps: JobStamps,
     behind: LastTicks,
-    blockers: Option<u32>,
+    begun: Begun,
 }
 
 impl<'s, Q: ReadyQueues> Model for Kernel<'s, Q> {
@@ -65,7 +65,7 @@ impl<'s, Q: ReadyQueues> Model for Kernel<'s, Q> {
       ticks = k.ticks;
     } };
 
-    ghost invariant = { λ k. IsKept k.system.now k.mode k.arrivals k.ticks k.arrived k.core k.windows k.code k.opening k.stamps k.behind k.blockers };
+    ghost invariant = { λ k. IsKept k.system.now k.mode k.arrivals k.ticks k.arrived k.core k.windows k.code k.opening k.stamps k.behind k.begun };
 }
 
 /// Puts in the records that stand before a tick's own: those of boot in tick 0, else none.
@@ -122,7 +122,7 @@ impl<'s, Q: ReadyQueues> Kernel<'s, Q> {
             due: ArrayVec::new(),
             stamps,
             behind: LastTicks::new(),
-            blockers: None,
+            begun: Begun::nothing(),
         })
     }
 
@@ -164,7 +164,7 @@ impl<'s, Q: ReadyQueues> Kernel<'s, Q> {
         requires { 1 ≤ self.now.ticks }
         ensures { result ≡ blockers_at self.now.system self.now.mode self.now.arrivals (self.now.ticks - 1) }
     {
-        self.blockers
+        number_since(&self.behind, &self.begun)
     }
 
     /// Does one tick, and answers its records. It takes no memory and never fails.
@@ -199,11 +199,12 @@ impl<'s, Q: ReadyQueues> Kernel<'s, Q> {
             record_of_tick,
         );
         let owner = self.core.executor();
-        self.blockers = begin(
+        begin(
             &self.core,
             self.system,
             &mut self.stamps,
             &mut self.behind,
+            &mut self.begun,
             self.ticks,
         );
         self.ticks += 1;

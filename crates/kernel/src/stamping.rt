@@ -142,8 +142,7 @@ fn reschedule_anew<Q: ReadyQueues>(
     ensures stamps { stamps.new ≡ reschedule_looked core.old.system tick (kept_in core.old) stamps.old }
     ensures sized { length stamps.new ≡ length stamps.old }
 {
-    let runner = core.contender();
-    core.reschedule(record_of_tick);
+    let runner = core.reschedule(record_of_tick);
     preempted(core, stamps, runner, tick);
 }
 

@@ -6,6 +6,7 @@ use Rattle.osek_base.specs.declared.instr.Operation.{Operation}
 use Rattle.osek_base.specs.declared.instr.Comparison.{Comparison}
 use Rattle.osek_base.specs.declared.instr.Plain.{Plain}
 use Rattle.osek_base.specs.declared.instr.Service.{Service}
+use Rattle.osek_base.specs.Types.{ServiceCall, PlainInstr}
 use Rattle.osek_base.specs.declared.instr.Control.{Control}
 use Rattle.osek_base.specs.declared.instr.Instr.{Instr}
 use Rattle.machine.specs.declared.fields.Fields.{Fields}
@@ -45,7 +46,7 @@ comparison_number Comparison.Equal = 12
 comparison_number Comparison.NotEqual = 13
 comparison_number Comparison.Less = 14
 
-abbrev pub plain_fields : Plain → Fields
+abbrev pub plain_fields : PlainInstr → Fields
 plain_fields Plain.Nop = fields 0 0 0 0 0
 plain_fields (Plain.Li d n) = fields 1 d 0 0 n
 plain_fields (Plain.Mov d a) = fields 2 d a 0 0
@@ -55,7 +56,7 @@ plain_fields (Plain.St a b) = fields 10 a b 0 0
 plain_fields (Plain.Jmp to) = fields 11 0 0 0 to
 plain_fields (Plain.JumpIf test a b to) = fields (comparison_number test) a b 0 to
 
-abbrev pub service_fields : Service ℕ → Fields
+abbrev pub service_fields : ServiceCall → Fields
 service_fields (Service.ActivateTask t) = fields 15 (number_of t) 0 0 0
 service_fields Service.TerminateTask = fields 16 0 0 0 0
 service_fields (Service.ChainTask t) = fields 17 (number_of t) 0 0 0
@@ -76,7 +77,7 @@ service_fields (Service.GetAlarmBase a) = fields 31 (number_of a) 0 0 0
 service_fields (Service.LoadShared r x) = fields 40 (resource_number r) x 0 0
 service_fields (Service.StoreShared r x y) = fields 41 (resource_number r) x y 0
 
-abbrev pub control_fields : Control → Fields
+abbrev pub control_fields : Control ℕ → Fields
 control_fields Control.DisableAllInterrupts = fields 32 0 0 0 0
 control_fields Control.EnableAllInterrupts = fields 33 0 0 0 0
 control_fields Control.SuspendAllInterrupts = fields 34 0 0 0 0
@@ -132,7 +133,7 @@ comparison_at n =
     else if n == 13 then Comparison.NotEqual
     else Comparison.Less
 
-abbrev pub plain_at : Fields → Plain
+abbrev pub plain_at : Fields → PlainInstr
 plain_at f =
     if f.operation == 0 then Plain.Nop
     else if f.operation == 1 then Plain.Li (register_at f.first) f.number
@@ -144,7 +145,7 @@ plain_at f =
     then Plain.Compute (operation_at f.operation) (register_at f.first) (register_at f.second) (register_at f.third)
     else Plain.JumpIf (comparison_at f.operation) (register_at f.first) (register_at f.second) (place_at f.number)
 
-abbrev pub service_at : Fields → Service ℕ
+abbrev pub service_at : Fields → ServiceCall
 service_at f =
     if f.operation == 15 then Service.ActivateTask (task_at f.first)
     else if f.operation == 16 then Service.TerminateTask
@@ -166,7 +167,7 @@ service_at f =
     else if f.operation == 40 then Service.LoadShared (resource_at f.first) (register_at f.second)
     else Service.StoreShared (resource_at f.first) (register_at f.second) (register_at f.third)
 
-abbrev pub control_at : Fields → Control
+abbrev pub control_at : Fields → Control ℕ
 control_at f =
     if f.operation == 32 then Control.DisableAllInterrupts
     else if f.operation == 33 then Control.EnableAllInterrupts

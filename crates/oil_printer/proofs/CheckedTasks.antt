@@ -19,11 +19,11 @@ use Rattle.oil_reader.specs.Attributes.{attribute_named, reserved}
 use Rattle.oil_reader.specs.Checked.{is_name, are_names, is_object_name, is_number, is_checked_task, is_checked_start, is_checked_action, is_checked_alarm}
 use Rattle.oil_reader.specs.Configuration.{TaskRecord, AlarmStartRecord, AlarmRecord}
 use Rattle.oil_printer.specs.Printed.{setting, line, lines_of, settings_of, schedule_word, task_start, task_object, action_line, start_settings, alarm_start, alarm_object}
-use Rattle.oil_printer.proofs.Words.{both}
 use Rattle.oil_printer.proofs.Back.{two_lists}
 use Rattle.oil_printer.proofs.Spelled.{may_print_setting, may_print_attribute, may_print_object}
 use Rattle.oil_printer.proofs.Faultless.{all_apart, is_right, repeats, are_right, is_scope_right, is_block_right, is_object_right}
 use Rattle.oil_printer.proofs.CheckedObjects.{IsFit, number_below, schedule_name, schedule_right, all_true, any_false, any_both, apart_both, apart_names}
+use Rattle.std.proofs.lemmas.Bool.{and_parts}
 
 -- ---- lists of names
 
@@ -31,13 +31,13 @@ use Rattle.oil_printer.proofs.CheckedObjects.{IsFit, number_below, schedule_name
 settings_print : (p : AttributeName) → is_name (word_of p) ≡ true → (names : List (List ℕ)) → are_names names ≡ true → list_all may_print_setting (settings_of p names) ≡ true
 settings_print p e [] h = refl
 settings_print p e (name ∷ names) h =
-    let t = both (is_name name) (are_names names) h in
+    let t = and_parts (is_name name) (are_names names) h in
     rw (e, t.0) (settings_print p e names t.1)
 
 lines_print : (p : AttributeName) → is_name (word_of p) ≡ true → (names : List (List ℕ)) → are_names names ≡ true → list_all may_print_attribute (lines_of p names) ≡ true
 lines_print p e [] h = refl
 lines_print p e (name ∷ names) h =
-    let t = both (is_name name) (are_names names) h in
+    let t = and_parts (is_name name) (are_names names) h in
     rw (e, t.0) (lines_print p e names t.1)
 
 -- the block of modes has no fault
@@ -59,7 +59,7 @@ resource_setting name = setting (word_of TaskResource) (Named name)
 abbrev event_setting : List ℕ → Setting
 event_setting name = setting (word_of TaskEvent) (Named name)
 
--- the settings of both lists
+-- the settings of and_parts lists
 abbrev tail : List (List ℕ) → List (List ℕ) → List Setting
 tail resources events = map resource_setting resources ++ map event_setting events
 
@@ -68,7 +68,7 @@ tail_right resources events =
     list_all-append (λ x. is_right (attribute_named allowed x.name) x.value) (map resource_setting resources) (map event_setting events)
     ∙ rw (all_true resource_setting (λ x. is_right (attribute_named allowed x.name) x.value) (λ name. refl) resources) (all_true event_setting (λ x. is_right (attribute_named allowed x.name) x.value) (λ name. refl) events)
 
--- none of both lists repeats a setting that is neither
+-- none of and_parts lists repeats a setting that is neither
 none_behind : (x : Setting) (resources events : List (List ℕ)) → bytes_eq x.name (word_of TaskResource) ≡ false → bytes_eq x.name (word_of TaskEvent) ≡ false → list_any (repeats allowed x) (tail resources events) ≡ false
 none_behind x resources events no_resource no_event =
     any_both (repeats allowed x) (map resource_setting resources) (map event_setting events)
@@ -104,16 +104,16 @@ record HasTask (t : TaskRecord) : Type 0 where
 
 has_task : (t : TaskRecord) → is_checked_task t ≡ true → HasTask t
 has_task t h =
-    let h1 = both _ (are_names t.events) h in
-    let h2 = both _ (are_names t.resources) h1.0 in
-    let h3 = both _ (are_names t.autostart) h2.0 in
-    let h4 = both _ (are_distinct_names t.events) h3.0 in
-    let h5 = both _ (are_distinct_names t.resources) h4.0 in
-    let h6 = both _ (are_distinct_names t.autostart) h5.0 in
-    let h7 = both _ (leb t.activation MAX_ACTIVATION) h6.0 in
-    let h8 = both _ (leb 1 t.activation) h7.0 in
-    let h9 = both _ (leb t.priority MAX_TASK_PRIORITY) h8.0 in
-    let n = both (is_name t.name) (not (is_one_of (reserved kind.Task) t.name)) h9.0 in
+    let h1 = and_parts _ (are_names t.events) h in
+    let h2 = and_parts _ (are_names t.resources) h1.0 in
+    let h3 = and_parts _ (are_names t.autostart) h2.0 in
+    let h4 = and_parts _ (are_distinct_names t.events) h3.0 in
+    let h5 = and_parts _ (are_distinct_names t.resources) h4.0 in
+    let h6 = and_parts _ (are_distinct_names t.autostart) h5.0 in
+    let h7 = and_parts _ (leb t.activation MAX_ACTIVATION) h6.0 in
+    let h8 = and_parts _ (leb 1 t.activation) h7.0 in
+    let h9 = and_parts _ (leb t.priority MAX_TASK_PRIORITY) h8.0 in
+    let n = and_parts (is_name t.name) (not (is_one_of (reserved kind.Task) t.name)) h9.0 in
     record {
       name = n.0;
       free = n.1;
@@ -212,10 +212,10 @@ record HasStart (s : AlarmStartRecord) : Type 0 where
 
 has_start : (s : AlarmStartRecord) → is_checked_start (Some s) ≡ true → HasStart s
 has_start s h =
-    let h1 = both _ (is_number s.cycle_time) h in
-    let h2 = both _ (is_number s.alarm_time) h1.0 in
-    let h3 = both _ (are_names s.app_modes) h2.0 in
-    let h4 = both (not (is_empty s.app_modes)) (are_distinct_names s.app_modes) h3.0 in
+    let h1 = and_parts _ (is_number s.cycle_time) h in
+    let h2 = and_parts _ (is_number s.alarm_time) h1.0 in
+    let h3 = and_parts _ (are_names s.app_modes) h2.0 in
+    let h4 = and_parts (not (is_empty s.app_modes)) (are_distinct_names s.app_modes) h3.0 in
     record { some = h4.0; distinct = h4.1; names = h3.1; time = h2.1; cycle = h1.1 }
 
 alarm_start_prints : (start : Option AlarmStartRecord) → is_checked_start start ≡ true → may_print_attribute (alarm_start start) ≡ true
@@ -226,7 +226,7 @@ alarm_start_prints (Some s) h =
 
 action_prints : (a : ActionObject) → is_checked_action a ≡ true → may_print_attribute (action_line a) ≡ true
 action_prints (action.ActivateTask task) h = rw h refl
-action_prints (action.SetEvent task event) h = let t = both (is_name task) (is_name event) h in rw (t.0, t.1) refl
+action_prints (action.SetEvent task event) h = let t = and_parts (is_name task) (is_name event) h in rw (t.0, t.1) refl
 
 modes_start : (a : ActionObject) (name counter : List ℕ) (time cycle : ℕ) (modes : List (List ℕ)) → not (is_one_of (reserved kind.Alarm) name) ≡ true
     → not (is_empty modes) ≡ true → are_distinct_names modes ≡ true
@@ -243,10 +243,10 @@ alarm_right name counter a (Some s) free h = let k = has_start s h in modes_star
 
 pub alarm_fit : (a : AlarmRecord) → is_checked_alarm a ≡ true → IsFit (alarm_object a)
 alarm_fit a h =
-    let h1 = both _ (is_checked_start a.autostart) h in
-    let h2 = both _ (is_checked_action a.action) h1.0 in
-    let h3 = both (is_object_name kind.Alarm a.name) (is_name a.counter) h2.0 in
-    let n = both (is_name a.name) (not (is_one_of (reserved kind.Alarm) a.name)) h3.0 in
+    let h1 = and_parts _ (is_checked_start a.autostart) h in
+    let h2 = and_parts _ (is_checked_action a.action) h1.0 in
+    let h3 = and_parts (is_object_name kind.Alarm a.name) (is_name a.counter) h2.0 in
+    let n = and_parts (is_name a.name) (not (is_one_of (reserved kind.Alarm) a.name)) h3.0 in
     record {
       prints = rw (n.0, h3.1, action_prints a.action h2.1, alarm_start_prints a.autostart h1.1) refl;
       right = alarm_right a.name a.counter a.action a.autostart n.1 h1.1;

@@ -16,7 +16,7 @@ use Rattle.oil_reader.specs.Meaning.{block_settings, settings_in}
 use Rattle.oil_reader.proofs.Firsts.{among_right}
 use Rattle.oil_reader.proofs.Listed.{any_is, any_by, is_again_by}
 use Rattle.oil_reader.proofs.ObjectsListed.{same_kind_is, is_clash, reserved_none}
-use Rattle.oil_printer.proofs.Words.{both}
+use Rattle.std.proofs.lemmas.Bool.{and_parts, not-true}
 
 -- ---- the tests
 
@@ -66,41 +66,37 @@ is_file_right f =
 
 pub all_at : {X : Type 0} (test : X → Bool) (xs : List X) → list_all test xs ≡ true → (x : X) → Among xs x → test x ≡ true
 all_at test [] h x among = absurd among
-all_at test (y ∷ xs) h x (inl same) = sym (ap test same) ∙ (both (test y) (list_all test xs) h).0
-all_at test (y ∷ xs) h x (inr among) = all_at test xs (both (test y) (list_all test xs) h).1 x among
+all_at test (y ∷ xs) h x (inl same) = sym (ap test same) ∙ (and_parts (test y) (list_all test xs) h).0
+all_at test (y ∷ xs) h x (inr among) = all_at test xs (and_parts (test y) (list_all test xs) h).1 x among
 
 not_both : (b : Bool) → not b ≡ true → b ≡ true → ⊥
 not_both true h k = absurd cc
 not_both false h k = absurd cc
 
-not_true : (b : Bool) → not b ≡ true → b ≡ false
-not_true true h = absurd cc
-not_true false h = refl
-
 apart_at : {X : Type 0} (clash : X → X → Bool) (front : List X) (second : X) (back : List X) (first : X)
     → all_apart clash (front ++ second ∷ back) ≡ true → Among front first → clash first second ≡ true → ⊥
 apart_at clash [] second back first h among e = absurd among
 apart_at {X} clash (x ∷ front) second back first h (inl same) e =
-    let t = both (not (list_any (clash x) (front ++ second ∷ back))) (all_apart clash (front ++ second ∷ back)) h in
+    let t = and_parts (not (list_any (clash x) (front ++ second ∷ back))) (all_apart clash (front ++ second ∷ back)) h in
     let found = any_by (clash x) (front ++ second ∷ back) second (among_right front (second ∷ back) second (inl refl)) (ap (λ (y : X). clash y second) same ∙ e) in
     not_both (list_any (clash x) (front ++ second ∷ back)) t.0 found
 apart_at clash (x ∷ front) second back first h (inr among) e =
-    apart_at clash front second back first (both (not (list_any (clash x) (front ++ second ∷ back))) (all_apart clash (front ++ second ∷ back)) h).1 among e
+    apart_at clash front second back first (and_parts (not (list_any (clash x) (front ++ second ∷ back))) (all_apart clash (front ++ second ∷ back)) h).1 among e
 
 -- ---- settings that stand together
 
 module _ (s : Scope) (h : is_scope_right s.allowed s.settings ≡ true) where
   right : are_right s.allowed s.settings ≡ true
-  right = (both (are_right s.allowed s.settings) (all_apart (repeats s.allowed) s.settings && are_set s.allowed s.settings) h).0
+  right = (and_parts (are_right s.allowed s.settings) (all_apart (repeats s.allowed) s.settings && are_set s.allowed s.settings) h).0
 
   rest : (all_apart (repeats s.allowed) s.settings && are_set s.allowed s.settings) ≡ true
-  rest = (both (are_right s.allowed s.settings) (all_apart (repeats s.allowed) s.settings && are_set s.allowed s.settings) h).1
+  rest = (and_parts (are_right s.allowed s.settings) (all_apart (repeats s.allowed) s.settings && are_set s.allowed s.settings) h).1
 
   apart : all_apart (repeats s.allowed) s.settings ≡ true
-  apart = (both (all_apart (repeats s.allowed) s.settings) (are_set s.allowed s.settings) rest).0
+  apart = (and_parts (all_apart (repeats s.allowed) s.settings) (are_set s.allowed s.settings) rest).0
 
   set : are_set s.allowed s.settings ≡ true
-  set = (both (all_apart (repeats s.allowed) s.settings) (are_set s.allowed s.settings) rest).1
+  set = (and_parts (all_apart (repeats s.allowed) s.settings) (are_set s.allowed s.settings) rest).1
 
   right_at : (x : Setting) → Among s.settings x → is_right (attribute_named s.allowed x.name) x.value ≡ true
   right_at x among = all_at (λ x. is_right (attribute_named s.allowed x.name) x.value) s.settings right x among
@@ -141,14 +137,14 @@ block_sound allowed a h e q =
 object_sound : (o : Object) → is_object_right o ≡ true → (e : OilFault) → ¬ OneObjectFault o e
 object_sound o h e q =
     let allowed = attributes_of o.kind in
-    let t = both (is_scope_right (attributes_of o.kind) (settings_in o)) (list_all (is_block_right (attributes_of o.kind)) o.attributes && not (is_one_of (reserved o.kind) o.name)) h in
-    let u = both (list_all (is_block_right (attributes_of o.kind)) o.attributes) (not (is_one_of (reserved o.kind) o.name)) t.1 in
+    let t = and_parts (is_scope_right (attributes_of o.kind) (settings_in o)) (list_all (is_block_right (attributes_of o.kind)) o.attributes && not (is_one_of (reserved o.kind) o.name)) h in
+    let u = and_parts (list_all (is_block_right (attributes_of o.kind)) o.attributes) (not (is_one_of (reserved o.kind) o.name)) t.1 in
     elim q [
       | inl attribute ↦ elim attribute [
         | inl scope ↦ scope_sound (record { allowed = attributes_of o.kind; settings = map (λ a. a.setting) o.attributes; close = o.«end» }) t.0 e scope
         | inr block ↦ block_sound (attributes_of o.kind) block.0 (all_at (is_block_right (attributes_of o.kind)) o.attributes u.0 block.0 block.1) e block.2
       ]
-      | inr name ↦ reserved_none o (not_true (is_one_of (reserved o.kind) o.name) u.1) e name
+      | inr name ↦ reserved_none o (not-true (is_one_of (reserved o.kind) o.name) u.1) e name
     ]
 
 -- ---- files
@@ -169,9 +165,9 @@ objects_sound f alone os mode (fault.Twice p) q =
 -- a tree that passes the tests has no fault
 pub file_sound : (f : File) → is_file_right f ≡ true → IsSoundFile f
 file_sound f h e q =
-    let t = both (list_all is_object_right f.objects) (all_apart clashes f.objects && (has_kind kind.Os f.objects && has_kind kind.AppMode f.objects)) h in
-    let u = both (all_apart clashes f.objects) (has_kind kind.Os f.objects && has_kind kind.AppMode f.objects) t.1 in
-    let v = both (has_kind kind.Os f.objects) (has_kind kind.AppMode f.objects) u.1 in
+    let t = and_parts (list_all is_object_right f.objects) (all_apart clashes f.objects && (has_kind kind.Os f.objects && has_kind kind.AppMode f.objects)) h in
+    let u = and_parts (all_apart clashes f.objects) (has_kind kind.Os f.objects && has_kind kind.AppMode f.objects) t.1 in
+    let v = and_parts (has_kind kind.Os f.objects) (has_kind kind.AppMode f.objects) u.1 in
     elim q [
       | inl object ↦ objects_sound f u.0 v.0 v.1 e object
       | inr one ↦ object_sound one.0 (all_at is_object_right f.objects t.0 one.0 one.1) e one.2

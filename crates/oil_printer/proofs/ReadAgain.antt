@@ -1,11 +1,11 @@
 -- A printed text means the file that was printed.
 use Rattle.std.proofs.Common.{◌≡◌, ℕ, true, List, sym, ap, ◌∙◌, subst}
 use Rattle.oil_reader.specs.Tokens.{IsTokensOf}
-use Rattle.oil_reader.specs.Checked.{is_checked}
+use Rattle.oil_reader.specs.Checked.{is_checked, CheckedParts}
 use Rattle.oil_reader.specs.Configuration.{Configuration}
 use Rattle.oil_reader.specs.Meaning.{configuration_of}
 use Rattle.oil_reader.specs.Faults.{Means}
-use Rattle.oil_reader.proofs.CheckedParts.{CheckedParts, checked_parts}
+use Rattle.oil_reader.proofs.CheckedParts.{checked_parts}
 use Rattle.oil_printer.specs.Printed.{tree_of, printed}
 use Rattle.oil_printer.proofs.Parts.{lexes, lexemes_at}
 use Rattle.oil_printer.proofs.TreeParts.{file_parts, file_is}

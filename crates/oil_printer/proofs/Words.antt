@@ -1,8 +1,8 @@
 -- Names, numbers and signs are pieces of a text where no letter, digit or _ follows.
-use Rattle.std.proofs.Common.{◌≡◌, ℕ, zero, suc, ◌<◌, ◌≤◌, ◌^◌, Bool, true, false, ◌&&◌, leb, List, [], ◌∷◌, ◌++◌, length, get_or, Some, arith, refl, sym, ap, ◌∙◌, subst, length-append}
+use Rattle.std.proofs.Common.{◌≡◌, ℕ, zero, suc, ◌<◌, ◌≤◌, ◌^◌, true, false, ◌&&◌, leb, List, [], ◌∷◌, ◌++◌, length, get_or, Some, arith, refl, sym, ap, ◌∙◌, subst, length-append}
 use Rattle.std.specs.Prelude.{decimal}
 use Rattle.std.specs.List.{list_all}
-use Rattle.std.proofs.lemmas.Bool.{leb-true, lt-leb, ltb-true, ne_eqb}
+use Rattle.std.proofs.lemmas.Bool.{leb-true, lt-leb, ltb-true, ne_eqb, and_parts}
 use Rattle.std.proofs.Math.Seq.{take-append_seam}
 use Rattle.std.proofs.lemmas.List.{get_or-append-add}
 use Rattle.osek_base.specs.Words.{is_letter, is_digit, is_word_byte, IsRun, IsNumeral}
@@ -21,14 +21,10 @@ use Rattle.oil_printer.proofs.Parts.{Part, Blank, Token, sign_byte, text_of, Are
 abbrev pub Apart : List ℕ → Type 0
 Apart rest = is_word_byte (get_or rest 0 0) ≡ false
 
-pub both : (a b : Bool) → (a && b) ≡ true → (a ≡ true) × (b ≡ true)
-both true b h = (refl, h)
-both false b h = absurd cc
-
 word_byte_at : (word rest : List ℕ) → list_all is_word_byte word ≡ true → (i : ℕ) → i < length word → is_word_byte (get_or (word ++ rest) i 0) ≡ true
 word_byte_at [] rest h i inside = absurd (omega arith)
-word_byte_at (b ∷ word) rest h zero inside = (both (is_word_byte b) (list_all is_word_byte word) h).0
-word_byte_at (b ∷ word) rest h (suc i) inside = word_byte_at word rest (both (is_word_byte b) (list_all is_word_byte word) h).1 i (omega arith)
+word_byte_at (b ∷ word) rest h zero inside = (and_parts (is_word_byte b) (list_all is_word_byte word) h).0
+word_byte_at (b ∷ word) rest h (suc i) inside = word_byte_at word rest (and_parts (is_word_byte b) (list_all is_word_byte word) h).1 i (omega arith)
 
 -- a word before what doesn't go on with it is a run
 pub run : (word rest : List ℕ) → list_all is_word_byte word ≡ true → Apart rest → IsRun (word ++ rest) (length word)
@@ -49,7 +45,7 @@ letter_word b h = rw h refl
 
 not_letter : (b : ℕ) → is_digit b ≡ true → is_letter b ≡ false
 not_letter b h =
-    let t = both (leb 48 b) (leb b 57) h in
+    let t = and_parts (leb 48 b) (leb b 57) h in
     let low = leb-true 48 b t.0 in
     let high = leb-true b 57 t.1 in
     rw (lt-leb 65 b (omega (arith, high)), lt-leb 97 b (omega (arith, high)), ne_eqb b 95 (λ e. omega (arith, high, e))) refl
@@ -68,8 +64,8 @@ name_of_class b word rest k all short apart = (
 name_piece : (name rest : List ℕ) → is_name name ≡ true → Apart rest → IsPiece (name ++ rest) (length name) (Some (Name name))
 name_piece [] rest h apart = absurd cc
 name_piece (b ∷ word) rest h apart =
-    let one = both (is_letter b && list_all is_word_byte word) (leb (length word) 31) h in
-    let two = both (is_letter b) (list_all is_word_byte word) one.0 in
+    let one = and_parts (is_letter b && list_all is_word_byte word) (leb (length word) 31) h in
+    let two = and_parts (is_letter b) (list_all is_word_byte word) one.0 in
     name_of_class b word rest (letter_class b two.0) (rw (letter_word b two.0, two.1) refl) (leb-true (length word) 31 one.1) apart
 
 digit_word : (b : ℕ) → is_digit b ≡ true → is_word_byte b ≡ true
@@ -78,12 +74,12 @@ digit_word b h = rw (not_letter b h, h) refl
 digits_word : (ds : List ℕ) → list_all is_digit ds ≡ true → list_all is_word_byte ds ≡ true
 digits_word [] h = refl
 digits_word (b ∷ ds) h =
-    let t = both (is_digit b) (list_all is_digit ds) h in
+    let t = and_parts (is_digit b) (list_all is_digit ds) h in
     rw (digit_word b t.0, digits_word ds t.1) refl
 
 first_class : (ds rest : List ℕ) → 0 < length ds → list_all is_digit ds ≡ true → class_of (get_or (ds ++ rest) 0 0) ≡ class.Digit
 first_class [] rest some h = absurd (omega arith)
-first_class (b ∷ ds) rest some h = digit_class b (both (is_digit b) (list_all is_digit ds) h).0
+first_class (b ∷ ds) rest some h = digit_class b (and_parts (is_digit b) (list_all is_digit ds) h).0
 
 number_piece : (n : ℕ) (rest : List ℕ) → is_number n ≡ true → Apart rest → IsPiece (decimal n ++ rest) (length (decimal n)) (Some (Number n))
 number_piece n rest h apart =

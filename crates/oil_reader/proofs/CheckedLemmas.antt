@@ -3,7 +3,7 @@ use Rattle.std.proofs.Common.{◌≡◌, ℕ, List, [], ◌∷◌, ◌++◌, map
 use Rattle.std.specs.Prelude.{codes}
 use Rattle.std.specs.List.{list_all}
 use Rattle.std.specs.Str.{bytes_eq}
-use Rattle.std.proofs.lemmas.Bool.{le-leb, leb-true}
+use Rattle.std.proofs.lemmas.Bool.{le-leb, leb-true, and_parts, and_from}
 use Rattle.std.proofs.lemmas.Slice.Eq.{bytes_eq-Decides}
 use Rattle.osek_base.specs.declared.limits.TheConstants.{MAX_TASK_PRIORITY, MAX_ROUTINE_PRIORITY, MAX_ACTIVATION}
 use Rattle.osek_base.specs.Lists.{is_empty}
@@ -23,9 +23,8 @@ use Rattle.oil_reader.specs.Checked.{is_name, are_names, is_object_name, is_numb
 use Rattle.oil_reader.specs.Spelled.{are_spelled_settings, is_spelled_object, is_spelled}
 use Rattle.oil_reader.specs.Meaning.{value_at, block_at, says, is_true, number_in, number_at, names_in, names_at, has_name, settings_in, mask_in, modes_by, action_by, start_by, os_among, no_objects, configuration_of, os_record, task_record, isr_record, resource_record, event_record, counter_record, alarm_record}
 use Rattle.oil_reader.proofs.Firsts.{among_right}
-use Rattle.oil_reader.proofs.Listed.{any_is, both}
+use Rattle.oil_reader.proofs.Listed.{any_is}
 use Rattle.oil_reader.proofs.ObjectsListed.{one_of_is}
-use Rattle.oil_reader.proofs.Spelling.{and_true}
 use Rattle.oil_reader.proofs.SpelledValues.{all_is, number_spelled, bits_spelled, name_spelled, names_spelled, some_names, object_name, object_settings, object_block}
 use Rattle.oil_reader.proofs.Sound.{any_name, accepted, needed_stands, object_sound, task_priority, task_activation, isr_priority, alarm_counter, action_names, has_os, has_modes, each_sound, block_scope_of, block_name}
 use Rattle.oil_reader.proofs.ObjectLists.{records_of, name_of, all_records, some_record, names_are, distinct_names, parts_of, later_parts, cpu_is, os_is, app_modes_are, tasks_are, routines_are, resources_are, events_are, counters_are, alarms_are}
@@ -128,7 +127,7 @@ start_if false block spelled some distinct = refl
 
 low_of : (low high : ℕ) (v : Value) → in_range (Between low high) v ≡ true → leb low (number_in (Some v)) ≡ true
 low_of low high (Named s) h = absurd cc
-low_of low high (Numeric n) h = (both (leb low n) (leb n high) h).0
+low_of low high (Numeric n) h = (and_parts (leb low n) (leb n high) h).0
 
 activation_low : (o : Object) → IsSoundObject o → o.kind ≡ kind.Task → leb 1 (number_at Activation (settings_in o)) ≡ true
 activation_low o sound k =
@@ -154,7 +153,7 @@ module _ (o : Object) (sound : IsSoundObject o) (spelled : is_spelled_object o �
   name_checked : (k : Kind) → o.kind ≡ k → is_object_name k o.name ≡ true
   name_checked k is =
       let free : is_one_of (reserved k) o.name ≡ false = ap (λ (j : Kind). is_one_of (reserved j) o.name) (sym is) ∙ free_if o sound (is_one_of (reserved o.kind) o.name) refl in
-      and_true (is_name o.name) (not (is_one_of (reserved k) o.name)) (object_name o spelled) (ap not free)
+      and_from (is_name o.name) (not (is_one_of (reserved k) o.name)) (object_name o spelled) (ap not free)
 
   task_checked : o.kind ≡ kind.Task → is_checked_task (task_record o) ≡ true
   task_checked k =
@@ -209,8 +208,8 @@ module _ (o : Object) (sound : IsSoundObject o) (spelled : is_spelled_object o �
 proper_of : (name : List ℕ) → is_name name ≡ true → is_proper_name name ≡ true
 proper_of [] h = absurd cc
 proper_of (b ∷ bytes) h =
-    let short = leb-true (length bytes) 31 (both (is_letter b && list_all is_word_byte bytes) (leb (length bytes) 31) h).1 in
-    and_true (leb 1 (length (b ∷ bytes))) (leb (length (b ∷ bytes)) 32) (le-leb 1 (length (b ∷ bytes)) (omega arith)) (le-leb (length (b ∷ bytes)) 32 (omega (arith, short)))
+    let short = leb-true (length bytes) 31 (and_parts (is_letter b && list_all is_word_byte bytes) (leb (length bytes) 31) h).1 in
+    and_from (leb 1 (length (b ∷ bytes))) (leb (length (b ∷ bytes)) 32) (le-leb 1 (length (b ∷ bytes)) (omega arith)) (le-leb (length (b ∷ bytes)) 32 (omega (arith, short)))
 
 is_os_is : (k : Kind) → is_os k ≡ true → k ≡ kind.Os
 is_os_is kind.Os h = refl
@@ -243,7 +242,7 @@ os_from (o ∷ os) each has = os_step o os (is_os o.kind) refl (each o (inl refl
 
 module _ (f : File) (sound : IsSoundFile f) (spelled : is_spelled f ≡ true) where
   each_spelled : (o : Object) → Among f.objects o → is_spelled_object o ≡ true
-  each_spelled o among = all_is is_spelled_object f.objects o (both (is_name f.cpu) (list_all is_spelled_object f.objects) spelled).1 among
+  each_spelled o among = all_is is_spelled_object f.objects o (and_parts (is_name f.cpu) (list_all is_spelled_object f.objects) spelled).1 among
 
   -- a test of what an object without a fault says
   each_passes : {R : Type 0} (test : R → Bool) (k : Kind) (r : Object → R) → ((o : Object) → IsSoundObject o → is_spelled_object o ≡ true → o.kind ≡ k → test (r o) ≡ true) → list_all test (records_of k r f.objects) ≡ true
@@ -260,7 +259,7 @@ module _ (f : File) (sound : IsSoundFile f) (spelled : is_spelled f ≡ true) wh
   cpu_is_checked : is_name (configuration_of f).cpu ≡ true
   cpu_is_checked =
       ap is_name (cpu_is (no_objects f.cpu (os_among f.objects)) f.objects)
-      ∙ (both (is_name f.cpu) (list_all is_spelled_object f.objects) spelled).0
+      ∙ (and_parts (is_name f.cpu) (list_all is_spelled_object f.objects) spelled).0
 
   modes_checked : are_checked_modes (configuration_of f).app_modes ≡ true
   modes_checked =

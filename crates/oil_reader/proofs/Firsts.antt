@@ -86,9 +86,6 @@ Finds_both P Q a (Some g) p q =
       first = λ e x. elim x [ inl y ↦ more.first e (inl y) | inr y ↦ no_later_trans rank (earlier a g) g e (more.first g (inr refl)) (q.first e y) ];
     }
 
-pub Finds_none : {X : Type 0} (F : X → OilFault → Type 0) → Finds (SomeFault F []) None
-Finds_none F = λ g x. x.1
-
 -- one more thing of a list
 pub Finds_some_more : {X : Type 0} (F : X → OilFault → Type 0) (xs : List X) (x : X) (a b : Option OilFault) → Finds (SomeFault F xs) a → Finds (F x) b → Finds (SomeFault F (xs ++ x ∷ [])) (earlier_of a b)
 Finds_some_more {X} F xs x a b p q =

@@ -2,6 +2,7 @@ pub mod OneMeaning
 pub mod Passes
 pub mod Lists
 pub mod Shorter
+pub mod Nexts
 pub mod Language
 pub mod Firsts
 pub mod Listed

@@ -1,9 +1,9 @@
 -- The list of faults has just the faults that stand.
-use Rattle.std.proofs.Common.{◌≡◌, ℕ, List, [], ◌∷◌, ◌++◌, Option, Some, None, Bool, true, false, cond, ◌||◌, ◌&&◌, not, refl, sym, ap, ◌∙◌, subst, inl, inr, append_assoc}
+use Rattle.std.proofs.Common.{◌≡◌, ℕ, List, [], ◌∷◌, ◌++◌, Option, Some, None, Bool, true, false, cond, ◌||◌, not, refl, sym, ap, ◌∙◌, subst, inl, inr, append_assoc}
 use Rattle.std.specs.Prelude.{IsTrue}
 use Rattle.std.specs.List.{list_any}
 use Rattle.std.specs.Str.{bytes_eq}
-use Rattle.std.proofs.lemmas.Bool.{eqb-true, eq-eqb}
+use Rattle.std.proofs.lemmas.Bool.{eqb-true, eq-eqb, and_parts, or_parts, or_right}
 use Rattle.std.proofs.lemmas.Slice.Eq.{bytes_eq-Decides}
 use Rattle.std.proofs.lemmas.List.{append-nil}
 use Rattle.oil_reader.specs.declared.fault.OilFault.{OilFault}
@@ -31,10 +31,6 @@ is_same_value (Named s) (Numeric n) h = absurd cc
 is_same_value (Numeric m) (Named t) h = absurd cc
 is_same_value (Numeric m) (Numeric n) h = eq-eqb m n cc
 
-pub both : (a b : Bool) → (a && b) ≡ true → (a ≡ true) × (b ≡ true)
-both true b h = (refl, h)
-both false b h = absurd cc
-
 list_is : (a b : Bool) → (not a || b) ≡ true → a ≡ true → b ≡ true
 list_is true b h e = h
 list_is false b h e = absurd cc
@@ -45,15 +41,11 @@ is_list_by false b h = refl
 
 again_is : (o : Presence) (x y : Setting) → is_again o x y ≡ true → (x.name ≡ y.name) × (is_list o ≡ true → x.value ≡ y.value)
 again_is o x y h =
-    let t = both (bytes_eq x.name y.name) (not (is_list o) || same_value x.value y.value) h in
+    let t = and_parts (bytes_eq x.name y.name) (not (is_list o) || same_value x.value y.value) h in
     ((bytes_eq-Decides x.name y.name).0 t.0, λ e. same_value_is x.value y.value (list_is (is_list o) (same_value x.value y.value) t.1 e))
 
 pub is_again_by : (o : Presence) (x y : Setting) → x.name ≡ y.name → (is_list o ≡ true → x.value ≡ y.value) → is_again o x y ≡ true
 is_again_by o x y n v = rw ((bytes_eq-Decides x.name y.name).1 n) (is_list_by (is_list o) (same_value x.value y.value) (λ e. is_same_value x.value y.value (v e)))
-
-pub or_true : (a b : Bool) → b ≡ true → (a || b) ≡ true
-or_true true b h = refl
-or_true false b h = h
 
 -- a test that some of the list passes
 any_first : {X : Type 0} (test : X → Bool) (y : X) (xs : List X) (b : Bool) → test y ≡ b → (b || list_any test xs) ≡ true → (list_any test xs ≡ true → (x : X) × Among xs x × (test x ≡ true)) → (x : X) × Among (y ∷ xs) x × (test x ≡ true)
@@ -67,7 +59,7 @@ any_is test (x ∷ xs) h = any_first test x xs (test x) refl h (any_is test xs)
 pub any_by : {X : Type 0} (test : X → Bool) (xs : List X) (x : X) → Among xs x → test x ≡ true → list_any test xs ≡ true
 any_by test [] x h t = absurd h
 any_by test (y ∷ xs) x (inl e) t = rw (ap test e ∙ t) refl
-any_by test (y ∷ xs) x (inr h) t = or_true (test y) (list_any test xs) (any_by test xs x h t)
+any_by test (y ∷ xs) x (inr h) t = or_right (test y) (list_any test xs) (any_by test xs x h t)
 
 -- ---- a fault of the list stands
 
@@ -173,10 +165,6 @@ twice_from allowed settings close place u =
 
 -- ---- what is lacking
 
-neither : (a b : Bool) → (a || b) ≡ false → (a ≡ false) × (b ≡ false)
-neither true b h = absurd cc
-neither false b h = (refl, h)
-
 not_set : (settings : List Setting) (p : AttributeName) → is_set settings p ≡ false → (x : Setting) → Among settings x → ¬ (word_of p ≡ x.name)
 not_set settings p h x among e = let yes = any_by (λ y. bytes_eq (word_of p) y.name) settings x among ((bytes_eq-Decides (word_of p) x.name).1 e) in absurd cc
 
@@ -218,7 +206,7 @@ scope_to allowed settings close e h =
       | inl a ↦ settings_to allowed close [] settings e a
       | inr b ↦
           let l = lacking_to allowed settings close e b in
-          let t = neither (may_lack (presence_of l.attribute)) (is_set settings l.attribute) l.test in
+          let t = or_parts (may_lack (presence_of l.attribute)) (is_set settings l.attribute) l.test in
           subst (ScopeFault (scope allowed settings close)) l.fault_is (record {
             attribute = l.attribute;
             allowed = l.allowed;

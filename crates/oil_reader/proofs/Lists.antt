@@ -1,13 +1,14 @@
 -- A loop that reads a list of things up to a closing brace.
-use Rattle.std.proofs.Common.{◌≡◌, ℕ, List, [], ◌∷◌, ◌++◌, Option, Some, None, refl, ap, ◌∙◌, subst, append_assoc}
+use Rattle.std.proofs.Common.{◌≡◌, ℕ, List, [], ◌∷◌, ◌++◌, Option, Some, None, true, refl, ap, ◌∙◌, subst, append_assoc}
 use Rattle.std.proofs.lemmas.List.{append-nil}
 use Rattle.oil_reader.specs.declared.fault.OilFault.{OilFault}
 use Rattle.oil_reader.specs.declared.fault.OilFault.TheVariants as fault
+use Rattle.oil_reader.specs.declared.tokens.Sign.{Sign}
 use Rattle.oil_reader.specs.declared.tokens.Sign.TheVariants.{Open, Close, Equals, Semicolon}
 use Rattle.oil_reader.specs.Tokens.{Word, Name, Number, Version, Mark, Lexeme}
 use Rattle.oil_reader.specs.Grammar.{AreEach, StartsWith, at, Setting, Attribute, Object, IsSub, IsAttribute, IsObject, IsHeader}
 use Rattle.oil_reader.proofs.Passes.{each_passes, sub_passes, attribute_passes, object_passes, header_passes}
-use Rattle.oil_reader.specs.Machine.{Symbol, AnyName, AnyKind, AnyValue, Only, Objects, Body, Attributes, Rest, Subs, refusal, Refuses, RefusesAll, the_file, after_step, after_kind, kind_of, step}
+use Rattle.oil_reader.specs.Machine.{Symbol, AnyName, AnyKind, AnyValue, Only, Objects, Body, Attributes, Rest, Subs, refusal, Refuses, RefusesAll, the_file, after_step, after_kind, kind_of, step, same_sign}
 use Rattle.oil_reader.specs.declared.syntax.Kind.{Kind}
 
 -- these things stand before the rest
@@ -17,9 +18,6 @@ pub record SoFar {X : Type 0} (Is : X → List Lexeme → List Lexeme → Type 0
   pub goes_on : (k : List Symbol) → refusal (s ∷ k) len ts ≡ refusal (s ∷ k) len rest
 
 module _ {X : Type 0} (Is : X → List Lexeme → List Lexeme → Type 0) (s : Symbol) (len now : ℕ) (ts : List Lexeme) where
-  pub none_so_far : SoFar Is s len len ts ts []
-  none_so_far = record { len_stays = refl; each = λ more last h. h; goes_on = λ k. refl }
-
   pub one_more : (rest after : List Lexeme) (xs : List X) (x : X) (next : ℕ) → next ≡ now → Is x rest after → ((k : List Symbol) → refusal (s ∷ k) len rest ≡ refusal (s ∷ k) len after) → SoFar Is s len now ts rest xs → SoFar Is s len next ts after (xs ++ x ∷ [])
   one_more rest after xs x next same is passes so_far = record {
     len_stays = same ∙ so_far.len_stays;
@@ -92,15 +90,16 @@ refuses_by a b len ts us fault.Memory f same h = tt
 refuses_by a b len ts us (fault.Syntax p) f same h = λ k. same k ∙ h (f k)
 refuses_by a b len ts us _ f same h = absurd h
 
--- a list that is at its closing brace
-pub close_refuses : (s : Symbol) (len : ℕ) (ts : List Lexeme) (e : OilFault) → step s (Mark Close) ≡ Some [] → StartsWith Close ts → Refuses (Only Close ∷ []) len ts e → Refuses (s ∷ []) len ts e
-close_refuses s len [] e first starts h = absurd starts
-close_refuses s len (t ∷ ts) e first starts h = refuses_by (Only Close ∷ []) (s ∷ []) len (t ∷ ts) (t ∷ ts) e (λ k. k) (λ k. rw (starts, first) refl) h
+same_itself : (r : Sign) → same_sign r r ≡ true
+same_itself Open = refl
+same_itself Close = refl
+same_itself Equals = refl
+same_itself Semicolon = refl
 
--- what follows a value or an object's name
-pub semicolon_refuses : (s : Symbol) (len : ℕ) (ts : List Lexeme) (e : OilFault) → step s (Mark Semicolon) ≡ Some [] → StartsWith Semicolon ts → Refuses (Only Semicolon ∷ []) len ts e → Refuses (s ∷ []) len ts e
-semicolon_refuses s len [] e first starts h = absurd starts
-semicolon_refuses s len (t ∷ ts) e first starts h = refuses_by (Only Semicolon ∷ []) (s ∷ []) len (t ∷ ts) (t ∷ ts) e (λ k. k) (λ k. rw (starts, first) refl) h
+-- what ends with a sign, and is at that sign
+pub sign_refuses : (r : Sign) (s : Symbol) (len : ℕ) (ts : List Lexeme) (e : OilFault) → step s (Mark r) ≡ Some [] → StartsWith r ts → Refuses (Only r ∷ []) len ts e → Refuses (s ∷ []) len ts e
+sign_refuses r s len [] e first starts h = absurd starts
+sign_refuses r s len (t ∷ ts) e first starts h = refuses_by (Only r ∷ []) (s ∷ []) len (t ∷ ts) (t ∷ ts) e (λ k. k) (λ k. rw (starts, first, same_itself r) refl) h
 
 -- what follows is in braces, unless a semicolon stands there
 module _ (s inner : Symbol)

@@ -3,7 +3,7 @@ use Rattle.std.proofs.Common.{◌≡◌, ℕ, zero, suc, ◌⊎◌, List, [], �
 use Rattle.std.specs.Str.{bytes_eq}
 use Rattle.std.proofs.lemmas.Slice.Eq.{bytes_eq-Decides}
 use Rattle.std.proofs.lemmas.List.{append-nil}
-use Rattle.std.proofs.lemmas.Bool.{eqb-true, eq-eqb}
+use Rattle.std.proofs.lemmas.Bool.{eqb-true, eq-eqb, and_parts, or_right, or_cases}
 use Rattle.oil_reader.specs.declared.fault.OilFault.{OilFault}
 use Rattle.oil_reader.specs.declared.fault.OilFault.TheVariants as fault
 use Rattle.oil_reader.specs.declared.syntax.Kind.{Kind}
@@ -16,7 +16,7 @@ use Rattle.oil_reader.specs.Attributes.{Among, IsSecondObject, Lacks, ObjectFaul
 use Rattle.oil_reader.specs.Checks.{kind_number, same_kind, is_os, clashes, stood, seconds, has_kind, lacks}
 use Rattle.osek_base.proofs.FirstFaultLemmas.{no_later_self}
 use Rattle.oil_reader.proofs.Firsts.{Finds_listed, among_left, among_right, among_either}
-use Rattle.oil_reader.proofs.Listed.{any_is, any_by, both, or_true}
+use Rattle.oil_reader.proofs.Listed.{any_is, any_by}
 
 kind_at : ℕ → Kind
 kind_at zero = kind.Os
@@ -58,12 +58,12 @@ os_or_name kind.Alarm b h = inr h
 
 clash_is : (x y : Object) → clashes x y ≡ true → (x.kind ≡ y.kind) × ((x.kind ≡ kind.Os) ⊎ (x.name ≡ y.name))
 clash_is x y h =
-    let t = both (same_kind x.kind y.kind) (is_os x.kind || bytes_eq x.name y.name) h in
+    let t = and_parts (same_kind x.kind y.kind) (is_os x.kind || bytes_eq x.name y.name) h in
     (same_kind_is x.kind y.kind t.0, elim (os_or_name x.kind (bytes_eq x.name y.name) t.1) [ inl a ↦ inl a | inr b ↦ inr ((bytes_eq-Decides x.name y.name).0 b) ])
 
 name_clash : (x y : Object) → (x.kind ≡ kind.Os) ⊎ (x.name ≡ y.name) → (is_os x.kind || bytes_eq x.name y.name) ≡ true
 name_clash x y (inl a) = ap (λ (k : Kind). is_os k || bytes_eq x.name y.name) a
-name_clash x y (inr b) = or_true (is_os x.kind) (bytes_eq x.name y.name) ((bytes_eq-Decides x.name y.name).1 b)
+name_clash x y (inr b) = or_right (is_os x.kind) (bytes_eq x.name y.name) ((bytes_eq-Decides x.name y.name).1 b)
 
 pub is_clash : (x y : Object) → x.kind ≡ y.kind → (x.kind ≡ kind.Os) ⊎ (x.name ≡ y.name) → clashes x y ≡ true
 is_clash x y k n = rw (is_same_kind x.kind y.kind k) (name_clash x y n)
@@ -158,18 +158,14 @@ first_of_objects f = Finds_listed (ObjectFault f) (seconds [] f.objects ++ lacks
 
 -- ---- reserved names
 
-either_true : (a b : Bool) → (a || b) ≡ true → (a ≡ true) ⊎ (b ≡ true)
-either_true true b h = inl refl
-either_true false b h = inr h
-
 pub one_of_is : (ws : List (List ℕ)) (w : List ℕ) → is_one_of ws w ≡ true → Among ws w
 one_of_is [] w h = absurd cc
-one_of_is (v ∷ ws) w h = elim (either_true (bytes_eq w v) (is_one_of ws w) h) [ inl a ↦ inl (sym ((bytes_eq-Decides w v).0 a)) | inr b ↦ inr (one_of_is ws w b) ]
+one_of_is (v ∷ ws) w h = elim (or_cases (bytes_eq w v) (is_one_of ws w) h) [ inl a ↦ inl (sym ((bytes_eq-Decides w v).0 a)) | inr b ↦ inr (one_of_is ws w b) ]
 
 is_one : (ws : List (List ℕ)) (w : List ℕ) → Among ws w → is_one_of ws w ≡ true
 is_one [] w h = absurd h
 is_one (v ∷ ws) w (inl e) = rw ((bytes_eq-Decides w v).1 (sym e)) refl
-is_one (v ∷ ws) w (inr h) = or_true (bytes_eq w v) (is_one_of ws w) (is_one ws w h)
+is_one (v ∷ ws) w (inr h) = or_right (bytes_eq w v) (is_one_of ws w) (is_one ws w h)
 
 pub reserved_some : (o : Object) → is_one_of (reserved o.kind) o.name ≡ true → Finds (ReservedFault o) (Some (fault.Range o.place))
 reserved_some o h = record { stands = (one_of_is (reserved o.kind) o.name h, refl); first = λ g q. subst (IsNoLater (fault.Range o.place)) q.1 (no_later_self rank (fault.Range o.place)) }

@@ -4,9 +4,9 @@ use Rattle.std.specs.Str.{bytes_eq}
 use Rattle.std.proofs.lemmas.Slice.Eq.{bytes_eq-Decides}
 use Rattle.oil_reader.specs.declared.syntax.Kind.{Kind}
 use Rattle.oil_reader.specs.declared.syntax.Kind.TheVariants as kind
-use Rattle.oil_reader.specs.declared.tokens.Sign.TheVariants.{Equals, Semicolon}
+use Rattle.oil_reader.specs.declared.tokens.Sign.TheVariants.{Semicolon}
 use Rattle.oil_reader.specs.Tokens.{Name, Mark, Lexeme}
-use Rattle.oil_reader.specs.Grammar.{Value, Named, Numeric, Setting, Block, Attribute, Object, File, at, value_word, kind_word, IsSetting, IsSub, IsBlock, IsAttribute, IsBody, IsObject, IsHeader, IsFile, AreEach}
+use Rattle.oil_reader.specs.Grammar.{Value, Named, Numeric, Setting, Block, Attribute, Object, File, at, value_word, kind_word, IsSub, IsBlock, IsAttribute, IsBody, IsObject, IsHeader, IsFile, AreEach}
 use Rattle.oil_reader.specs.Machine.{Symbol, AnyName, AnyValue, Only, Objects, Body, Attributes, Rest, Subs, refusal, the_file, the_header, kind_of}
 use Rattle.std.specs.Prelude.{codes}
 
@@ -65,9 +65,6 @@ pub each_passes : {X : Type 0} (Is : X → List Lexeme → List Lexeme → Type 
     → (xs : List X) (ts rest : List Lexeme) → AreEach Is xs ts rest → refusal (s ∷ k) len ts ≡ refusal (s ∷ k) len rest
 each_passes Is s k len one [] ts rest h = ap (refusal (s ∷ k) len) h
 each_passes Is s k len one (x ∷ xs) ts rest h = one x ts h.0 h.1 ∙ each_passes Is s k len one xs h.0 rest h.2
-
-pub setting_passes : (k : List Symbol) (len : ℕ) (s : Setting) (ts rest : List Lexeme) → IsSetting s ts rest → refusal (AnyName ∷ Only Equals ∷ AnyValue ∷ k) len ts ≡ refusal k len rest
-setting_passes k len s ts rest h = ap (refusal (AnyName ∷ Only Equals ∷ AnyValue ∷ k) len) h.spelled ∙ value_passes k len s.value_place s.value rest
 
 pub sub_passes : (k : List Symbol) (len : ℕ) (s : Setting) (ts rest : List Lexeme) → IsSub s ts rest → refusal (Subs ∷ k) len ts ≡ refusal (Subs ∷ k) len rest
 sub_passes k len s ts rest h =

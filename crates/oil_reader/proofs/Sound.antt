@@ -2,7 +2,7 @@
 use Rattle.std.proofs.Common.{◌≡◌, ℕ, zero, suc, ◌<◌, ◌≤◌, ◌⊎◌, length, get_or, List, [], ◌∷◌, map, Option, Some, None, Bool, true, false, cond, leb, refl, sym, ap, ◌∙◌, subst, inl, inr, arith}
 use Rattle.std.specs.Prelude.{codes}
 use Rattle.std.specs.Str.{bytes_eq}
-use Rattle.std.proofs.lemmas.Bool.{leb-true}
+use Rattle.std.proofs.lemmas.Bool.{leb-true, and_parts}
 use Rattle.std.proofs.lemmas.Slice.Eq.{bytes_eq-Decides}
 use Rattle.osek_base.specs.declared.limits.TheConstants.{MAX_TASK_PRIORITY, MAX_ROUTINE_PRIORITY, MAX_ACTIVATION}
 use Rattle.oil_reader.specs.declared.fault.OilFault.TheVariants as fault
@@ -14,7 +14,6 @@ use Rattle.oil_reader.specs.Table.{word_of, presence_of, may_lack, attributes_of
 use Rattle.oil_reader.specs.Attributes.{Among, Scope, Names, object_scope, block_scope, IsSoundScope, IsSoundObject, IsSoundFile}
 use Rattle.oil_reader.specs.Checks.{has_kind}
 use Rattle.oil_reader.specs.Meaning.{value_at, block_at, block_settings, number_in, number_at, is_name, has_name, says, settings_in}
-use Rattle.oil_reader.proofs.Listed.{both}
 use Rattle.oil_reader.proofs.ObjectsListed.{one_of_is, lacks_kind}
 
 some_same : (v w : Value) → Some v ≡ Some w → v ≡ w
@@ -87,7 +86,7 @@ module _ (s : Scope) (sound : IsSoundScope s) (p : AttributeName) where
 
 between : (low high : ℕ) (v : Value) → in_range (Between low high) v ≡ true → number_in (Some v) ≤ high
 between low high (Named s) h = absurd cc
-between low high (Numeric n) h = leb-true n high (both (leb low n) (leb n high) h).1
+between low high (Numeric n) h = leb-true n high (and_parts (leb low n) (leb n high) h).1
 
 number_below : (o : Option Value) (low high : ℕ) → ((v : Value) → o ≡ Some v → in_range (Between low high) v ≡ true) → number_in o ≤ high
 number_below None low high h = omega arith

@@ -1,7 +1,7 @@
 -- The trees of a text have words for names, and numbers of 32 bits.
-use Rattle.std.proofs.Common.{◌≡◌, ℕ, zero, suc, ◌≤◌, ◌<◌, ◌^◌, List, [], ◌∷◌, length, take, get_or, Option, Some, None, Bool, true, false, cond, ◌||◌, ◌&&◌, arith, refl, sym, ap, ◌∙◌, subst, inl, inr}
+use Rattle.std.proofs.Common.{◌≡◌, ℕ, zero, suc, ◌≤◌, ◌<◌, ◌^◌, List, [], ◌∷◌, length, take, get_or, Option, Some, None, Bool, true, false, cond, arith, refl, sym, ap, ◌∙◌, subst, inl, inr}
 use Rattle.std.specs.List.{list_all}
-use Rattle.std.proofs.lemmas.Bool.{le-leb, lt-ltb, cases_lt}
+use Rattle.std.proofs.lemmas.Bool.{le-leb, lt-ltb, cases_lt, and_from, or_left}
 use Rattle.std.proofs.lemmas.List.{length-take-le}
 use Rattle.osek_base.specs.declared.limits.TheConstants.{MAX_NAME}
 use Rattle.osek_base.specs.Words.{is_letter, is_digit, is_word_byte, IsRun}
@@ -37,14 +37,6 @@ letter_if false rest none is = absurd (none is)
 letter_of : (b : ℕ) → class_of b ≡ class.Letter → is_letter b ≡ true
 letter_of b is = letter_if (is_letter b) _ (no_letter _ _ _ _ _ _ _ _) is
 
-or_left : (a b : Bool) → a ≡ true → (a || b) ≡ true
-or_left true b h = refl
-or_left false b h = absurd cc
-
-pub and_true : (a b : Bool) → a ≡ true → b ≡ true → (a && b) ≡ true
-and_true true b h k = k
-and_true false b h k = absurd cc
-
 -- ---- tokens
 
 abbrev IsSpelledWord : Word → Type 0
@@ -67,7 +59,7 @@ word_bytes : (bytes : List ℕ) (n : ℕ) → n ≤ length bytes → ((i : ℕ) 
 word_bytes bytes zero within each = refl
 word_bytes [] (suc n) within each = absurd (omega (arith, within))
 word_bytes (b ∷ bytes) (suc n) within each =
-    and_true (is_word_byte b) (list_all is_word_byte (take n bytes)) (each 0 (omega arith)) (word_bytes bytes n (omega (arith, within)) (λ i less. each (suc i) (omega (arith, less))))
+    and_from (is_word_byte b) (list_all is_word_byte (take n bytes)) (each 0 (omega arith)) (word_bytes bytes n (omega (arith, within)) (λ i less. each (suc i) (omega (arith, less))))
 
 -- a run that begins with a letter is a name
 run_name : (bytes : List ℕ) (n : ℕ) → is_letter (get_or bytes 0 0) ≡ true → IsRun bytes n → 1 ≤ n → n ≤ MAX_NAME → is_name (take n bytes) ≡ true
@@ -163,7 +155,7 @@ each_spelled : {X : Type 0} (Is : X → List Lexeme → List Lexeme → Type 0) 
     → ((x : X) (ts rest : List Lexeme) → Is x ts rest → AllSpelled ts → test x ≡ true) → (xs : List X) (ts rest : List Lexeme) → AreEach Is xs ts rest → AllSpelled ts → list_all test xs ≡ true
 each_spelled Is test after one [] ts rest h all = refl
 each_spelled Is test after one (x ∷ xs) ts rest h all =
-    and_true (test x) (list_all test xs) (one x ts h.0 h.1 all) (each_spelled Is test after one xs h.0 rest h.2 (after x ts h.0 h.1 all))
+    and_from (test x) (list_all test xs) (one x ts h.0 h.1 all) (each_spelled Is test after one xs h.0 rest h.2 (after x ts h.0 h.1 all))
 
 block_spelled : (b : Option Block) (ts rest : List Lexeme) → IsBlock b ts rest → AllSpelled ts → are_spelled_settings (block_settings b) ≡ true
 block_spelled None ts rest h all = refl
@@ -171,7 +163,7 @@ block_spelled (Some b) ts rest h all = each_spelled IsSub is_spelled_setting aft
 
 attribute_spelled : (a : Attribute) (ts rest : List Lexeme) → IsAttribute a ts rest → AllSpelled ts → is_spelled_attribute a ≡ true
 attribute_spelled a ts rest h all =
-    and_true (is_spelled_setting a.setting) (are_spelled_settings (block_settings a.block))
+    and_from (is_spelled_setting a.setting) (are_spelled_settings (block_settings a.block))
     (setting_spelled a.setting ts h.middle h.setting all)
     (block_spelled a.block h.middle _ h.block (after_setting a.setting ts h.middle h.setting all))
 
@@ -182,10 +174,10 @@ body_spelled xs p ts rest (inr h) all = each_spelled IsAttribute is_spelled_attr
 object_spelled : (o : Object) (ts rest : List Lexeme) → IsObject o ts rest → AllSpelled ts → is_spelled_object o ≡ true
 object_spelled o ts rest h all =
     let behind = (subst AllSpelled h.kind.spelled all).1 in
-    and_true (is_name o.name) (list_all is_spelled_attribute o.attributes) behind.0 (body_spelled o.attributes o.«end» h.middle rest h.body behind.1)
+    and_from (is_name o.name) (list_all is_spelled_attribute o.attributes) behind.0 (body_spelled o.attributes o.«end» h.middle rest h.body behind.1)
 
 -- the tree of a text
 pub tree_spelled : (text : List ℕ) (f : File) → IsTreeOf text f → is_spelled f ≡ true
 tree_spelled text f t =
     let behind = (subst AllSpelled t.2.header.spelled (all_spelled text t.1)).1.1.1.1.1 in
-    and_true (is_name f.cpu) (list_all is_spelled_object f.objects) behind.0 (each_spelled IsObject is_spelled_object after_object object_spelled f.objects t.2.inner _ t.2.objects behind.1.1)
+    and_from (is_name f.cpu) (list_all is_spelled_object f.objects) behind.0 (each_spelled IsObject is_spelled_object after_object object_spelled f.objects t.2.inner _ t.2.objects behind.1.1)

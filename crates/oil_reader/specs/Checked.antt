@@ -1,5 +1,5 @@
 -- OIL: standard objects. What the reader has checked of all that a file holds.
-use Rattle.std.specs.Prelude.{ℕ, Bool, true, false, not, ◌&&◌, nat_le, nat_lt, ◌^◌, List, [], ◌∷◌, map, Option, Some, None, length}
+use Rattle.std.specs.Prelude.{◌≡◌, ℕ, Bool, true, false, not, ◌&&◌, nat_le, nat_lt, ◌^◌, List, [], ◌∷◌, map, Option, Some, None, length}
 use Rattle.std.specs.List.{list_all}
 use Rattle.osek_base.specs.declared.limits.TheConstants.{MAX_TASK_PRIORITY, MAX_ROUTINE_PRIORITY, MAX_ACTIVATION}
 use Rattle.osek_base.specs.Lists.{is_empty}
@@ -83,26 +83,29 @@ is_checked_alarm a = is_object_name kind.Alarm a.name && is_name a.counter && is
 
 -- ---- lists of objects: names have 1 to 32 bytes, and none stands twice in one kind
 
+abbrev pub are_checked : {X : Type 0} → (X → Bool) → (X → List ℕ) → List X → Bool
+are_checked test name xs = list_all test xs && are_proper_names (map name xs)
+
 abbrev pub are_checked_modes : List (List ℕ) → Bool
 are_checked_modes names = not (is_empty names) && list_all (is_object_name kind.AppMode) names && are_proper_names names
 
 abbrev pub are_checked_tasks : List TaskRecord → Bool
-are_checked_tasks ts = list_all is_checked_task ts && are_proper_names (map (λ t. t.name) ts)
+are_checked_tasks = are_checked is_checked_task (λ x. x.name)
 
 abbrev pub are_checked_isrs : List IsrRecord → Bool
-are_checked_isrs xs = list_all is_checked_isr xs && are_proper_names (map (λ x. x.name) xs)
+are_checked_isrs = are_checked is_checked_isr (λ x. x.name)
 
 abbrev pub are_checked_resources : List ResourceRecord → Bool
-are_checked_resources xs = list_all is_checked_resource xs && are_proper_names (map (λ x. x.name) xs)
+are_checked_resources = are_checked is_checked_resource (λ x. x.name)
 
 abbrev pub are_checked_events : List EventRecord → Bool
-are_checked_events xs = list_all is_checked_event xs && are_proper_names (map (λ x. x.name) xs)
+are_checked_events = are_checked is_checked_event (λ x. x.name)
 
 abbrev pub are_checked_counters : List CounterRecord → Bool
-are_checked_counters xs = list_all is_checked_counter xs && are_proper_names (map (λ x. x.name) xs)
+are_checked_counters = are_checked is_checked_counter (λ x. x.name)
 
 abbrev pub are_checked_alarms : List AlarmRecord → Bool
-are_checked_alarms xs = list_all is_checked_alarm xs && are_proper_names (map (λ x. x.name) xs)
+are_checked_alarms = are_checked is_checked_alarm (λ x. x.name)
 
 -- a whole file
 abbrev pub is_checked : Configuration → Bool
@@ -110,3 +113,15 @@ is_checked c =
     is_name c.cpu && is_checked_os c.os
     && are_checked_modes c.app_modes && are_checked_tasks c.tasks && are_checked_isrs c.routines && are_checked_resources c.resources
     && are_checked_events c.events && are_checked_counters c.counters && are_checked_alarms c.alarms
+
+-- each part of a whole file
+pub record CheckedParts (c : Configuration) : Type 0 where
+  pub cpu : is_name c.cpu ≡ true
+  pub os : is_checked_os c.os ≡ true
+  pub app_modes : are_checked_modes c.app_modes ≡ true
+  pub tasks : are_checked_tasks c.tasks ≡ true
+  pub routines : are_checked_isrs c.routines ≡ true
+  pub resources : are_checked_resources c.resources ≡ true
+  pub events : are_checked_events c.events ≡ true
+  pub counters : are_checked_counters c.counters ≡ true
+  pub alarms : are_checked_alarms c.alarms ≡ true

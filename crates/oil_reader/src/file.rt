@@ -12,6 +12,7 @@ ghost use Rattle.oil_reader.specs.Checked.{
   are_checked_counters,
   are_checked_alarms,
   is_checked,
+  CheckedParts,
 };
 
 use osek_base::{Counter, Hooks, Name, Property, Schedule};
@@ -231,12 +232,20 @@ impl OilFile {
         OilFile { parts }
     }
 
+    /// All that it holds, each part of it checked.
+    fn parts(&self) -> &OilParts
+        ensures value { result.now ≡ self.now }
+        ensures checked { CheckedParts result.now }
+    {
+        &self.parts
+    }
+
     /// The name of the CPU.
     pub fn cpu(&self) -> &Name
         ensures value { result.now ≡ self.now.cpu }
         ensures checked { IsTrue (is_name result.now) }
     {
-        &self.parts.cpu
+        &self.parts().cpu
     }
 
     /// The OS object.
@@ -244,7 +253,7 @@ impl OilFile {
         ensures value { result.now ≡ self.now.os }
         ensures checked { IsTrue (is_checked_os result.now) }
     {
-        &self.parts.os
+        &self.parts().os
     }
 
     /// The names of the application modes, APPMODE.
@@ -252,7 +261,7 @@ impl OilFile {
         ensures value { result.now ≡ self.now.app_modes }
         ensures checked { IsTrue (are_checked_modes result.now) }
     {
-        &self.parts.app_modes
+        &self.parts().app_modes
     }
 
     /// The objects of kind TASK.
@@ -260,7 +269,7 @@ impl OilFile {
         ensures value { result.now ≡ self.now.tasks }
         ensures checked { IsTrue (are_checked_tasks result.now) }
     {
-        &self.parts.tasks
+        &self.parts().tasks
     }
 
     /// The objects of kind ISR.
@@ -268,7 +277,7 @@ impl OilFile {
         ensures value { result.now ≡ self.now.routines }
         ensures checked { IsTrue (are_checked_isrs result.now) }
     {
-        &self.parts.routines
+        &self.parts().routines
     }
 
     /// The objects of kind RESOURCE.
@@ -276,7 +285,7 @@ impl OilFile {
         ensures value { result.now ≡ self.now.resources }
         ensures checked { IsTrue (are_checked_resources result.now) }
     {
-        &self.parts.resources
+        &self.parts().resources
     }
 
     /// The objects of kind EVENT.
@@ -284,7 +293,7 @@ impl OilFile {
         ensures value { result.now ≡ self.now.events }
         ensures checked { IsTrue (are_checked_events result.now) }
     {
-        &self.parts.events
+        &self.parts().events
     }
 
     /// The objects of kind COUNTER.
@@ -292,7 +301,7 @@ impl OilFile {
         ensures value { result.now ≡ self.now.counters }
         ensures checked { IsTrue (are_checked_counters result.now) }
     {
-        &self.parts.counters
+        &self.parts().counters
     }
 
     /// The objects of kind ALARM.
@@ -300,7 +309,7 @@ impl OilFile {
         ensures value { result.now ≡ self.now.alarms }
         ensures checked { IsTrue (are_checked_alarms result.now) }
     {
-        &self.parts.alarms
+        &self.parts().alarms
     }
 
     /// The content by value.

@@ -1,12 +1,13 @@
 //! OIL: grammar. Tokens to a tree.
 
-ghost use Rattle.std.specs.Prelude.{◌≡◌, ◌<◌, ◌≤◌, ◌∷◌, [], IfOk, IfErr, MatchOption, option_map, OnOk, length, IsTrue, ◌↔◌};
+ghost use Rattle.std.specs.Prelude.{◌≡◌, ◌<◌, ◌≤◌, List, ◌∷◌, [], Some, IfOk, IfErr, MatchOption, option_map, map, OnOk, length, IsTrue, ◌↔◌, refl};
 ghost use Rattle.oil_reader.specs.declared.tokens.Sign.TheVariants.{Open, Close, Equals, Semicolon};
-ghost use Rattle.oil_reader.specs.Tokens.{Name, Mark, Version, lexemes_of, lexeme_of};
+ghost use Rattle.oil_reader.specs.Tokens.{Name, Mark, Version, Lexeme, lexemes_of, lexeme_of};
+ghost use Rattle.oil_reader.specs.Grammar as tree;
 ghost use Rattle.oil_reader.specs.Grammar.{at, IsSetting, IsSub, IsBlock, IsAttribute, IsBody, IsObject, IsHeader, IsFile, AreEach, StartsWith, IsKind, value_word};
-ghost use Rattle.oil_reader.specs.Machine.{AnyName, AnyValue, Only, Subs, Rest, Attributes, Body, Objects, the_file, the_header, RefusesAll, Keyword, TheVersion, AnyKind};
+ghost use Rattle.oil_reader.specs.Machine.{Symbol, AnyName, AnyValue, Only, Subs, Rest, Attributes, Body, Objects, the_file, the_header, step, RefusesAll, Keyword, TheVersion, AnyKind};
 ghost use Rattle.oil_reader.specs.Faults.{IsSyntaxAnswer};
-ghost use Rattle.oil_reader.specs.Trees.{setting_of, value_of, block_of, attribute_of, attributes_of, settings_of, object_of, objects_of, file_of};
+ghost use Rattle.oil_reader.specs.Trees.{setting_of, value_of, block_of, attribute_of, attributes_of, object_of, file_of};
 
 use crate::fault::OilFault;
 use crate::ident::Ident;
@@ -22,6 +23,78 @@ struct Parser<'t, 'a> {
     /// How many bytes the text has.
     len: usize,
     ghost in_range: { next ≤ length tokens.now },
+}
+
+/// What stands in braces one after the other.
+trait InBraces<'a>: Drop {
+    ghost use Rattle.oil_reader.specs.Rest.{rest_of, ReadsNext};
+
+    /// One of them without where it lies in memory.
+    ghost Tree: { Type 0 };
+
+    /// That of one.
+    ghost tree: { Self → Tree };
+
+    /// The tokens that spell one, before a rest.
+    ghost Is: { Tree → List Lexeme → List Lexeme → Type 0 };
+
+    /// What the grammar calls all of them up to and with the closing brace.
+    ghost symbol: { Symbol };
+
+    /// The next of them.
+    fn next(parser: &mut Parser<'_, 'a>, alloc: Global) -> Result<Self, OilFault>
+        requires { ¬ StartsWith Close (rest_of parser.now) }
+        ensures { ReadsNext tree Is symbol parser.old parser.new result };
+
+    ghost closes: { step symbol (Mark Close) ≡ Some [] };
+}
+
+impl<'a> InBraces<'a> for Setting<'a> {
+    ghost Tree = { tree.Setting };
+
+    ghost tree = { setting_of };
+
+    ghost Is = { IsSub };
+
+    ghost symbol = { Subs };
+
+    fn next(parser: &mut Parser<'_, 'a>, _alloc: Global) -> Result<Setting<'a>, OilFault> {
+        parser.sub()
+    }
+
+    ghost closes = { refl };
+}
+
+impl<'a> InBraces<'a> for Attribute<'a> {
+    ghost Tree = { tree.Attribute };
+
+    ghost tree = { attribute_of };
+
+    ghost Is = { IsAttribute };
+
+    ghost symbol = { Attributes };
+
+    fn next(parser: &mut Parser<'_, 'a>, alloc: Global) -> Result<Attribute<'a>, OilFault> {
+        parser.attribute(alloc)
+    }
+
+    ghost closes = { refl };
+}
+
+impl<'a> InBraces<'a> for Object<'a> {
+    ghost Tree = { tree.Object };
+
+    ghost tree = { object_of };
+
+    ghost Is = { IsObject };
+
+    ghost symbol = { Objects };
+
+    fn next(parser: &mut Parser<'_, 'a>, alloc: Global) -> Result<Object<'a>, OilFault> {
+        parser.object(alloc)
+    }
+
+    ghost closes = { refl };
 }
 
 impl<'t, 'a> Parser<'t, 'a> {
@@ -111,17 +184,17 @@ impl<'t, 'a> Parser<'t, 'a> {
         Ok(setting)
     }
 
-    /// Block attributes up to and with the closing brace.
-    fn subs(&mut self, alloc: Global) -> Result<Block<'a>, OilFault>
-        ensures { Reads (λ x ts rest. AreEach IsSub (settings_of x.settings.items) ts (at x.close (Mark Close) ∷ rest)) (Subs ∷ []) self.old self.new result }
+    /// What stands in braces, up to and with the closing one, and that one's place.
+    fn in_braces<X: InBraces<'a>>(&mut self, alloc: Global) -> Result<(Vec<X>, usize), OilFault>
+        ensures { Reads (λ x ts rest. AreEach X.Is (map X.tree x.0.items) ts (at x.1 (Mark Close) ∷ rest)) (X.symbol ∷ []) self.old self.new result }
     {
-        let mut settings = Vec::new(alloc);
+        let mut things = Vec::new(alloc);
         'each: while !self.starts_with(Sign::Close) {
-            let setting = self.sub()?;
-            settings.push(setting)?;
+            let thing = X::next(self, alloc)?;
+            things.push(thing)?;
         }
         let close = self.sign(Sign::Close)?;
-        Ok(Block { settings, close })
+        Ok((things, close))
     }
 
     /// What follows a value, up to the semicolon.
@@ -133,9 +206,9 @@ impl<'t, 'a> Parser<'t, 'a> {
             return Ok((None, end));
         }
         self.sign(Sign::Open)?;
-        let block = self.subs(alloc)?;
+        let (settings, close) = self.in_braces(alloc)?;
         let end = self.sign(Sign::Semicolon)?;
-        Ok((Some(block), end))
+        Ok((Some(Block { settings, close }), end))
     }
 
     /// An attribute.
@@ -151,19 +224,6 @@ impl<'t, 'a> Parser<'t, 'a> {
         })
     }
 
-    /// Attributes up to and with the closing brace.
-    fn attributes(&mut self, alloc: Global) -> Result<(Vec<Attribute<'a>>, usize), OilFault>
-        ensures { Reads (λ x ts rest. AreEach IsAttribute (attributes_of x.0.items) ts (at x.1 (Mark Close) ∷ rest)) (Attributes ∷ []) self.old self.new result }
-    {
-        let mut attributes = Vec::new(alloc);
-        'each: while !self.starts_with(Sign::Close) {
-            let attribute = self.attribute(alloc)?;
-            attributes.push(attribute)?;
-        }
-        let close = self.sign(Sign::Close)?;
-        Ok((attributes, close))
-    }
-
     /// What follows an object's name.
     fn body(&mut self, alloc: Global) -> Result<(Vec<Attribute<'a>>, usize), OilFault>
         ensures { Reads (λ x. IsBody (attributes_of x.0.items) x.1) (Body ∷ []) self.old self.new result }
@@ -173,7 +233,7 @@ impl<'t, 'a> Parser<'t, 'a> {
             return Ok((Vec::new(alloc), end));
         }
         self.sign(Sign::Open)?;
-        let (attributes, close) = self.attributes(alloc)?;
+        let (attributes, close) = self.in_braces(alloc)?;
         self.sign(Sign::Semicolon)?;
         Ok((attributes, close))
     }
@@ -207,19 +267,6 @@ impl<'t, 'a> Parser<'t, 'a> {
             attributes,
             end,
         })
-    }
-
-    /// Objects up to and with the closing brace.
-    fn objects(&mut self, alloc: Global) -> Result<(Vec<Object<'a>>, usize), OilFault>
-        ensures { Reads (λ x ts rest. AreEach IsObject (objects_of x.0.items) ts (at x.1 (Mark Close) ∷ rest)) (Objects ∷ []) self.old self.new result }
-    {
-        let mut objects = Vec::new(alloc);
-        'each: while !self.starts_with(Sign::Close) {
-            let object = self.object(alloc)?;
-            objects.push(object)?;
-        }
-        let close = self.sign(Sign::Close)?;
-        Ok((objects, close))
     }
 
     /// A word that the grammar names.
@@ -281,7 +328,7 @@ impl<'t, 'a> Parser<'t, 'a> {
         ensures err { IfErr result (λ e. RefusesAll the_file self.old.len (rest_of self.old) e) }
     {
         let cpu = self.header()?;
-        let (objects, close) = self.objects(alloc)?;
+        let (objects, close) = self.in_braces(alloc)?;
         self.sign(Sign::Semicolon)?;
         self.end()?;
         Ok(SyntaxTree {

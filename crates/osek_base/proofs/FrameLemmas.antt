@@ -1,7 +1,7 @@
 -- What the parts of a tick leave alone.
 use Rattle.std.proofs.Common.{◌≡◌, ℕ, ◌+◌, List, [], ◌∷◌, refl, ◌∙◌, ap, cond}
 use Rattle.std.specs.Prelude.{Bool, true, false}
-use Rattle.osek_base.specs.Types.{Service, Control, Instr, Owner}
+use Rattle.osek_base.specs.Types.{ServiceCall, Control, Instr, Owner}
 use Rattle.osek_base.specs.System.{System}
 use Rattle.osek_base.specs.Instruction.{Context}
 use Rattle.osek_base.specs.State.{State}
@@ -11,7 +11,7 @@ use Rattle.osek_base.specs.Alarm.{due_alarms, alarms_advanced}
 use Rattle.osek_base.specs.Tick.{alarms_act, alarm_acts, alarm_phase, start_phase, execute_phase, caller_executes, executor, executed, tick, before_execution, from_execution}
 
 -- no service moves the tick, whoever calls which
-pub tick_service : (S : System) (c : Caller) (s : State) (call : Service ℕ) → (service S c s call).state.tick ≡ s.tick
+pub tick_service : (S : System) (c : Caller) (s : State) (call : ServiceCall) → (service S c s call).state.tick ≡ s.tick
 unfolding service
 tick_service S c s call = refl
 
@@ -24,7 +24,7 @@ unfolding unmasked_service
 tick_alarms_act S [] s = refl
 tick_alarms_act S (a ∷ due) s = tick_alarms_act S due (alarm_acts S a s).state
 
-tick_controlled : (control : Control) (s : State) → (controlled control s).tick ≡ s.tick
+tick_controlled : (control : Control ℕ) (s : State) → (controlled control s).tick ≡ s.tick
 tick_controlled Control.DisableAllInterrupts s = refl
 tick_controlled _ s = refl
 

@@ -1,7 +1,7 @@
 -- The theorems over whole runs, as public contracts cite them.
 use Rattle.std.specs.Prelude.{ℕ, ◌≡◌, ◌<◌, ◌≤◌, Bool, false, not, ◌&&◌, ◌==◌, List, [], ◌∷◌, ◌++◌, drop, Some, IsTrue, IsFalse, length}
 use Rattle.std.specs.List.{list_all, list_any, Contains}
-use Rattle.osek_base.specs.Types.{ResId, Owner, Service, Instr, Status, Results, Outcome, TraceEvent}
+use Rattle.osek_base.specs.Types.{ResId, Owner, Service, ServiceCall, Instr, Status, Results, Outcome, TraceEvent}
 use Rattle.osek_base.specs.System.{System, mode_count}
 use Rattle.osek_base.specs.State.{Job, JobId, jobs_of, shared_window}
 use Rattle.osek_base.specs.Service.{may_take}
@@ -53,25 +53,25 @@ BlocksOnce S mode arrivals n =
 
 -- ---- shared data
 
-abbrev pub is_get : ℕ → Service ℕ → Bool
+abbrev pub is_get : ℕ → ServiceCall → Bool
 is_get r (Service.GetResource (Some (ResId.Declared q))) = q == r
 is_get r _ = false
 
-abbrev pub is_release : ℕ → Service ℕ → Bool
+abbrev pub is_release : ℕ → ServiceCall → Bool
 is_release r (Service.ReleaseResource (Some (ResId.Declared q))) = q == r
 is_release r _ = false
 
-abbrev pub is_store : ℕ → Service ℕ → Bool
+abbrev pub is_store : ℕ → ServiceCall → Bool
 is_store r (Service.StoreShared (Some (ResId.Declared q)) i v) = q == r
 is_store r _ = false
 
 -- whether a record tells of a service that passes the test and was answered E_OK
-abbrev pub tells : (Service ℕ → Bool) → TraceEvent → Bool
+abbrev pub tells : (ServiceCall → Bool) → TraceEvent → Bool
 tells test (TraceEvent.Executed who place (Instr.Service call) (Outcome.Answer Status.Ok found)) = test call
 tells test _ = false
 
 -- whether in a step the job of that id calls such a service, which is answered E_OK
-abbrev pub does : (Service ℕ → Bool) → JobId → Step → Bool
+abbrev pub does : (ServiceCall → Bool) → JobId → Step → Bool
 does test n step = executes n step && list_any (tells test) step.events
 
 -- the window of a resource after some steps, of which there is one at least

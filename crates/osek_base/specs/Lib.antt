@@ -8,6 +8,7 @@ pub mod System
 pub mod Ceiling
 pub mod Numbering
 pub mod Instruction
+pub mod Mnemonics
 pub mod State
 pub mod Priority
 pub mod Choice

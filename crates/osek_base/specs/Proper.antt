@@ -4,7 +4,7 @@ use Rattle.std.specs.List.{list_all, list_any}
 use Rattle.std.specs.Option.{option_map_or}
 use Rattle.osek_base.specs.declared.limits.TheConstants.{MAX_TASKS, MAX_TASK_PRIORITY, MAX_ACTIVATION, MAX_ROUTINES, MAX_ROUTINE_PRIORITY, MAX_RESOURCES}
 use Rattle.osek_base.specs.declared.limits.TheConstants.{MAX_EVENTS, MAX_COUNTERS, MAX_COUNTS, MAX_ALARMS, MAX_MODES, MAX_INSTRUCTIONS, REGISTERS}
-use Rattle.osek_base.specs.Types.{ResId, Plain, Service, Control, Instr, Schedule, Counter, Action}
+use Rattle.osek_base.specs.Types.{ResId, Plain, PlainInstr, Service, ServiceCall, Control, Instr, Schedule, Counter, Action}
 use Rattle.osek_base.specs.Lists.{is_empty}
 use Rattle.osek_base.specs.Names.{Names, is_proper_name, are_distinct_names}
 use Rattle.osek_base.specs.System.{System, Task, Routine, Alarm, AlarmStart, mode_count, counter, is_extended}
@@ -49,7 +49,7 @@ is_resource_operand S (Some r) = may_be_got S r
 abbrev pub is_register : ℕ → Bool
 is_register r = nat_lt r REGISTERS
 
-abbrev pub is_proper_plain : ℕ → Plain → Bool
+abbrev pub is_proper_plain : ℕ → PlainInstr → Bool
 is_proper_plain size Plain.Nop = true
 is_proper_plain size (Plain.Li d n) = is_register d && is_word n
 is_proper_plain size (Plain.Mov d a) = is_register d && is_register a
@@ -59,7 +59,7 @@ is_proper_plain size (Plain.St a b) = is_register a && is_register b
 is_proper_plain size (Plain.Jmp to) = nat_lt to size
 is_proper_plain size (Plain.JumpIf test a b to) = is_register a && is_register b && nat_lt to size
 
-abbrev pub is_proper_service : System → Service ℕ → Bool
+abbrev pub is_proper_service : System → ServiceCall → Bool
 is_proper_service S (Service.ActivateTask t) = is_task_operand S t
 is_proper_service S Service.TerminateTask = true
 is_proper_service S (Service.ChainTask t) = is_task_operand S t
@@ -81,7 +81,7 @@ is_proper_service S (Service.GetAlarm a) = is_alarm_operand S a
 is_proper_service S (Service.GetAlarmBase a) = is_alarm_operand S a
 
 -- only a routine returns from an interrupt
-abbrev pub is_proper_control : Bool → Control → Bool
+abbrev pub is_proper_control : Bool → Control ℕ → Bool
 is_proper_control in_routine (Control.ShutdownOs n) = is_word n
 is_proper_control in_routine Control.ReturnFromInterrupt = in_routine
 is_proper_control in_routine _ = true

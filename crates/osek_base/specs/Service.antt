@@ -1,7 +1,7 @@
 -- OSEK/VDX OS: specification of operating system services. What each service refuses, answers and changes.
 use Rattle.std.specs.Prelude.{ℕ, ◌+◌, ◌-◌, Bool, true, false, not, ◌&&◌, ◌||◌, ◌==◌, nat_lt, if◌then◌else◌, List, [], ◌∷◌, ◌++◌, Option, Some, None, is_some, slice_index, slice_set, bit_and, bit_or, bit_xor}
 use Rattle.std.specs.List.{list_any}
-use Rattle.osek_base.specs.Types.{ResId, Service, Control, Status, Results, TaskState}
+use Rattle.osek_base.specs.Types.{ResId, Service, ServiceCall, Control, Status, Results, TaskState}
 use Rattle.osek_base.specs.Lists.{is_empty, last_of, without_last, same_resource}
 use Rattle.osek_base.specs.System.{System, lists_resource, is_extended, counter_of}
 use Rattle.osek_base.specs.Ceiling.{ceiling}
@@ -85,7 +85,7 @@ in_use s a = is_some (expiry s a)
 
 -- ---- refusals, in the order in which they are tried
 
-abbrev pub refusals : System → Caller → State → Service ℕ → List (Bool × Status)
+abbrev pub refusals : System → Caller → State → ServiceCall → List (Bool × Status)
 refusals S c s (Service.ActivateTask None) = (true, Status.Id) ∷ []
 refusals S c s (Service.ActivateTask (Some t)) = (is_full S s t, Status.Limit) ∷ []
 refusals S c s Service.TerminateTask = (by_routine c, Status.CallLevel) ∷ (holds_any c, Status.Resource) ∷ []
@@ -174,7 +174,7 @@ abbrev pub word_of : List (List ℕ) → ResId → ℕ → ℕ
 word_of shared (ResId.Declared r) i = shared_word shared r i
 word_of shared ResId.Scheduler i = 0
 
-abbrev pub results : System → State → Service ℕ → Results
+abbrev pub results : System → State → ServiceCall → Results
 results S s Service.GetTaskId = Results.One (running_task s.running)
 results S s (Service.GetTaskState (Some t)) = Results.One (state_number (task_state s t))
 results S s (Service.LoadShared (Some r) i) = Results.One (word_of s.shared r i)
@@ -256,7 +256,7 @@ abbrev pub word_stored : ResId → ℕ → ℕ → List (List ℕ) → List (Lis
 word_stored (ResId.Declared r) i v shared = with_shared shared r i v
 word_stored ResId.Scheduler i v shared = shared
 
-abbrev pub effect : System → Caller → State → Service ℕ → State
+abbrev pub effect : System → Caller → State → ServiceCall → State
 effect S c s (Service.ActivateTask (Some t)) = activated S t s
 effect S c s Service.TerminateTask = caller_ended c s
 effect S c s (Service.ChainTask (Some t)) = activated S t (caller_ended c s)
@@ -284,16 +284,16 @@ abbrev pub answer : Option Status → Status
 answer None = Status.Ok
 answer (Some refusal) = refusal
 
-abbrev pub results_told : System → State → Service ℕ → Option Status → Results
+abbrev pub results_told : System → State → ServiceCall → Option Status → Results
 results_told S s call None = results S s call
 results_told S s call (Some refusal) = Results.Nothing
 
-abbrev pub changed : System → Caller → State → Service ℕ → Option Status → State
+abbrev pub changed : System → Caller → State → ServiceCall → Option Status → State
 changed S c s call None = effect S c s call
 changed S c s call (Some refusal) = s
 
 -- a refusal changes nothing; else the results and the state are the service's
-abbrev pub reply_to : System → Caller → State → Service ℕ → Option Status → Reply
+abbrev pub reply_to : System → Caller → State → ServiceCall → Option Status → Reply
 reply_to S c s call refusal =
     record {
       status = answer refusal;
@@ -302,16 +302,16 @@ reply_to S c s call refusal =
     }
 
 -- a service called by an alarm, or at boot: interrupts being off is no refusal
-unfoldable pub unmasked_service : System → Caller → State → Service ℕ → Reply
+unfoldable pub unmasked_service : System → Caller → State → ServiceCall → Reply
 unmasked_service S c s call = reply_to S c s call (first_refusal (refusals S c s call))
 
 -- a service called by a job or a routine: interrupts being off is the first refusal
-unfoldable pub service : System → Caller → State → Service ℕ → Reply
+unfoldable pub service : System → Caller → State → ServiceCall → Reply
 service S c s call =
     reply_to S c s call (first_refusal ((interrupts_off s, Status.SysDisabled) ∷ refusals S c s call))
 
 -- the state after a service without a status
-abbrev pub controlled : Control → State → State
+abbrev pub controlled : Control ℕ → State → State
 controlled Control.DisableAllInterrupts s = record s { disabled = true }
 controlled Control.EnableAllInterrupts s = record s { disabled = false }
 controlled Control.SuspendAllInterrupts s = record s { suspended_all = s.suspended_all + 1 }

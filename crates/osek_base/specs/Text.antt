@@ -2,7 +2,8 @@
 use Rattle.std.specs.Prelude.{ℕ, ◌-◌, Bool, List, [], ◌∷◌, ◌++◌, map, Option, Some, None, length, replicate, codes, decimal}
 use Rattle.std.specs.Fmt.{digits}
 use Rattle.std.specs.List.{flat_map}
-use Rattle.osek_base.specs.Types.{ResId, Operation, Comparison, Plain, Service, Control, Instr, Effect, Results, Outcome, Source, TraceEvent}
+use Rattle.osek_base.specs.Types.{ResId, Plain, PlainInstr, Service, ServiceCall, Control, Instr, Effect, Results, Outcome, Source, TraceEvent}
+use Rattle.osek_base.specs.Mnemonics.{plain_word, service_word, control_word}
 use Rattle.osek_base.specs.Names.{Names, task_name, owner_name, resource_name, alarm_name}
 use Rattle.osek_base.specs.Tick.{Step, status_number}
 use Rattle.osek_base.specs.Trace.{Run}
@@ -30,19 +31,6 @@ mask_text m = let text = digits 16 Bool.false m in codes "0x" ++ replicate (8 - 
 
 -- ---- instructions
 
-abbrev pub operation_word : Operation → List ℕ
-operation_word Operation.Add = codes "ADD"
-operation_word Operation.Sub = codes "SUB"
-operation_word Operation.Mul = codes "MUL"
-operation_word Operation.And = codes "AND"
-operation_word Operation.Or = codes "OR"
-operation_word Operation.Xor = codes "XOR"
-
-abbrev pub comparison_word : Comparison → List ℕ
-comparison_word Comparison.Equal = codes "JEQ"
-comparison_word Comparison.NotEqual = codes "JNE"
-comparison_word Comparison.Less = codes "JLT"
-
 -- an operand after another
 abbrev pub listed : List (List ℕ) → List ℕ
 listed [] = []
@@ -53,57 +41,44 @@ abbrev pub written : List ℕ → List (List ℕ) → List ℕ
 written word [] = word
 written word (x ∷ xs) = word ++ codes " " ++ x ++ listed xs
 
-abbrev pub plain_text : Plain → List ℕ
-plain_text Plain.Nop = codes "NOP"
-plain_text (Plain.Li d n) = written (codes "LI") (register_text d ∷ decimal n ∷ [])
-plain_text (Plain.Mov d a) = written (codes "MOV") (register_text d ∷ register_text a ∷ [])
-plain_text (Plain.Compute operation d a b) =
-    written (operation_word operation) (register_text d ∷ register_text a ∷ register_text b ∷ [])
-plain_text (Plain.Ld d a) = written (codes "LD") (register_text d ∷ register_text a ∷ [])
-plain_text (Plain.St a b) = written (codes "ST") (register_text a ∷ register_text b ∷ [])
-plain_text (Plain.Jmp to) = written (codes "JMP") (decimal to ∷ [])
-plain_text (Plain.JumpIf test a b to) =
-    written (comparison_word test) (register_text a ∷ register_text b ∷ decimal to ∷ [])
+abbrev pub plain_operands : PlainInstr → List (List ℕ)
+plain_operands Plain.Nop = []
+plain_operands (Plain.Li d n) = register_text d ∷ decimal n ∷ []
+plain_operands (Plain.Mov d a) = register_text d ∷ register_text a ∷ []
+plain_operands (Plain.Compute operation d a b) = register_text d ∷ register_text a ∷ register_text b ∷ []
+plain_operands (Plain.Ld d a) = register_text d ∷ register_text a ∷ []
+plain_operands (Plain.St a b) = register_text a ∷ register_text b ∷ []
+plain_operands (Plain.Jmp to) = decimal to ∷ []
+plain_operands (Plain.JumpIf test a b to) = register_text a ∷ register_text b ∷ decimal to ∷ []
 
-abbrev pub service_text : Names → Service ℕ → List ℕ
-service_text names (Service.ActivateTask t) = written (codes "ACT") (task_text names t ∷ [])
-service_text names Service.TerminateTask = codes "TERM"
-service_text names (Service.ChainTask t) = written (codes "CHAIN") (task_text names t ∷ [])
-service_text names Service.Schedule = codes "SCHED"
-service_text names Service.GetTaskId = codes "GTID"
-service_text names (Service.GetTaskState t) = written (codes "GTST") (task_text names t ∷ [])
-service_text names (Service.GetResource r) = written (codes "GETR") (resource_text names r ∷ [])
-service_text names (Service.ReleaseResource r) = written (codes "RELR") (resource_text names r ∷ [])
-service_text names (Service.LoadShared r x) = written (codes "LDR") (resource_text names r ∷ register_text x ∷ [])
-service_text names (Service.StoreShared r x y) =
-    written (codes "STR") (resource_text names r ∷ register_text x ∷ register_text y ∷ [])
-service_text names (Service.SetEvent t m) = written (codes "SETE") (task_text names t ∷ mask_text m ∷ [])
-service_text names (Service.ClearEvent m) = written (codes "CLRE") (mask_text m ∷ [])
-service_text names (Service.GetEvent t) = written (codes "GETE") (task_text names t ∷ [])
-service_text names (Service.WaitEvent m) = written (codes "WAIT") (mask_text m ∷ [])
-service_text names (Service.SetRelAlarm a x y) =
-    written (codes "SREL") (alarm_text names a ∷ register_text x ∷ register_text y ∷ [])
-service_text names (Service.SetAbsAlarm a x y) =
-    written (codes "SABS") (alarm_text names a ∷ register_text x ∷ register_text y ∷ [])
-service_text names (Service.CancelAlarm a) = written (codes "CANA") (alarm_text names a ∷ [])
-service_text names (Service.GetAlarm a) = written (codes "GALM") (alarm_text names a ∷ [])
-service_text names (Service.GetAlarmBase a) = written (codes "GBAS") (alarm_text names a ∷ [])
+abbrev pub service_operands : Names → ServiceCall → List (List ℕ)
+service_operands names (Service.ActivateTask t) = task_text names t ∷ []
+service_operands names (Service.ChainTask t) = task_text names t ∷ []
+service_operands names (Service.GetTaskState t) = task_text names t ∷ []
+service_operands names (Service.GetResource r) = resource_text names r ∷ []
+service_operands names (Service.ReleaseResource r) = resource_text names r ∷ []
+service_operands names (Service.LoadShared r x) = resource_text names r ∷ register_text x ∷ []
+service_operands names (Service.StoreShared r x y) = resource_text names r ∷ register_text x ∷ register_text y ∷ []
+service_operands names (Service.SetEvent t m) = task_text names t ∷ mask_text m ∷ []
+service_operands names (Service.ClearEvent m) = mask_text m ∷ []
+service_operands names (Service.GetEvent t) = task_text names t ∷ []
+service_operands names (Service.WaitEvent m) = mask_text m ∷ []
+service_operands names (Service.SetRelAlarm a x y) = alarm_text names a ∷ register_text x ∷ register_text y ∷ []
+service_operands names (Service.SetAbsAlarm a x y) = alarm_text names a ∷ register_text x ∷ register_text y ∷ []
+service_operands names (Service.CancelAlarm a) = alarm_text names a ∷ []
+service_operands names (Service.GetAlarm a) = alarm_text names a ∷ []
+service_operands names (Service.GetAlarmBase a) = alarm_text names a ∷ []
+service_operands names _ = []
 
-abbrev pub control_text : Control → List ℕ
-control_text Control.DisableAllInterrupts = codes "DAI"
-control_text Control.EnableAllInterrupts = codes "EAI"
-control_text Control.SuspendAllInterrupts = codes "SAI"
-control_text Control.ResumeAllInterrupts = codes "RAI"
-control_text Control.SuspendOsInterrupts = codes "SOI"
-control_text Control.ResumeOsInterrupts = codes "ROI"
-control_text (Control.ShutdownOs n) = written (codes "SHUT") (decimal n ∷ [])
-control_text Control.ReturnFromInterrupt = codes "RETI"
+abbrev pub control_operands : Control ℕ → List (List ℕ)
+control_operands (Control.ShutdownOs n) = decimal n ∷ []
+control_operands _ = []
 
 -- an instruction's text
 abbrev pub instruction_text : Names → Instr → List ℕ
-instruction_text names (Instr.Plain p) = plain_text p
-instruction_text names (Instr.Service call) = service_text names call
-instruction_text names (Instr.Control control) = control_text control
+instruction_text names (Instr.Plain p) = written (plain_word p) (plain_operands p)
+instruction_text names (Instr.Service call) = written (service_word call) (service_operands names call)
+instruction_text names (Instr.Control control) = written (control_word control) (control_operands control)
 
 -- ---- lines
 

@@ -2,7 +2,7 @@
 use Rattle.std.specs.Prelude.{ℕ, ◌+◌, Bool, true, false, if◌then◌else◌, List, [], ◌∷◌, ◌++◌, Option, Some, None, slice_index_or, slice_set}
 use Rattle.std.specs.Prelude.{length}
 use Rattle.std.specs.Option.{option_map}
-use Rattle.osek_base.specs.Types.{Owner, Status, Plain, Service, Control, Instr, Results, Outcome, Source, TraceEvent, Action}
+use Rattle.osek_base.specs.Types.{Owner, Status, PlainInstr, Service, ServiceCall, Control, Instr, Results, Outcome, Source, TraceEvent, Action}
 use Rattle.osek_base.specs.Lists.{below, foremost}
 use Rattle.osek_base.specs.System.{System, routine, alarm, instruction_at}
 use Rattle.osek_base.specs.Instruction.{Context, Done, value, next, with_value, plain}
@@ -21,7 +21,7 @@ silent s = record { events = []; state = s }
 -- ---- 1. counters advance, and due alarms act
 
 -- the service that an alarm's action calls
-abbrev pub action_call : {V : Type 0} → Action → Service V
+abbrev pub action_call : Action → ServiceCall
 action_call (Action.ActivateTask t) = Service.ActivateTask (Some t)
 action_call (Action.SetEvent t m) = Service.SetEvent (Some t) m
 
@@ -98,7 +98,7 @@ abbrev pub executor : State → Caller
 executor s = caller_of s.active s.running s.jobs
 
 -- a service with the values of its registers
-abbrev pub at_values : Context → Service ℕ → Service ℕ
+abbrev pub at_values : Context → ServiceCall → ServiceCall
 at_values x (Service.SetRelAlarm a increment cycle) = Service.SetRelAlarm a (value x increment) (value x cycle)
 at_values x (Service.SetAbsAlarm a start cycle) = Service.SetAbsAlarm a (value x start) (value x cycle)
 at_values x (Service.LoadShared r i) = Service.LoadShared r (value x i)
@@ -147,18 +147,18 @@ with_results (Results.Three a b c) x = with_value (with_value (with_value x 1 a)
 abbrev pub answered : Status → Results → Context → Context
 answered status found x = next (with_results found (with_value x 0 (status_number status)))
 
-abbrev pub shutdown_record : System → Control → List TraceEvent
+abbrev pub shutdown_record : System → Control ℕ → List TraceEvent
 shutdown_record S (Control.ShutdownOs n) = hooked S.hooks.shutdown (TraceEvent.Shutdown n)
 shutdown_record S _ = []
 
-abbrev pub plain_done : Owner → Caller → Context → Plain → State → Done → Recorded
+abbrev pub plain_done : Owner → Caller → Context → PlainInstr → State → Done → Recorded
 plain_done who c x p s done =
     record {
       events = TraceEvent.Executed who x.place (Instr.Plain p) (Outcome.Plain done.effect) ∷ [];
       state = with_context c done.context (record s { words = words_after s.words who done.effect });
     }
 
-abbrev pub service_done : System → Owner → Caller → Context → Service ℕ → Reply → Recorded
+abbrev pub service_done : System → Owner → Caller → Context → ServiceCall → Reply → Recorded
 service_done S who c x call r =
     record {
       events =

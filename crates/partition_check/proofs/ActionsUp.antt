@@ -2,34 +2,23 @@
 use Rattle.std.proofs.Common.{◌≡◌, ℕ, ◌<◌, true, false, length, refl, ap}
 use Rattle.std.specs.Prelude.{Some, not, ◌&&◌}
 use Rattle.osek_base.specs.declared.instr.Service.{Service}
+use Rattle.osek_base.specs.Types.{ServiceCall}
 use Rattle.osek_base.specs.declared.task.Action.{Action}
 use Rattle.osek_base.specs.System.{System}
-use Rattle.osek_base.specs.State.{Job, Active, State}
+use Rattle.osek_base.specs.State.{State}
 use Rattle.osek_base.specs.Activation.{activated}
-use Rattle.osek_base.specs.Service.{JobCalls, RoutineCalls, NobodyCalls, service, unmasked_service}
+use Rattle.osek_base.specs.Service.{NobodyCalls, unmasked_service}
 use Rattle.osek_base.specs.Tick.{action_call}
 use Rattle.osek_base.specs.Upper.{is_upper_task, action_task}
-use Rattle.osek_base.specs.Agree.{renumbered_service, upper_core}
-use Rattle.partition_check.proofs.UpperState.{up, up_job, is_upper_job}
-use Rattle.partition_check.proofs.Shared.{IsCounterpart, IsLow, IsLayeredJob, IsLayered, IsUpperCall, IsSameReply}
+use Rattle.osek_base.specs.Agree.{upper_core}
+use Rattle.partition_check.proofs.UpperState.{up}
+use Rattle.partition_check.proofs.Shared.{IsCounterpart, IsLow, IsLayered, IsSameReply}
 use Rattle.partition_check.proofs.PriorityUp.{later_tasks}
-use Rattle.partition_check.proofs.ServiceUp.{service_up, unmasked_up}
+use Rattle.partition_check.proofs.ServiceUp.{unmasked_up}
 use Rattle.partition_check.proofs.LayersKept.{IsLaid, activated_laid, laid_of}
 use Rattle.partition_check.proofs.ServiceLow.{IsUnseen, activated_unseen, activation_unseen, event_unseen, activation_layered, event_layered}
 
 module _ (S : System) (p : ℕ) (both : IsCounterpart S p) (below : IsLow S p) (s : State) (layered : IsLayered S p s) where
-  -- a job's call, and a routine's
-  pub job_service_up : (j : Job) (call : Service ℕ) → IsLayeredJob S p j → is_upper_job S p j ≡ true → s.running ≡ Some j.id
-      → IsUpperCall S p (JobCalls j) call
-      → IsSameReply S p (service S (JobCalls j) s call)
-      (service (upper_core S p) (JobCalls (up_job S p j)) (up S p s) (renumbered_service S p call))
-  job_service_up j call laid high runs named = service_up S p both below s (JobCalls j) call layered (laid, high, runs) named tt
-
-  pub routine_service_up : (a : Active) (call : Service ℕ) → IsUpperCall S p (RoutineCalls a) call
-      → IsSameReply S p (service S (RoutineCalls a) s call)
-      (service (upper_core S p) (RoutineCalls a) (up S p s) (renumbered_service S p call))
-  routine_service_up a call named = service_up S p both below s (RoutineCalls a) call layered tt named tt
-
   -- the action of an upper alarm
   pub action_up : (action : Action) → action_task action < length S.tasks → is_upper_task S p (action_task action) ≡ true
       → IsSameReply S p (unmasked_service S NobodyCalls s (action_call action))

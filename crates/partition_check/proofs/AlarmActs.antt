@@ -1,5 +1,5 @@
 -- The alarm phase in the system and in its upper core.
-use Rattle.std.proofs.Common.{◌≡◌, ℕ, zero, suc, ◌<◌, Bool, true, false, cond, List, [], ◌∷◌, ◌++◌, map, length, refl, sym, subst, arith}
+use Rattle.std.proofs.Common.{◌≡◌, ℕ, ◌<◌, Bool, true, false, cond, List, [], ◌∷◌, map, length, refl, sym, subst}
 use Rattle.std.specs.List.{filter, AllByRecursion}
 use Rattle.osek_base.specs.declared.instr.Instr.{Instr}
 use Rattle.osek_base.specs.declared.task.Action.{Action}
@@ -20,30 +20,12 @@ use Rattle.partition_check.proofs.Dispatch.{lines_append, lines_none}
 use Rattle.partition_check.proofs.AlarmPhase.{due_alarms_up, alarms_advanced_up, advanced_layered, acts_on_known, error_records, error_hidden}
 use Rattle.partition_check.proofs.ActionsUp.{action_up, action_unseen, action_layered}
 use Rattle.partition_check.proofs.Shared.{IsCounterpart, IsLow, IsLayered, IsSameReply, SameLines}
+use Rattle.partition_check.proofs.ListsUp.{all_filter, each_below}
 
 -- ---- what is due is an alarm
 
-all_append : (P : ℕ → Type 0) (xs : List ℕ) (n : ℕ) → AllByRecursion P xs → P n → AllByRecursion P (xs ++ n ∷ [])
-all_append P [] n all h = (h, tt)
-all_append P (x ∷ xs) n all h = (all.0, all_append P xs n all.1 h)
-
-all_weaker : (P Q : ℕ → Type 0) (xs : List ℕ) → ((n : ℕ) → P n → Q n) → AllByRecursion P xs → AllByRecursion Q xs
-all_weaker P Q [] f all = tt
-all_weaker P Q (x ∷ xs) f all = (f x all.0, all_weaker P Q xs f all.1)
-
 pub all_below : (n : ℕ) → AllByRecursion (λ a. a < n) (below n)
-all_below zero = tt
-all_below (suc n) =
-    all_append (λ a. a < suc n) (below n) n
-    (all_weaker (λ a. a < n) (λ a. a < suc n) (below n) (λ a h. omega (arith, h)) (all_below n)) (omega arith)
-
-pub all_filter : (P : ℕ → Type 0) (test : ℕ → Bool) (xs : List ℕ) → AllByRecursion P xs → AllByRecursion P (filter test xs)
-all_filter P test [] all = tt
-all_filter P test (x ∷ xs) all = go (test x) (all_filter P test xs all.1)
-  where
-    go : (b : Bool) → AllByRecursion P (filter test xs) → AllByRecursion P (cond b (x ∷ filter test xs) (filter test xs))
-    go true rest = (all.0, rest)
-    go false rest = rest
+all_below n = each_below (λ a. a < n) n (λ a h. h)
 
 -- ---- alarms act
 

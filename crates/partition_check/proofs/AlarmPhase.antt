@@ -21,11 +21,12 @@ use Rattle.osek_base.specs.Proper.{IsProper, is_proper_alarm, is_proper_action}
 use Rattle.partition_check.proofs.UpperState.{up}
 use Rattle.partition_check.proofs.Ranks.{at_map, below_at, length_below}
 use Rattle.partition_check.proofs.Renumbering.{map_ranked, filter_ranked, renumbered_kept}
-use Rattle.partition_check.proofs.Falling.{and_split, all_at, map_kept}
+use Rattle.partition_check.proofs.Falling.{all_at, map_kept}
 use Rattle.partition_check.proofs.CoreFacts.{true_lt}
 use Rattle.partition_check.proofs.PriorityUp.{first_tasks}
 use Rattle.partition_check.proofs.Dispatch.{lines_none, lines_one, lines_hidden, hooked_one, hooked_hidden, still_upper}
 use Rattle.partition_check.proofs.Shared.{IsCounterpart, IsLayered, SameLines}
+use Rattle.std.proofs.lemmas.Bool.{and_parts}
 
 -- ---- expiries
 
@@ -84,15 +85,15 @@ advanced_layered S p s layered = record {
 
 alarm_proper : (S : System) → IsProper S → (a : ℕ) → a < length S.alarms → is_proper_alarm S (alarm S a) ≡ true
 alarm_proper S proper a inside =
-    all_at (is_proper_alarm S) S.alarms a no_alarm (and_split _ _ proper.objects).1 inside
+    all_at (is_proper_alarm S) S.alarms a no_alarm (and_parts _ _ proper.objects).1 inside
 
 action_known : (S : System) (act : Action) → is_proper_action S act ≡ true → action_task act < length S.tasks
 action_known S (Action.ActivateTask t) h = true_lt t (length S.tasks) h
-action_known S (Action.SetEvent t m) h = true_lt t (length S.tasks) (and_split _ _ (and_split _ _ h).0).0
+action_known S (Action.SetEvent t m) h = true_lt t (length S.tasks) (and_parts _ _ (and_parts _ _ h).0).0
 
 pub acts_on_known : (S : System) → IsProper S → (a : ℕ) → a < length S.alarms → action_task (alarm S a).action < length S.tasks
 acts_on_known S proper a inside =
-    action_known S (alarm S a).action (and_split _ _ (and_split _ _ (alarm_proper S proper a inside)).0).1
+    action_known S (alarm S a).action (and_parts _ _ (and_parts _ _ (alarm_proper S proper a inside)).0).1
 
 -- ---- the record of an alarm's error
 

@@ -10,7 +10,8 @@ use Rattle.osek_base.specs.Upper.{is_upper_alarm}
 use Rattle.osek_base.specs.Agree.{rank, kept, upper_alarms}
 use Rattle.partition_check.proofs.UpperState.{up}
 use Rattle.partition_check.proofs.Shared.{IsCounterpart}
-use Rattle.partition_check.proofs.ListsUp.{true≢false, filter_append, map_same, all_pass, all_weaken}
+use Rattle.partition_check.proofs.ListsUp.{true≢false, map_same, all_pass, all_weaken}
+use Rattle.std.proofs.lemmas.List.Elements.{filter-append}
 
 -- ---- numbers that pass, each at its rank
 
@@ -28,7 +29,7 @@ get_tail (z ∷ xs) x y (suc i) e =
 -- a number stands at its rank
 pub at_rank : (test : ℕ → Bool) (n i a : ℕ) → slice_get (kept test n) i ≡ Some a → i ≡ rank test a
 at_rank test zero i a e = absurd (grind arith)
-at_rank test (suc n) i a e = go (test n) (rw (filter_append test (below n) (n ∷ [])) at e) (λ h. at_rank test n i a h)
+at_rank test (suc n) i a e = go (test n) (rw (filter-append test (below n) (n ∷ [])) at e) (λ h. at_rank test n i a h)
   where
     go : (b : Bool) → slice_get (filter test (below n) ++ cond b (n ∷ []) []) i ≡ Some a
         → (slice_get (filter test (below n)) i ≡ Some a → i ≡ rank test a) → i ≡ rank test a

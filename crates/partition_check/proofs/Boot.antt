@@ -21,10 +21,11 @@ use Rattle.partition_check.proofs.CoreFacts.{lt_true, lt_false}
 use Rattle.partition_check.proofs.PriorityUp.{first_tasks}
 use Rattle.partition_check.proofs.Dispatch.{lines_append, lines_one, hooked_one}
 use Rattle.partition_check.proofs.DispatchUp.{reschedule_layered, dispatch_up, dispatch_lines}
-use Rattle.partition_check.proofs.AlarmActs.{AreAlike, all_below, all_filter}
+use Rattle.partition_check.proofs.AlarmActs.{AreAlike, all_below}
 use Rattle.partition_check.proofs.EffectsUp.{activated_up}
 use Rattle.partition_check.proofs.ActionsUp.{activated_lower_up, activated_layered}
 use Rattle.partition_check.proofs.Shared.{IsCounterpart, IsLow, IsLayered, SameLines}
+use Rattle.partition_check.proofs.ListsUp.{all_filter}
 
 -- ---- the state before the first activation
 

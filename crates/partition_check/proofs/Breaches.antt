@@ -2,7 +2,7 @@
 use Rattle.std.proofs.Common.{◌≡◌, ℕ, zero, suc, ◌+◌, ◌<◌, ◌≤◌, Bool, true, false, not, ◌||◌, cond, nat_le, List, [], ◌∷◌, ◌++◌, map, length, refl, sym, ◌∙◌, ap, subst, arith, inl, inr, ◌⊎◌}
 use Rattle.std.specs.Prelude.{Some, None, slice_get}
 use Rattle.std.specs.List.{filter, list_any, flat_map, enumerate_from, Contains, AllByRecursion}
-use Rattle.std.proofs.lemmas.Bool.{false≢true, true≢false, cases_lt, leb-false, lt-leb}
+use Rattle.std.proofs.lemmas.Bool.{false≢true, true≢false, cases_lt, leb-false, lt-leb, or_right, not_from_false, not-true}
 use Rattle.std.proofs.lemmas.Grind.{flat_map-append}
 use Rattle.std.proofs.lemmas.List.Elements.{filter-append}
 use Rattle.osek_base.specs.declared.ids.Owner.{Owner}
@@ -13,6 +13,7 @@ use Rattle.osek_base.specs.System.{System, task, program}
 use Rattle.osek_base.specs.Ceiling.{declared_ceiling}
 use Rattle.osek_base.specs.Upper.{is_upper_task, is_upper_owner}
 use Rattle.osek_base.specs.Separable.{Denial, Separable, IsOwner, NoInstruction, is_full_schedule, lists_upper, lower_tasks, all_owners, task_denial, place_denial, broken_places, first_of_list, first_denial, denials, names_scheduler, is_reserved, names_upper, names_lower, asks_task_id}
+use Rattle.partition_check.proofs.ListsUp.{each_below}
 
 -- ---- empty lists
 
@@ -26,17 +27,9 @@ append_empty (x ∷ xs) ys h = absurd (let none : suc (length (xs ++ ys)) ≡ 0 
 
 -- ---- what holds of each number below a limit
 
-each_append : (P : ℕ → Type 0) (xs : List ℕ) (x : ℕ) → AllByRecursion P xs → P x → AllByRecursion P (xs ++ x ∷ [])
-each_append P [] x all here = (here, tt)
-each_append P (y ∷ xs) x all here = (all.0, each_append P xs x all.1 here)
-
 each_front : (P : ℕ → Type 0) (xs : List ℕ) (x : ℕ) → AllByRecursion P (xs ++ x ∷ []) → AllByRecursion P xs × P x
 each_front P [] x all = (tt, all.0)
 each_front P (y ∷ xs) x all = let rest = each_front P xs x all.1 in ((all.0, rest.0), rest.1)
-
-each_below : (P : ℕ → Type 0) (n : ℕ) → ((t : ℕ) → t < n → P t) → AllByRecursion P (below n)
-each_below P zero each = tt
-each_below P (suc n) each = each_append P (below n) n (each_below P n (λ t h. each t (omega (arith, h)))) (each n (omega arith))
 
 at_below : (P : ℕ → Type 0) (n : ℕ) → AllByRecursion P (below n) → (t : ℕ) → t < n → P t
 at_below P zero all t h = absurd (omega (arith, h))
@@ -143,21 +136,9 @@ module _ (rule : ℕ) (owner : Owner) (test : Instr → Bool) where
 
 -- ---- the rules one by one
 
-not_true : (b : Bool) → b ≡ false → not b ≡ true
-not_true false h = refl
-not_true true h = absurd (true≢false h)
-
-not_false : (b : Bool) → not b ≡ true → b ≡ false
-not_false false h = refl
-not_false true h = absurd (false≢true h)
-
 full_is : (x : Schedule) → not (is_full_schedule x) ≡ false → x ≡ Schedule.Full
 full_is Schedule.Full h = refl
 full_is Schedule.Non h = absurd (true≢false h)
-
-or_right : (a b : Bool) → b ≡ true → (a || b) ≡ true
-or_right true b h = refl
-or_right false b h = h
 
 contains_passes : (q : ℕ → Bool) (ns : List ℕ) (r : ℕ) → Contains ns r → q r ≡ true → list_any q ns ≡ true
 contains_passes q [] r (k, h, e) passes = absurd (omega (arith, h))
@@ -293,17 +274,17 @@ separable_from_quiet S p q =
       full = λ t low. full_is (task S t).schedule
           (at_below (λ k. not (is_upper_task S p k) ≡ true → not (is_full_schedule (task S k).schedule) ≡ false) (length S.tasks)
           (tasks_quiet (task_denial 1) (λ k. not (is_full_schedule (task S k).schedule)) (λ k. not (is_upper_task S p k)) (below (length S.tasks)) q.one)
-          t low.0 (not_true (is_upper_task S p t) low.1));
+          t low.0 (not_from_false (is_upper_task S p t) low.1));
       resources = λ t r low listed.
           let none : lists_upper S p t ≡ false =
           at_below (λ k. not (is_upper_task S p k) ≡ true → lists_upper S p k ≡ false) (length S.tasks)
           (tasks_quiet (task_denial 2) (lists_upper S p) (λ k. not (is_upper_task S p k)) (below (length S.tasks)) q.two)
-          t low.0 (not_true (is_upper_task S p t) low.1) in
+          t low.0 (not_from_false (is_upper_task S p t) low.1) in
           below_from (declared_ceiling S r) p
           (not_listed (nat_le p (declared_ceiling S r)) refl (λ h. contains_passes (λ k. nat_le p (declared_ceiling S k)) (task S t).resources r listed h) none);
-      no_scheduler = λ t low. task_rule S 3 names_scheduler (λ k. not (is_upper_task S p k)) q.three t low.0 (not_true (is_upper_task S p t) low.1);
-      no_control = λ t low. task_rule S 4 is_reserved (λ k. not (is_upper_task S p k)) q.four t low.0 (not_true (is_upper_task S p t) low.1);
-      lower_names = λ t low. task_rule S 5 (names_upper S p) (λ k. not (is_upper_task S p k)) q.five t low.0 (not_true (is_upper_task S p t) low.1);
+      no_scheduler = λ t low. task_rule S 3 names_scheduler (λ k. not (is_upper_task S p k)) q.three t low.0 (not_from_false (is_upper_task S p t) low.1);
+      no_control = λ t low. task_rule S 4 is_reserved (λ k. not (is_upper_task S p k)) q.four t low.0 (not_from_false (is_upper_task S p t) low.1);
+      lower_names = λ t low. task_rule S 5 (names_upper S p) (λ k. not (is_upper_task S p k)) q.five t low.0 (not_from_false (is_upper_task S p t) low.1);
       upper_names = upper;
       no_task_id = λ i inside. routine_rule S 7 asks_task_id q.seven i inside;
     }
@@ -324,14 +305,14 @@ quiet_from_separable S p s =
     record {
       one = quiet_tasks (task_denial 1) (λ k. not (is_full_schedule (task S k).schedule)) (λ k. not (is_upper_task S p k)) (below (length S.tasks))
           (each_below (λ k. not (is_upper_task S p k) ≡ true → not (is_full_schedule (task S k).schedule) ≡ false) (length S.tasks)
-          (λ t inside low. ap (λ x. not (is_full_schedule x)) (s.full t (inside, not_false (is_upper_task S p t) low))));
+          (λ t inside low. ap (λ x. not (is_full_schedule x)) (s.full t (inside, not-true (is_upper_task S p t) low))));
       two = quiet_tasks (task_denial 2) (lists_upper S p) (λ k. not (is_upper_task S p k)) (below (length S.tasks))
           (each_below (λ k. not (is_upper_task S p k) ≡ true → lists_upper S p k ≡ false) (length S.tasks)
           (λ t inside low. any_contained (λ r. nat_le p (declared_ceiling S r)) (task S t).resources
-          (λ r listed. not_above p (declared_ceiling S r) (s.resources t r (inside, not_false (is_upper_task S p t) low) listed))));
-      three = rule_task S 3 names_scheduler (λ k. not (is_upper_task S p k)) (λ t inside low. s.no_scheduler t (inside, not_false (is_upper_task S p t) low));
-      four = rule_task S 4 is_reserved (λ k. not (is_upper_task S p k)) (λ t inside low. s.no_control t (inside, not_false (is_upper_task S p t) low));
-      five = rule_task S 5 (names_upper S p) (λ k. not (is_upper_task S p k)) (λ t inside low. s.lower_names t (inside, not_false (is_upper_task S p t) low));
+          (λ r listed. not_above p (declared_ceiling S r) (s.resources t r (inside, not-true (is_upper_task S p t) low) listed))));
+      three = rule_task S 3 names_scheduler (λ k. not (is_upper_task S p k)) (λ t inside low. s.no_scheduler t (inside, not-true (is_upper_task S p t) low));
+      four = rule_task S 4 is_reserved (λ k. not (is_upper_task S p k)) (λ t inside low. s.no_control t (inside, not-true (is_upper_task S p t) low));
+      five = rule_task S 5 (names_upper S p) (λ k. not (is_upper_task S p k)) (λ t inside low. s.lower_names t (inside, not-true (is_upper_task S p t) low));
       six_tasks = rule_task S 6 (names_lower S p) (is_upper_task S p) (λ t inside high. s.upper_names (Owner.Task t) inside high);
       six_routines = rule_routine S 6 (names_lower S p) (λ i inside. s.upper_names (Owner.Routine i) inside refl);
       seven = rule_routine S 7 asks_task_id (λ i inside. s.no_task_id i inside);

@@ -16,12 +16,13 @@ use Rattle.osek_base.specs.Upper.{is_upper_task}
 use Rattle.osek_base.specs.View.{upper_standard}
 use Rattle.osek_base.specs.Proper.{IsProper, is_proper_task, are_falling, are_proper_resources}
 use Rattle.partition_check.proofs.UpperState.{upper_count}
-use Rattle.partition_check.proofs.Ranks.{clash, rank_same, rank_within, kept_at, below_at, at_map, IsFirstly, first_kept, first_split}
-use Rattle.partition_check.proofs.Falling.{and_split, all_at, greatest_first, ceiling_kept, top_kept, kept_short, kept_same, map_kept, map_below, falling_pair, ceiling_covers, each_in, in_Contains, find_renumbered}
+use Rattle.partition_check.proofs.Ranks.{clash, rank_same, rank_within, kept_at, below_at, at_map, IsFirstly, first_kept, first_split, all_kept}
+use Rattle.partition_check.proofs.Falling.{all_at, greatest_first, ceiling_kept, top_kept, kept_short, kept_same, map_kept, map_below, falling_pair, ceiling_covers, each_in, in_Contains, find_renumbered}
 use Rattle.partition_check.proofs.Renumbering.{filter_ranked}
 use Rattle.partition_check.proofs.ListsUp.{filter_swap}
-use Rattle.partition_check.proofs.Picked.{all_kept, each_ranked}
+use Rattle.partition_check.proofs.Picked.{each_ranked}
 use Rattle.partition_check.proofs.Shared.{is_visible}
+use Rattle.std.proofs.lemmas.Bool.{and_parts, false_from_ne_true}
 
 pub lt_true : (a b : ℕ) → a < b → nat_lt a b ≡ true
 lt_true a b h = grind (arith, h)
@@ -38,10 +39,6 @@ true_le a b h = grind (arith, h)
 pub le_up : (a b c : ℕ) → nat_le a b ≡ true → b ≤ c → nat_le a c ≡ true
 le_up a b c h k = grind (arith, h, k)
 
-pub not_true : (b : Bool) → (b ≡ true → ⊥) → b ≡ false
-not_true true h = absurd (h refl)
-not_true false h = refl
-
 -- in a list of numbers that pass, under their new numbers
 pub in_rank : (test : ℕ → Bool) (r : ℕ) (ns : List ℕ) → test r ≡ true → AllByRecursion (λ n. test n ≡ true) ns
     → is_in (rank test r) (map (rank test) ns) ≡ is_in r ns
@@ -50,10 +47,10 @@ in_rank test r (n ∷ ns) pass all = ap₂ (λ a b. a || b) (rank_same test n r 
 
 module _ (S : System) (p : ℕ) (proper : IsProper S) where
   pub falling : are_falling MAX_TASK_PRIORITY S.tasks ≡ true
-  falling = (and_split _ _ (and_split _ _ (and_split _ _ (and_split _ _ (and_split _ _ proper.objects).0).0).0).0).0
+  falling = (and_parts _ _ (and_parts _ _ (and_parts _ _ (and_parts _ _ (and_parts _ _ proper.objects).0).0).0).0).0
 
   pub each_task : list_all (is_proper_task S) S.tasks ≡ true
-  each_task = (and_split _ _ (and_split _ _ (and_split _ _ (and_split _ _ (and_split _ _ proper.objects).0).0).0).0).1
+  each_task = (and_parts _ _ (and_parts _ _ (and_parts _ _ (and_parts _ _ (and_parts _ _ proper.objects).0).0).0).0).1
 
   pub firstly : IsFirstly (is_upper_task S p) (length S.tasks)
   firstly a b le inside h = grind (arith, falling_pair MAX_TASK_PRIORITY S.tasks a b falling le inside)
@@ -67,7 +64,7 @@ module _ (S : System) (p : ℕ) (proper : IsProper S) where
   pub few : upper_count S p ≤ MAX_TASKS
   few =
       let limit : nat_le (length S.tasks) MAX_TASKS ≡ true =
-      (and_split _ _ (and_split _ _ (and_split _ _ (and_split _ _ (and_split _ _ (and_split _ _ (and_split _ _ proper.limits).0).0).0).0).0).0).0 in
+      (and_parts _ _ (and_parts _ _ (and_parts _ _ (and_parts _ _ (and_parts _ _ (and_parts _ _ (and_parts _ _ proper.limits).0).0).0).0).0).0).0 in
       let small : length S.tasks ≤ MAX_TASKS = true_le (length S.tasks) MAX_TASKS limit in
       omega (arith, within, small)
 
@@ -108,9 +105,9 @@ module _ (S : System) (p : ℕ) (proper : IsProper S) where
   listed_known t r h listed =
       let here : is_proper_task S (task S t) ≡ true = all_at (is_proper_task S) S.tasks t no_task each_task h in
       let resources : are_proper_resources S (task S t).schedule (task S t).resources ≡ true =
-      (and_split _ _ (and_split _ _ here).0).1 in
+      (and_parts _ _ (and_parts _ _ here).0).1 in
       let known : list_all (λ n. nat_lt n (length S.resources)) (task S t).resources ≡ true =
-      (and_split _ _ (and_split _ _ resources).0).0 in
+      (and_parts _ _ (and_parts _ _ resources).0).0 in
       let place = in_Contains r (task S t).resources listed in
       let small : nat_lt (slice_index_or (task S t).resources place.0 r) (length S.resources) ≡ true =
       all_at (λ n. nat_lt n (length S.resources)) (task S t).resources place.0 r known place.1 in
@@ -151,7 +148,7 @@ module _ (S : System) (p : ℕ) (proper : IsProper S) where
   module _ (listed_low : (t r : ℕ) → t < length S.tasks → is_upper_task S p t ≡ false → lists_resource S t r ≡ true → is_upper_declared S p r ≡ false) where
     unlisted : (t r : ℕ) → is_upper_declared S p r ≡ true → upper_count S p ≤ t → t < length S.tasks → lists_resource S t r ≡ false
     unlisted t r pass more inside =
-        not_true (lists_resource S t r) (λ h. clash (sym pass ∙ listed_low t r inside (split t inside ∙ lt_false t (upper_count S p) more) h))
+        false_from_ne_true (lists_resource S t r) (λ h. clash (sym pass ∙ listed_low t r inside (split t inside ∙ lt_false t (upper_count S p) more) h))
 
     pub declared_same : (r : ℕ) → is_upper_declared S p r ≡ true
         → declared_ceiling (upper_core S p) (rank (is_upper_declared S p) r) ≡ declared_ceiling S r

@@ -2,8 +2,8 @@
 use Rattle.std.proofs.Common.{◌≡◌, ℕ, ◌<◌, ◌≤◌, ◌⊎◌, Bool, true, false, cond, List, [], ◌∷◌, ◌++◌, map, length, refl, sym, ◌∙◌, ap, ap₂, subst, inl, inr, arith}
 use Rattle.std.specs.Prelude.{Option, Some, None, is_some, ◌==◌, nat_le, decimal, codes}
 use Rattle.std.specs.List.{filter, AllByRecursion, cons_option}
-use Rattle.std.proofs.lemmas.Bool.{cases_lt}
-use Rattle.std.proofs.lemmas.List.{map-append, get_or_past}
+use Rattle.std.proofs.lemmas.Bool.{cases_lt, and_parts}
+use Rattle.std.proofs.lemmas.List.{map-append, get_or_past, append-nil}
 use Rattle.std.proofs.lemmas.List.Elements.{filter_map-append}
 use Rattle.osek_base.specs.declared.trace_event.TraceEvent.{TraceEvent}
 use Rattle.osek_base.specs.Names.{name_at}
@@ -18,14 +18,10 @@ use Rattle.osek_base.specs.Text.{line}
 use Rattle.osek_base.specs.View.{view_records, shown}
 use Rattle.osek_base.proofs.ForemostLemmas.{keep}
 use Rattle.partition_check.proofs.UpperState.{up_job, is_upper_id, is_upper_job, is_ready_job, SameUnder, Fits}
-use Rattle.partition_check.proofs.Ranks.{clash, append_none}
-use Rattle.partition_check.proofs.Falling.{and_split}
+use Rattle.partition_check.proofs.Ranks.{clash}
 use Rattle.partition_check.proofs.PriorityUp.{first_tasks, dynamic_up, dynamic_high, dynamic_low}
 use Rattle.partition_check.proofs.Shared.{IsCounterpart, IsLow, IsLayeredJob, SameLines}
-
--- numbers that a test tells apart differ
-differ : (f : ℕ → Bool) (a b : ℕ) → f a ≡ true → f b ≡ false → (a == b) ≡ false
-differ f a b h k = grind arith
+use Rattle.partition_check.proofs.ListsUp.{differ}
 
 -- ---- priorities fit
 
@@ -139,12 +135,12 @@ module _ (S : System) (p : ℕ) (both : IsCounterpart S p) where
   -- an upper job and a lower one have different ids
   apart : (old new : JobId) → is_upper_id S p old ≡ true → is_upper_id S p new ≡ false → same_id old new ≡ true → ⊥
   apart old new h k e =
-      let same : (old.task == new.task) ≡ true = (and_split _ _ e).0 in
+      let same : (old.task == new.task) ≡ true = (and_parts _ _ e).0 in
       clash (sym same ∙ differ (is_upper_task S p) old.task new.task h k)
 
   apart' : (old new : JobId) → is_upper_id S p old ≡ false → is_upper_id S p new ≡ true → same_id old new ≡ true → ⊥
   apart' old new h k e =
-      let same : (old.task == new.task) ≡ true = (and_split _ _ e).0 in
+      let same : (old.task == new.task) ≡ true = (and_parts _ _ e).0 in
       let other : (new.task == old.task) ≡ true = turned old.task new.task same in
       clash (sym other ∙ differ (is_upper_task S p) new.task old.task k h)
     where
@@ -161,7 +157,7 @@ module _ (S : System) (p : ℕ) (both : IsCounterpart S p) where
       rw e (lines_append S p (left_record S (Some old)) (entered_record S (Some new)) (left_record (upper_core S p) (Some old)) (entered_record (upper_core S p) (Some new)) (left_lines old inside true h) (entered_lines new inside' true k))
   switch_both old new inside inside' true false h k true e = absurd (apart old new h k e)
   switch_both old new inside inside' true false h k false e =
-      subst (SameLines S p (left_record S (Some old) ++ entered_record S (Some new))) (append_none (left_record (upper_core S p) (Some old)))
+      subst (SameLines S p (left_record S (Some old) ++ entered_record S (Some new))) (append-nil (left_record (upper_core S p) (Some old)))
       (lines_append S p (left_record S (Some old)) (entered_record S (Some new)) (left_record (upper_core S p) (Some old)) [] (left_lines old inside true h) (entered_lines new inside' false k))
   switch_both old new inside inside' false true h k true e = absurd (apart' old new h k e)
   switch_both old new inside inside' false true h k false e =

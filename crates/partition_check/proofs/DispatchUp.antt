@@ -12,9 +12,9 @@ use Rattle.osek_base.specs.Agree.{upper_core}
 use Rattle.osek_base.proofs.ForemostLemmas.{keep, best_in, foremost-best}
 use Rattle.partition_check.proofs.UpperState.{up, is_upper_id, is_ready_job, reschedule_up}
 use Rattle.partition_check.proofs.Ranks.{clash}
-use Rattle.partition_check.proofs.Falling.{and_split}
 use Rattle.partition_check.proofs.Dispatch.{fits, switch_lines, lines_none}
 use Rattle.partition_check.proofs.Shared.{IsCounterpart, IsLow, IsLayered, IsLayeredJob, SameLines}
+use Rattle.std.proofs.lemmas.Bool.{and_parts}
 
 -- ---- what a reschedule does, by whether it may
 
@@ -102,7 +102,7 @@ chosen_known S p jobs all (Some j) e id h =
     same_value a b g = grind arith
 
 quiet_when : (s : State) → may_dispatch s ≡ true → interrupts_off s ≡ false
-quiet_when s h = go (interrupts_off s) (and_split _ _ h).1
+quiet_when s h = go (interrupts_off s) (and_parts _ _ h).1
   where
     go : (b : Bool) → not b ≡ true → b ≡ false
     go true e = sym e

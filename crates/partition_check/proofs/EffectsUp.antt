@@ -3,6 +3,7 @@ use Rattle.std.proofs.Common.{◌≡◌, ℕ, ◌+◌, ◌<◌, Bool, true, fals
 use Rattle.std.specs.Prelude.{Option, Some, None, slice_index, bit_or, bit_and, bit_xor}
 use Rattle.osek_base.specs.declared.ids.ResId.{ResId}
 use Rattle.osek_base.specs.declared.instr.Service.{Service}
+use Rattle.osek_base.specs.Types.{ServiceCall}
 use Rattle.osek_base.specs.declared.status.Status.{Status}
 use Rattle.osek_base.specs.declared.task.Counter.{Counter}
 use Rattle.osek_base.specs.Lists.{is_empty, without_last}
@@ -15,12 +16,13 @@ use Rattle.osek_base.specs.Upper.{is_upper_task, is_upper_alarm}
 use Rattle.osek_base.specs.Agree.{rank, renumbered_resource, renumbered_service, upper_core}
 use Rattle.partition_check.proofs.UpperState.{up, up_job, up_jobs, upper_count}
 use Rattle.partition_check.proofs.Shared.{IsCounterpart, IsLow, IsLayered, IsUpperCaller, IsUpperCall, up_caller}
-use Rattle.partition_check.proofs.ListsUp.{map_append, take_set}
+use Rattle.partition_check.proofs.ListsUp.{take_set}
 use Rattle.partition_check.proofs.PriorityUp.{first_tasks}
 use Rattle.partition_check.proofs.JobsUp.{jobs_of_up, jobs_of_empty_up, new_up, jobs_but_up, with_job_up, released_jobs_up, without_last_map}
 use Rattle.partition_check.proofs.AlarmsUp.{with_alarm_up}
 use Rattle.partition_check.proofs.SharedUp.{word_stored_up}
 use Rattle.partition_check.proofs.RefusalsUp.{upper_task_named, upper_alarm_named, visible_named, extended_up, outranked_up, count_up}
+use Rattle.std.proofs.lemmas.List.{map-append}
 
 -- ---- a choice of states
 
@@ -63,7 +65,7 @@ module _ (S : System) (p : ℕ) where
   gets_up : (r : ResId) (j : Job) → up_job S p (gets r j) ≡ gets (renumbered_resource S p r) (up_job S p j)
   gets_up r j =
       let same : map (renumbered_resource S p) (j.held ++ r ∷ []) ≡ map (renumbered_resource S p) j.held ++ renumbered_resource S p r ∷ [] =
-      map_append (renumbered_resource S p) j.held (r ∷ []) in
+      map-append (renumbered_resource S p) j.held (r ∷ []) in
       λ i. record j { held = same i }
 
   releases_up : (j : Job) → up_job S p (releases j) ≡ releases (up_job S p j)
@@ -142,7 +144,7 @@ module _ (S : System) (p : ℕ) (both : IsCounterpart S p) where
 
   -- ---- the effect
 
-  pub effect_up : IsLow S p → (s : State) (c : Caller) (call : Service ℕ) → IsLayered S p s → IsUpperCaller S p s c → IsUpperCall S p c call
+  pub effect_up : IsLow S p → (s : State) (c : Caller) (call : ServiceCall) → IsLayered S p s → IsUpperCaller S p s c → IsUpperCall S p c call
       → effect (upper_core S p) (up_caller S p c) (up S p s) (renumbered_service S p call) ≡ up S p (effect S c s call)
   effect_up below s c (Service.ActivateTask None) layered upper named = refl
   effect_up below s c (Service.ActivateTask (Some t)) layered upper named =
@@ -196,7 +198,7 @@ module _ (S : System) (p : ℕ) (both : IsCounterpart S p) where
   effect_up below s c (Service.GetAlarm o) layered upper named = refl
   effect_up below s c (Service.GetAlarmBase o) layered upper named = refl
 
-  pub changed_up : IsLow S p → (s : State) (c : Caller) (call : Service ℕ) (o : Option Status) → IsLayered S p s → IsUpperCaller S p s c → IsUpperCall S p c call
+  pub changed_up : IsLow S p → (s : State) (c : Caller) (call : ServiceCall) (o : Option Status) → IsLayered S p s → IsUpperCaller S p s c → IsUpperCall S p c call
       → changed (upper_core S p) (up_caller S p c) (up S p s) (renumbered_service S p call) o ≡ up S p (changed S c s call o)
   changed_up below s c call None layered upper named = effect_up below s c call layered upper named
   changed_up below s c call (Some refusal) layered upper named = refl

@@ -5,7 +5,7 @@ use Rattle.std.specs.Prelude.{Option, Some, None, ◌==◌}
 use Rattle.std.specs.List.{find, AllByRecursion}
 use Rattle.std.specs.Option.{option_map}
 use Rattle.osek_base.specs.declared.ids.Owner.{Owner}
-use Rattle.osek_base.specs.declared.instr.Service.{Service}
+use Rattle.osek_base.specs.Types.{ServiceCall, PlainInstr}
 use Rattle.osek_base.specs.declared.instr.Plain.{Plain}
 use Rattle.osek_base.specs.declared.instr.Instr.{Instr}
 use Rattle.osek_base.specs.declared.trace_event.Effect.{Effect}
@@ -24,7 +24,6 @@ use Rattle.osek_base.specs.Separable.{Separable}
 use Rattle.osek_base.proofs.ForemostLemmas.{keep}
 use Rattle.partition_check.proofs.UpperState.{up, up_job, up_jobs, is_upper_id, is_upper_job, upper_count}
 use Rattle.partition_check.proofs.UpperWords.{up_words, lower_write}
-use Rattle.partition_check.proofs.Falling.{and_split}
 use Rattle.partition_check.proofs.Ranks.{clash}
 use Rattle.partition_check.proofs.PriorityUp.{first_tasks}
 use Rattle.partition_check.proofs.JobsUp.{same_id_upper, job_of_up, with_job_unseen}
@@ -36,6 +35,7 @@ use Rattle.partition_check.proofs.TextUp.{error_unseen, other_lines, idle_lines}
 use Rattle.partition_check.proofs.ProgramFacts.{IsLowerInstr, upper_task_instr, routine_instr, routine_asks_not, lower_instr}
 use Rattle.partition_check.proofs.ExecutedUp.{executed_alike, with_context_layered, words_layered, at_known, at_upper, at_scheduler}
 use Rattle.partition_check.proofs.Shared.{IsCounterpart, IsLow, IsLayered, IsLayeredJob, IsLowerCall}
+use Rattle.std.proofs.lemmas.Bool.{and_parts}
 
 -- ---- a lower job executes
 
@@ -53,7 +53,7 @@ context_unseen S p j x s low =
 
 module _ (S : System) (p : ℕ) (both : IsCounterpart S p) (j : Job) (x : Context) (s : State)
     (layered : IsLayered S p s) (laid : IsLayeredJob S p j) (low : is_upper_job S p j ≡ false) where
-  lower_plain : (act : Plain) → AreAlike S p (executed S (Owner.Task j.id.task) (JobCalls j) x (Instr.Plain act) s)
+  lower_plain : (act : PlainInstr) → AreAlike S p (executed S (Owner.Task j.id.task) (JobCalls j) x (Instr.Plain act) s)
       (record { events = TraceEvent.Idle ∷ []; state = up S p s })
   lower_plain act =
       let done : Done = plain act x (s.words (Owner.Task j.id.task)) in
@@ -66,7 +66,7 @@ module _ (S : System) (p : ℕ) (both : IsCounterpart S p) (j : Job) (x : Contex
         layered = with_context_layered S p (JobCalls j) done.context (record s { words = words_after s.words (Owner.Task j.id.task) done.effect }) (words_layered S p (words_after s.words (Owner.Task j.id.task) done.effect) s layered);
       }
 
-  lower_service : (call : Service ℕ) → IsLowerInstr S p (Instr.Service call)
+  lower_service : (call : ServiceCall) → IsLowerInstr S p (Instr.Service call)
       → AreAlike S p (executed S (Owner.Task j.id.task) (JobCalls j) x (Instr.Service call) s)
       (record { events = TraceEvent.Idle ∷ []; state = up S p s })
   lower_service call named =
@@ -125,7 +125,7 @@ found {X} P test (y ∷ xs) x all h = go (test y) refl h (found P test xs x all.
 
 same_ids : (a b : JobId) → same_id a b ≡ true → a ≡ b
 same_ids a b h =
-    let both = and_split (a.task == b.task) (a.serial == b.serial) h in
+    let both = and_parts (a.task == b.task) (a.serial == b.serial) h in
     let task : a.task ≡ b.task = equal a.task b.task both.0 in
     let serial : a.serial ≡ b.serial = equal a.serial b.serial both.1 in
     λ i. record { task = task i; serial = serial i }

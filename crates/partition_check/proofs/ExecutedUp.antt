@@ -6,8 +6,8 @@ use Rattle.std.specs.List.{AllByRecursion}
 use Rattle.std.specs.Option.{option_map}
 use Rattle.osek_base.specs.declared.ids.Owner.{Owner}
 use Rattle.osek_base.specs.declared.instr.Service.{Service}
+use Rattle.osek_base.specs.Types.{ServiceCall, PlainInstr}
 use Rattle.osek_base.specs.declared.instr.Control.{Control}
-use Rattle.osek_base.specs.declared.instr.Plain.{Plain}
 use Rattle.osek_base.specs.declared.instr.Instr.{Instr}
 use Rattle.osek_base.specs.declared.trace_event.Effect.{Effect}
 use Rattle.osek_base.specs.declared.trace_event.Outcome.{Outcome}
@@ -68,17 +68,17 @@ words_layered S p words s layered =
 
 -- ---- values of registers
 
-pub at_names : (x : Context) (call : Service ℕ) → service_names call ≡ service_names (at_values x call)
+pub at_names : (x : Context) (call : ServiceCall) → service_names call ≡ service_names (at_values x call)
 at_names x (Service.SetRelAlarm a i c) = refl
 at_names x (Service.SetAbsAlarm a i c) = refl
 at_names x (Service.LoadShared r i) = refl
 at_names x (Service.StoreShared r i v) = refl
 at_names x call = refl
 
-pub at_known : (S : System) (x : Context) (call : Service ℕ) → IsKnownObject S (service_names call) → IsKnownObject S (service_names (at_values x call))
+pub at_known : (S : System) (x : Context) (call : ServiceCall) → IsKnownObject S (service_names call) → IsKnownObject S (service_names (at_values x call))
 at_known S x call h = subst (IsKnownObject S) (at_names x call) h
 
-pub at_lower : (S : System) (p : ℕ) (x : Context) (call : Service ℕ)
+pub at_lower : (S : System) (p : ℕ) (x : Context) (call : ServiceCall)
     → names_lower S p (Instr.Service (at_values x call)) ≡ names_lower S p (Instr.Service call)
 at_lower S p x (Service.SetRelAlarm a i c) = refl
 at_lower S p x (Service.SetAbsAlarm a i c) = refl
@@ -86,7 +86,7 @@ at_lower S p x (Service.LoadShared r i) = refl
 at_lower S p x (Service.StoreShared r i v) = refl
 at_lower S p x call = refl
 
-pub at_upper : (S : System) (p : ℕ) (x : Context) (call : Service ℕ)
+pub at_upper : (S : System) (p : ℕ) (x : Context) (call : ServiceCall)
     → names_upper S p (Instr.Service (at_values x call)) ≡ names_upper S p (Instr.Service call)
 at_upper S p x (Service.SetRelAlarm a i c) = refl
 at_upper S p x (Service.SetAbsAlarm a i c) = refl
@@ -94,7 +94,7 @@ at_upper S p x (Service.LoadShared r i) = refl
 at_upper S p x (Service.StoreShared r i v) = refl
 at_upper S p x call = refl
 
-pub at_scheduler : (x : Context) (call : Service ℕ)
+pub at_scheduler : (x : Context) (call : ServiceCall)
     → names_scheduler (Instr.Service (at_values x call)) ≡ names_scheduler (Instr.Service call)
 at_scheduler x (Service.SetRelAlarm a i c) = refl
 at_scheduler x (Service.SetAbsAlarm a i c) = refl
@@ -102,7 +102,7 @@ at_scheduler x (Service.LoadShared r i) = refl
 at_scheduler x (Service.StoreShared r i v) = refl
 at_scheduler x call = refl
 
-pub at_asks : (x : Context) (call : Service ℕ)
+pub at_asks : (x : Context) (call : ServiceCall)
     → asks_task_id (Instr.Service (at_values x call)) ≡ asks_task_id (Instr.Service call)
 at_asks x (Service.SetRelAlarm a i c) = refl
 at_asks x (Service.SetAbsAlarm a i c) = refl
@@ -110,7 +110,7 @@ at_asks x (Service.LoadShared r i) = refl
 at_asks x (Service.StoreShared r i v) = refl
 at_asks x call = refl
 
-at_renumbered : (S : System) (p : ℕ) (x : Context) (call : Service ℕ)
+at_renumbered : (S : System) (p : ℕ) (x : Context) (call : ServiceCall)
     → at_values x (renumbered_service S p call) ≡ renumbered_service S p (at_values x call)
 at_renumbered S p x (Service.SetRelAlarm a i c) = refl
 at_renumbered S p x (Service.SetAbsAlarm a i c) = refl
@@ -120,7 +120,7 @@ at_renumbered S p x call = refl
 
 -- ---- control instructions
 
-controlled_up : (S : System) (p : ℕ) (control : Control) (s : State) → up S p (controlled control s) ≡ controlled control (up S p s)
+controlled_up : (S : System) (p : ℕ) (control : Control ℕ) (s : State) → up S p (controlled control s) ≡ controlled control (up S p s)
 controlled_up S p Control.DisableAllInterrupts s = refl
 controlled_up S p Control.EnableAllInterrupts s = refl
 controlled_up S p Control.SuspendAllInterrupts s = refl
@@ -134,13 +134,13 @@ controlled_up S p Control.ReturnFromInterrupt s = refl
 abbrev pub IsBusy : System → ℕ → State → Type 0
 IsBusy S p s = (id : JobId) → s.running ≡ Some id → is_upper_id S p id ≡ false → s.active ≡ None → ⊥
 
-controlled_layered : (S : System) (p : ℕ) (control : Control) (s : State) → IsBusy S p s → IsLayered S p s → IsLayered S p (controlled control s)
+controlled_layered : (S : System) (p : ℕ) (control : Control ℕ) (s : State) → IsBusy S p s → IsLayered S p s → IsLayered S p (controlled control s)
 controlled_layered S p Control.ReturnFromInterrupt s busy layered =
     as_layered S p s (controlled Control.ReturnFromInterrupt s) (refl, refl, refl, refl, refl) layered.jobs (λ id e low idle. refl) layered
 controlled_layered S p control s busy layered =
     as_layered S p s (controlled control s) (refl, refl, refl, refl, refl) layered.jobs (λ id e low idle. absurd (busy id e low idle)) layered
 
-shutdown_lines : (S : System) (p : ℕ) (control : Control) → SameLines S p (shutdown_record S control) (shutdown_record (upper_core S p) control)
+shutdown_lines : (S : System) (p : ℕ) (control : Control ℕ) → SameLines S p (shutdown_record S control) (shutdown_record (upper_core S p) control)
 shutdown_lines S p (Control.ShutdownOs n) =
     hooked_one S p S.hooks.shutdown (TraceEvent.Shutdown n) (TraceEvent.Shutdown n)
     (lines_one S p (TraceEvent.Shutdown n) (TraceEvent.Shutdown n) refl refl (λ t. refl))
@@ -161,8 +161,8 @@ own_words S p words who high = fun_ext (λ i. ap (λ b. up_word b (words who i))
 
 module _ (S : System) (p : ℕ) (both : IsCounterpart S p) (below : IsLow S p) (who : Owner) (c : Caller) (x : Context) (s : State)
     (layered : IsLayered S p s) (seen : IsSeen S who) (high : is_upper_owner S p who ≡ true) (upper : IsUpperCaller S p s c)
-    (told : (call : Service ℕ) → IsTold c call) (busy : IsBusy S p s) where
-  plain_state : (act : Plain) (done : Done)
+    (told : (call : ServiceCall) → IsTold c call) (busy : IsBusy S p s) where
+  plain_state : (act : PlainInstr) (done : Done)
       → up S p (with_context c done.context (record s { words = words_after s.words who done.effect }))
       ≡ with_context (up_caller S p c) done.context (record (up S p s) { words = words_after (up_words S p s.words) who done.effect })
   plain_state act done =
@@ -170,7 +170,7 @@ module _ (S : System) (p : ℕ) (both : IsCounterpart S p) (below : IsLow S p) (
       with_context_up S p c done.context (record s { words = words_after s.words who done.effect })
       ∙ λ i. with_context (up_caller S p c) done.context (record (up S p s) { words = words i })
 
-  plain_alike : (act : Plain) → AreAlike S p (executed S who c x (Instr.Plain act) s)
+  plain_alike : (act : PlainInstr) → AreAlike S p (executed S who c x (Instr.Plain act) s)
       (executed (upper_core S p) who (up_caller S p c) x (Instr.Plain act) (up S p s))
   plain_alike act =
       let done : Done = plain act x (s.words who) in
@@ -182,7 +182,7 @@ module _ (S : System) (p : ℕ) (both : IsCounterpart S p) (below : IsLow S p) (
         layered = with_context_layered S p c done.context (record s { words = words_after s.words who done.effect }) (words_layered S p (words_after s.words who done.effect) s layered);
       })
 
-  call_upper : (call : Service ℕ) → IsUpperInstr S p (Instr.Service call)
+  call_upper : (call : ServiceCall) → IsUpperInstr S p (Instr.Service call)
       → ((a : Active) → c ≡ RoutineCalls a → asks_task_id (Instr.Service call) ≡ false) → IsUpperCall S p c (at_values x call)
   call_upper call named by_routine = record {
     known = at_known S x call named.known;
@@ -190,7 +190,7 @@ module _ (S : System) (p : ℕ) (both : IsCounterpart S p) (below : IsLow S p) (
     by_routine = λ a e. at_asks x call ∙ by_routine a e;
   }
 
-  service_alike : (call : Service ℕ) → IsUpperInstr S p (Instr.Service call)
+  service_alike : (call : ServiceCall) → IsUpperInstr S p (Instr.Service call)
       → ((a : Active) → c ≡ RoutineCalls a → asks_task_id (Instr.Service call) ≡ false)
       → AreAlike S p (executed S who c x (Instr.Service call) s)
       (executed (upper_core S p) who (up_caller S p c) x (Instr.Service (renumbered_service S p call)) (up S p s))
@@ -214,7 +214,7 @@ module _ (S : System) (p : ℕ) (both : IsCounterpart S p) (below : IsLow S p) (
         layered = with_context_layered S p c (answered mine.status mine.results x) mine.state (service_layered S p s c (at_values x call) layered both upper may);
       })
 
-  control_alike : (control : Control) → AreAlike S p (executed S who c x (Instr.Control control) s)
+  control_alike : (control : Control ℕ) → AreAlike S p (executed S who c x (Instr.Control control) s)
       (executed (upper_core S p) who (up_caller S p c) x (Instr.Control control) (up S p s))
   control_alike control = record {
     state = with_context_up S p c (next x) (controlled control s) ∙ ap (with_context (up_caller S p c) (next x)) (controlled_up S p control s);

@@ -1,31 +1,25 @@
 -- The greatest of some numbers, tasks that stand by falling priority, and ceilings by task numbers.
-use Rattle.std.proofs.Common.{◌≡◌, ℕ, zero, suc, ◌<◌, ◌≤◌, ◌⊎◌, Bool, true, false, cond, ◌&&◌, ◌||◌, nat_le, List, [], ◌∷◌, ◌++◌, map, length, refl, sym, ◌∙◌, ap, ap₂, subst, inl, inr, arith}
+use Rattle.std.proofs.Common.{◌≡◌, ℕ, zero, suc, ◌<◌, ◌≤◌, ◌⊎◌, Bool, true, false, cond, ◌||◌, nat_le, List, [], ◌∷◌, ◌++◌, map, length, refl, sym, ◌∙◌, ap, ap₂, subst, inl, inr, arith}
 use Rattle.std.specs.Prelude.{Some, ◌==◌, slice_index_or}
 use Rattle.std.specs.List.{filter, list_all, find, Contains, AllByRecursion}
 use Rattle.std.specs.Option.{option_map}
-use Rattle.std.proofs.lemmas.Bool.{cases_lt}
-use Rattle.std.proofs.lemmas.List.{map-append}
+use Rattle.std.proofs.lemmas.Bool.{cases_lt, and_parts, or_right}
+use Rattle.std.proofs.lemmas.List.{map-append, append-nil}
 use Rattle.osek_base.specs.Lists.{below, greatest, is_in}
 use Rattle.osek_base.specs.System.{System, Task, task, no_task, priority_of, lists, lists_resource}
 use Rattle.osek_base.specs.Ceiling.{declared_ceiling, top_priority}
 use Rattle.osek_base.specs.Agree.{kept}
 use Rattle.osek_base.specs.Proper.{are_falling}
-use Rattle.partition_check.proofs.Ranks.{clash, kept_more, append_none}
+use Rattle.partition_check.proofs.Ranks.{clash, kept_more}
 
 -- ---- tests
-
-pub and_split : (a b : Bool) → (a && b) ≡ true → (a ≡ true) × (b ≡ true)
-and_split true true h = (refl, refl)
-and_split true false h = absurd (clash (sym h))
-and_split false true h = absurd (clash (sym h))
-and_split false false h = absurd (clash (sym h))
 
 pub all_at : {X : Type 0} (test : X → Bool) (xs : List X) (i : ℕ) (d : X) → list_all test xs ≡ true → i < length xs
     → test (slice_index_or xs i d) ≡ true
 all_at test [] i d all h = absurd (omega (arith, h))
-all_at test (x ∷ xs) zero d all h = (and_split (test x) (list_all test xs) all).0
+all_at test (x ∷ xs) zero d all h = (and_parts (test x) (list_all test xs) all).0
 all_at test (x ∷ xs) (suc i) d all h =
-    all_at test xs i d (and_split (test x) (list_all test xs) all).1 (omega (arith, h))
+    all_at test xs i d (and_parts (test x) (list_all test xs) all).1 (omega (arith, h))
 
 -- ---- the greatest
 
@@ -98,7 +92,7 @@ kept_short test k (suc n) h none = go (λ le. kept_short test k n le (λ t a b. 
     go so_far (inl more) = let e : suc n ≡ k = omega (arith, h, more) in ap (kept test) e
     go so_far (inr less) =
         kept_more test n ∙ ap (λ b. kept test n ++ cond b (n ∷ []) []) (none n less (omega arith))
-        ∙ append_none (kept test n) ∙ so_far less
+        ∙ append-nil (kept test n) ∙ so_far less
 
 pub kept_same : (f g : ℕ → Bool) (n : ℕ) → ((t : ℕ) → t < n → f t ≡ g t) → kept f n ≡ kept g n
 kept_same f g zero same = refl
@@ -132,9 +126,9 @@ pub falling_first : (limit : ℕ) (all : List Task) (b : ℕ) → are_falling li
     → (slice_index_or all b no_task).priority ≤ limit
 falling_first limit [] b h inside = absurd (omega (arith, inside))
 falling_first limit (a ∷ all) zero h inside =
-    grind (arith, (and_split (nat_le a.priority limit) (are_falling a.priority all) h).0)
+    grind (arith, (and_parts (nat_le a.priority limit) (are_falling a.priority all) h).0)
 falling_first limit (a ∷ all) (suc b) h inside =
-    let both = and_split (nat_le a.priority limit) (are_falling a.priority all) h in
+    let both = and_parts (nat_le a.priority limit) (are_falling a.priority all) h in
     grind (arith, both.0, falling_first a.priority all b both.1 (omega (arith, inside)))
 
 pub falling_pair : (limit : ℕ) (all : List Task) (a b : ℕ) → are_falling limit all ≡ true → a ≤ b → b < length all
@@ -142,10 +136,10 @@ pub falling_pair : (limit : ℕ) (all : List Task) (a b : ℕ) → are_falling l
 falling_pair limit [] a b h le inside = absurd (omega (arith, inside))
 falling_pair limit (x ∷ all) zero zero h le inside = omega arith
 falling_pair limit (x ∷ all) zero (suc b) h le inside =
-    falling_first x.priority all b (and_split (nat_le x.priority limit) (are_falling x.priority all) h).1 (omega (arith, inside))
+    falling_first x.priority all b (and_parts (nat_le x.priority limit) (are_falling x.priority all) h).1 (omega (arith, inside))
 falling_pair limit (x ∷ all) (suc a) zero h le inside = absurd (omega (arith, le))
 falling_pair limit (x ∷ all) (suc a) (suc b) h le inside =
-    falling_pair x.priority all a b (and_split (nat_le x.priority limit) (are_falling x.priority all) h).1 (omega (arith, le)) (omega (arith, inside))
+    falling_pair x.priority all a b (and_parts (nat_le x.priority limit) (are_falling x.priority all) h).1 (omega (arith, le)) (omega (arith, inside))
 
 -- ---- what a task lists
 
@@ -163,10 +157,6 @@ ceiling_covers r (a ∷ all) (suc t) inside h =
         ≤ greatest (map (λ (a : Task). a.priority) (cond b (a ∷ filter (lists r) all) (filter (lists r) all)))
     go true so_far = omega (arith, so_far)
     go false so_far = so_far
-
-or_right : (a b : Bool) → b ≡ true → (a || b) ≡ true
-or_right true b h = refl
-or_right false b h = h
 
 -- what holds of what is in a list holds of each
 pub each_in : (P : ℕ → Type 0) (ns : List ℕ) → ((r : ℕ) → is_in r ns ≡ true → P r) → AllByRecursion P ns

@@ -3,16 +3,14 @@ use Rattle.std.proofs.Common.{◌≡◌, ℕ, zero, suc, ◌+◌, ◌<◌, ◌�
 use Rattle.std.specs.Prelude.{IfSome, Option, Some, None}
 use Rattle.std.specs.List.{filter, flat_map, enumerate_from}
 use Rattle.std.specs.Option.{option_or}
-use Rattle.std.proofs.Math.Seq.{drop-cons}
 use Rattle.std.proofs.lemmas.Bool.{cases_lt}
 use Rattle.osek_base.specs.declared.ids.Owner.{Owner}
 use Rattle.osek_base.specs.declared.instr.Instr.{Instr}
-use Rattle.osek_base.specs.declared.instr.Plain.{Plain}
 use Rattle.osek_base.specs.Lists.{below}
-use Rattle.osek_base.specs.System.{System, program, instruction_at}
+use Rattle.osek_base.specs.System.{System}
 use Rattle.osek_base.specs.Separable.{Denial, task_denial, place_denial, broken_places, first_of_list}
 use Rattle.partition_check.specs.declared.denial.Rule.{Rule}
-use Rattle.partition_check.specs.Partition.{Told, told, rule_number, forbids, first_breaking, first_place, first_broken}
+use Rattle.partition_check.specs.Partition.{Told, told, rule_number, forbids, first_breaking, first_broken}
 
 pub first_append : (xs ys : List Denial) → first_of_list (xs ++ ys) ≡ option_or (first_of_list xs) (first_of_list ys)
 first_append [] ys = refl
@@ -151,21 +149,6 @@ module _ (S : System) (p : ℕ) (r : Rule) where
       go : (b : Bool) → first_of_list (cond b (here ∷ []) [] ++ rest) ≡ cond b (Some here) (first_of_list rest)
       go true = refl
       go false = refl
-
-  pub place_step : (owner : Owner) (place : ℕ) → place < length (program S owner) → first_place S p r owner place
-      ≡ cond (forbids S p r (instruction_at S owner place)) (Some (record { rule = rule_number r; subject = owner; place = Some place }))
-      (first_place S p r owner (place + 1))
-  place_step owner place h =
-      ap (λ xs. first_of_list (flat_map (place_denial (rule_number r) owner (forbids S p r)) (enumerate_from place xs)))
-      (drop-cons (program S owner) place (Instr.Plain Plain.Nop) h)
-      ∙ place_at owner place (instruction_at S owner place) (drop (suc place) (program S owner))
-      ∙ ap (λ n. cond (forbids S p r (instruction_at S owner place)) (Some (record { rule = rule_number r; subject = owner; place = Some place }))
-      (first_of_list (flat_map (place_denial (rule_number r) owner (forbids S p r)) (enumerate_from (place + 1) (drop n (program S owner)))))) (one_more place)
-
-  pub place_end : (owner : Owner) (place : ℕ) → length (program S owner) ≤ place → first_place S p r owner place ≡ None
-  place_end owner place h =
-      ap (λ xs. first_of_list (flat_map (place_denial (rule_number r) owner (forbids S p r)) (enumerate_from place xs)))
-      (drop_all (program S owner) place h)
 
 -- ---- answers of the code
 

@@ -9,7 +9,9 @@ use Rattle.osek_base.specs.State.{Job, JobId, waits, same_id, jobs_of, jobs_but,
 use Rattle.osek_base.specs.Activation.{woken, new_job}
 use Rattle.osek_base.specs.Upper.{is_upper_task}
 use Rattle.partition_check.proofs.UpperState.{up_job, up_jobs, is_upper_id, is_upper_job}
-use Rattle.partition_check.proofs.ListsUp.{true≢false, filter_append, filter_swap, filter_weaker, filter_none, find_weaker, filter_map_is, find_map_is, any_map_is, map_append, length_map, filter_after_map, map_swap, filter_unseen}
+use Rattle.partition_check.proofs.ListsUp.{true≢false, filter_swap, filter_weaker, filter_none, find_weaker, filter_map_is, find_map_is, any_map_is, length_map, filter_after_map, map_swap, filter_unseen, is_empty_map}
+use Rattle.std.proofs.lemmas.List.Elements.{filter-append}
+use Rattle.std.proofs.lemmas.List.{map-append}
 
 -- ---- ids
 
@@ -43,10 +45,6 @@ module _ (S : System) (p : ℕ) where
       ∙ ap (map (up_job S p)) (filter_weaker (λ j. j.id.task == t) (is_upper_job S p) jobs
       (λ j e. ap (is_upper_task S p) (eqb-true j.id.task t e) ∙ high))
 
-  is_empty_map : {X Y : Type 0} (f : X → Y) (xs : List X) → is_empty (map f xs) ≡ is_empty xs
-  is_empty_map f [] = refl
-  is_empty_map f (x ∷ xs) = refl
-
   pub jobs_of_empty_up : (t : ℕ) (jobs : List Job) → is_upper_task S p t ≡ true
       → is_empty (jobs_of t (up_jobs S p jobs)) ≡ is_empty (jobs_of t jobs)
   jobs_of_empty_up t jobs high = ap is_empty (jobs_of_up t jobs high) ∙ is_empty_map (up_job S p) (jobs_of t jobs)
@@ -74,8 +72,8 @@ module _ (S : System) (p : ℕ) where
 
   pub append_up : (xs ys : List Job) → up_jobs S p (xs ++ ys) ≡ up_jobs S p xs ++ up_jobs S p ys
   append_up xs ys =
-      ap (map (up_job S p)) (filter_append (is_upper_job S p) xs ys)
-      ∙ map_append (up_job S p) (filter (is_upper_job S p) xs) (filter (is_upper_job S p) ys)
+      ap (map (up_job S p)) (filter-append (is_upper_job S p) xs ys)
+      ∙ map-append (up_job S p) (filter (is_upper_job S p) xs) (filter (is_upper_job S p) ys)
 
   append_none : (jobs : List Job) → jobs ++ [] ≡ jobs
   append_none [] = refl

@@ -4,6 +4,7 @@ use Rattle.std.specs.Prelude.{Option, Some, None, slice_index, bit_or, bit_and, 
 use Rattle.std.specs.List.{filter, AllByRecursion}
 use Rattle.osek_base.specs.declared.ids.ResId.{ResId}
 use Rattle.osek_base.specs.declared.instr.Service.{Service}
+use Rattle.osek_base.specs.Types.{ServiceCall}
 use Rattle.osek_base.specs.declared.instr.Instr.{Instr}
 use Rattle.osek_base.specs.declared.status.Status.{Status}
 use Rattle.osek_base.specs.Lists.{is_empty, without_last}
@@ -16,7 +17,7 @@ use Rattle.osek_base.specs.Upper.{service_names}
 use Rattle.osek_base.specs.Separable.{names_upper, names_scheduler}
 use Rattle.partition_check.proofs.UpperState.{is_upper_id, is_upper_job}
 use Rattle.partition_check.proofs.Shared.{IsCounterpart, IsLayeredJob, IsLayered, IsKnownObject, IsUpperCaller, IsLowerCaller, IsUpperCall, IsLowerCall, is_visible}
-use Rattle.partition_check.proofs.ListsUp.{true≢false, all_append, all_filter, all_map}
+use Rattle.partition_check.proofs.ListsUp.{true≢false, cond_both, all_append, all_filter, all_map}
 use Rattle.partition_check.proofs.JobsUp.{same_id_upper}
 use Rattle.partition_check.proofs.RefusalsUp.{visible_named}
 
@@ -29,7 +30,7 @@ pub record IsLaid (S : System) (p : ℕ) (s : State) : Type 0 where
   pub jobs : AllByRecursion (IsLayeredJob S p) s.jobs
 
 -- a job that gets a resource is of the resource's layer
-abbrev pub MayGet : System → ℕ → Caller → Service ℕ → Type 0
+abbrev pub MayGet : System → ℕ → Caller → ServiceCall → Type 0
 MayGet S p (JobCalls j) (Service.GetResource (Some r)) = is_visible S p r ≡ is_upper_job S p j
 MayGet S p (JobCalls j) _ = Unit {0}
 MayGet S p (RoutineCalls a) _ = Unit {0}
@@ -81,10 +82,6 @@ module _ (S : System) (p : ℕ) where
   with_jobs s jobs laid all =
       record { made = laid.made; masks = laid.masks; alarms = laid.alarms; shared = laid.shared; jobs = all }
 
-  cond_laid : (b : Bool) (s z : State) → IsLaid S p s → IsLaid S p z → IsLaid S p (cond b s z)
-  cond_laid true s z x y = x
-  cond_laid false s z x y = y
-
   ended_laid : (n : JobId) (s : State) → IsLaid S p s → IsLaid S p (ended n s)
   ended_laid n s laid = with_jobs s (jobs_but n s.jobs) laid (all_filter (IsLayeredJob S p) (λ j. not (same_id j.id n)) s.jobs laid.jobs)
 
@@ -99,7 +96,7 @@ module _ (S : System) (p : ℕ) where
 
   released_by_laid : (events : ℕ) (jobs : List Job) (s : State) → IsLaid S p s → IsLaid S p (released_by events jobs s)
   released_by_laid events [] s laid = laid
-  released_by_laid events (j ∷ js) s laid = cond_laid (is_met events j.waits_for) (released j.id s) s (released_laid j.id s laid) laid
+  released_by_laid events (j ∷ js) s laid = cond_both (IsLaid S p) (is_met events j.waits_for) (released j.id s) s (released_laid j.id s laid) laid
 
   with_events_laid : (t m : ℕ) (s : State) → IsLaid S p s → IsLaid S p (with_events t m s)
   with_events_laid t m s laid =
@@ -132,16 +129,12 @@ module _ (S : System) (p : ℕ) where
       }
   stored_laid ResId.Scheduler i v s laid = laid
 
-  length_cond : (b : Bool) (xs ys : List ℕ) (n : ℕ) → length xs ≡ n → length ys ≡ n → length (cond b xs ys) ≡ n
-  length_cond true xs ys n x y = x
-  length_cond false xs ys n x y = y
-
   pub activated_laid : (t : ℕ) (s : State) → t < length S.tasks → IsLaid S p s → IsLaid S p (activated S t s)
   unfolding activated
   activated_laid t s inside laid =
       record {
         made = length-set s.made t _ ∙ laid.made;
-        masks = length_cond (is_extended S t && is_empty (jobs_of t s.jobs)) (set s.masks t 0) s.masks (length S.tasks)
+        masks = cond_both (λ (ns : List ℕ). length ns ≡ length S.tasks) (is_extended S t && is_empty (jobs_of t s.jobs)) (set s.masks t 0) s.masks
             (length-set s.masks t 0 ∙ laid.masks) laid.masks;
         alarms = laid.alarms;
         shared = laid.shared;
@@ -173,14 +166,14 @@ module _ (S : System) (p : ℕ) where
 
   awaited_laid : (c : Caller) (m : ℕ) (s : State) → IsLaid S p s → IsLaid S p (event_awaited c m s)
   awaited_laid (JobCalls j) m s laid =
-      cond_laid (meets m (slice_index s.masks j.id.task)) s (with_caller (JobCalls j) (waiting_for m) s) laid
+      cond_both (IsLaid S p) (meets m (slice_index s.masks j.id.task)) s (with_caller (JobCalls j) (waiting_for m) s) laid
       (with_caller_laid (JobCalls j) (waiting_for m) s (λ k here. same_laid k (waiting_for m k) refl refl here) laid)
   awaited_laid (RoutineCalls a) m s laid = laid
   awaited_laid NobodyCalls m s laid = laid
 
   -- ---- the effect
 
-  effect_laid : (s : State) (c : Caller) (call : Service ℕ) → IsKnownObject S (service_names call) → MayGet S p c call
+  effect_laid : (s : State) (c : Caller) (call : ServiceCall) → IsKnownObject S (service_names call) → MayGet S p c call
       → IsLaid S p s → IsLaid S p (effect S c s call)
   effect_laid s c (Service.ActivateTask None) known may laid = laid
   effect_laid s c (Service.ActivateTask (Some t)) known may laid = activated_laid t s known laid
@@ -188,7 +181,7 @@ module _ (S : System) (p : ℕ) where
   effect_laid s c (Service.ChainTask None) known may laid = laid
   effect_laid s c (Service.ChainTask (Some t)) known may laid = activated_laid t (caller_ended c s) known (caller_ended_laid c s laid)
   effect_laid s c Service.Schedule known may laid =
-      cond_laid (is_outranked S c s.jobs) (with_caller c given_up s) s
+      cond_both (IsLaid S p) (is_outranked S c s.jobs) (with_caller c given_up s) s
       (with_caller_laid c given_up s (λ k here. same_laid k (given_up k) refl refl here) laid) laid
   effect_laid s c Service.GetTaskId known may laid = laid
   effect_laid s c (Service.GetTaskState o) known may laid = laid
@@ -227,12 +220,12 @@ module _ (S : System) (p : ℕ) where
         jobs = layered.jobs;
       }
 
-  changed_laid : (s : State) (c : Caller) (call : Service ℕ) (o : Option Status) → IsKnownObject S (service_names call) → MayGet S p c call
+  changed_laid : (s : State) (c : Caller) (call : ServiceCall) (o : Option Status) → IsKnownObject S (service_names call) → MayGet S p c call
       → IsLaid S p s → IsLaid S p (changed S c s call o)
   changed_laid s c call None known may laid = effect_laid s c call known may laid
   changed_laid s c call (Some refusal) known may laid = laid
 
-  reply_layered : (s : State) (c : Caller) (call : Service ℕ) (o : Option Status) → IsKnownObject S (service_names call) → MayGet S p c call
+  reply_layered : (s : State) (c : Caller) (call : ServiceCall) (o : Option Status) → IsKnownObject S (service_names call) → MayGet S p c call
       → IsLayered S p s → IsLayered S p (reply_to S c s call o).state
   reply_layered s c call o known may layered =
       let after : IsLaid S p (changed S c s call o) = changed_laid s c call o known may (laid_of s layered) in
@@ -247,20 +240,20 @@ module _ (S : System) (p : ℕ) where
       }
 
   -- whoever calls: a job that gets a resource is of its layer
-  pub any_service_layered : (s : State) (c : Caller) (call : Service ℕ) → IsKnownObject S (service_names call) → MayGet S p c call
+  pub any_service_layered : (s : State) (c : Caller) (call : ServiceCall) → IsKnownObject S (service_names call) → MayGet S p c call
       → IsLayered S p s → IsLayered S p (service S c s call).state
   unfolding service
   any_service_layered s c call known may layered = reply_layered s c call _ known may layered
 
-  pub any_unmasked_layered : (s : State) (c : Caller) (call : Service ℕ) → IsKnownObject S (service_names call) → MayGet S p c call
+  pub any_unmasked_layered : (s : State) (c : Caller) (call : ServiceCall) → IsKnownObject S (service_names call) → MayGet S p c call
       → IsLayered S p s → IsLayered S p (unmasked_service S c s call).state
   unfolding unmasked_service
   any_unmasked_layered s c call known may layered = reply_layered s c call _ known may layered
 
 -- ---- by an upper caller, and by a lower one
 
-module _ (S : System) (p : ℕ) (s : State) (c : Caller) (call : Service ℕ) (layered : IsLayered S p s) where
-  upper_may_get : (both : IsCounterpart S p) (d : Caller) (what : Service ℕ) → IsUpperCaller S p s d → IsUpperCall S p d what → MayGet S p d what
+module _ (S : System) (p : ℕ) (s : State) (c : Caller) (call : ServiceCall) (layered : IsLayered S p s) where
+  upper_may_get : (both : IsCounterpart S p) (d : Caller) (what : ServiceCall) → IsUpperCaller S p s d → IsUpperCall S p d what → MayGet S p d what
   upper_may_get both (JobCalls j) (Service.GetResource (Some r)) upper named = visible_named S p r named.names ∙ sym upper.1
   upper_may_get both (JobCalls j) _ upper named = tt
   upper_may_get both (RoutineCalls a) what upper named = tt
@@ -271,7 +264,7 @@ module _ (S : System) (p : ℕ) (s : State) (c : Caller) (call : Service ℕ) (l
   unseen_named (ResId.Declared r) names other = names
   unseen_named ResId.Scheduler names other = absurd (true≢false other)
 
-  lower_may_get : (d : Caller) (what : Service ℕ) → IsLowerCaller S p d → IsLowerCall S p what → MayGet S p d what
+  lower_may_get : (d : Caller) (what : ServiceCall) → IsLowerCaller S p d → IsLowerCall S p what → MayGet S p d what
   lower_may_get (JobCalls j) (Service.GetResource (Some r)) lower named = unseen_named r named.names named.no_scheduler ∙ sym lower.1
   lower_may_get (JobCalls j) _ lower named = tt
   lower_may_get (RoutineCalls a) what lower named = tt
@@ -279,9 +272,6 @@ module _ (S : System) (p : ℕ) (s : State) (c : Caller) (call : Service ℕ) (l
 
   pub service_layered : IsCounterpart S p → IsUpperCaller S p s c → IsUpperCall S p c call → IsLayered S p (service S c s call).state
   service_layered both upper named = any_service_layered S p s c call named.known (upper_may_get both c call upper named) layered
-
-  pub unmasked_layered : IsCounterpart S p → IsUpperCaller S p s c → IsUpperCall S p c call → IsLayered S p (unmasked_service S c s call).state
-  unmasked_layered both upper named = any_unmasked_layered S p s c call named.known (upper_may_get both c call upper named) layered
 
   pub lower_service_layered : IsLowerCaller S p c → IsLowerCall S p call → IsLayered S p (service S c s call).state
   lower_service_layered lower named = any_service_layered S p s c call named.known (lower_may_get c call lower named) layered

@@ -1,8 +1,9 @@
 -- Lists under a test, a map and a change at a place, as the upper part of a state is made of them.
-use Rattle.std.proofs.Common.{◌≡◌, ℕ, zero, suc, Bool, true, false, cond, ◌||◌, List, [], ◌∷◌, ◌++◌, map, take, set, length, refl, sym, ◌∙◌, ap, ap₂}
-use Rattle.std.specs.Prelude.{Option, Some}
+use Rattle.std.proofs.Common.{◌≡◌, ℕ, zero, suc, ◌<◌, Bool, true, false, cond, ◌||◌, List, [], ◌∷◌, ◌++◌, map, take, set, length, refl, sym, ◌∙◌, ap, ap₂, arith}
+use Rattle.std.specs.Prelude.{Option, Some, ◌==◌}
 use Rattle.std.specs.List.{filter, find, list_any, AllByRecursion}
 use Rattle.std.specs.Option.{option_map}
+use Rattle.osek_base.specs.Lists.{below, is_empty}
 
 -- ---- a choice moved
 
@@ -11,6 +12,15 @@ false≢true e = cc
 
 pub true≢false : true ≡ false → ⊥
 true≢false e = cc
+
+-- what holds of both holds of either
+pub cond_both : {X : Type 0} (P : X → Type 0) (b : Bool) (x y : X) → P x → P y → P (cond b x y)
+cond_both P true x y f g = f
+cond_both P false x y f g = g
+
+-- numbers that a test tells apart differ
+pub differ : (f : ℕ → Bool) (a b : ℕ) → f a ≡ true → f b ≡ false → (a == b) ≡ false
+differ f a b h k = grind arith
 
 any_step : (a b l : Bool) → (a ≡ true → b ≡ true) → cond b (a || l) l ≡ (a || l)
 any_step true true l h = refl
@@ -23,15 +33,6 @@ module _ {X : Type 0} where
       → filter q (cond u (x ∷ xs) xs) ≡ cond u (cond (q x) (x ∷ filter q xs) (filter q xs)) (filter q xs)
   filter_cond q true x xs = refl
   filter_cond q false x xs = refl
-
-  append_cond : (u : Bool) (x : X) (xs ys : List X) → cond u (x ∷ xs) xs ++ ys ≡ cond u (x ∷ (xs ++ ys)) (xs ++ ys)
-  append_cond true x xs ys = refl
-  append_cond false x xs ys = refl
-
-  pub filter_append : (q : X → Bool) (xs ys : List X) → filter q (xs ++ ys) ≡ filter q xs ++ filter q ys
-  filter_append q [] ys = refl
-  filter_append q (x ∷ xs) ys =
-      ap (λ l. cond (q x) (x ∷ l) l) (filter_append q xs ys) ∙ sym (append_cond (q x) x (filter q xs) (filter q ys))
 
   swap_step : (a b : Bool) (x : X) (l : List X) → cond a (cond b (x ∷ l) l) l ≡ cond b (cond a (x ∷ l) l) l
   swap_step true true x l = refl
@@ -131,10 +132,6 @@ module _ {X Y : Type 0} where
   any_map_is f q [] = refl
   any_map_is f q (x ∷ xs) = ap (λ b. q (f x) || b) (any_map_is f q xs)
 
-  pub map_append : (f : X → Y) (xs ys : List X) → map f (xs ++ ys) ≡ map f xs ++ map f ys
-  map_append f [] ys = refl
-  map_append f (x ∷ xs) ys = ap (λ l. f x ∷ l) (map_append f xs ys)
-
   pub length_map : (f : X → Y) (xs : List X) → length (map f xs) ≡ length xs
   length_map f [] = refl
   length_map f (x ∷ xs) = ap suc (length_map f xs)
@@ -222,3 +219,13 @@ module _ {X : Type 0} where
   take_set (suc k) [] i v = refl
   take_set (suc k) (x ∷ xs) zero v = refl
   take_set (suc k) (x ∷ xs) (suc i) v = ap (λ l. x ∷ l) (take_set k xs i v)
+
+pub each_below : (P : ℕ → Type 0) (n : ℕ) → ((k : ℕ) → k < n → P k) → AllByRecursion P (below n)
+each_below P zero each = tt
+each_below P (suc n) each = all_append P (below n) (n ∷ []) (each_below P n (λ k h. each k (omega (arith, h)))) (each n (omega arith), tt)
+
+-- ---- lists without elements
+
+pub is_empty_map : {X Y : Type 0} (f : X → Y) (xs : List X) → is_empty (map f xs) ≡ is_empty xs
+is_empty_map f [] = refl
+is_empty_map f (x ∷ xs) = refl

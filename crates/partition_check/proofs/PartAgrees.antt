@@ -15,15 +15,16 @@ use Rattle.osek_base.specs.Proper.{IsProper, is_proper_action, is_proper_alarm}
 use Rattle.osek_base.specs.Separable.{Separable, NoInstruction, asks_task_id}
 use Rattle.osek_base.specs.Laws.{IsItsUpperPart}
 use Rattle.partition_check.proofs.UpperState.{upper_count}
-use Rattle.partition_check.proofs.Ranks.{at_map}
-use Rattle.partition_check.proofs.Falling.{and_split, all_at}
+use Rattle.partition_check.proofs.Ranks.{at_map, all_kept}
+use Rattle.partition_check.proofs.Falling.{all_at}
 use Rattle.partition_check.proofs.CoreFacts.{true_lt, lt_true, within, split, is_upper, task_count, tasks, task_names, declared_same, upper_same, resource_numbers}
 use Rattle.partition_check.proofs.Core.{listed_low, alarm_place, routine_program}
 use Rattle.partition_check.proofs.Renumbering.{map_ranked}
 use Rattle.partition_check.proofs.Isolated.{isolated}
-use Rattle.partition_check.proofs.Picked.{all_kept, each_ranked}
+use Rattle.partition_check.proofs.Picked.{each_ranked}
 use Rattle.partition_check.proofs.PartProper.{part_is_proper, each_alarm}
 use Rattle.partition_check.proofs.Whole.{IsWhole, whole_part, whole_separable}
+use Rattle.std.proofs.lemmas.Bool.{and_parts}
 
 some_same : (a b : Instr) → Some a ≡ Some b → a ≡ b
 some_same a b h = grind arith
@@ -92,12 +93,12 @@ module _ (S : System) (p : ℕ) (proper : IsProper S) where
 
   known_action : (x : Action) → is_proper_action S x ≡ true → action_task x < length S.tasks
   known_action (Action.ActivateTask t) h = true_lt t (length S.tasks) h
-  known_action (Action.SetEvent t m) h = true_lt t (length S.tasks) (and_split _ _ (and_split _ _ h).0).0
+  known_action (Action.SetEvent t m) h = true_lt t (length S.tasks) (and_parts _ _ (and_parts _ _ h).0).0
 
   acts_known : (a : ℕ) → a < length S.alarms → action_task (alarm S a).action < length S.tasks
   acts_known a inside =
       known_action (alarm S a).action
-      (and_split _ _ (and_split _ _ (all_at (is_proper_alarm S) S.alarms a no_alarm (each_alarm S p proper) inside)).0).1
+      (and_parts _ _ (and_parts _ _ (all_at (is_proper_alarm S) S.alarms a no_alarm (each_alarm S p proper) inside)).0).1
 
   alarm_high_at : (a : ℕ) → a < length S.alarms → is_upper_alarm S p a ≡ true → is_upper_alarm (upper_part S p) p (rank (is_upper_alarm S p) a) ≡ true
   alarm_high_at a inside high =

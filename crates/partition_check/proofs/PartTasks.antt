@@ -12,10 +12,11 @@ use Rattle.osek_base.specs.Agree.{rank, is_upper_declared, upper_task, upper_tas
 use Rattle.osek_base.specs.Proper.{IsProper, is_proper_task, are_falling, are_proper_resources, is_single_internal, has_two}
 use Rattle.osek_base.specs.Separable.{Separable}
 use Rattle.partition_check.proofs.UpperState.{upper_count}
-use Rattle.partition_check.proofs.Falling.{and_split, all_at, each_in}
+use Rattle.partition_check.proofs.Falling.{all_at, each_in}
 use Rattle.partition_check.proofs.CoreFacts.{true_lt, lt_true, falling, each_task, split, listed_upper, listed_known, internal_same, in_rank}
-use Rattle.partition_check.proofs.Picked.{and_join, picked_kept, falling_picked, all_kept_pass}
+use Rattle.partition_check.proofs.Picked.{picked_kept, falling_picked, all_kept_pass}
 use Rattle.partition_check.proofs.PartInstrs.{resource_new, program_new}
+use Rattle.std.proofs.lemmas.Bool.{and_parts, and_from}
 
 -- ---- tests of numbers under new numbers
 
@@ -32,7 +33,7 @@ module _ (test test' : ℕ → Bool) (new : ℕ → ℕ) where
 
   all_new : (ns : List ℕ) → AllByRecursion (λ n. test' (new n) ≡ true) ns → list_all test' (map new ns) ≡ true
   all_new [] all = refl
-  all_new (n ∷ ns) all = and_join (test' (new n)) (list_all test' (map new ns)) all.0 (all_new ns all.1)
+  all_new (n ∷ ns) all = and_from (test' (new n)) (list_all test' (map new ns)) all.0 (all_new ns all.1)
 
 distinct_new : (test : ℕ → Bool) (ns : List ℕ) → AllByRecursion (λ n. test n ≡ true) ns → are_distinct (map (rank test) ns) ≡ are_distinct ns
 distinct_new test [] all = refl
@@ -71,10 +72,10 @@ module _ (S : System) (p : ℕ) (proper : IsProper S) where
     resources_new : are_proper_resources S (task S t).schedule (task S t).resources ≡ true
         → are_proper_resources (upper_part S p) (task S t).schedule (map (rank (is_upper_declared S p)) (task S t).resources) ≡ true
     resources_new h =
-        let both = and_split _ _ h in
-        let front = and_split _ _ both.0 in
-        and_join _ _
-        (and_join _ _
+        let both = and_parts _ _ h in
+        let front = and_parts _ _ both.0 in
+        and_from _ _
+        (and_from _ _
         (all_new (λ r. true) (λ r. nat_lt r (length (upper_part S p).resources)) (rank (is_upper_declared S p)) (task S t).resources
         (each_listed (λ r. nat_lt (rank (is_upper_declared S p) r) (length (upper_part S p).resources) ≡ true)
         (λ r known pass. resource_new S p proper r (lt_true r (length S.resources) known) pass)))
@@ -84,9 +85,9 @@ module _ (S : System) (p : ℕ) (proper : IsProper S) where
     task_proper : Separable S p → is_proper_task (upper_part S p) (upper_task S p t) ≡ true
     task_proper separable =
         let whole : is_proper_task S (task S t) ≡ true = all_at (is_proper_task S) S.tasks t no_task (each_task S p proper) inside in
-        let last = and_split _ _ whole in
-        let third = and_split _ _ last.0 in
-        and_join _ _ (and_join _ _ third.0 (resources_new third.1))
+        let last = and_parts _ _ whole in
+        let third = and_parts _ _ last.0 in
+        and_from _ _ (and_from _ _ third.0 (resources_new third.1))
         (program_new S p proper false (task S t).program last.1
         (λ place x e. separable.upper_names (Owner.Task t) inside high place x e))
 

@@ -2,11 +2,12 @@
 use Rattle.std.proofs.Common.{◌≡◌, ℕ, zero, suc, ◌<◌, ◌≤◌, ◌⊎◌, Bool, true, false, List, [], ◌∷◌, length, refl, sym, ap, subst, inl, inr, arith}
 use Rattle.std.specs.Prelude.{Some, None, slice_get}
 use Rattle.std.specs.List.{list_all}
-use Rattle.std.proofs.lemmas.Bool.{cases_lt}
+use Rattle.std.proofs.lemmas.Bool.{cases_lt, and_parts}
 use Rattle.std.proofs.lemmas.List.{get_or_past}
 use Rattle.osek_base.specs.declared.ids.ResId.{ResId}
 use Rattle.osek_base.specs.declared.ids.Owner.{Owner}
 use Rattle.osek_base.specs.declared.instr.Service.{Service}
+use Rattle.osek_base.specs.Types.{ServiceCall}
 use Rattle.osek_base.specs.declared.instr.Control.{Control}
 use Rattle.osek_base.specs.declared.instr.Plain.{Plain}
 use Rattle.osek_base.specs.declared.instr.Instr.{Instr}
@@ -14,7 +15,7 @@ use Rattle.osek_base.specs.System.{System, Routine, task, routine, no_task, no_r
 use Rattle.osek_base.specs.Upper.{is_upper_task, service_names, named_object}
 use Rattle.osek_base.specs.Separable.{Separable, names_scheduler, names_upper, is_reserved, asks_task_id}
 use Rattle.osek_base.specs.Proper.{IsProper, is_proper_task, is_proper_routine, is_proper_program, is_proper_instruction, is_proper_service}
-use Rattle.partition_check.proofs.Falling.{and_split, all_at}
+use Rattle.partition_check.proofs.Falling.{all_at}
 use Rattle.partition_check.proofs.CoreFacts.{true_lt, each_task}
 use Rattle.partition_check.proofs.Ranks.{clash}
 use Rattle.partition_check.proofs.TextUp.{IsUpperInstr}
@@ -41,12 +42,12 @@ pub all_get : {X : Type 0} (test : X → Bool) (xs : List X) (i : ℕ) (x : X) �
 all_get test [] i x all h = absurd (grind arith)
 all_get test (y ∷ xs) zero x all h =
     let same : y ≡ x = grind arith in
-    subst (λ z. test z ≡ true) same (and_split (test y) (list_all test xs) all).0
-all_get test (y ∷ xs) (suc i) x all h = all_get test xs i x (and_split (test y) (list_all test xs) all).1 h
+    subst (λ z. test z ≡ true) same (and_parts (test y) (list_all test xs) all).0
+all_get test (y ∷ xs) (suc i) x all h = all_get test xs i x (and_parts (test y) (list_all test xs) all).1 h
 
 -- ---- operands exist
 
-proper_known : (S : System) (call : Service ℕ) → is_proper_service S call ≡ true → IsKnownObject S (service_names call)
+proper_known : (S : System) (call : ServiceCall) → is_proper_service S call ≡ true → IsKnownObject S (service_names call)
 proper_known S (Service.ActivateTask None) h = tt
 proper_known S (Service.ActivateTask (Some t)) h = true_lt t (length S.tasks) h
 proper_known S Service.TerminateTask h = tt
@@ -57,29 +58,29 @@ proper_known S Service.GetTaskId h = tt
 proper_known S (Service.GetTaskState None) h = tt
 proper_known S (Service.GetTaskState (Some t)) h = true_lt t (length S.tasks) h
 proper_known S (Service.GetResource None) h = tt
-proper_known S (Service.GetResource (Some (ResId.Declared r))) h = true_lt r (length S.resources) (and_split _ _ h).0
+proper_known S (Service.GetResource (Some (ResId.Declared r))) h = true_lt r (length S.resources) (and_parts _ _ h).0
 proper_known S (Service.GetResource (Some ResId.Scheduler)) h = tt
 proper_known S (Service.ReleaseResource None) h = tt
-proper_known S (Service.ReleaseResource (Some (ResId.Declared r))) h = true_lt r (length S.resources) (and_split _ _ h).0
+proper_known S (Service.ReleaseResource (Some (ResId.Declared r))) h = true_lt r (length S.resources) (and_parts _ _ h).0
 proper_known S (Service.ReleaseResource (Some ResId.Scheduler)) h = tt
 proper_known S (Service.LoadShared None x) h = tt
 proper_known S (Service.LoadShared (Some (ResId.Declared r)) x) h =
-    true_lt r (length S.resources) (and_split _ _ (and_split _ _ h).0).0
+    true_lt r (length S.resources) (and_parts _ _ (and_parts _ _ h).0).0
 proper_known S (Service.LoadShared (Some ResId.Scheduler) x) h = tt
 proper_known S (Service.StoreShared None x y) h = tt
 proper_known S (Service.StoreShared (Some (ResId.Declared r)) x y) h =
-    true_lt r (length S.resources) (and_split _ _ (and_split _ _ (and_split _ _ h).0).0).0
+    true_lt r (length S.resources) (and_parts _ _ (and_parts _ _ (and_parts _ _ h).0).0).0
 proper_known S (Service.StoreShared (Some ResId.Scheduler) x y) h = tt
 proper_known S (Service.SetEvent None m) h = tt
-proper_known S (Service.SetEvent (Some t) m) h = true_lt t (length S.tasks) (and_split _ _ h).0
+proper_known S (Service.SetEvent (Some t) m) h = true_lt t (length S.tasks) (and_parts _ _ h).0
 proper_known S (Service.ClearEvent m) h = tt
 proper_known S (Service.GetEvent None) h = tt
 proper_known S (Service.GetEvent (Some t)) h = true_lt t (length S.tasks) h
 proper_known S (Service.WaitEvent m) h = tt
 proper_known S (Service.SetRelAlarm None x y) h = tt
-proper_known S (Service.SetRelAlarm (Some a) x y) h = true_lt a (length S.alarms) (and_split _ _ (and_split _ _ h).0).0
+proper_known S (Service.SetRelAlarm (Some a) x y) h = true_lt a (length S.alarms) (and_parts _ _ (and_parts _ _ h).0).0
 proper_known S (Service.SetAbsAlarm None x y) h = tt
-proper_known S (Service.SetAbsAlarm (Some a) x y) h = true_lt a (length S.alarms) (and_split _ _ (and_split _ _ h).0).0
+proper_known S (Service.SetAbsAlarm (Some a) x y) h = true_lt a (length S.alarms) (and_parts _ _ (and_parts _ _ h).0).0
 proper_known S (Service.CancelAlarm None) h = tt
 proper_known S (Service.CancelAlarm (Some a)) h = true_lt a (length S.alarms) h
 proper_known S (Service.GetAlarm None) h = tt
@@ -93,7 +94,7 @@ instruction_known S in_routine size (Instr.Service call) h = proper_known S call
 instruction_known S in_routine size (Instr.Control x) h = tt
 
 -- of a task's control instructions all are reserved for the upper part
-all_reserved : (S : System) (size : ℕ) (x : Control) → is_proper_instruction S false size (Instr.Control x) ≡ true → is_reserved (Instr.Control x) ≡ false → ⊥
+all_reserved : (S : System) (size : ℕ) (x : Control ℕ) → is_proper_instruction S false size (Instr.Control x) ≡ true → is_reserved (Instr.Control x) ≡ false → ⊥
 all_reserved S size Control.ReturnFromInterrupt h e = clash (sym h)
 all_reserved S size _ h e = clash e
 
@@ -102,25 +103,25 @@ pub record IsLowerInstr (S : System) (p : ℕ) (what : Instr) : Type 0 where
   pub known : IsKnownObject S (named_object what)
   pub names : names_upper S p what ≡ false
   pub no_scheduler : names_scheduler what ≡ false
-  pub no_control : (x : Control) → what ≡ Instr.Control x → ⊥
+  pub no_control : (x : Control ℕ) → what ≡ Instr.Control x → ⊥
 
 module _ (S : System) (p : ℕ) (proper : IsProper S) (separable : Separable S p) where
   pub each_routine : list_all (is_proper_routine S) S.routines ≡ true
-  each_routine = (and_split _ _ (and_split _ _ (and_split _ _ (and_split _ _ proper.objects).0).0).0).1
+  each_routine = (and_parts _ _ (and_parts _ _ (and_parts _ _ (and_parts _ _ proper.objects).0).0).0).1
 
   task_program : (t place : ℕ) (x : Instr) → t < length S.tasks → slice_get (program S (Owner.Task t)) place ≡ Some x
       → is_proper_instruction S false (length (task S t).program) x ≡ true
   task_program t place x inside e =
       let here : is_proper_task S (task S t) ≡ true = all_at (is_proper_task S) S.tasks t no_task (each_task S p proper) inside in
-      let whole : is_proper_program S false (task S t).program ≡ true = (and_split _ _ here).1 in
-      all_get (is_proper_instruction S false (length (task S t).program)) (task S t).program place x (and_split _ _ (and_split _ _ whole).0).0 e
+      let whole : is_proper_program S false (task S t).program ≡ true = (and_parts _ _ here).1 in
+      all_get (is_proper_instruction S false (length (task S t).program)) (task S t).program place x (and_parts _ _ (and_parts _ _ whole).0).0 e
 
   routine_program : (i place : ℕ) (x : Instr) → i < length S.routines → slice_get (program S (Owner.Routine i)) place ≡ Some x
       → is_proper_instruction S true (length (routine S i).program) x ≡ true
   routine_program i place x inside e =
       let here : is_proper_routine S (routine S i) ≡ true = all_at (is_proper_routine S) S.routines i no_routine each_routine inside in
-      let whole : is_proper_program S true (routine S i).program ≡ true = (and_split _ _ here).1 in
-      all_get (is_proper_instruction S true (length (routine S i).program)) (routine S i).program place x (and_split _ _ (and_split _ _ whole).0).0 e
+      let whole : is_proper_program S true (routine S i).program ≡ true = (and_parts _ _ here).1 in
+      all_get (is_proper_instruction S true (length (routine S i).program)) (routine S i).program place x (and_parts _ _ (and_parts _ _ whole).0).0 e
 
   -- ---- upper programs
 

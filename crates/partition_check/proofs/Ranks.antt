@@ -2,7 +2,7 @@
 use Rattle.std.proofs.Common.{◌≡◌, ℕ, zero, suc, ◌<◌, ◌≤◌, ◌⊎◌, Bool, true, false, cond, nat_lt, List, [], ◌∷◌, ◌++◌, map, length, refl, sym, ◌∙◌, ap, inl, inr, arith}
 use Rattle.std.specs.Prelude.{Some, ◌==◌, slice_get, slice_index_or}
 use Rattle.std.proofs.lemmas.Bool.{cases_lt, cases_order}
-use Rattle.std.proofs.lemmas.List.{length-append}
+use Rattle.std.proofs.lemmas.List.{length-append, append-nil}
 use Rattle.std.proofs.lemmas.List.Elements.{filter-append}
 use Rattle.osek_base.specs.Lists.{below}
 use Rattle.osek_base.specs.Agree.{kept, rank}
@@ -112,7 +112,7 @@ at_map f (y ∷ xs) (suc i) x d h = at_map f xs i x d h
 -- ---- a test that the first numbers pass
 
 -- all pass
-all_kept : (test : ℕ → Bool) (n : ℕ) → ((a : ℕ) → a < n → test a ≡ true) → kept test n ≡ below n
+pub all_kept : (test : ℕ → Bool) (n : ℕ) → ((a : ℕ) → a < n → test a ≡ true) → kept test n ≡ below n
 all_kept test zero all = refl
 all_kept test (suc n) all =
     kept_more test n ∙ ap (λ b. kept test n ++ cond b (n ∷ []) []) (all n (omega arith))
@@ -121,10 +121,6 @@ all_kept test (suc n) all =
 -- below a number that passes all pass
 abbrev pub IsFirstly : (ℕ → Bool) → ℕ → Type 0
 IsFirstly test n = (a b : ℕ) → a ≤ b → b < n → test b ≡ true → test a ≡ true
-
-pub append_none : {X : Type 0} (xs : List X) → xs ++ [] ≡ xs
-append_none [] = refl
-append_none (x ∷ xs) = ap (λ rest. x ∷ rest) (append_none xs)
 
 -- those that pass are the first
 pub first_kept : (test : ℕ → Bool) (n : ℕ) → IsFirstly test n → kept test n ≡ below (rank test n)
@@ -137,7 +133,7 @@ first_kept test (suc n) firstly =
         let all : kept test (suc n) ≡ below (suc n) = all_kept test (suc n) (λ a less. firstly a n (omega (arith, less)) (omega arith) h) in
         all ∙ ap below (sym (ap length all ∙ length_below (suc n)))
     go so_far false h =
-        kept_more test n ∙ ap (λ b. kept test n ++ cond b (n ∷ []) []) h ∙ append_none (kept test n)
+        kept_more test n ∙ ap (λ b. kept test n ++ cond b (n ∷ []) []) h ∙ append-nil (kept test n)
         ∙ so_far ∙ ap below (sym (rank_false test n h))
 
 pub first_split : (test : ℕ → Bool) (n : ℕ) → IsFirstly test n → (t : ℕ) → t < n → test t ≡ nat_lt t (rank test n)

@@ -4,6 +4,7 @@ use Rattle.std.specs.Prelude.{Some, None, is_some, ◌==◌}
 use Rattle.std.specs.List.{filter, list_any, AllByRecursion}
 use Rattle.osek_base.specs.declared.ids.ResId.{ResId}
 use Rattle.osek_base.specs.declared.instr.Service.{Service}
+use Rattle.osek_base.specs.Types.{ServiceCall}
 use Rattle.osek_base.specs.declared.status.Status.{Status}
 use Rattle.osek_base.specs.declared.task.Counter.{Counter}
 use Rattle.osek_base.specs.Lists.{is_empty, last_of, same_resource}
@@ -18,7 +19,7 @@ use Rattle.osek_base.specs.Separable.{is_scheduler_object}
 use Rattle.osek_base.specs.Agree.{rank, renumbered_resource, renumbered_service, is_upper_declared, upper_core}
 use Rattle.partition_check.proofs.UpperState.{up, up_job, up_jobs, is_upper_job, upper_count}
 use Rattle.partition_check.proofs.Shared.{IsCounterpart, IsLow, IsLayeredJob, IsLayered, IsUpperCaller, IsUpperCall, is_visible, up_caller}
-use Rattle.partition_check.proofs.ListsUp.{true≢false, false≢true, any_map_is, any_weaker}
+use Rattle.partition_check.proofs.ListsUp.{true≢false, false≢true, any_map_is, any_weaker, is_empty_map}
 use Rattle.partition_check.proofs.PriorityUp.{first_tasks, static_up, dynamic_up, dynamic_low, held_visible, held_unseen}
 use Rattle.partition_check.proofs.JobsUp.{jobs_of_empty_up, jobs_of_length_up}
 use Rattle.partition_check.proofs.AlarmsUp.{expiry_up}
@@ -28,10 +29,6 @@ use Rattle.partition_check.proofs.AlarmsUp.{expiry_up}
 pub passes_unless_not : (b : Bool) → (true && not b) ≡ false → b ≡ true
 passes_unless_not true e = refl
 passes_unless_not false e = absurd (true≢false e)
-
-is_empty_map : {X Y : Type 0} (f : X → Y) (xs : List X) → is_empty (map f xs) ≡ is_empty xs
-is_empty_map f [] = refl
-is_empty_map f (x ∷ xs) = refl
 
 module _ (S : System) (p : ℕ) where
   -- ---- what an upper call names
@@ -286,7 +283,7 @@ module _ (S : System) (p : ℕ) (both : IsCounterpart S p) where
       let holds_some : holds_any (up_caller S p c) ≡ holds_any c = holds_any_up S p c in
       λ i. (routine i, Status.CallLevel) ∷ (holds_some i, Status.Resource) ∷ same i
 
-  pub refusals_up : (s : State) (c : Caller) (call : Service ℕ) → IsLayered S p s → IsUpperCaller S p s c → IsUpperCall S p c call
+  pub refusals_up : (s : State) (c : Caller) (call : ServiceCall) → IsLayered S p s → IsUpperCaller S p s c → IsUpperCall S p c call
       → refusals (upper_core S p) (up_caller S p c) (up S p s) (renumbered_service S p call) ≡ refusals S c s call
   refusals_up s c (Service.ActivateTask None) layered upper named = refl
   refusals_up s c (Service.ActivateTask (Some t)) layered upper named =

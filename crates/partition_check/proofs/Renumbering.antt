@@ -1,11 +1,11 @@
 -- Lists by number where only the numbers that pass a test are kept.
 use Rattle.std.proofs.Common.{◌≡◌, ℕ, zero, suc, ◌<◌, Bool, true, false, cond, List, [], ◌∷◌, ◌++◌, map, refl, sym, ◌∙◌, ap, ap₂, arith}
 use Rattle.std.specs.List.{filter}
-use Rattle.std.proofs.lemmas.List.{map-append}
+use Rattle.std.proofs.lemmas.List.{map-append, append-nil}
 use Rattle.std.proofs.lemmas.List.Elements.{filter-append}
 use Rattle.osek_base.specs.Lists.{below}
 use Rattle.osek_base.specs.Agree.{kept, rank}
-use Rattle.partition_check.proofs.Ranks.{kept_more, append_none, rank_true, rank_false}
+use Rattle.partition_check.proofs.Ranks.{kept_more, rank_true, rank_false}
 
 -- what stands at a number, at its new number
 pub map_ranked : {X : Type 0} (f g : ℕ → X) (test : ℕ → Bool) (n : ℕ)
@@ -23,7 +23,7 @@ map_ranked {X} f g test (suc n) same = go (map_ranked f g test n (λ a h. same a
         ∙ ap (map f) (sym (kept_more test n ∙ ap (λ b. kept test n ++ cond b (n ∷ []) []) h))
     go so_far false h =
         ap (λ m. map g (below m)) (rank_false test n h) ∙ so_far
-        ∙ ap (map f) (sym (kept_more test n ∙ ap (λ b. kept test n ++ cond b (n ∷ []) []) h ∙ append_none (kept test n)))
+        ∙ ap (map f) (sym (kept_more test n ∙ ap (λ b. kept test n ++ cond b (n ∷ []) []) h ∙ append-nil (kept test n)))
 
 -- one number more, in a list that is filtered twice and renumbered
 abbrev pub renumbered_kept : (ℕ → Bool) → List ℕ → List ℕ
@@ -64,7 +64,7 @@ filter_ranked d d' test (suc n) same = go (filter_ranked d d' test n (λ a h. sa
     go so_far false h =
         ap (λ m. filter d' (below m)) (rank_false test n h)
         ∙ so_far
-        ∙ sym (append_none (renumbered_kept test (filter d (below n))))
+        ∙ sym (append-nil (renumbered_kept test (filter d (below n))))
         ∙ ap (λ ys. renumbered_kept test (filter d (below n)) ++ ys) (last_false h (d n))
         ∙ sym (renumbered_append test (filter d (below n)) (cond (d n) (n ∷ []) []))
         ∙ ap (renumbered_kept test) (sym right)

@@ -3,6 +3,7 @@ use Rattle.std.proofs.Common.{◌≡◌, ℕ, ◌<◌, Bool, true, false, cond, 
 use Rattle.std.specs.Prelude.{Option, Some, None, ◌==◌}
 use Rattle.std.specs.List.{list_any}
 use Rattle.osek_base.specs.declared.instr.Service.{Service}
+use Rattle.osek_base.specs.Types.{ServiceCall}
 use Rattle.osek_base.specs.declared.instr.Instr.{Instr}
 use Rattle.osek_base.specs.declared.status.Status.{Status}
 use Rattle.osek_base.specs.declared.status.TaskState.{TaskState}
@@ -25,7 +26,7 @@ use Rattle.partition_check.proofs.AlarmsUp.{expiry_up}
 use Rattle.partition_check.proofs.SharedUp.{word_up}
 
 -- a routine isn't told which task runs (IsUpperCall), and nobody is either
-abbrev pub IsTold : Caller → Service ℕ → Type 0
+abbrev pub IsTold : Caller → ServiceCall → Type 0
 IsTold NobodyCalls call = asks_task_id (Instr.Service call) ≡ false
 IsTold (JobCalls j) call = Unit {0}
 IsTold (RoutineCalls a) call = Unit {0}
@@ -67,7 +68,7 @@ module _ (S : System) (p : ℕ) (both : IsCounterpart S p) where
 
   -- ---- results
 
-  pub results_up : (s : State) (c : Caller) (call : Service ℕ) → IsUpperCaller S p s c → IsUpperCall S p c call → IsTold c call
+  pub results_up : (s : State) (c : Caller) (call : ServiceCall) → IsUpperCaller S p s c → IsUpperCall S p c call → IsTold c call
       → results (upper_core S p) (up S p s) (renumbered_service S p call) ≡ results S s call
   results_up s c (Service.ActivateTask o) upper named told = refl
   results_up s c Service.TerminateTask upper named told = refl
@@ -103,7 +104,7 @@ module _ (S : System) (p : ℕ) (both : IsCounterpart S p) where
       ap (λ (k : Counter). Results.Three k.max_allowed_value k.ticks_per_base k.min_cycle)
       (both.counters a named.known (upper_alarm_named S p a named.names))
 
-  pub results_told_up : (s : State) (c : Caller) (call : Service ℕ) (o : Option Status) → IsUpperCaller S p s c → IsUpperCall S p c call → IsTold c call
+  pub results_told_up : (s : State) (c : Caller) (call : ServiceCall) (o : Option Status) → IsUpperCaller S p s c → IsUpperCall S p c call → IsTold c call
       → results_told (upper_core S p) (up S p s) (renumbered_service S p call) o ≡ results_told S s call o
   results_told_up s c call None upper named told = results_up s c call upper named told
   results_told_up s c call (Some refusal) upper named told = refl

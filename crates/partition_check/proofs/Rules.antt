@@ -1,5 +1,5 @@
 -- The first denial, as the answers of the rules in turn.
-use Rattle.std.proofs.Common.{◌≡◌, ℕ, not, List, ◌++◌, map, length, ◌∙◌, ap}
+use Rattle.std.proofs.Common.{◌≡◌, ℕ, true, not, List, ◌++◌, map, length, ◌∙◌, ap}
 use Rattle.std.specs.List.{filter, flat_map}
 use Rattle.std.specs.Option.{option_or}
 use Rattle.osek_base.specs.declared.ids.Owner.{Owner}
@@ -8,7 +8,7 @@ use Rattle.osek_base.specs.System.{System, task}
 use Rattle.osek_base.specs.Upper.{is_upper_task}
 use Rattle.osek_base.specs.Separable.{Denial, is_full_schedule, lists_upper, lower_tasks, task_denial, broken_places, first_of_list, first_denial, names_scheduler, is_reserved, names_upper, names_lower, asks_task_id}
 use Rattle.partition_check.specs.declared.denial.Rule.TheVariants as rule
-use Rattle.partition_check.specs.Partition.{first_breaking, first_broken, is_not_full, lower_from, upper_from, routines_from}
+use Rattle.partition_check.specs.Partition.{first_breaking, first_broken, is_not_full, lower_from, tasks_from, routines_from}
 use Rattle.partition_check.proofs.Firsts.{first_of_eight}
 use Rattle.partition_check.proofs.Breaches.{upper_places_split}
 
@@ -16,7 +16,7 @@ pub rules_in_turn : (S : System) (p : ℕ) → first_denial S p
     ≡ option_or (option_or (option_or (option_or (option_or (option_or (option_or
     (first_breaking 1 (is_not_full S) (lower_from S p 0)) (first_breaking 2 (lists_upper S p) (lower_from S p 0)))
     (first_broken S p rule.NoScheduler (map Owner.Task (lower_from S p 0)))) (first_broken S p rule.NoControl (map Owner.Task (lower_from S p 0))))
-    (first_broken S p rule.LowerNames (map Owner.Task (lower_from S p 0)))) (first_broken S p rule.UpperNames (map Owner.Task (upper_from S p 0))))
+    (first_broken S p rule.LowerNames (map Owner.Task (lower_from S p 0)))) (first_broken S p rule.UpperNames (map Owner.Task (tasks_from S p true 0))))
     (first_broken S p rule.UpperNames (map Owner.Routine (routines_from S 0)))) (first_broken S p rule.NoTaskId (map Owner.Routine (routines_from S 0)))
 unfolding first_denial
 rules_in_turn S p =

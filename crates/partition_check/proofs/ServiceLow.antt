@@ -1,10 +1,11 @@
 -- What the lower part calls isn't seen from above.
-use Rattle.std.proofs.Common.{◌≡◌, ℕ, ◌+◌, ◌<◌, ◌≤◌, Bool, true, false, cond, ◌&&◌, List, [], ◌∷◌, map, take, set, length, refl, ◌∙◌, ap, eqb-true}
+use Rattle.std.proofs.Common.{◌≡◌, ℕ, ◌+◌, ◌<◌, ◌≤◌, true, false, ◌&&◌, List, [], ◌∷◌, map, take, set, length, refl, ◌∙◌, ap, eqb-true}
 use Rattle.std.proofs.lemmas.List.{take-set-le}
 use Rattle.std.specs.Prelude.{Option, Some, None, ◌==◌, slice_index, bit_or, bit_and, bit_xor}
 use Rattle.std.specs.List.{AllByRecursion}
 use Rattle.osek_base.specs.declared.ids.ResId.{ResId}
 use Rattle.osek_base.specs.declared.instr.Service.{Service}
+use Rattle.osek_base.specs.Types.{ServiceCall}
 use Rattle.osek_base.specs.declared.status.Status.{Status}
 use Rattle.osek_base.specs.Lists.{is_empty}
 use Rattle.osek_base.specs.System.{System, is_extended}
@@ -16,7 +17,7 @@ use Rattle.osek_base.specs.Upper.{is_upper_task, is_upper_alarm}
 use Rattle.osek_base.specs.Agree.{is_upper_declared, upper_resources, upper_alarms}
 use Rattle.partition_check.proofs.UpperState.{up, up_jobs, is_upper_id, is_upper_job, upper_count}
 use Rattle.partition_check.proofs.Shared.{IsCounterpart, IsLayered, IsLowerCaller, IsLowerCall}
-use Rattle.partition_check.proofs.ListsUp.{all_pass, all_weaken}
+use Rattle.partition_check.proofs.ListsUp.{cond_both, all_pass, all_weaken}
 use Rattle.partition_check.proofs.PriorityUp.{later_tasks}
 use Rattle.partition_check.proofs.JobsUp.{new_unseen, jobs_but_unseen, with_job_unseen, released_jobs_unseen}
 use Rattle.partition_check.proofs.AlarmsUp.{alarms_unseen}
@@ -45,13 +46,6 @@ module _ (S : System) (p : ℕ) where
         shared = b.shared ∙ a.shared;
       }
 
-  unseen_cond : (b : Bool) (s z e : State) → IsUnseen S p s z → IsUnseen S p s e → IsUnseen S p s (cond b z e)
-  unseen_cond true s z e x y = x
-  unseen_cond false s z e x y = y
-
-  unseen_jobs : (s : State) (jobs : List Job) → up_jobs S p jobs ≡ up_jobs S p s.jobs → IsUnseen S p s (record s { jobs = jobs })
-  unseen_jobs s jobs same = record { jobs = same; made = refl; masks = refl; alarms = refl; shared = refl }
-
   -- ---- changes of jobs
 
   ended_unseen : (n : JobId) (s : State) → is_upper_id S p n ≡ false → IsUnseen S p s (ended n s)
@@ -78,7 +72,7 @@ module _ (S : System) (p : ℕ) where
       → AllByRecursion (λ j. j.id.task ≡ t) jobs → IsUnseen S p s (released_by events jobs s)
   released_by_unseen events t [] s low all = unseen_refl s
   released_by_unseen events t (j ∷ js) s low all =
-      unseen_cond (is_met events j.waits_for) s (released j.id s) s
+      cond_both (IsUnseen S p s) (is_met events j.waits_for) (released j.id s) s
       (released_unseen j.id s (ap (is_upper_task S p) all.0 ∙ low)) (unseen_refl s)
 
   jobs_of_task : (t : ℕ) (jobs : List Job) → AllByRecursion (λ j. j.id.task ≡ t) (jobs_of t jobs)
@@ -95,18 +89,14 @@ module _ (S : System) (p : ℕ) where
 
   -- ---- activation
 
-  cond_same : {X : Type 0} (b : Bool) (xs ys : List X) (k : ℕ) → take k xs ≡ take k ys → take k (cond b xs ys) ≡ take k ys
-  cond_same true xs ys k e = e
-  cond_same false xs ys k e = refl
-
   pub activated_unseen : (t : ℕ) (s : State) → upper_count S p ≤ t → is_upper_task S p t ≡ false → IsUnseen S p s (activated S t s)
   unfolding activated
   activated_unseen t s later low =
       record {
         jobs = new_unseen S p (record { task = t; serial = slice_index s.made t }) s.jobs low;
         made = take-set-le (upper_count S p) s.made t (slice_index s.made t + 1) later;
-        masks = cond_same (is_extended S t && is_empty (jobs_of t s.jobs)) (set s.masks t 0) s.masks (upper_count S p)
-            (take-set-le (upper_count S p) s.masks t 0 later);
+        masks = cond_both (λ (ns : List ℕ). take (upper_count S p) ns ≡ take (upper_count S p) s.masks) (is_extended S t && is_empty (jobs_of t s.jobs)) (set s.masks t 0) s.masks
+            (take-set-le (upper_count S p) s.masks t 0 later) refl;
         alarms = refl;
         shared = refl;
       }
@@ -122,7 +112,7 @@ module _ (S : System) (p : ℕ) where
 
   -- ---- the state
 
-  reply_unseen : (s : State) (c : Caller) (call : Service ℕ) (o : Option Status)
+  reply_unseen : (s : State) (c : Caller) (call : ServiceCall) (o : Option Status)
       → IsUnseen S p s (changed S c s call o) → up S p (reply_to S c s call o).state ≡ up S p s
   reply_unseen s c call o unseen =
       λ i. record (up S p s) {
@@ -133,22 +123,22 @@ module _ (S : System) (p : ℕ) where
         shared = unseen.shared i;
       }
 
-  unless_refused : (s : State) (c : Caller) (call : Service ℕ) (o : Option Status) → IsUnseen S p s (effect S c s call) → IsUnseen S p s (changed S c s call o)
+  unless_refused : (s : State) (c : Caller) (call : ServiceCall) (o : Option Status) → IsUnseen S p s (effect S c s call) → IsUnseen S p s (changed S c s call o)
   unless_refused s c call None unseen = unseen
   unless_refused s c call (Some refusal) unseen = unseen_refl s
 
-  service_by_effect : (s : State) (c : Caller) (call : Service ℕ) → IsUnseen S p s (effect S c s call) → up S p (service S c s call).state ≡ up S p s
+  service_by_effect : (s : State) (c : Caller) (call : ServiceCall) → IsUnseen S p s (effect S c s call) → up S p (service S c s call).state ≡ up S p s
   unfolding service
   service_by_effect s c call unseen = reply_unseen s c call _ (unless_refused s c call _ unseen)
 
-  unmasked_by_effect : (s : State) (c : Caller) (call : Service ℕ) → IsUnseen S p s (effect S c s call) → up S p (unmasked_service S c s call).state ≡ up S p s
+  unmasked_by_effect : (s : State) (c : Caller) (call : ServiceCall) → IsUnseen S p s (effect S c s call) → up S p (unmasked_service S c s call).state ≡ up S p s
   unfolding unmasked_service
   unmasked_by_effect s c call unseen = reply_unseen s c call _ (unless_refused s c call _ unseen)
 
 module _ (S : System) (p : ℕ) (both : IsCounterpart S p) where
   -- ---- a lower job's call
 
-  effect_unseen : (s : State) (j : Job) (call : Service ℕ) → IsLowerCaller S p (JobCalls j) → IsLowerCall S p call
+  effect_unseen : (s : State) (j : Job) (call : ServiceCall) → IsLowerCaller S p (JobCalls j) → IsLowerCall S p call
       → IsUnseen S p s (effect S (JobCalls j) s call)
   effect_unseen s j (Service.ActivateTask None) lower named = unseen_refl S p s
   effect_unseen s j (Service.ActivateTask (Some t)) lower named =
@@ -159,7 +149,7 @@ module _ (S : System) (p : ℕ) (both : IsCounterpart S p) where
       unseen_trans S p s (ended j.id s) (activated S t (ended j.id s)) (ended_unseen S p j.id s lower.1)
       (activated_unseen S p t (ended j.id s) (later_tasks S p both t named.known named.names) named.names)
   effect_unseen s j Service.Schedule lower named =
-      unseen_cond S p (is_outranked S (JobCalls j) s.jobs) s (with_caller (JobCalls j) given_up s) s
+      cond_both (IsUnseen S p s) (is_outranked S (JobCalls j) s.jobs) (with_caller (JobCalls j) given_up s) s
       (with_caller_unseen S p j given_up s lower.1 (λ k. refl)) (unseen_refl S p s)
   effect_unseen s j Service.GetTaskId lower named = unseen_refl S p s
   effect_unseen s j (Service.GetTaskState o) lower named = unseen_refl S p s
@@ -179,7 +169,7 @@ module _ (S : System) (p : ℕ) (both : IsCounterpart S p) where
       (later_tasks S p both j.id.task lower.0.task lower.1)
   effect_unseen s j (Service.GetEvent o) lower named = unseen_refl S p s
   effect_unseen s j (Service.WaitEvent m) lower named =
-      unseen_cond S p (meets m (slice_index s.masks j.id.task)) s s (with_caller (JobCalls j) (waiting_for m) s) (unseen_refl S p s)
+      cond_both (IsUnseen S p s) (meets m (slice_index s.masks j.id.task)) s (with_caller (JobCalls j) (waiting_for m) s) (unseen_refl S p s)
       (with_caller_unseen S p j (waiting_for m) s lower.1 (λ k. refl))
   effect_unseen s j (Service.SetRelAlarm None x y) lower named = unseen_refl S p s
   effect_unseen s j (Service.SetRelAlarm (Some a) x y) lower named = with_alarm_unseen S p s a _ named.names
@@ -191,7 +181,7 @@ module _ (S : System) (p : ℕ) (both : IsCounterpart S p) where
   effect_unseen s j (Service.GetAlarmBase o) lower named = unseen_refl S p s
 
   -- what a lower job calls isn't seen
-  pub service_unseen : (s : State) (c : Caller) (call : Service ℕ) → IsLowerCaller S p c → IsLowerCall S p call
+  pub service_unseen : (s : State) (c : Caller) (call : ServiceCall) → IsLowerCaller S p c → IsLowerCall S p call
       → up S p (service S c s call).state ≡ up S p s
   service_unseen s (JobCalls j) call lower named = service_by_effect S p s (JobCalls j) call (effect_unseen s j call lower named)
   service_unseen s (RoutineCalls a) call lower named = absurd lower

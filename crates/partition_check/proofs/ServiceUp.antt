@@ -1,7 +1,7 @@
 -- A service called by the upper part is the upper core's service: one status, one answer, and the state seen from above.
 use Rattle.std.proofs.Common.{◌≡◌, ℕ, ◌∙◌, ap}
 use Rattle.std.specs.Prelude.{Option, ◌∷◌}
-use Rattle.osek_base.specs.declared.instr.Service.{Service}
+use Rattle.osek_base.specs.Types.{ServiceCall}
 use Rattle.osek_base.specs.declared.status.Status.{Status}
 use Rattle.osek_base.specs.System.{System}
 use Rattle.osek_base.specs.State.{State, interrupts_off}
@@ -13,7 +13,7 @@ use Rattle.partition_check.proofs.RefusalsUp.{refusals_up}
 use Rattle.partition_check.proofs.ResultsUp.{IsTold, results_told_up}
 use Rattle.partition_check.proofs.EffectsUp.{changed_up}
 
-module _ (S : System) (p : ℕ) (both : IsCounterpart S p) (below : IsLow S p) (s : State) (c : Caller) (call : Service ℕ)
+module _ (S : System) (p : ℕ) (both : IsCounterpart S p) (below : IsLow S p) (s : State) (c : Caller) (call : ServiceCall)
     (layered : IsLayered S p s) (upper : IsUpperCaller S p s c) (named : IsUpperCall S p c call) (told : IsTold c call) where
   -- with one refusal, or none, in both
   reply_up : (o o' : Option Status) → o' ≡ o

@@ -5,7 +5,7 @@ use Rattle.std.specs.List.{AllByRecursion}
 use Rattle.osek_base.specs.declared.limits.TheConstants.{MAX_TASKS}
 use Rattle.osek_base.specs.declared.ids.ResId.{ResId}
 use Rattle.osek_base.specs.declared.ids.Owner.{Owner}
-use Rattle.osek_base.specs.declared.instr.Service.{Service}
+use Rattle.osek_base.specs.Types.{ServiceCall}
 use Rattle.osek_base.specs.declared.instr.Instr.{Instr}
 use Rattle.osek_base.specs.declared.trace_event.TraceEvent.{TraceEvent}
 use Rattle.osek_base.specs.Lists.{same_resource}
@@ -141,13 +141,13 @@ IsKnownObject S (Some (TheResource r)) = IsKnownResource S r
 IsKnownObject S (Some (TheAlarm a)) = a < length S.alarms
 
 -- a call by the upper part: it names nothing lower, and a routine doesn't ask which task runs
-pub record IsUpperCall (S : System) (p : ℕ) (c : Caller) (call : Service ℕ) : Type 0 where
+pub record IsUpperCall (S : System) (p : ℕ) (c : Caller) (call : ServiceCall) : Type 0 where
   pub known : IsKnownObject S (service_names call)
   pub names : names_lower S p (Instr.Service call) ≡ false
   pub by_routine : (a : _) → c ≡ RoutineCalls a → asks_task_id (Instr.Service call) ≡ false
 
 -- a call by the lower part: it names nothing upper
-pub record IsLowerCall (S : System) (p : ℕ) (call : Service ℕ) : Type 0 where
+pub record IsLowerCall (S : System) (p : ℕ) (call : ServiceCall) : Type 0 where
   pub known : IsKnownObject S (service_names call)
   pub names : names_upper S p (Instr.Service call) ≡ false
   pub no_scheduler : names_scheduler (Instr.Service call) ≡ false

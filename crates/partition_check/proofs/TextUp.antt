@@ -5,6 +5,7 @@ use Rattle.std.specs.List.{cons_option}
 use Rattle.osek_base.specs.declared.ids.ResId.{ResId}
 use Rattle.osek_base.specs.declared.ids.Owner.{Owner}
 use Rattle.osek_base.specs.declared.instr.Service.{Service}
+use Rattle.osek_base.specs.Types.{ServiceCall}
 use Rattle.osek_base.specs.declared.instr.Instr.{Instr}
 use Rattle.osek_base.specs.declared.status.Status.{Status}
 use Rattle.osek_base.specs.declared.trace_event.Outcome.{Outcome}
@@ -16,7 +17,7 @@ use Rattle.osek_base.specs.Upper.{is_upper_owner, named_object}
 use Rattle.osek_base.specs.Separable.{names_lower}
 use Rattle.osek_base.specs.Agree.{renumbered, renumbered_service, renumbered_operand, renumbered_alarm, upper_core}
 use Rattle.osek_base.specs.Tick.{error_record, status_number}
-use Rattle.osek_base.specs.Text.{line, task_text, resource_text, alarm_text, register_text, mask_text, written, service_text, instruction_text, outcome_text}
+use Rattle.osek_base.specs.Text.{line, task_text, resource_text, alarm_text, register_text, mask_text, written, instruction_text, outcome_text}
 use Rattle.partition_check.proofs.PriorityUp.{first_tasks}
 use Rattle.partition_check.proofs.RefusalsUp.{upper_task_named, upper_alarm_named, visible_named}
 use Rattle.partition_check.proofs.Dispatch.{still_upper, lines_none, lines_one, lines_hidden, hooked_one, hooked_hidden}
@@ -53,8 +54,8 @@ module _ (S : System) (p : ℕ) (both : IsCounterpart S p) where
 
   -- ---- instructions
 
-  service_same : (call : Service ℕ) → IsUpperInstr S p (Instr.Service call)
-      → service_text (upper_core S p).names (renumbered_service S p call) ≡ service_text S.names call
+  service_same : (call : ServiceCall) → IsUpperInstr S p (Instr.Service call)
+      → instruction_text (upper_core S p).names (Instr.Service (renumbered_service S p call)) ≡ instruction_text S.names (Instr.Service call)
   service_same (Service.ActivateTask t) upper = ap (λ (x : List ℕ). written (codes "ACT") (x ∷ [])) (task_same t (record { known = upper.known; names = upper.names }))
   service_same Service.TerminateTask upper = refl
   service_same (Service.ChainTask t) upper = ap (λ (x : List ℕ). written (codes "CHAIN") (x ∷ [])) (task_same t (record { known = upper.known; names = upper.names }))

@@ -155,10 +155,6 @@ module _ (S : System) (p : ℕ) (both : IsCounterpart S p) (low : IsLow S p) (pr
       (all_weaken is_there (λ r. theirs (new r) ≡ shared_window s.shared r) (upper_standard S p)
       (λ r known. window_up S p both s r known.0 known.1) standard_there))
 
-  pub tick_number : (A : System) (arrived : List ℕ) (s : State) → (tick A arrived s).number ≡ s.tick
-  unfolding tick
-  tick_number A arrived s = refl
-
   pub tick_sight : (arrived : List ℕ) (s : State) → IsLayered S p s → (mine theirs : List TraceEvent) → SameLines S p mine theirs
       → sight S p (with_earlier mine (tick S arrived s)) ≡ sight (upper_core S p) p (with_earlier theirs (tick (upper_core S p) arrived (up S p s)))
   unfolding tick

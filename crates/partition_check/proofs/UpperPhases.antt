@@ -5,14 +5,9 @@ use Rattle.std.specs.Prelude.{Option, Some, None, slice_index_or}
 use Rattle.osek_base.specs.Lists.{below, foremost}
 use Rattle.osek_base.specs.System.{System, Routine, no_routine}
 use Rattle.osek_base.specs.State.{State, may_dispatch}
-use Rattle.osek_base.specs.Tick.{arrival_phase, start_phase, routine_choice, routine_started, is_pending, with_start_of}
+use Rattle.osek_base.specs.Tick.{start_phase, routine_choice, routine_started, is_pending, with_start_of}
 use Rattle.osek_base.specs.Agree.{upper_core, upper_routine}
 use Rattle.partition_check.proofs.UpperState.{up}
-
--- flags are the same above
-pub arrival_up : (S : System) (p : ℕ) (arrived : List ℕ) (s : State)
-    → up S p (arrival_phase arrived s) ≡ arrival_phase arrived (up S p s)
-arrival_up S p arrived s = refl
 
 -- the priority of a routine is kept
 priority_at : (S : System) (p : ℕ) (all : List Routine) (i : ℕ)

@@ -8,14 +8,11 @@ use Rattle.osek_base.specs.System.{System}
 use Rattle.osek_base.specs.State.{Words, with_word}
 use Rattle.osek_base.specs.Upper.{is_upper_task, is_upper_owner}
 use Rattle.partition_check.proofs.UpperState.{up_word}
+use Rattle.partition_check.proofs.ListsUp.{differ}
 
 -- the words of upper windows, others read as 0
 abbrev pub up_words : System → ℕ → Words → Words
 up_words S p words = λ owner index. up_word (is_upper_owner S p owner) (words owner index)
-
--- numbers that a test tells apart differ
-differ : (f : ℕ → Bool) (a b : ℕ) → f a ≡ true → f b ≡ false → (a == b) ≡ false
-differ f a b h k = grind arith
 
 -- an upper owner is none that is lower
 other_owner : (S : System) (p : ℕ) (owner who : Owner) → is_upper_owner S p owner ≡ true → is_upper_owner S p who ≡ false

@@ -5,6 +5,7 @@ use Rattle.std.specs.List.{list_all}
 use Rattle.osek_base.specs.declared.ids.ResId.{ResId}
 use Rattle.osek_base.specs.declared.ids.Owner.{Owner}
 use Rattle.osek_base.specs.declared.instr.Service.{Service}
+use Rattle.osek_base.specs.Types.{ServiceCall}
 use Rattle.osek_base.specs.declared.instr.Instr.{Instr}
 use Rattle.osek_base.specs.declared.task.Property.{Property}
 use Rattle.osek_base.specs.Lists.{below}
@@ -15,13 +16,14 @@ use Rattle.osek_base.specs.Upper.{Object, TheTask, TheResource, TheAlarm, is_upp
 use Rattle.osek_base.specs.Agree.{kept, rank, is_upper_declared, renumbered, renumbered_service, upper_task, upper_routine, upper_part}
 use Rattle.osek_base.specs.Proper.{IsProper, is_proper_service, is_proper_instruction, is_proper_task, is_proper_routine}
 use Rattle.osek_base.specs.Separable.{Separable, IsLowerTask, IsOwner, NoInstruction, asks_task_id, names_lower, passes_named, is_scheduler_object}
-use Rattle.partition_check.proofs.Falling.{and_split, all_at, by_number, map_below}
-use Rattle.partition_check.proofs.Ranks.{clash}
+use Rattle.partition_check.proofs.Falling.{all_at, by_number, map_below}
+use Rattle.partition_check.proofs.Ranks.{clash, all_kept}
 use Rattle.partition_check.proofs.Shared.{IsKnownObject}
 use Rattle.partition_check.proofs.ProgramFacts.{instruction_known, all_get}
 use Rattle.partition_check.proofs.CoreFacts.{true_lt, each_task}
-use Rattle.partition_check.proofs.Picked.{all_kept, all_rank}
+use Rattle.partition_check.proofs.Picked.{all_rank}
 use Rattle.partition_check.proofs.PartProper.{equal_length}
+use Rattle.std.proofs.lemmas.Bool.{and_parts}
 
 -- everything is upper
 pub record IsWhole (S : System) (p : ℕ) : Type 0 where
@@ -59,7 +61,7 @@ module _ (S : System) (p : ℕ) (proper : IsProper S) (whole : IsWhole S p) wher
   same_alarm_number a h =
       all_rank (is_upper_alarm S p) (length S.alarms) a whole.alarms (omega (arith, true_lt a (length S.alarms) h))
 
-  service_same : (call : Service ℕ) → is_proper_service S call ≡ true → renumbered_service S p call ≡ call
+  service_same : (call : ServiceCall) → is_proper_service S call ≡ true → renumbered_service S p call ≡ call
   service_same (Service.ActivateTask t) h = refl
   service_same Service.TerminateTask h = refl
   service_same (Service.ChainTask t) h = refl
@@ -68,20 +70,20 @@ module _ (S : System) (p : ℕ) (proper : IsProper S) (whole : IsWhole S p) wher
   service_same (Service.GetTaskState t) h = refl
   service_same (Service.GetResource None) h = refl
   service_same (Service.GetResource (Some (ResId.Declared r))) h =
-      ap (λ n. Service.GetResource (Some (ResId.Declared n))) (same_resource_number r (and_split _ _ h).0)
+      ap (λ n. Service.GetResource (Some (ResId.Declared n))) (same_resource_number r (and_parts _ _ h).0)
   service_same (Service.GetResource (Some ResId.Scheduler)) h = refl
   service_same (Service.ReleaseResource None) h = refl
   service_same (Service.ReleaseResource (Some (ResId.Declared r))) h =
-      ap (λ n. Service.ReleaseResource (Some (ResId.Declared n))) (same_resource_number r (and_split _ _ h).0)
+      ap (λ n. Service.ReleaseResource (Some (ResId.Declared n))) (same_resource_number r (and_parts _ _ h).0)
   service_same (Service.ReleaseResource (Some ResId.Scheduler)) h = refl
   service_same (Service.LoadShared None x) h = refl
   service_same (Service.LoadShared (Some (ResId.Declared r)) x) h =
-      ap (λ n. Service.LoadShared (Some (ResId.Declared n)) x) (same_resource_number r (and_split _ _ (and_split _ _ h).0).0)
+      ap (λ n. Service.LoadShared (Some (ResId.Declared n)) x) (same_resource_number r (and_parts _ _ (and_parts _ _ h).0).0)
   service_same (Service.LoadShared (Some ResId.Scheduler) x) h = refl
   service_same (Service.StoreShared None x y) h = refl
   service_same (Service.StoreShared (Some (ResId.Declared r)) x y) h =
       ap (λ n. Service.StoreShared (Some (ResId.Declared n)) x y)
-      (same_resource_number r (and_split _ _ (and_split _ _ (and_split _ _ h).0).0).0)
+      (same_resource_number r (and_parts _ _ (and_parts _ _ (and_parts _ _ h).0).0).0)
   service_same (Service.StoreShared (Some ResId.Scheduler) x y) h = refl
   service_same (Service.SetEvent t m) h = refl
   service_same (Service.ClearEvent m) h = refl
@@ -89,10 +91,10 @@ module _ (S : System) (p : ℕ) (proper : IsProper S) (whole : IsWhole S p) wher
   service_same (Service.WaitEvent m) h = refl
   service_same (Service.SetRelAlarm None x y) h = refl
   service_same (Service.SetRelAlarm (Some a) x y) h =
-      ap (λ n. Service.SetRelAlarm (Some n) x y) (same_alarm_number a (and_split _ _ (and_split _ _ h).0).0)
+      ap (λ n. Service.SetRelAlarm (Some n) x y) (same_alarm_number a (and_parts _ _ (and_parts _ _ h).0).0)
   service_same (Service.SetAbsAlarm None x y) h = refl
   service_same (Service.SetAbsAlarm (Some a) x y) h =
-      ap (λ n. Service.SetAbsAlarm (Some n) x y) (same_alarm_number a (and_split _ _ (and_split _ _ h).0).0)
+      ap (λ n. Service.SetAbsAlarm (Some n) x y) (same_alarm_number a (and_parts _ _ (and_parts _ _ h).0).0)
   service_same (Service.CancelAlarm None) h = refl
   service_same (Service.CancelAlarm (Some a)) h = ap (λ n. Service.CancelAlarm (Some n)) (same_alarm_number a h)
   service_same (Service.GetAlarm None) h = refl
@@ -108,13 +110,13 @@ module _ (S : System) (p : ℕ) (proper : IsProper S) (whole : IsWhole S p) wher
   program_same : (in_routine : Bool) (size : ℕ) (xs : List Instr) → list_all (is_proper_instruction S in_routine size) xs ≡ true → map (renumbered S p) xs ≡ xs
   program_same in_routine size [] h = refl
   program_same in_routine size (x ∷ xs) h =
-      let both = and_split (is_proper_instruction S in_routine size x) (list_all (is_proper_instruction S in_routine size) xs) h in
+      let both = and_parts (is_proper_instruction S in_routine size x) (list_all (is_proper_instruction S in_routine size) xs) h in
       ap₂ (λ y ys. y ∷ ys) (instr_same in_routine size x both.0) (program_same in_routine size xs both.1)
 
   numbers_same : (ns : List ℕ) → list_all (λ r. nat_lt r (length S.resources)) ns ≡ true → map (rank (is_upper_declared S p)) ns ≡ ns
   numbers_same [] h = refl
   numbers_same (n ∷ ns) h =
-      let both = and_split (nat_lt n (length S.resources)) (list_all (λ r. nat_lt r (length S.resources)) ns) h in
+      let both = and_parts (nat_lt n (length S.resources)) (list_all (λ r. nat_lt r (length S.resources)) ns) h in
       ap₂ (λ y ys. y ∷ ys) (same_resource_number n both.0) (numbers_same ns both.1)
 
   -- ---- objects stay as they are
@@ -127,18 +129,18 @@ module _ (S : System) (p : ℕ) (proper : IsProper S) (whole : IsWhole S p) wher
   task_same : (t : ℕ) → t < length S.tasks → upper_task S p t ≡ task S t
   task_same t inside =
       let here : is_proper_task S (task S t) ≡ true = all_at (is_proper_task S) S.tasks t no_task (each_task S p proper) inside in
-      let both = and_split _ _ here in
-      let resources = (and_split _ _ both.0).1 in
-      let program = and_split _ _ (and_split _ _ both.1).0 in
+      let both = and_parts _ _ here in
+      let resources = (and_parts _ _ both.0).1 in
+      let program = and_parts _ _ (and_parts _ _ both.1).0 in
       record_same (task S t) (map (rank (is_upper_declared S p)) (task S t).resources) (map (renumbered S p) (task S t).program)
-      (numbers_same (task S t).resources (and_split _ _ (and_split _ _ resources).0).0)
+      (numbers_same (task S t).resources (and_parts _ _ (and_parts _ _ resources).0).0)
       (program_same false (length (task S t).program) (task S t).program program.0)
 
   routines_same : (all : List Routine) → list_all (is_proper_routine S) all ≡ true → map (upper_routine S p) all ≡ all
   routines_same [] h = refl
   routines_same (a ∷ all) h =
-      let both = and_split (is_proper_routine S a) (list_all (is_proper_routine S) all) h in
-      let program = and_split _ _ (and_split _ _ (and_split _ _ both.0).1).0 in
+      let both = and_parts (is_proper_routine S a) (list_all (is_proper_routine S) all) h in
+      let program = and_parts _ _ (and_parts _ _ (and_parts _ _ both.0).1).0 in
       ap₂ (λ (b : Routine) (bs : List Routine). b ∷ bs)
       (ap (λ x. record a { program = x }) (program_same true (length a.program) a.program program.0))
       (routines_same all both.1)
@@ -156,11 +158,11 @@ module _ (S : System) (p : ℕ) (proper : IsProper S) (whole : IsWhole S p) wher
 
   pub whole_part : upper_part S p ≡ S
   whole_part =
-      let named_alarms = and_split _ _ proper.named in
-      let named_events = and_split _ _ named_alarms.0 in
-      let named_resources = and_split _ _ named_events.0 in
-      let named_routines = and_split _ _ named_resources.0 in
-      let routines = (and_split _ _ (and_split _ _ (and_split _ _ (and_split _ _ proper.objects).0).0).0).1 in
+      let named_alarms = and_parts _ _ proper.named in
+      let named_events = and_parts _ _ named_alarms.0 in
+      let named_resources = and_parts _ _ named_events.0 in
+      let named_routines = and_parts _ _ named_resources.0 in
+      let routines = (and_parts _ _ (and_parts _ _ (and_parts _ _ (and_parts _ _ proper.objects).0).0).0).1 in
       same_system S (upper_part S p).names (upper_part S p).tasks (upper_part S p).routines (upper_part S p).resources (upper_part S p).alarms
       (same_names S.names (upper_part S p).names.tasks (upper_part S p).names.resources (upper_part S p).names.alarms
       (names_same S.names.tasks (is_upper_task S p) (length S.tasks) (equal_length _ _ named_routines.0) whole.tasks)
@@ -184,18 +186,18 @@ named_upper S p whole (Some (TheAlarm a)) h = ap not (whole.alarms a h)
 
 module _ (S : System) (p : ℕ) (proper : IsProper S) (whole : IsWhole S p) where
   each_routine_of : list_all (is_proper_routine S) S.routines ≡ true
-  each_routine_of = (and_split _ _ (and_split _ _ (and_split _ _ (and_split _ _ proper.objects).0).0).0).1
+  each_routine_of = (and_parts _ _ (and_parts _ _ (and_parts _ _ (and_parts _ _ proper.objects).0).0).0).1
 
   owner_names : (owner : Owner) → IsOwner S owner → (place : ℕ) (x : Instr) → slice_get (program S owner) place ≡ Some x → names_lower S p x ≡ false
   owner_names (Owner.Task t) inside place x e =
       let here : is_proper_task S (task S t) ≡ true = all_at (is_proper_task S) S.tasks t no_task (each_task S p proper) inside in
-      let body = and_split _ _ (and_split _ _ (and_split _ _ here).1).0 in
+      let body = and_parts _ _ (and_parts _ _ (and_parts _ _ here).1).0 in
       named_upper S p whole (named_object x)
       (instruction_known S false (length (task S t).program) x
       (all_get (is_proper_instruction S false (length (task S t).program)) (task S t).program place x body.0 e))
   owner_names (Owner.Routine i) inside place x e =
       let here : is_proper_routine S (routine S i) ≡ true = all_at (is_proper_routine S) S.routines i no_routine each_routine_of inside in
-      let body = and_split _ _ (and_split _ _ (and_split _ _ here).1).0 in
+      let body = and_parts _ _ (and_parts _ _ (and_parts _ _ here).1).0 in
       named_upper S p whole (named_object x)
       (instruction_known S true (length (routine S i).program) x
       (all_get (is_proper_instruction S true (length (routine S i).program)) (routine S i).program place x body.0 e))

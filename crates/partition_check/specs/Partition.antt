@@ -37,12 +37,17 @@ forbids S p rule.LowerNames = names_upper S p
 forbids S p rule.UpperNames = names_lower S p
 forbids S p rule.NoTaskId = asks_task_id
 
--- the tasks below p, and those of p and more, from a number on; the routines from a number on
-abbrev pub lower_from : System → ℕ → ℕ → List ℕ
-lower_from S p number = filter (λ t. not (is_upper_task S p t)) (drop number (below (length S.tasks)))
+-- whether a task is of p and more, or below p
+abbrev pub is_of_part : System → ℕ → Bool → ℕ → Bool
+is_of_part S p Bool.true t = is_upper_task S p t
+is_of_part S p Bool.false t = not (is_upper_task S p t)
 
-abbrev pub upper_from : System → ℕ → ℕ → List ℕ
-upper_from S p number = filter (is_upper_task S p) (drop number (below (length S.tasks)))
+-- the tasks of p and more, or those below p, from a number on; the routines from a number on
+abbrev pub tasks_from : System → ℕ → Bool → ℕ → List ℕ
+tasks_from S p is_upper number = filter (is_of_part S p is_upper) (drop number (below (length S.tasks)))
+
+abbrev pub lower_from : System → ℕ → ℕ → List ℕ
+lower_from S p number = tasks_from S p Bool.false number
 
 abbrev pub routines_from : System → ℕ → List ℕ
 routines_from S number = drop number (below (length S.routines))

@@ -7,7 +7,7 @@ ghost use Rattle.osek_base.specs.Separable.{Separable, IsOwner, first_denial};
 ghost use Rattle.partition_check.specs.Partition.{told, denied};
 
 use crate::denial::{Denial, Rule};
-use crate::programs::{first_in_lower, first_in_routines, first_in_upper};
+use crate::programs::{first_in_routines, first_in_tasks};
 use crate::tasks::{first_listing, first_not_full};
 use osek_base::System;
 
@@ -39,10 +39,10 @@ fn first_denial(system: &System, p: u8) -> Option<Denial>
 {
     first_not_full(system, p, 0)
         .or(first_listing(system, p, 0))
-        .or(first_in_lower(system, p, Rule::NoScheduler, 0))
-        .or(first_in_lower(system, p, Rule::NoControl, 0))
-        .or(first_in_lower(system, p, Rule::LowerNames, 0))
-        .or(first_in_upper(system, p, Rule::UpperNames, 0))
+        .or(first_in_tasks(system, p, false, Rule::NoScheduler, 0))
+        .or(first_in_tasks(system, p, false, Rule::NoControl, 0))
+        .or(first_in_tasks(system, p, false, Rule::LowerNames, 0))
+        .or(first_in_tasks(system, p, true, Rule::UpperNames, 0))
         .or(first_in_routines(system, p, Rule::UpperNames, 0))
         .or(first_in_routines(system, p, Rule::NoTaskId, 0))
 }

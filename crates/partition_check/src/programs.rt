@@ -4,7 +4,7 @@ ghost use Rattle.std.specs.Prelude.{◌≡◌, ◌<◌, Some, None, IfSome, if�
 ghost use Rattle.osek_base.specs.declared.ids.Owner.{Owner};
 ghost use Rattle.osek_base.specs.System.{program, instruction_at};
 ghost use Rattle.osek_base.specs.Separable.{IsOwner};
-ghost use Rattle.partition_check.specs.Partition.{rule_number, forbids, lower_from, upper_from, routines_from, first_place, first_broken, denial_of, told};
+ghost use Rattle.partition_check.specs.Partition.{rule_number, forbids, is_of_part, tasks_from, routines_from, first_place, first_broken, denial_of, told};
 
 use crate::denial::{Denial, Rule};
 use crate::instructions::forbids;
@@ -66,33 +66,39 @@ fn first_in_task(
     first_in_program(system, p, rule, &Owner::Task(task), 0)
 }
 
-/// The first task below p, of those from a number on, whose program breaks a rule, with the first place.
-pub(crate) fn first_in_lower(system: &System, p: u8, rule: Rule, number: usize) -> Option<Denial>
-    ensures first { told result ≡ first_broken system.now p rule (map Owner.Task (lower_from system.now p number)) }
+/// Whether a task is of the upper part, or of the lower one.
+fn is_of_part(system: &System, p: u8, is_upper: bool, task: TaskId) -> bool
+    ensures { result ≡ is_of_part system.now p is_upper task }
+{
+    if is_upper {
+        is_upper_task(system, p, task)
+    } else {
+        !is_upper_task(system, p, task)
+    }
+}
+
+/// The first task of the upper part, or of the lower one, of those from a number on, whose program breaks a rule, with the first
+/// place.
+pub(crate) fn first_in_tasks(
+    system: &System,
+    p: u8,
+    is_upper: bool,
+    rule: Rule,
+    number: usize,
+) -> Option<Denial>
+    ensures first { told result ≡ first_broken system.now p rule (map Owner.Task (tasks_from system.now p is_upper number)) }
     ensures subject { IfSome result (λ d. IsOwner system.now d.subject) }
 {
     if number >= system.task_count() {
         return None;
     }
     let task = TaskId::new(number as u8);
-    let is_lower = !is_upper_task(system, p, task);
-    first_in_task(system, p, rule, is_lower, task).or(first_in_lower(system, p, rule, number + 1))
+    let is_subject = is_of_part(system, p, is_upper, task);
+    let first = first_in_task(system, p, rule, is_subject, task);
+    first.or(first_in_tasks(system, p, is_upper, rule, number + 1))
 }
 
-/// The same of tasks of priority p or more.
-pub(crate) fn first_in_upper(system: &System, p: u8, rule: Rule, number: usize) -> Option<Denial>
-    ensures first { told result ≡ first_broken system.now p rule (map Owner.Task (upper_from system.now p number)) }
-    ensures subject { IfSome result (λ d. IsOwner system.now d.subject) }
-{
-    if number >= system.task_count() {
-        return None;
-    }
-    let task = TaskId::new(number as u8);
-    let is_upper = is_upper_task(system, p, task);
-    first_in_task(system, p, rule, is_upper, task).or(first_in_upper(system, p, rule, number + 1))
-}
-
-/// The same of routines.
+/// The first routine, of those from a number on, whose program breaks a rule, with the first place.
 pub(crate) fn first_in_routines(system: &System, p: u8, rule: Rule, number: usize) -> Option<Denial>
     ensures first { told result ≡ first_broken system.now p rule (map Owner.Routine (routines_from system.now number)) }
     ensures subject { IfSome result (λ d. IsOwner system.now d.subject) }

@@ -34,14 +34,6 @@ by_level-below q l low = at_below LEVELS l q low
 pub by_level-past : (q : Queues) (l : ℕ) → LEVELS ≤ l → by_level (level_lists q) l ≡ []
 by_level-past q l high = let long = length-lists LEVELS q in get_or_past (level_lists q) l [] (omega arith)
 
--- the lists of queues that are equal at each level are equal
-pub by_level-equal : (p q : Queues) → ((k : ℕ) → k < LEVELS → p k ≡ q k) → (k : ℕ)
-    → by_level (level_lists p) k ≡ by_level (level_lists q) k
-by_level-equal p q same k = elim (cases_lt k LEVELS) [
-  | inl low ↦ by_level-below p k low ∙ same k low ∙ sym (by_level-below q k low)
-  | inr high ↦ by_level-past p k high ∙ sym (by_level-past q k high)
-]
-
 -- a write to the queues is a write to the list
 pub by_level-with_level : (l : ℕ) (xs : List ℕ) (q : Queues) → l < LEVELS
     → by_level (level_lists (with_level l xs q)) ≡ with_level l xs (by_level (level_lists q))

@@ -2,16 +2,13 @@
 -- of the trait does to that list. `is` comes from the caller's own view.
 use Rattle.std.proofs.Common.{◌≡◌, ℕ, ◌<◌, ◌≤◌, Some, List, [], ap, sym, ◌∙◌}
 use Rattle.ready_queues.specs.declared.ready_queues.TheConstants.{LEVELS}
-use Rattle.ready_queues.specs.Queues.{Queues, total, top_level, first_task, with_newest, with_oldest, without_first}
+use Rattle.ready_queues.specs.Queues.{Queues, top_level, first_task, with_newest, with_oldest, without_first}
 use Rattle.ready_queues.specs.LevelLists.{level_lists, by_level}
 use Rattle.ready_queues.specs.Moves.{put_last, put_first, first, without_first_at_level, highest}
-use Rattle.ready_queues.proofs.LevelLists.{by_level-with_newest, by_level-with_oldest, by_level-without_first, top_level-by_level, total-by_level, first_task-by_level}
+use Rattle.ready_queues.proofs.LevelLists.{by_level-with_newest, by_level-with_oldest, by_level-without_first, top_level-by_level, first_task-by_level}
 use Rattle.ready_queues.proofs.MoveLemmas.{with_newest-put_last, with_oldest-put_first, first_task-first, without_first-level, highest-top}
 
 module _ (q : Queues) (lists : List (List ℕ)) (is : level_lists q ≡ lists) where
-  pub total-list : total q ≡ total (by_level lists)
-  total-list = sym (total-by_level q) ∙ ap (λ ls. total (by_level ls)) is
-
   pub top-list : top_level q ≡ top_level (by_level lists)
   top-list = sym (top_level-by_level q) ∙ ap (λ ls. top_level (by_level ls)) is
 

@@ -1,10 +1,10 @@
 -- Laws of ready queues, for whoever rests on the trait: what is first, what is left and how many there are.
-use Rattle.std.proofs.Common.{◌≡◌, ◌≢◌, ℕ, ◌+◌, ◌-◌, ◌<◌, Option, Some, None, List, [], ◌∷◌, ◌++◌, length, slice_get, drop, refl, ap, sym, ◌∙◌, arith, length-drop}
+use Rattle.std.proofs.Common.{◌≡◌, ℕ, ◌+◌, ◌-◌, ◌<◌, Option, Some, None, List, [], ◌∷◌, ◌++◌, length, slice_get, drop, refl, ap, ◌∙◌, arith, length-drop}
 use Rattle.std.proofs.lemmas.List.{length_push}
 use Rattle.ready_queues.specs.declared.ready_queues.TheConstants.{LEVELS}
 use Rattle.ready_queues.specs.Queues.{Queues, no_tasks, with_level, total, top_level, first_at, first_task, with_newest, with_oldest, without_first_at, without_first, HasNoneAbove}
-use Rattle.ready_queues.proofs.Writes.{with_level-same, with_level-other, with_level-twice, with_level-as_it_is, with_level-comm, total_below-with_level, total_below-none}
-use Rattle.ready_queues.proofs.Tops.{IsTop, top_below-is, total_below-top, none_above-with_level, top-with_level, top-none_above, top-with_level-below}
+use Rattle.ready_queues.proofs.Writes.{with_level-same, with_level-twice, with_level-as_it_is, total_below-with_level, total_below-none}
+use Rattle.ready_queues.proofs.Tops.{IsTop, top_below-is, total_below-top, none_above-with_level, top-with_level}
 
 -- ---- a put at a level above which there is none
 
@@ -50,44 +50,6 @@ top-with_newest l t q low high =
     let long : length (q l ++ t ∷ []) ≡ length (q l) + 1 = length_push (q l) t in
     top-with_level l (q l ++ t ∷ []) q low (omega arith) high
 
--- ---- a put below the top, which leaves what is first
-
-pub first_task-put_below : (l m : ℕ) (xs : List ℕ) (q : Queues) → top_level q ≡ Some m → l < m
-    → first_task (with_level l xs q) ≡ first_task q
-first_task-put_below l m xs q top below =
-    let apart : m ≢ l = λ e. omega arith in
-    ap (first_at (with_level l xs q)) (top-with_level-below l m xs q top below)
-    ∙ ap (λ (ys : List ℕ). slice_get ys 0) (with_level-other l m xs q apart)
-    ∙ sym (ap (first_at q) top)
-
--- the put and the taking of the first can be done in either order
-pub without_first-put_below : (l m : ℕ) (xs : List ℕ) (q : Queues) → top_level q ≡ Some m → l < m
-    → without_first (with_level l xs q) ≡ with_level l xs (without_first q)
-without_first-put_below l m xs q top below =
-    let apart : m ≢ l = λ e. omega arith in
-    ap (without_first_at (with_level l xs q)) (top-with_level-below l m xs q top below)
-    ∙ ap (λ (ys : List ℕ). with_level m (drop 1 ys) (with_level l xs q)) (with_level-other l m xs q apart)
-    ∙ sym (with_level-comm l m xs (drop 1 (q m)) q apart)
-    ∙ ap (with_level l xs) (sym (ap (without_first_at q) top))
-
--- taking the first leaves the levels below the top
-pub without_first-below : (l m : ℕ) (q : Queues) → top_level q ≡ Some m → l < m → without_first q l ≡ q l
-without_first-below l m q top below =
-    let apart : l ≢ m = λ e. omega arith in
-    ap (λ found. without_first_at q found l) top ∙ with_level-other m l (drop 1 (q m)) q apart
-
-pub without_first-oldest_below : (l m t : ℕ) (q : Queues) → top_level q ≡ Some m → l < m
-    → without_first (with_oldest l t q) ≡ with_oldest l t (without_first q)
-without_first-oldest_below l m t q top below =
-    without_first-put_below l m (t ∷ q l) q top below
-    ∙ ap (λ (xs : List ℕ). with_level l (t ∷ xs) (without_first q)) (sym (without_first-below l m q top below))
-
-pub without_first-newest_below : (l m t : ℕ) (q : Queues) → top_level q ≡ Some m → l < m
-    → without_first (with_newest l t q) ≡ with_newest l t (without_first q)
-without_first-newest_below l m t q top below =
-    without_first-put_below l m (q l ++ t ∷ []) q top below
-    ∙ ap (λ (xs : List ℕ). with_level l (xs ++ t ∷ []) (without_first q)) (sym (without_first-below l m q top below))
-
 -- ---- how many entries there are
 
 -- one more after a put
@@ -116,9 +78,6 @@ total-without_first q = go (top_level q) refl
 -- none where no level has a task, and none where none is on top
 pub total-no_tasks : total no_tasks ≡ 0
 total-no_tasks = total_below-none LEVELS
-
-pub total-top_none : (q : Queues) → top_level q ≡ None → total q ≡ 0
-total-top_none q top = total_below-top LEVELS q top
 
 -- the laws that a caller of the trait names by `using(..)`
 pub ruleset queue_laws = (

@@ -100,22 +100,3 @@ top-with_level l xs q low some high =
     let long : length (with_level l xs q l) ≡ length xs = ap length (with_level-same l xs q) in
     let after = none_above-with_level l xs q high in
     top_below-some LEVELS (with_level l xs q) l record { below = low; has_task = omega arith; none_above = after.none }
-
--- above the top there is none
-pub top-none_above : (m : ℕ) (q : Queues) → top_level q ≡ Some m → HasNoneAbove m q
-top-none_above m q top = let t = top_below-is LEVELS q m top in record { none = t.none_above }
-
--- a write below the top leaves it
-pub top-with_level-below : (l m : ℕ) (xs : List ℕ) (q : Queues) → top_level q ≡ Some m → l < m
-    → top_level (with_level l xs q) ≡ Some m
-top-with_level-below l m xs q top below =
-    let t = top_below-is LEVELS q m top in
-    let apart : m ≢ l = λ e. omega arith in
-    let long : length (with_level l xs q m) ≡ length (q m) = ap length (with_level-other l m xs q apart) in
-    let some = t.has_task in
-    top_below-some LEVELS (with_level l xs q) m record {
-      below = t.below;
-      has_task = omega arith;
-      none_above = λ k above low.
-          let ne : k ≢ l = λ e. omega arith in with_level-other l k xs q ne ∙ t.none_above k above low;
-    }

@@ -32,20 +32,6 @@ pub with_level-as_it_is : (l : ℕ) (q : Queues) → with_level l (q l) q ≡ q
 with_level-as_it_is l q =
     same_queues l _ _ (with_level-same l (q l) q) (λ k ne. with_level-other l k (q l) q ne)
 
--- writes to two levels, in either order
-pub with_level-comm : (l m : ℕ) (xs ys : List ℕ) (q : Queues) → m ≢ l
-    → with_level l xs (with_level m ys q) ≡ with_level m ys (with_level l xs q)
-with_level-comm l m xs ys q ne =
-    let p = with_level m ys q in
-    let r = with_level l xs q in
-    same_queues l _ _
-    (with_level-same l xs p ∙ sym (with_level-other m l ys r (λ e. ne (sym e)) ∙ with_level-same l xs q))
-    (λ k other. with_level-other l k xs p other ∙ elim (cases_eq k m) [
-      | inl e ↦ ap p e ∙ with_level-same m ys q ∙ sym (ap (with_level m ys r) e ∙ with_level-same m ys r)
-      | inr apart ↦ with_level-other m k ys q apart
-          ∙ sym (with_level-other m k ys r apart ∙ with_level-other l k xs q other)
-    ])
-
 -- a write to a higher level leaves the total of those below
 pub total_below-other : (n l : ℕ) (xs : List ℕ) (q : Queues) → n ≤ l
     → total_below n (with_level l xs q) ≡ total_below n q

@@ -1,10 +1,10 @@
 -- Whether a step between two ticks passes a test, by the last step that does.
-use Rattle.std.proofs.Common.{◌≡◌, ℕ, ◌+◌, ◌<◌, ◌≤◌, ◌⊎◌, inl, inr, suc, zero, length, Bool, true, false, cond, not, ◌&&◌, ◌||◌, ◌==◌, nat_lt, nat_le, List, [], ◌∷◌, ◌++◌, drop, take, refl, sym, ◌∙◌, ap, subst, arith}
+use Rattle.std.proofs.Common.{◌≡◌, ℕ, ◌+◌, ◌<◌, ◌≤◌, ◌⊎◌, inl, inr, suc, zero, length, Bool, true, false, cond, not, ◌&&◌, ◌||◌, ◌==◌, nat_lt, nat_le, List, [], ◌∷◌, drop, take, refl, sym, ◌∙◌, ap, arith}
 use Rattle.std.specs.Prelude.{Option, Some, None, slice_get}
-use Rattle.std.specs.Option.{option_map, option_or}
-use Rattle.std.specs.List.{take_while, prefix_len, find, list_any, AllByRecursion}
+use Rattle.std.specs.Option.{option_map}
+use Rattle.std.specs.List.{take_while, prefix_len, list_any}
 use Rattle.std.proofs.lemmas.List.Folds.{list_any-append}
-use Rattle.std.proofs.lemmas.Bool.{cases_lt}
+use Rattle.std.proofs.lemmas.Bool.{cases_lt, and_parts}
 use Rattle.osek_base.specs.declared.arrivals.Arrival.{Arrival}
 use Rattle.osek_base.specs.Lists.{below}
 use Rattle.osek_base.specs.System.{System, priority_of}
@@ -15,11 +15,9 @@ use Rattle.osek_base.specs.Trace.{boot, run}
 use Rattle.osek_base.specs.Blocker.{executing_job, executes, is_ready_from, is_number, blockers}
 use Rattle.osek_base.specs.BlockingText.{executes_in, behind_last, ready_since, blockers_since, executor_at, blockers_at}
 use Rattle.osek_base.specs.Proper.{IsProper}
-use Rattle.osek_base.proofs.PlaceLemmas.{and_split}
 use Rattle.run_laws.proofs.Lists.{clash, some_inside, found}
 use Rattle.run_laws.proofs.Known.{all_below}
 use Rattle.run_laws.proofs.Foremost.{same_self}
-use Rattle.run_laws.proofs.Blocking.{until}
 use Rattle.run_laws.proofs.Counting.{one_if, is_lower, lower_in, blockers_counted}
 
 abbrev pub passes : (Step → Bool) → Option Step → Bool
@@ -245,7 +243,7 @@ blockers_at_counted S mode arrivals v x o proper there who =
             let it = found (λ k. k < suc v)
             (λ k. nat_le (behind_last j.id steps v) k && is_ready_from S (boot S mode).state steps k j.id) (below (suc v)) u
             (all_below (suc v)) h in
-            let both = and_split (nat_le (behind_last j.id steps v) u)
+            let both = and_parts (nat_le (behind_last j.id steps v) u)
             (is_ready_from S (boot S mode).state steps u j.id) it.1 in
             let least : behind_last j.id steps v ≤ u = grind (arith, both.0) in
             let own : executes j.id x ≡ true = ap (is_number j.id) e ∙ same_self j.id in

@@ -1,5 +1,5 @@
 -- Each time that a job becomes ready, it has at most one blocker.
-use Rattle.std.proofs.Common.{◌≡◌, ℕ, zero, suc, ◌+◌, ◌<◌, ◌≤◌, ◌⊎◌, inl, inr, Bool, true, false, cond, not, ◌&&◌, ◌||◌, nat_lt, List, [], ◌∷◌, ◌++◌, drop, take, length, refl, sym, ◌∙◌, ap, subst, arith}
+use Rattle.std.proofs.Common.{◌≡◌, ℕ, zero, suc, ◌+◌, ◌<◌, ◌≤◌, ◌⊎◌, inl, inr, Bool, true, false, cond, not, ◌&&◌, nat_lt, List, [], ◌∷◌, ◌++◌, drop, take, length, refl, sym, ◌∙◌, ap, subst, arith}
 use Rattle.std.specs.Prelude.{Option, Some, None, is_some, slice_get}
 use Rattle.std.specs.List.{take_while, prefix_len, cons_option}
 use Rattle.std.specs.List.{filter, filter_map, find, AllByRecursion}
@@ -8,19 +8,19 @@ use Rattle.osek_base.specs.System.{System, priority_of}
 use Rattle.osek_base.specs.State.{Job, JobId, State, same_id, waits, job_of}
 use Rattle.osek_base.specs.Priority.{static_priority}
 use Rattle.osek_base.specs.Service.{Caller, JobCalls, RoutineCalls, NobodyCalls}
-use Rattle.osek_base.specs.Blocker.{calling_job, is_number, executes, is_waiting_job, waits_in, is_in_state, becomes_ready, becomes_ready_in, becomes_ready_after, state_after, is_ready_from, number_below, lower_executor, distinct, blockers}
+use Rattle.osek_base.specs.Blocker.{calling_job, is_number, executes, is_waiting_job, waits_in, is_in_state, becomes_ready, becomes_ready_in, becomes_ready_after, state_after, is_ready_from, number_below, lower_executor, distinct}
 use Rattle.osek_base.specs.State.{still}
 use Rattle.osek_base.specs.Tick.{Step, executor, before_execution, tick}
 use Rattle.osek_base.specs.Trace.{Run, boot, arriving, with_earlier, step_added, run}
 use Rattle.osek_base.specs.Laws.{BlocksOnce}
 use Rattle.osek_base.specs.Proper.{IsProper}
-use Rattle.osek_base.proofs.PlaceLemmas.{and_split}
 use Rattle.run_laws.proofs.Lists.{some_inside, clash, all_any, all_kept, found}
 use Rattle.run_laws.proofs.Foremost.{same_ids, same_self}
 use Rattle.run_laws.proofs.Known.{IsCaller, executor_calls}
 use Rattle.run_laws.proofs.RankedTick.{IsRunState, before_executing, tick_ordered, boot_ordered}
 use Rattle.run_laws.proofs.Watched.{Watch, HasReadyJob, IsSeen, IsOther}
 use Rattle.run_laws.proofs.WatchedTick.{IsWatchedState, IsPlainState, before_watched, after_watched, boot_plain, tick_plain, watch_from}
+use Rattle.std.proofs.lemmas.Bool.{and_parts, or_cases}
 
 -- ---- ids that are all one
 
@@ -202,7 +202,7 @@ module _ (S : System) (proper : IsProper S) where
 
   ready_in : (old new : State) (n : JobId) → becomes_ready old new n ≡ true → HasReadyJob n new.jobs
   ready_in old new n h =
-      let both = and_split (is_in_state new n) (not (waits_in new n)) (and_split (is_in_state new n && not (waits_in new n)) _ h).0 in
+      let both = and_parts (is_in_state new n) (not (waits_in new n)) (and_parts (is_in_state new n && not (waits_in new n)) _ h).0 in
       go (job_of n new.jobs) refl both.0 both.1
     where
       unwait : (b : Bool) → not b ≡ true → b ≡ false
@@ -235,10 +235,6 @@ module _ (S : System) (proper : IsProper S) where
   next_plain : (s : State) (x : Step) → IsStepFrom S s x → IsPlainState S proper s → IsPlainState S proper x.after
   next_plain s x step plain_state = subst (IsPlainState S proper) (sym step.after) (tick_plain S proper step.arrived s step.going plain_state)
 
-  either_true : (a b : Bool) → (a || b) ≡ true → (a ≡ true) ⊎ (b ≡ true)
-  either_true true b h = inl refl
-  either_true false b h = inr h
-
   -- a job that becomes ready in a step or after it
   ready_at : (n : JobId) (old s : State) (xs : List Step) (u : ℕ) → IsChain S s xs → IsPlainState S proper s → becomes_ready_in old (slice_get xs u) n ≡ true → BlockedOnce n (drop u xs)
   ready_at n old s [] u chain plain_state h = clash (sym h)
@@ -253,13 +249,13 @@ module _ (S : System) (proper : IsProper S) where
 
   steps_block : (n : JobId) (s : State) (xs : List Step) (u : ℕ) → IsChain S s xs → IsPlainState S proper s → is_ready_from S s xs u n ≡ true
       → BlockedOnce n (drop u xs)
-  steps_block n s xs zero chain plain_state h = go (either_true (becomes_ready (still S) s n) (becomes_ready_in s (slice_get xs 0) n) h)
+  steps_block n s xs zero chain plain_state h = go (or_cases (becomes_ready (still S) s n) (becomes_ready_in s (slice_get xs 0) n) h)
     where
       go : (becomes_ready (still S) s n ≡ true) ⊎ (becomes_ready_in s (slice_get xs 0) n ≡ true) → BlockedOnce n (drop 0 xs)
       go (inl first) = after_state n s xs chain plain_state (ready_in (still S) s n first)
       go (inr later) = ready_at n s s xs 0 chain plain_state later
   steps_block n s xs (suc u) chain plain_state h =
-      go (either_true (becomes_ready_after (slice_get xs u) n) (becomes_ready_in (state_after s (slice_get xs u)) (slice_get xs (suc u)) n) h)
+      go (or_cases (becomes_ready_after (slice_get xs u) n) (becomes_ready_in (state_after s (slice_get xs u)) (slice_get xs (suc u)) n) h)
     where
       go : (becomes_ready_after (slice_get xs u) n ≡ true) ⊎ (becomes_ready_in (state_after s (slice_get xs u)) (slice_get xs (suc u)) n ≡ true) → BlockedOnce n (drop (suc u) xs)
       go (inl after) = ready_after n s xs u chain plain_state after

@@ -1,20 +1,17 @@
 -- How many blockers a job has at its first instruction since it became ready: one, where a job of lower static priority has
 -- executed since, else none.
-use Rattle.std.proofs.Common.{◌≡◌, ℕ, ◌<◌, ◌≤◌, ◌⊎◌, inl, inr, suc, zero, Bool, true, false, cond, not, ◌&&◌, ◌||◌, ◌==◌, nat_lt, nat_le, List, [], ◌∷◌, ◌++◌, drop, take, length, refl, sym, ◌∙◌, ap, subst, arith}
-use Rattle.std.specs.Prelude.{Option, Some, None, slice_get}
-use Rattle.std.specs.List.{take_while, prefix_len, filter, filter_map, find, list_any, cons_option, AllByRecursion}
-use Rattle.std.proofs.lemmas.List.Folds.{find-append}
+use Rattle.std.proofs.Common.{◌≡◌, ℕ, inl, inr, Bool, true, false, cond, not, ◌||◌, nat_lt, List, [], ◌∷◌, drop, length, refl, sym, ◌∙◌, ap}
+use Rattle.std.specs.Prelude.{Option, Some, None}
+use Rattle.std.specs.List.{filter_map, list_any, cons_option, AllByRecursion}
 use Rattle.osek_base.specs.declared.arrivals.Arrival.{Arrival}
-use Rattle.osek_base.specs.Lists.{below}
 use Rattle.osek_base.specs.System.{System, priority_of}
-use Rattle.osek_base.specs.State.{Job, JobId, State, same_id, job_of}
+use Rattle.osek_base.specs.State.{Job, JobId, same_id, job_of}
 use Rattle.osek_base.specs.Priority.{static_priority}
 use Rattle.osek_base.specs.Tick.{Step}
 use Rattle.osek_base.specs.Trace.{boot, run}
-use Rattle.osek_base.specs.Blocker.{executing_job, executes, is_ready_from, number_below, lower_executor, distinct, blockers}
-use Rattle.osek_base.specs.BlockingText.{executes_in, behind_last, ready_since, executor_at}
+use Rattle.osek_base.specs.Blocker.{executing_job, is_ready_from, number_below, lower_executor, distinct, blockers}
 use Rattle.osek_base.specs.Proper.{IsProper}
-use Rattle.run_laws.proofs.Lists.{clash, some_inside}
+use Rattle.run_laws.proofs.Lists.{clash}
 use Rattle.run_laws.proofs.Foremost.{same_ids, same_self}
 use Rattle.run_laws.proofs.Watched.{HasReadyJob}
 use Rattle.run_laws.proofs.Blocking.{AreBy, none_else, distinct_by, until, run_blocks}

@@ -6,7 +6,7 @@ use Rattle.osek_base.specs.declared.ids.ResId.{ResId}
 use Rattle.osek_base.specs.declared.ids.Owner.{Owner}
 use Rattle.osek_base.specs.declared.status.Status.{Status}
 use Rattle.osek_base.specs.declared.instr.Service.{Service}
-use Rattle.osek_base.specs.declared.instr.Plain.{Plain}
+use Rattle.osek_base.specs.Types.{ServiceCall, PlainInstr}
 use Rattle.osek_base.specs.declared.instr.Control.{Control}
 use Rattle.osek_base.specs.declared.instr.Instr.{Instr}
 use Rattle.osek_base.specs.declared.trace_event.Effect.{Effect}
@@ -43,13 +43,13 @@ none_fair j r events none = all_weaker (λ e. is_executed e ≡ false) (IsFair j
 
 module _ (S : System) (proper : IsProper S) where
   module _ (s : State) (executing : IsExecuting S proper s) (j : Job) (calls : IsCaller s (JobCalls j)) (r : ResId) (takes : may_take S j.id.task r ≡ true) where
-    plain_fair : (who : Owner) (place : ℕ) (p : Plain) (effect : Effect) → IsFair j r (TraceEvent.Executed who place (Instr.Plain p) (Outcome.Plain effect))
+    plain_fair : (who : Owner) (place : ℕ) (p : PlainInstr) (effect : Effect) → IsFair j r (TraceEvent.Executed who place (Instr.Plain p) (Outcome.Plain effect))
     plain_fair who place p effect e = absurd (cc)
 
-    control_fair : (who : Owner) (place : ℕ) (control : Control) → IsFair j r (TraceEvent.Executed who place (Instr.Control control) Outcome.Control)
+    control_fair : (who : Owner) (place : ℕ) (control : Control ℕ) → IsFair j r (TraceEvent.Executed who place (Instr.Control control) Outcome.Control)
     control_fair who place control e = absurd (cc)
 
-    service_fair : (call : Service ℕ)
+    service_fair : (call : ServiceCall)
         → IsFair j r (TraceEvent.Executed (Owner.Task j.id.task) j.context.place (Instr.Service call) (Outcome.Answer (service S (JobCalls j) s (at_values j.context call)).status (service S (JobCalls j) s (at_values j.context call)).results))
     service_fair call e =
         let same : call ≡ Service.GetResource (Some r) = cc in

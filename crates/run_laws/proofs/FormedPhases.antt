@@ -4,7 +4,7 @@ use Rattle.std.specs.Prelude.{Option, Some, None}
 use Rattle.std.specs.List.{AllByRecursion}
 use Rattle.std.proofs.lemmas.List.{length-map}
 use Rattle.osek_base.specs.declared.ids.Owner.{Owner}
-use Rattle.osek_base.specs.declared.instr.Service.{Service}
+use Rattle.osek_base.specs.Types.{ServiceCall}
 use Rattle.osek_base.specs.Lists.{below}
 use Rattle.osek_base.specs.System.{System, alarm}
 use Rattle.osek_base.specs.State.{Job, State, may_dispatch}
@@ -21,16 +21,16 @@ use Rattle.run_laws.proofs.SingleTick.{alarm_known}
 use Rattle.run_laws.proofs.Formed.{IsPlacedJob, HasActive, IsLimited, HasForm}
 use Rattle.run_laws.proofs.FormedService.{change_formed, unmasked_formed}
 
-pending_unmasked : (S : System) (s : State) (c : Caller) (call : Service ℕ) → (unmasked_service S c s call).state.pending ≡ s.pending
+pending_unmasked : (S : System) (s : State) (c : Caller) (call : ServiceCall) → (unmasked_service S c s call).state.pending ≡ s.pending
 unfolding unmasked_service
 pending_unmasked S s c call = refl
 
-active_unmasked : (S : System) (s : State) (c : Caller) (call : Service ℕ) → (unmasked_service S c s call).state.active ≡ s.active
+active_unmasked : (S : System) (s : State) (c : Caller) (call : ServiceCall) → (unmasked_service S c s call).state.active ≡ s.active
 unfolding unmasked_service
 active_unmasked S s c call = refl
 
 module _ (S : System) (proper : IsProper S) where
-  pub acts_form : (s : State) (call : Service ℕ) → ActivatesKnown S call → HasForm S s → HasForm S (unmasked_service S NobodyCalls s call).state
+  pub acts_form : (s : State) (call : ServiceCall) → ActivatesKnown S call → HasForm S s → HasForm S (unmasked_service S NobodyCalls s call).state
   acts_form s call known form = record {
     formed = unmasked_formed S proper s NobodyCalls call tt known form.formed;
     pending = ap length (pending_unmasked S s NobodyCalls call) ∙ form.pending;

@@ -5,6 +5,7 @@ use Rattle.std.specs.List.{filter, AllByRecursion}
 use Rattle.osek_base.specs.declared.ids.Owner.{Owner}
 use Rattle.osek_base.specs.declared.status.Status.{Status}
 use Rattle.osek_base.specs.declared.instr.Service.{Service}
+use Rattle.osek_base.specs.Types.{ServiceCall}
 use Rattle.osek_base.specs.Lists.{is_empty}
 use Rattle.osek_base.specs.System.{System, activation_of, is_extended}
 use Rattle.osek_base.specs.State.{Job, JobId, State, Expiry, interrupts_off, same_id, jobs_of, jobs_but, with_job}
@@ -13,7 +14,7 @@ use Rattle.osek_base.specs.Activation.{is_full, activated, new_job, released, wo
 use Rattle.osek_base.specs.Service.{Caller, JobCalls, RoutineCalls, NobodyCalls, is_own_task, first_refusal, refusals, with_caller, caller_ended, is_outranked, given_up, gets, releases, waiting_for, meets, is_met, released_by, with_events, events_cleared, event_awaited, effect, reply_to, service, unmasked_service}
 use Rattle.osek_base.specs.Proper.{IsProper}
 use Rattle.osek_base.proofs.PlaceLemmas.{some_program}
-use Rattle.run_laws.proofs.Lists.{clash, all_kept, all_append, all_map, found}
+use Rattle.run_laws.proofs.Lists.{cond_both, clash, all_kept, all_append, all_map, found}
 use Rattle.run_laws.proofs.Foremost.{equal, same_self}
 use Rattle.run_laws.proofs.Known.{IsCaller, ActivatesKnown, passed, all_passed, none_kept}
 use Rattle.run_laws.proofs.Formed.{count_append, count_map, count_split, all_passing, IsPlacedJob, IsLimited, IsFormed}
@@ -21,10 +22,6 @@ use Rattle.run_laws.proofs.Formed.{count_append, count_map, count_split, all_pas
 module _ (S : System) (proper : IsProper S) where
   with_jobs : (s : State) (jobs : List Job) → IsFormed S s → AllByRecursion (IsPlacedJob S) jobs → IsLimited S jobs → IsFormed S (record s { jobs = jobs })
   with_jobs s jobs formed all limited = record { masks = formed.masks; alarms = formed.alarms; jobs = all; limited = limited }
-
-  cond_formed : (b : Bool) (x y : State) → IsFormed S x → IsFormed S y → IsFormed S (cond b x y)
-  cond_formed true x y f g = f
-  cond_formed false x y f g = g
 
   -- ---- changes
 
@@ -74,14 +71,10 @@ module _ (S : System) (proper : IsProper S) where
 
   -- ---- a job more
 
-  length_cond : (b : Bool) (xs ys : List ℕ) (n : ℕ) → length xs ≡ n → length ys ≡ n → length (cond b xs ys) ≡ n
-  length_cond true xs ys n x y = x
-  length_cond false xs ys n x y = y
-
   pub activated_formed : (t : ℕ) (s : State) → t < length S.tasks → length (jobs_of t s.jobs) < activation_of S t → IsFormed S s → IsFormed S (activated S t s)
   unfolding activated
   activated_formed t s inside room formed = record {
-    masks = length_cond (is_extended S t && is_empty (jobs_of t s.jobs)) (set s.masks t 0) s.masks (length S.tasks) (length-set s.masks t 0 ∙ formed.masks) formed.masks;
+    masks = cond_both (λ (ns : List ℕ). length ns ≡ length S.tasks) (is_extended S t && is_empty (jobs_of t s.jobs)) (set s.masks t 0) s.masks (length-set s.masks t 0 ∙ formed.masks) formed.masks;
     alarms = formed.alarms;
     jobs = all_append (IsPlacedJob S) s.jobs (new ∷ []) formed.jobs
         (record { task = inside; context = record { registers = refl; place = some_program S (Owner.Task t) proper inside } }, tt);
@@ -119,7 +112,7 @@ module _ (S : System) (proper : IsProper S) where
 
   released_by_formed : (events : ℕ) (jobs : List Job) (s : State) → IsFormed S s → IsFormed S (released_by events jobs s)
   released_by_formed events [] s formed = formed
-  released_by_formed events (j ∷ js) s formed = cond_formed (is_met events j.waits_for) (released j.id s) s (released_formed j.id s formed) formed
+  released_by_formed events (j ∷ js) s formed = cond_both (IsFormed S) (is_met events j.waits_for) (released j.id s) s (released_formed j.id s formed) formed
 
   cleared_formed : (c : Caller) (m : ℕ) (s : State) → IsFormed S s → IsFormed S (events_cleared c m s)
   cleared_formed (JobCalls j) m s formed =
@@ -129,7 +122,7 @@ module _ (S : System) (proper : IsProper S) where
 
   awaited_formed : (c : Caller) (m : ℕ) (s : State) → IsFormed S s → IsFormed S (event_awaited c m s)
   awaited_formed (JobCalls j) m s formed =
-      cond_formed (meets m (slice_index s.masks j.id.task)) s (with_caller (JobCalls j) (waiting_for m) s) formed
+      cond_both (IsFormed S) (meets m (slice_index s.masks j.id.task)) s (with_caller (JobCalls j) (waiting_for m) s) formed
       (plain_change j.id (waiting_for m) s (λ k. refl) (λ k h. record { task = h.task; context = h.context }) formed)
   awaited_formed (RoutineCalls a) m s formed = formed
   awaited_formed NobodyCalls m s formed = formed
@@ -166,7 +159,7 @@ module _ (S : System) (proper : IsProper S) where
   chained_formed (RoutineCalls a) t s calls inside h formed = activated_formed t s inside (unfull t s h) formed
   chained_formed NobodyCalls t s calls inside h formed = activated_formed t s inside (unfull t s h) formed
 
-  effect_formed : (s : State) (c : Caller) (call : Service ℕ) → IsCaller s c → ActivatesKnown S call → first_refusal (refusals S c s call) ≡ None
+  effect_formed : (s : State) (c : Caller) (call : ServiceCall) → IsCaller s c → ActivatesKnown S call → first_refusal (refusals S c s call) ≡ None
       → IsFormed S s → IsFormed S (effect S c s call)
   effect_formed s c (Service.ActivateTask None) calls known none formed = formed
   effect_formed s c (Service.ActivateTask (Some t)) calls known none formed =
@@ -176,7 +169,7 @@ module _ (S : System) (proper : IsProper S) where
   effect_formed s c (Service.ChainTask (Some t)) calls known none formed =
       chained_formed c t s calls known (all_passed (refusals S c s (Service.ChainTask (Some t))) none).1.1.0 formed
   effect_formed s c Service.Schedule calls known none formed =
-      cond_formed (is_outranked S c s.jobs) (with_caller c given_up s) s
+      cond_both (IsFormed S) (is_outranked S c s.jobs) (with_caller c given_up s) s
       (with_caller_formed c given_up s (λ k. refl) (λ k h. record { task = h.task; context = h.context }) formed) formed
   effect_formed s c Service.GetTaskId calls known none formed = formed
   effect_formed s c (Service.GetTaskState o) calls known none formed = formed
@@ -205,19 +198,19 @@ module _ (S : System) (proper : IsProper S) where
   effect_formed s c (Service.GetAlarm o) calls known none formed = formed
   effect_formed s c (Service.GetAlarmBase o) calls known none formed = formed
 
-  reply_formed : (s : State) (c : Caller) (call : Service ℕ) (o : Option Status) → IsCaller s c → ActivatesKnown S call
+  reply_formed : (s : State) (c : Caller) (call : ServiceCall) (o : Option Status) → IsCaller s c → ActivatesKnown S call
       → (o ≡ None → first_refusal (refusals S c s call) ≡ None) → IsFormed S s → IsFormed S (reply_to S c s call o).state
   reply_formed s c call None calls known none formed =
       let h : IsFormed S (effect S c s call) = effect_formed s c call calls known (none refl) formed in
       record { masks = h.masks; alarms = h.alarms; jobs = h.jobs; limited = h.limited }
   reply_formed s c call (Some refusal) calls known none formed = record { masks = formed.masks; alarms = formed.alarms; jobs = formed.jobs; limited = formed.limited }
 
-  pub service_formed : (s : State) (c : Caller) (call : Service ℕ) → IsCaller s c → ActivatesKnown S call → IsFormed S s → IsFormed S (service S c s call).state
+  pub service_formed : (s : State) (c : Caller) (call : ServiceCall) → IsCaller s c → ActivatesKnown S call → IsFormed S s → IsFormed S (service S c s call).state
   unfolding service
   service_formed s c call calls known formed =
       reply_formed s c call (first_refusal ((interrupts_off s, Status.SysDisabled) ∷ refusals S c s call)) calls known
       (λ e. (passed (interrupts_off s) Status.SysDisabled (refusals S c s call) e).1) formed
 
-  pub unmasked_formed : (s : State) (c : Caller) (call : Service ℕ) → IsCaller s c → ActivatesKnown S call → IsFormed S s → IsFormed S (unmasked_service S c s call).state
+  pub unmasked_formed : (s : State) (c : Caller) (call : ServiceCall) → IsCaller s c → ActivatesKnown S call → IsFormed S s → IsFormed S (unmasked_service S c s call).state
   unfolding unmasked_service
   unmasked_formed s c call calls known formed = reply_formed s c call (first_refusal (refusals S c s call)) calls known (λ e. e) formed

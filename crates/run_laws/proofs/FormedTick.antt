@@ -7,7 +7,7 @@ use Rattle.std.proofs.lemmas.List.{length-replicate, length-map}
 use Rattle.osek_base.specs.declared.ids.Owner.{Owner}
 use Rattle.osek_base.specs.declared.trace_event.Results.{Results}
 use Rattle.osek_base.specs.declared.status.Status.{Status}
-use Rattle.osek_base.specs.declared.instr.Service.{Service}
+use Rattle.osek_base.specs.Types.{ServiceCall, PlainInstr}
 use Rattle.osek_base.specs.declared.instr.Control.{Control}
 use Rattle.osek_base.specs.declared.instr.Plain.{Plain}
 use Rattle.osek_base.specs.declared.instr.Instr.{Instr}
@@ -21,22 +21,23 @@ use Rattle.osek_base.specs.Service.{Caller, JobCalls, RoutineCalls, NobodyCalls,
 use Rattle.osek_base.specs.Tick.{at_values, moved, job_moved, with_context, with_results, answered, executed, caller_executes, executor, execute_phase, before_execution, last_phase, tick}
 use Rattle.osek_base.specs.Trace.{boot, all_activated, starting_tasks, run}
 use Rattle.osek_base.specs.Proper.{IsProper, is_proper_instruction, is_end_instruction, is_register}
-use Rattle.osek_base.proofs.PlaceLemmas.{and_split, is_routine, known_place, KnownPlace}
-use Rattle.run_laws.proofs.Lists.{some_inside, clash, found}
+use Rattle.osek_base.proofs.PlaceLemmas.{is_routine, known_place, KnownPlace}
+use Rattle.run_laws.proofs.Lists.{cond_both, some_inside, clash, found}
 use Rattle.run_laws.proofs.Foremost.{same_ids}
 use Rattle.run_laws.proofs.Known.{IsCaller, ActivatesKnown, executor_calls, proper_at}
 use Rattle.run_laws.proofs.SingleTick.{true_lt, IsKnownInstr, any_instr_known, at_known, begun, started_keep, every_run}
 use Rattle.run_laws.proofs.Formed.{IsPlaced, IsPlacedJob, IsPlacedRoutine, HasActive, IsLimited, HasForm}
 use Rattle.run_laws.proofs.FormedService.{change_formed, activated_formed, service_formed}
 use Rattle.run_laws.proofs.FormedPhases.{reschedule_form, before_form}
+use Rattle.std.proofs.lemmas.Bool.{and_parts}
 
 -- ---- what stays
 
-pub pending_service : (S : System) (s : State) (c : Caller) (call : Service ℕ) → (service S c s call).state.pending ≡ s.pending
+pub pending_service : (S : System) (s : State) (c : Caller) (call : ServiceCall) → (service S c s call).state.pending ≡ s.pending
 unfolding service
 pending_service S s c call = refl
 
-pub active_service : (S : System) (s : State) (c : Caller) (call : Service ℕ) → (service S c s call).state.active ≡ s.active
+pub active_service : (S : System) (s : State) (c : Caller) (call : ServiceCall) → (service S c s call).state.active ≡ s.active
 unfolding service
 active_service S s c call = refl
 
@@ -63,11 +64,7 @@ module _ (S : System) (proper : IsProper S) where
   sets_placed : (owner : Owner) (x : Context) (d v : ℕ) → IsPlaced S owner x → x.place + 1 < length (program S owner) → IsPlaced S owner (next (with_value x d v))
   sets_placed owner x d v placed inside = next_placed owner x (next (with_value x d v)) placed inside (length-set x.registers d v) refl
 
-  cond_below : (b : Bool) (m n k : ℕ) → m < k → n < k → cond b m n < k
-  cond_below true m n k f g = f
-  cond_below false m n k f g = g
-
-  pub plain_placed : (owner : Owner) (in_routine : Bool) (x : Context) (p : Plain) (words : ℕ → ℕ) → IsPlaced S owner x
+  pub plain_placed : (owner : Owner) (in_routine : Bool) (x : Context) (p : PlainInstr) (words : ℕ → ℕ) → IsPlaced S owner x
       → is_proper_instruction S in_routine (length (program S owner)) (Instr.Plain p) ≡ true
       → (is_end_instruction (Instr.Plain p) ≡ false → x.place + 1 < length (program S owner)) → IsPlaced S owner (plain p x words).context
   plain_placed owner in_routine x Plain.Nop words placed operands inside = next_placed owner x (next x) placed (inside refl) refl refl
@@ -80,8 +77,8 @@ module _ (S : System) (proper : IsProper S) where
       record { registers = placed.registers; place = true_lt to (length (program S owner)) operands }
   plain_placed owner in_routine x (Plain.JumpIf test a b to) words placed operands inside = record {
     registers = placed.registers;
-    place = cond_below (holds test (value x a) (value x b)) to (x.place + 1) (length (program S owner))
-        (true_lt to (length (program S owner)) (and_split (is_register a && is_register b) _ operands).1) (inside refl);
+    place = cond_both (λ (n : ℕ). n < length (program S owner)) (holds test (value x a) (value x b)) to (x.place + 1)
+        (true_lt to (length (program S owner)) (and_parts (is_register a && is_register b) _ operands).1) (inside refl);
   }
 
   pub answered_placed : (owner : Owner) (status : Status) (found : Results) (x : Context) → IsPlaced S owner x → x.place + 1 < length (program S owner)
@@ -150,15 +147,15 @@ module _ (S : System) (proper : IsProper S) where
     active = active;
   }
 
-  abbrev pub is_return : Control → Bool
+  abbrev pub is_return : Control ℕ → Bool
   is_return Control.ReturnFromInterrupt = true
   is_return _ = false
 
-  controlled_same : (control : Control) (s : State) → IsSameForm s (controlled control s)
+  controlled_same : (control : Control ℕ) (s : State) → IsSameForm s (controlled control s)
   controlled_same Control.DisableAllInterrupts s = record { masks = refl; alarms = refl; jobs = refl; pending = refl }
   controlled_same _ s = record { masks = refl; alarms = refl; jobs = refl; pending = refl }
 
-  controlled_active : (control : Control) (s : State) → is_return control ≡ false → (controlled control s).active ≡ s.active
+  controlled_active : (control : Control ℕ) (s : State) → is_return control ≡ false → (controlled control s).active ≡ s.active
   controlled_active Control.ReturnFromInterrupt s h = clash h
   controlled_active _ s h = refl
 
@@ -170,7 +167,7 @@ module _ (S : System) (proper : IsProper S) where
   -- what is known of an instruction that is executed
   module _ (owner : Owner) (c : Caller) (x : Context) (s : State) (form : HasForm S s) (calls : IsCaller s c)
       (give : (y : Context) → IsPlaced S owner y → IsPlacedCaller c y) (placed : IsPlaced S owner x) where
-    plain_form : (p : Plain) → is_proper_instruction S (is_routine owner) (length (program S owner)) (Instr.Plain p) ≡ true
+    plain_form : (p : PlainInstr) → is_proper_instruction S (is_routine owner) (length (program S owner)) (Instr.Plain p) ≡ true
         → (is_end_instruction (Instr.Plain p) ≡ false → x.place + 1 < length (program S owner)) → HasForm S (executed S owner c x (Instr.Plain p) s).state
     plain_form p operands inside =
         let done = plain p x (s.words owner) in
@@ -178,7 +175,7 @@ module _ (S : System) (proper : IsProper S) where
         (give done.context (plain_placed owner (is_routine owner) x p (s.words owner) placed operands inside))
         (same_form s (record s { words = words_after s.words owner done.effect }) (record { masks = refl; alarms = refl; jobs = refl; pending = refl }) form.active form)
 
-    service_form : (call : Service ℕ) → ActivatesKnown S (at_values x call) → x.place + 1 < length (program S owner) → HasForm S (executed S owner c x (Instr.Service call) s).state
+    service_form : (call : ServiceCall) → ActivatesKnown S (at_values x call) → x.place + 1 < length (program S owner) → HasForm S (executed S owner c x (Instr.Service call) s).state
     service_form call known inside =
         let r = service S c s (at_values x call) in
         with_context_form c (answered r.status r.results x) r.state (still_active c s r.state calls (active_service S s c (at_values x call)))
@@ -189,7 +186,7 @@ module _ (S : System) (proper : IsProper S) where
           active = subst (HasActive S) (sym (active_service S s c (at_values x call))) form.active;
         })
 
-    control_form : (control : Control) → is_return control ≡ false → x.place + 1 < length (program S owner) → HasForm S (executed S owner c x (Instr.Control control) s).state
+    control_form : (control : Control ℕ) → is_return control ≡ false → x.place + 1 < length (program S owner) → HasForm S (executed S owner c x (Instr.Control control) s).state
     control_form control other inside =
         with_context_form c (next x) (controlled control s) (still_active c s (controlled control s) calls (controlled_active control s other))
         (give (next x) (next_placed owner x (next x) placed inside refl refl))
@@ -200,12 +197,12 @@ module _ (S : System) (proper : IsProper S) where
   return_form a x s form =
       same_form s (with_context (RoutineCalls a) (next x) (controlled Control.ReturnFromInterrupt s)) (record { masks = refl; alarms = refl; jobs = refl; pending = refl }) tt form
 
-  control_ends : (control : Control) → is_return control ≡ false → is_end_instruction (Instr.Control control) ≡ false
+  control_ends : (control : Control ℕ) → is_return control ≡ false → is_end_instruction (Instr.Control control) ≡ false
   control_ends Control.ReturnFromInterrupt h = clash h
   control_ends Control.DisableAllInterrupts h = refl
   control_ends _ h = refl
 
-  is_return_at : (control : Control) → is_return control ≡ true → control ≡ Control.ReturnFromInterrupt
+  is_return_at : (control : Control ℕ) → is_return control ≡ true → control ≡ Control.ReturnFromInterrupt
   is_return_at Control.ReturnFromInterrupt h = refl
   is_return_at _ h = clash (sym h)
 
@@ -286,8 +283,8 @@ module _ (S : System) (proper : IsProper S) where
 
   at_least_one : (t : ℕ) → t < length S.tasks → 1 ≤ activation_of S t
   at_least_one t inside =
-      let here = and_split _ _ (and_split _ _ (and_split _ _ (and_split _ _ (proper_at S t proper inside)).0).0).0 in
-      positive (activation_of S t) (and_split (nat_le 1 (activation_of S t)) _ (and_split _ _ here.0).0).0
+      let here = and_parts _ _ (and_parts _ _ (and_parts _ _ (and_parts _ _ (proper_at S t proper inside)).0).0).0 in
+      positive (activation_of S t) (and_parts (nat_le 1 (activation_of S t)) _ (and_parts _ _ here.0).0).0
     where
       positive : (n : ℕ) → nat_le 1 n ≡ true → 1 ≤ n
       positive n h = grind (arith, h)

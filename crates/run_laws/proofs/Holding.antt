@@ -12,23 +12,15 @@ use Rattle.osek_base.specs.State.{Job, JobId, State, same_id, jobs_but, job_of, 
 use Rattle.osek_base.specs.Activation.{activated, new_job, released, woken}
 use Rattle.osek_base.specs.Service.{Caller, JobCalls, RoutineCalls, NobodyCalls, holds, is_resource}
 use Rattle.osek_base.specs.Tick.{job_moved, with_context}
-use Rattle.osek_base.proofs.PlaceLemmas.{and_split}
 use Rattle.run_laws.proofs.Lists.{EitherWay, clash, all_any, all_weaker, all_both, all_kept, all_append, all_map, found}
 use Rattle.run_laws.proofs.Lists.{pairs_weaker, either_way}
 use Rattle.run_laws.proofs.Foremost.{AreApart, self_equal, only}
 use Rattle.run_laws.proofs.Known.{IsCaller}
 use Rattle.run_laws.proofs.Single.{IsSoundPair, IsSingle}
 use Rattle.run_laws.proofs.Exclusion.{same_resources}
+use Rattle.std.proofs.lemmas.Bool.{and_parts, or_left, or_right}
 
 -- ---- whether an element passes
-
-pub or_left : (a b : Bool) → a ≡ true → (a || b) ≡ true
-or_left true b h = refl
-or_left false b h = clash (sym h)
-
-pub or_right : (a b : Bool) → b ≡ true → (a || b) ≡ true
-or_right true b h = refl
-or_right false b h = h
 
 or_further : (a b c : Bool) → (b ≡ true → c ≡ true) → (a || b) ≡ true → (a || c) ≡ true
 or_further true b c f h = refl
@@ -192,7 +184,7 @@ module _ (r : ResId) (n : JobId) where
     held = any_kept is_its_holder (λ j. not (same_id j.id m)) jobs
         (all_weaker (λ j. same_id j.id m ≡ true → holds j r ≡ false)
         (λ j. is_its_holder j ≡ true → not (same_id j.id m) ≡ true) jobs
-        (λ j h k. stays j (same_id j.id m) h (and_split (same_id j.id n) (holds j r) k).1) none) holder.held;
+        (λ j h k. stays j (same_id j.id m) h (and_parts (same_id j.id n) (holds j r) k).1) none) holder.held;
     alone = all_kept IsNoOther (λ j. not (same_id j.id m)) jobs holder.alone;
   }
     where
@@ -236,7 +228,7 @@ module _ (r : ResId) (n : JobId) where
       go false e = refl
       go true e =
           let here : list_any (λ j. holds j r) jobs ≡ true =
-          any_further is_its_holder (λ j. holds j r) jobs (λ j h. (and_split (same_id j.id n) (holds j r) h).1) holder.held in
+          any_further is_its_holder (λ j. holds j r) jobs (λ j h. (and_parts (same_id j.id n) (holds j r) h).1) holder.held in
           clash (sym (subst (λ z. list_any (λ j. holds j z) jobs ≡ true) (same_resources r q e) here) ∙ none)
 
 -- ---- the calling job

@@ -2,11 +2,12 @@
 use Rattle.std.proofs.Common.{◌≡◌, ℕ, Bool, true, false, cond, not, ◌||◌, List, [], ◌∷◌, map, refl, sym, ◌∙◌, ap, subst}
 use Rattle.std.proofs.Common.{arith}
 use Rattle.std.specs.Prelude.{Option, Some, None, slice_index, bit_or, ◌==◌}
-use Rattle.std.specs.List.{find, list_any, AllByRecursion}
+use Rattle.std.specs.List.{find, list_any}
 use Rattle.std.proofs.lemmas.List.{get_or-set_other}
 use Rattle.osek_base.specs.declared.ids.ResId.{ResId}
 use Rattle.osek_base.specs.declared.status.Status.{Status}
 use Rattle.osek_base.specs.declared.instr.Service.{Service}
+use Rattle.osek_base.specs.Types.{ServiceCall}
 use Rattle.osek_base.specs.Lists.{same_resource}
 use Rattle.osek_base.specs.System.{System}
 use Rattle.osek_base.specs.State.{Job, JobId, State, interrupts_off, same_id, jobs_of, with_job, shared_window}
@@ -17,13 +18,14 @@ use Rattle.osek_base.specs.Service.{waiting_for, meets, is_met, may_take, releas
 use Rattle.osek_base.specs.Service.{event_awaited, word_stored, effect, answer, reply_to, service, unmasked_service}
 use Rattle.osek_base.specs.Blocker.{calling_job, is_number}
 use Rattle.osek_base.specs.Laws.{is_release, is_store}
-use Rattle.run_laws.proofs.Lists.{clash, all_any, all_weaker, all_map}
-use Rattle.run_laws.proofs.Foremost.{equal, same_ids, both_true, self_equal}
+use Rattle.run_laws.proofs.Lists.{cond_both, clash, all_any, all_weaker, all_map, any_none}
+use Rattle.run_laws.proofs.Foremost.{equal, same_ids, self_equal}
 use Rattle.run_laws.proofs.Known.{passed, all_passed}
 use Rattle.run_laws.proofs.Exclusion.{same_resources}
-use Rattle.run_laws.proofs.Holding.{or_left, or_right, last_held, fewer_held, more_held, got_held, empty_holds}
+use Rattle.run_laws.proofs.Holding.{last_held, fewer_held, more_held, got_held, empty_holds}
 use Rattle.run_laws.proofs.Holding.{is_its_holder, IsNoOther, IsHolder, change_holder, plain_holder, but_holder}
 use Rattle.run_laws.proofs.Holding.{released_holder, activated_holder, held_other, IsSoleCaller, holding_caller}
+use Rattle.std.proofs.lemmas.Bool.{and_from, or_left, or_right}
 
 shown : (b : Bool) → not b ≡ false → b ≡ true
 shown true h = refl
@@ -36,12 +38,8 @@ module _ (S : System) (s : State) (r : ℕ) (n : JobId) (holder : IsHolder (ResI
   HasHolder e = IsHolder (ResId.Declared r) n e.jobs
 
   -- the caller isn't the job of that id, or doesn't release the resource
-  abbrev pub IsNoRelease : Caller → Service ℕ → Type 0
+  abbrev pub IsNoRelease : Caller → ServiceCall → Type 0
   IsNoRelease c call = is_number n (calling_job c) ≡ true → is_release r call ≡ true → ⊥
-
-  cond_holder : (b : Bool) (x y : State) → HasHolder x → HasHolder y → HasHolder (cond b x y)
-  cond_holder true x y f g = f
-  cond_holder false x y f g = g
 
   caller_plain : (c : Caller) (f : Job → Job) → ((j : Job) → (f j).id ≡ j.id) → ((j : Job) → (f j).held ≡ j.held)
       → HasHolder (with_caller c f s)
@@ -94,7 +92,7 @@ module _ (S : System) (s : State) (r : ℕ) (n : JobId) (holder : IsHolder (ResI
 
   awaited_holder : (c : Caller) (m : ℕ) → HasHolder (event_awaited c m s)
   awaited_holder (JobCalls j) m =
-      cond_holder (meets m (slice_index s.masks j.id.task)) s (with_caller (JobCalls j) (waiting_for m) s) holder
+      cond_both HasHolder (meets m (slice_index s.masks j.id.task)) s (with_caller (JobCalls j) (waiting_for m) s) holder
       (caller_plain (JobCalls j) (waiting_for m) (λ k. refl) (λ k. refl))
   awaited_holder (RoutineCalls a) m = holder
   awaited_holder NobodyCalls m = holder
@@ -102,9 +100,9 @@ module _ (S : System) (s : State) (r : ℕ) (n : JobId) (holder : IsHolder (ResI
   released_by_holder : (set : ℕ) (jobs : List Job) (e : State) → HasHolder e → HasHolder (released_by set jobs e)
   released_by_holder set [] e h = h
   released_by_holder set (j ∷ js) e h =
-      cond_holder (is_met set j.waits_for) (released j.id e) e (released_holder (ResId.Declared r) n j.id e h) h
+      cond_both HasHolder (is_met set j.waits_for) (released j.id e) e (released_holder (ResId.Declared r) n j.id e h) h
 
-  effect_holder : (c : Caller) (call : Service ℕ) → IsSoleCaller s c → first_refusal (refusals S c s call) ≡ None
+  effect_holder : (c : Caller) (call : ServiceCall) → IsSoleCaller s c → first_refusal (refusals S c s call) ≡ None
       → IsNoRelease c call
       → HasHolder (effect S c s call)
   effect_holder c (Service.ActivateTask None) sole none free = holder
@@ -116,7 +114,7 @@ module _ (S : System) (s : State) (r : ℕ) (n : JobId) (holder : IsHolder (ResI
       activated_holder (ResId.Declared r) n S t (caller_ended c s)
       (ended_holder c sole (all_passed (refusals S c s (Service.ChainTask (Some t))) none).1.0)
   effect_holder c Service.Schedule sole none free =
-      cond_holder (is_outranked S c s.jobs) (with_caller c given_up s) s
+      cond_both HasHolder (is_outranked S c s.jobs) (with_caller c given_up s) s
       (caller_plain c given_up (λ k. refl) (λ k. refl)) holder
   effect_holder c Service.GetTaskId sole none free = holder
   effect_holder c (Service.GetTaskState o) sole none free = holder
@@ -147,13 +145,13 @@ module _ (S : System) (s : State) (r : ℕ) (n : JobId) (holder : IsHolder (ResI
   effect_holder c (Service.GetAlarm o) sole none free = holder
   effect_holder c (Service.GetAlarmBase o) sole none free = holder
 
-  reply_holder : (c : Caller) (call : Service ℕ) (o : Option Status) → IsSoleCaller s c
+  reply_holder : (c : Caller) (call : ServiceCall) (o : Option Status) → IsSoleCaller s c
       → (o ≡ None → first_refusal (refusals S c s call) ≡ None)
       → (o ≡ None → IsNoRelease c call) → HasHolder (reply_to S c s call o).state
   reply_holder c call None sole none free = effect_holder c call sole (none refl) (free refl)
   reply_holder c call (Some refusal) sole none free = holder
 
-  pub service_holder : (c : Caller) (call : Service ℕ) → IsSoleCaller s c
+  pub service_holder : (c : Caller) (call : ServiceCall) → IsSoleCaller s c
       → ((service S c s call).status ≡ Status.Ok → IsNoRelease c call)
       → HasHolder (service S c s call).state
   unfolding service
@@ -161,7 +159,7 @@ module _ (S : System) (s : State) (r : ℕ) (n : JobId) (holder : IsHolder (ResI
       reply_holder c call (first_refusal ((interrupts_off s, Status.SysDisabled) ∷ refusals S c s call)) sole
       (λ e. (passed (interrupts_off s) Status.SysDisabled (refusals S c s call) e).1) (λ e. free (ap answer e))
 
-  pub unmasked_holder : (call : Service ℕ) → HasHolder (unmasked_service S NobodyCalls s call).state
+  pub unmasked_holder : (call : ServiceCall) → HasHolder (unmasked_service S NobodyCalls s call).state
   unfolding unmasked_service
   unmasked_holder call =
       reply_holder NobodyCalls call (first_refusal (refusals S NobodyCalls s call)) tt (λ e. e) (λ e number. clash (sym number))
@@ -173,12 +171,8 @@ module _ (S : System) (s : State) (r : ℕ) where
   HasWindow e = shared_window e.shared r ≡ shared_window s.shared r
 
   -- the caller doesn't hold the resource, or stores nothing in its window
-  abbrev pub IsNoStore : Caller → Service ℕ → Type 0
+  abbrev pub IsNoStore : Caller → ServiceCall → Type 0
   IsNoStore c call = caller_holds c (ResId.Declared r) ≡ true → is_store r call ≡ true → ⊥
-
-  cond_window : (b : Bool) (x y : State) → HasWindow x → HasWindow y → HasWindow (cond b x y)
-  cond_window true x y f g = f
-  cond_window false x y f g = g
 
   caller_window : (c : Caller) (f : Job → Job) → HasWindow (with_caller c f s)
   caller_window (JobCalls j) f = refl
@@ -200,7 +194,7 @@ module _ (S : System) (s : State) (r : ℕ) where
 
   released_by_window : (set : ℕ) (jobs : List Job) (e : State) → HasWindow e → HasWindow (released_by set jobs e)
   released_by_window set [] e h = h
-  released_by_window set (j ∷ js) e h = cond_window (is_met set j.waits_for) (released j.id e) e (released_window j.id e h) h
+  released_by_window set (j ∷ js) e h = cond_both HasWindow (is_met set j.waits_for) (released j.id e) e (released_window j.id e h) h
 
   cleared_window : (c : Caller) (m : ℕ) → HasWindow (events_cleared c m s)
   cleared_window (JobCalls j) m = refl
@@ -209,7 +203,7 @@ module _ (S : System) (s : State) (r : ℕ) where
 
   awaited_window : (c : Caller) (m : ℕ) → HasWindow (event_awaited c m s)
   awaited_window (JobCalls j) m =
-      cond_window (meets m (slice_index s.masks j.id.task)) s (with_caller (JobCalls j) (waiting_for m) s) refl refl
+      cond_both HasWindow (meets m (slice_index s.masks j.id.task)) s (with_caller (JobCalls j) (waiting_for m) s) refl refl
   awaited_window (RoutineCalls a) m = refl
   awaited_window NobodyCalls m = refl
 
@@ -223,7 +217,7 @@ module _ (S : System) (s : State) (r : ℕ) where
       go false e = get_or-set_other s.shared m r _ [] (λ same. clash (sym (self_equal m) ∙ ap (λ k. m == k) (sym same) ∙ e))
   stored_window c ResId.Scheduler i v has free = refl
 
-  effect_window : (c : Caller) (call : Service ℕ) → first_refusal (refusals S c s call) ≡ None → IsNoStore c call
+  effect_window : (c : Caller) (call : ServiceCall) → first_refusal (refusals S c s call) ≡ None → IsNoStore c call
       → HasWindow (effect S c s call)
   effect_window c (Service.ActivateTask None) none free = refl
   effect_window c (Service.ActivateTask (Some t)) none free = activated_window t s refl
@@ -231,7 +225,7 @@ module _ (S : System) (s : State) (r : ℕ) where
   effect_window c (Service.ChainTask None) none free = refl
   effect_window c (Service.ChainTask (Some t)) none free = activated_window t (caller_ended c s) (ended_window c)
   effect_window c Service.Schedule none free =
-      cond_window (is_outranked S c s.jobs) (with_caller c given_up s) s (caller_window c given_up) refl
+      cond_both HasWindow (is_outranked S c s.jobs) (with_caller c given_up s) s (caller_window c given_up) refl
   effect_window c Service.GetTaskId none free = refl
   effect_window c (Service.GetTaskState o) none free = refl
   effect_window c (Service.GetResource None) none free = refl
@@ -259,33 +253,24 @@ module _ (S : System) (s : State) (r : ℕ) where
   effect_window c (Service.GetAlarm o) none free = refl
   effect_window c (Service.GetAlarmBase o) none free = refl
 
-  reply_window : (c : Caller) (call : Service ℕ) (o : Option Status) → (o ≡ None → first_refusal (refusals S c s call) ≡ None)
+  reply_window : (c : Caller) (call : ServiceCall) (o : Option Status) → (o ≡ None → first_refusal (refusals S c s call) ≡ None)
       → (o ≡ None → IsNoStore c call) → HasWindow (reply_to S c s call o).state
   reply_window c call None none free = effect_window c call (none refl) (free refl)
   reply_window c call (Some refusal) none free = refl
 
-  pub service_window : (c : Caller) (call : Service ℕ) → ((service S c s call).status ≡ Status.Ok → IsNoStore c call)
+  pub service_window : (c : Caller) (call : ServiceCall) → ((service S c s call).status ≡ Status.Ok → IsNoStore c call)
       → HasWindow (service S c s call).state
   unfolding service
   service_window c call free =
       reply_window c call (first_refusal ((interrupts_off s, Status.SysDisabled) ∷ refusals S c s call))
       (λ e. (passed (interrupts_off s) Status.SysDisabled (refusals S c s call) e).1) (λ e. free (ap answer e))
 
-  pub unmasked_window : (call : Service ℕ) → HasWindow (unmasked_service S NobodyCalls s call).state
+  pub unmasked_window : (call : ServiceCall) → HasWindow (unmasked_service S NobodyCalls s call).state
   unfolding unmasked_service
   unmasked_window call =
       reply_window NobodyCalls call (first_refusal (refusals S NobodyCalls s call)) (λ e. e) (λ e has. clash (sym has))
 
 -- ---- a job comes to hold it
-
-any_none : {X : Type 0} (p : X → Bool) (xs : List X) → list_any p xs ≡ false → AllByRecursion (λ x. p x ≡ false) xs
-any_none p [] h = tt
-any_none p (x ∷ xs) h = go (p x) refl h (any_none p xs)
-  where
-    go : (b : Bool) → p x ≡ b → (b || list_any p xs) ≡ false → (list_any p xs ≡ false → AllByRecursion (λ y. p y ≡ false) xs)
-        → AllByRecursion (λ y. p y ≡ false) (x ∷ xs)
-    go true e k rest = clash k
-    go false e k rest = (e, rest k)
 
 -- what is found passes, and what it becomes passes the other test
 found_map : {X : Type 0} (p q : X → Bool) (g : X → X) (xs : List X) (x : X) → ((y : X) → p y ≡ true → q (g y) ≡ true)
@@ -311,7 +296,7 @@ module _ (S : System) (s : State) (r : ℕ) (n : JobId) (j : Job) (sole : IsSole
   holds_now : (k : Job) (b : Bool) → same_id k.id j.id ≡ b → b ≡ true
       → is_its_holder (ResId.Declared r) n (cond b (gets (ResId.Declared r) k) k) ≡ true
   holds_now k true e h =
-      both_true (same_id k.id n) (holds (gets (ResId.Declared r) k) (ResId.Declared r)) (its_id k e)
+      and_from (same_id k.id n) (holds (gets (ResId.Declared r) k) (ResId.Declared r)) (its_id k e)
       (got_held (ResId.Declared r) k.held)
   holds_now k false e h = clash (sym h)
 

@@ -7,6 +7,7 @@ use Rattle.osek_base.specs.declared.ids.ResId.{ResId}
 use Rattle.osek_base.specs.declared.ids.Owner.{Owner}
 use Rattle.osek_base.specs.declared.status.Status.{Status}
 use Rattle.osek_base.specs.declared.instr.Service.{Service}
+use Rattle.osek_base.specs.Types.{ServiceCall}
 use Rattle.osek_base.specs.declared.instr.Control.{Control}
 use Rattle.osek_base.specs.declared.instr.Instr.{Instr}
 use Rattle.osek_base.specs.declared.trace_event.Results.{Results}
@@ -27,25 +28,25 @@ use Rattle.osek_base.specs.Tick.{Step, before_execution, from_execution, last_ph
 use Rattle.osek_base.specs.Trace.{with_earlier}
 use Rattle.osek_base.specs.Laws.{is_get, is_release, is_store, tells, does}
 use Rattle.osek_base.specs.Proper.{IsProper}
-use Rattle.osek_base.proofs.PlaceLemmas.{and_split}
 use Rattle.run_laws.proofs.Lists.{clash}
-use Rattle.run_laws.proofs.Foremost.{equal, both_true}
+use Rattle.run_laws.proofs.Foremost.{equal}
 use Rattle.run_laws.proofs.Known.{executor_calls}
 use Rattle.run_laws.proofs.Single.{IsSingle}
 use Rattle.run_laws.proofs.SingleMoves.{reschedule_single}
 use Rattle.run_laws.proofs.SingleTick.{alarm_phase_single, start_single}
 use Rattle.run_laws.proofs.Records.{is_executed, NoneExecuted, none_error, none_shutdown, none_before, none_last}
-use Rattle.run_laws.proofs.Holding.{or_left, IsHolder, plain_holder, with_context_holder, IsSoleCaller, sole_caller}
+use Rattle.run_laws.proofs.Holding.{IsHolder, plain_holder, with_context_holder, IsSoleCaller, sole_caller}
 use Rattle.run_laws.proofs.Holding.{holding_caller}
 use Rattle.run_laws.proofs.HoldingService.{service_holder, unmasked_holder, service_window, unmasked_window, service_got}
+use Rattle.std.proofs.lemmas.Bool.{and_parts, and_from, or_left}
 
 -- ---- what records tell
 
 -- whether the caller is the job of that id, and some records tell of such a service
-abbrev pub says : (Service ℕ → Bool) → JobId → Caller → List TraceEvent → Bool
+abbrev pub says : (ServiceCall → Bool) → JobId → Caller → List TraceEvent → Bool
 says test n c events = is_number n (calling_job c) && list_any (tells test) events
 
-module _ (test : Service ℕ → Bool) where
+module _ (test : ServiceCall → Bool) where
   told_not : (e : TraceEvent) → is_executed e ≡ false → tells test e ≡ false
   told_not (TraceEvent.Executed who place what outcome) h = clash h
   told_not _ h = refl
@@ -67,37 +68,37 @@ module _ (test : Service ℕ → Bool) where
       ∙ or_false (list_any (tells test) xs)
 
   -- a record that tells of a service tells of E_OK
-  told_ok : (who : Owner) (place : ℕ) (call : Service ℕ) (status : Status) (found : Results)
+  told_ok : (who : Owner) (place : ℕ) (call : ServiceCall) (status : Status) (found : Results)
       → tells test (TraceEvent.Executed who place (Instr.Service call) (Outcome.Answer status found)) ≡ true
       → (status ≡ Status.Ok) × (test call ≡ true)
   told_ok who place call Status.Ok found h = (refl, h)
   told_ok who place call _ found h = clash (sym h)
 
-  says_ok : (n : JobId) (c : Caller) (who : Owner) (place : ℕ) (call : Service ℕ) (status : Status) (found : Results)
+  says_ok : (n : JobId) (c : Caller) (who : Owner) (place : ℕ) (call : ServiceCall) (status : Status) (found : Results)
       (rest : List TraceEvent)
       → is_number n (calling_job c) ≡ true → status ≡ Status.Ok → test call ≡ true
       → says test n c (TraceEvent.Executed who place (Instr.Service call) (Outcome.Answer status found) ∷ rest) ≡ true
   says_ok n c who place call status found rest number ok h =
       let record_of : Status → TraceEvent = λ e. TraceEvent.Executed who place (Instr.Service call) (Outcome.Answer e found) in
-      both_true (is_number n (calling_job c)) (list_any (tells test) (record_of status ∷ rest)) number
+      and_from (is_number n (calling_job c)) (list_any (tells test) (record_of status ∷ rest)) number
       (or_left (tells test (record_of status)) (list_any (tells test) rest)
       (subst (λ e. tells test (record_of e) ≡ true) (sym ok) h))
 
 -- ---- the service that an instruction calls
 
-got_call : (r : ℕ) (call : Service ℕ) → is_get r call ≡ true → call ≡ Service.GetResource (Some (ResId.Declared r))
+got_call : (r : ℕ) (call : ServiceCall) → is_get r call ≡ true → call ≡ Service.GetResource (Some (ResId.Declared r))
 got_call r (Service.GetResource (Some (ResId.Declared q))) h =
     ap (λ m. Service.GetResource (Some (ResId.Declared m))) (equal q r h)
 got_call r _ h = clash (sym h)
 
-release_at : (r : ℕ) (x : Context) (call : Service ℕ) → is_release r (at_values x call) ≡ is_release r call
+release_at : (r : ℕ) (x : Context) (call : ServiceCall) → is_release r (at_values x call) ≡ is_release r call
 release_at r x (Service.SetRelAlarm a y z) = refl
 release_at r x (Service.SetAbsAlarm a y z) = refl
 release_at r x (Service.LoadShared q i) = refl
 release_at r x (Service.StoreShared q i v) = refl
 release_at r x _ = refl
 
-store_at : (r : ℕ) (x : Context) (call : Service ℕ) → is_store r (at_values x call) ≡ is_store r call
+store_at : (r : ℕ) (x : Context) (call : ServiceCall) → is_store r (at_values x call) ≡ is_store r call
 store_at r x (Service.StoreShared None i v) = refl
 store_at r x (Service.StoreShared (Some (ResId.Declared q)) i v) = refl
 store_at r x (Service.StoreShared (Some ResId.Scheduler) i v) = refl
@@ -108,12 +109,12 @@ store_at r x _ = refl
 
 -- ---- one instruction
 
-controlled_holder : (r : ResId) (n : JobId) (control : Control) (s : State) → IsHolder r n s.jobs
+controlled_holder : (r : ResId) (n : JobId) (control : Control ℕ) (s : State) → IsHolder r n s.jobs
     → IsHolder r n (controlled control s).jobs
 controlled_holder r n Control.DisableAllInterrupts s holder = holder
 controlled_holder r n _ s holder = holder
 
-controlled_window : (r : ℕ) (control : Control) (s : State)
+controlled_window : (r : ℕ) (control : Control ℕ) (s : State)
     → shared_window (controlled control s).shared r ≡ shared_window s.shared r
 controlled_window r Control.DisableAllInterrupts s = refl
 controlled_window r _ s = refl
@@ -152,7 +153,7 @@ module _ (S : System) (r : ℕ) (n : JobId) where
       (sym (store_at r x call) ∙ store)) ∙ h))
   executed_window who c x (Instr.Control control) s itself h = controlled_window r control s
 
-  got_reply : (j : Job) (s : State) (call : Service ℕ) → call ≡ Service.GetResource (Some (ResId.Declared r))
+  got_reply : (j : Job) (s : State) (call : ServiceCall) → call ≡ Service.GetResource (Some (ResId.Declared r))
       → IsSoleCaller s (JobCalls j) → same_id j.id n ≡ true
       → (service S (JobCalls j) s call).status ≡ Status.Ok → IsHeld (service S (JobCalls j) s call).state
   got_reply j s call same sole itself ok =
@@ -162,12 +163,12 @@ module _ (S : System) (r : ℕ) (n : JobId) where
   executed_got : (who : Owner) (j : Job) (x : Context) (what : Instr) (s : State) → IsSoleCaller s (JobCalls j)
       → says (is_get r) n (JobCalls j) (executed S who (JobCalls j) x what s).events ≡ true
       → IsHeld (executed S who (JobCalls j) x what s).state
-  executed_got who j x (Instr.Plain p) s sole h = clash (sym (and_split (same_id j.id n) false h).1)
+  executed_got who j x (Instr.Plain p) s sole h = clash (sym (and_parts (same_id j.id n) false h).1)
   executed_got who j x (Instr.Service call) s sole h =
       let reply = service S (JobCalls j) s (at_values x call) in
       let one : TraceEvent = TraceEvent.Executed who x.place (Instr.Service call) (Outcome.Answer reply.status reply.results) in
       let errors : List TraceEvent = error_record S (Source.Owner who) (Instr.Service call) reply.status in
-      let both = and_split (same_id j.id n) (list_any (tells (is_get r)) (one ∷ errors)) h in
+      let both = and_parts (same_id j.id n) (list_any (tells (is_get r)) (one ∷ errors)) h in
       let told = told_ok (is_get r) who x.place call reply.status reply.results
       (sym (told_before (is_get r) (one ∷ []) errors
       (none_error S (Source.Owner who) (Instr.Service call) reply.status)
@@ -175,7 +176,7 @@ module _ (S : System) (r : ℕ) (n : JobId) where
       with_context_holder (ResId.Declared r) n (JobCalls j) (answered reply.status reply.results x) reply.state
       (got_reply j s (at_values x call) (ap (at_values x) (got_call r call told.1)) sole both.0 told.0)
   executed_got who j x (Instr.Control control) s sole h =
-      clash (sym (and_split (same_id j.id n) (list_any (tells (is_get r)) (shutdown_record S control)) h).1
+      clash (sym (and_parts (same_id j.id n) (list_any (tells (is_get r)) (shutdown_record S control)) h).1
       ∙ told_none (is_get r) (shutdown_record S control) (none_shutdown S control))
 
   -- ---- who executes
@@ -317,7 +318,7 @@ module _ (S : System) (proper : IsProper S) (arrived : List ℕ) (s : State) (ea
       (start_single S proper (reschedule S waked).state (reschedule_single S waked (alarm_phase_single S proper s single)))
       (executor_calls ready)
 
-  does_says : (test : Service ℕ → Bool) (n : JobId)
+  does_says : (test : ServiceCall → Bool) (n : JobId)
       → does test n this_step ≡ says test n (executor ready) (execute_phase S ready).events
   unfolding tick
   does_says test n =

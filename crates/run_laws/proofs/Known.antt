@@ -4,6 +4,7 @@ use Rattle.std.specs.Prelude.{is_some, Option, Some, None, ◌==◌}
 use Rattle.std.specs.List.{filter, list_all, AllByRecursion}
 use Rattle.osek_base.specs.declared.status.Status.{Status}
 use Rattle.osek_base.specs.declared.instr.Service.{Service}
+use Rattle.osek_base.specs.Types.{ServiceCall}
 use Rattle.osek_base.specs.Lists.{is_empty, below}
 use Rattle.osek_base.specs.System.{System, task, no_task, alarm, no_alarm, is_extended, activation_of}
 use Rattle.osek_base.specs.State.{Job, JobId, Active, State, same_id, jobs_of, job_of}
@@ -11,9 +12,10 @@ use Rattle.osek_base.specs.Activation.{is_full}
 use Rattle.osek_base.specs.Service.{Caller, JobCalls, RoutineCalls, NobodyCalls, first_refusal, is_met}
 use Rattle.osek_base.specs.Tick.{executor, caller_of, running_caller, job_caller}
 use Rattle.osek_base.specs.Proper.{IsProper, is_proper_task, is_proper_alarm}
-use Rattle.osek_base.proofs.PlaceLemmas.{and_split, all_at}
+use Rattle.osek_base.proofs.PlaceLemmas.{all_at}
 use Rattle.run_laws.proofs.Lists.{clash, all_weaker, all_any, all_append, found}
 use Rattle.run_laws.proofs.Foremost.{same_ids}
+use Rattle.std.proofs.lemmas.Bool.{and_parts}
 
 -- the job that calls runs, and is the first of its id
 pub record IsRunningCaller (s : State) (j : Job) : Type 0 where
@@ -27,7 +29,7 @@ IsCaller s (RoutineCalls a) = s.active ≡ Some a
 IsCaller s NobodyCalls = Unit {0}
 
 -- the task that a service activates exists
-abbrev pub ActivatesKnown : System → Service ℕ → Type 0
+abbrev pub ActivatesKnown : System → ServiceCall → Type 0
 ActivatesKnown S (Service.ActivateTask (Some t)) = t < length S.tasks
 ActivatesKnown S (Service.ChainTask (Some t)) = t < length S.tasks
 ActivatesKnown S _ = Unit {0}
@@ -76,10 +78,10 @@ executor_calls s = go s.active refl
 -- ---- tasks and alarms of a proper system
 
 pub each_task : (S : System) → IsProper S → list_all (is_proper_task S) S.tasks ≡ true
-each_task S proper = (and_split _ _ (and_split _ _ (and_split _ _ (and_split _ _ (and_split _ _ proper.objects).0).0).0).0).1
+each_task S proper = (and_parts _ _ (and_parts _ _ (and_parts _ _ (and_parts _ _ (and_parts _ _ proper.objects).0).0).0).0).1
 
 pub each_alarm : (S : System) → IsProper S → list_all (is_proper_alarm S) S.alarms ≡ true
-each_alarm S proper = (and_split _ _ proper.objects).1
+each_alarm S proper = (and_parts _ _ proper.objects).1
 
 pub proper_at : (S : System) (t : ℕ) → IsProper S → t < length S.tasks → is_proper_task S (task S t) ≡ true
 proper_at S t proper inside = all_at (is_proper_task S) S.tasks t no_task inside (each_task S proper)
@@ -94,8 +96,8 @@ once false n h k = grind (arith, h)
 -- an extended task has one job at most
 pub single_activation : (S : System) (t : ℕ) → IsProper S → t < length S.tasks → is_extended S t ≡ true → activation_of S t ≡ 1
 single_activation S t proper inside extended =
-    let here = and_split _ _ (and_split _ _ (and_split _ _ (and_split _ _ (proper_at S t proper inside)).0).0).0 in
-    once (is_empty (task S t).events) (activation_of S t) (and_split _ _ here.0).1 extended
+    let here = and_parts _ _ (and_parts _ _ (and_parts _ _ (and_parts _ _ (proper_at S t proper inside)).0).0).0 in
+    once (is_empty (task S t).events) (activation_of S t) (and_parts _ _ here.0).1 extended
 
 -- ---- room
 

@@ -1,7 +1,7 @@
 -- What holds of each element of a list, and of each two elements by their order.
-use Rattle.std.proofs.Common.{◌≡◌, ◌⊎◌, inl, inr, Bool, true, false, cond, List, [], ◌∷◌, ◌++◌, map, refl, subst, arith}
+use Rattle.std.proofs.Common.{◌≡◌, ◌⊎◌, inl, inr, Bool, true, false, cond, ◌||◌, List, [], ◌∷◌, ◌++◌, map, refl, subst, arith}
 use Rattle.std.specs.Prelude.{Some, None}
-use Rattle.std.specs.List.{filter, find, AllByRecursion}
+use Rattle.std.specs.List.{filter, find, list_any, AllByRecursion}
 
 pub clash : {Y : Type 0} → true ≡ false → Y
 clash e = absurd (grind arith)
@@ -11,6 +11,17 @@ some_inside a b h = grind arith
 
 pub none_some : {X : Type 0} (x : X) → None ≡ Some x → ⊥
 none_some x h = grind arith
+
+module _ {X : Type 0} (P : X → Type 0) where
+  -- what holds of both holds of either
+  pub cond_both : (b : Bool) (x y : X) → P x → P y → P (cond b x y)
+  cond_both true x y f g = f
+  cond_both false x y f g = g
+
+  -- it has to hold of each in its own case alone
+  pub cond_case : (b : Bool) (x y : X) → (b ≡ true → P x) → (b ≡ false → P y) → P (cond b x y)
+  cond_case true x y f g = f refl
+  cond_case false x y f g = g refl
 
 -- what holds of each pair, the first of which is before the second
 abbrev pub Pairs : {X : Type 0} → (X → X → Type 0) → List X → Type 0
@@ -128,3 +139,13 @@ module _ {X : Type 0} where
                 (pairs_of_all (λ y. y ≡ c → R c c) xs each),
           )
       go false e k rest = (all_any (λ y. (y ≡ c → R c c) ⊎ (test x ≡ false)) xs (λ y. inr e), rest k)
+
+-- each fails where none passes
+pub any_none : {X : Type 0} (p : X → Bool) (xs : List X) → list_any p xs ≡ false → AllByRecursion (λ x. p x ≡ false) xs
+any_none p [] h = tt
+any_none p (x ∷ xs) h = go (p x) refl h (any_none p xs)
+  where
+    go : (b : Bool) → p x ≡ b → (b || list_any p xs) ≡ false → (list_any p xs ≡ false → AllByRecursion (λ y. p y ≡ false) xs)
+        → AllByRecursion (λ y. p y ≡ false) (x ∷ xs)
+    go true e k rest = clash k
+    go false e k rest = (e, rest k)

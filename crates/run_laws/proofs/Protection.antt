@@ -1,6 +1,5 @@
 -- In every run the words of a resource change, while a job holds it, only by that job's own stores.
 use Rattle.std.proofs.Common.{◌≡◌, ℕ, zero, suc, Bool, true, false, ◌||◌, List, [], ◌∷◌, ◌++◌, refl, sym, ◌∙◌, ap, subst}
-use Rattle.std.specs.Prelude.{drop}
 use Rattle.std.specs.List.{list_any}
 use Rattle.std.proofs.lemmas.List.Folds.{list_any-append}
 use Rattle.osek_base.specs.declared.arrivals.Arrival.{Arrival}
@@ -10,18 +9,15 @@ use Rattle.osek_base.specs.Tick.{Step, tick}
 use Rattle.osek_base.specs.Trace.{Run, arriving, with_earlier, step_added, run}
 use Rattle.osek_base.specs.Laws.{is_get, is_release, is_store, does, shared_after, Protects}
 use Rattle.osek_base.specs.Proper.{IsProper}
-use Rattle.run_laws.proofs.Lists.{clash}
 use Rattle.run_laws.proofs.Records.{NoneExecuted, none_boot}
 use Rattle.run_laws.proofs.Single.{IsSingle}
 use Rattle.run_laws.proofs.SingleTick.{boot_single, tick_single}
 use Rattle.run_laws.proofs.Excluding.{more_at}
 use Rattle.run_laws.proofs.HoldingTick.{IsHeld, tick_held, tick_got, tick_window}
+use Rattle.std.proofs.lemmas.Bool.{or_parts}
+use Rattle.std.proofs.lemmas.List.{same_from_push}
 
 -- ---- lists by their end
-
-or_none : (a b : Bool) → (a || b) ≡ false → (a ≡ false) × (b ≡ false)
-or_none true b h = clash h
-or_none false b h = (refl, h)
 
 module _ {X : Type 0} where
   pub record HasEnd (xs : List X) : Type 0 where
@@ -40,15 +36,6 @@ module _ {X : Type 0} where
   none_inside : {Y : Type 0} (xs ys : List X) (x : X) → [] ≡ xs ++ x ∷ ys → Y
   none_inside [] ys x h = absurd (cc)
   none_inside (z ∷ xs) ys x h = absurd (cc)
-
-  -- lists with one element more that are the same have the same front and the same end
-  ends_same : (xs ys : List X) (x y : X) → xs ++ x ∷ [] ≡ ys ++ y ∷ [] → (xs ≡ ys) × (x ≡ y)
-  ends_same [] [] x y h = (refl, ap (head_or x) h)
-  ends_same [] (z ∷ ys) x y h = none_inside ys [] y (ap (drop 1) h)
-  ends_same (z ∷ xs) [] x y h = none_inside xs [] x (sym (ap (drop 1) h))
-  ends_same (z ∷ xs) (w ∷ ys) x y h =
-      let rest = ends_same xs ys x y (ap (drop 1) h) in
-      (ap (λ zs. z ∷ zs) rest.0 ∙ ap (λ v. v ∷ ys) (ap (head_or z) h), rest.1)
 
   regrouped : (xs ys zs : List X) → xs ++ (ys ++ zs) ≡ (xs ++ ys) ++ zs
   regrouped [] ys zs = refl
@@ -100,26 +87,26 @@ module _ (S : System) (proper : IsProper S) where
     front_of : (earlier front : List Step) (got end : Step) → run.steps ++ this ∷ [] ≡ earlier ++ got ∷ (front ++ end ∷ [])
         → (run.steps ≡ earlier ++ got ∷ front) × (this ≡ end)
     front_of earlier front got end e =
-        ends_same run.steps (earlier ++ got ∷ front) this end (e ∙ regrouped earlier (got ∷ front) (end ∷ []))
+        same_from_push run.steps (earlier ++ got ∷ front) this end (e ∙ regrouped earlier (got ∷ front) (end ∷ []))
 
     more_holders : AreHolders more
     more_holders r job earlier [] got e gets free =
-        let same : this ≡ got = (ends_same run.steps earlier this got e).1 in
+        let same : this ≡ got = (same_from_push run.steps earlier this got e).1 in
         tick_got S proper arrived run.state run.unwritten good.unwritten good.single r job
         (subst (λ x. does (is_get r) job x ≡ true) (sym same) gets)
     more_holders r job earlier (y ∷ ys) got e gets free =
         let h = by_end y ys in
         let both = front_of earlier h.front got h.end (e ∙ ap (λ zs. earlier ++ got ∷ zs) h.same) in
-        let none = or_none (list_any (does (is_release r) job) h.front) (does (is_release r) job h.end || false)
+        let none = or_parts (list_any (does (is_release r) job) h.front) (does (is_release r) job h.end || false)
         (sym (list_any-append (does (is_release r) job) h.front (h.end ∷ []))
         ∙ ap (list_any (does (is_release r) job)) (sym h.same) ∙ free) in
         tick_held S proper arrived run.state run.unwritten good.unwritten good.single r job
         (good.holders r job earlier h.front got both.0 gets none.0)
-        (subst (λ x. does (is_release r) job x ≡ false) (sym both.1) (or_none (does (is_release r) job h.end) false none.1).0)
+        (subst (λ x. does (is_release r) job x ≡ false) (sym both.1) (or_parts (does (is_release r) job h.end) false none.1).0)
 
     more_windows : AreWindows more
     more_windows r earlier [] got e =
-        ap (λ (x : Step). shared_window x.after.shared r) (sym (ends_same run.steps earlier this got e).1)
+        ap (λ (x : Step). shared_window x.after.shared r) (sym (same_from_push run.steps earlier this got e).1)
     more_windows r earlier (y ∷ ys) got e =
         let h = by_end y ys in
         let both = front_of earlier h.front got h.end (e ∙ ap (λ zs. earlier ++ got ∷ zs) h.same) in
@@ -128,7 +115,7 @@ module _ (S : System) (proper : IsProper S) where
 
     more_protected : AreProtected more.steps
     more_protected r job earlier between got next e gets free stores =
-        let both = ends_same run.steps (earlier ++ got ∷ between) this next e in
+        let both = same_from_push run.steps (earlier ++ got ∷ between) this next e in
         ap (λ (x : Step). shared_window x.after.shared r) (sym both.1)
         ∙ tick_window S proper arrived run.state run.unwritten good.unwritten good.single r job
         (good.holders r job earlier between got both.0 gets free)

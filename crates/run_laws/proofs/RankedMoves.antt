@@ -177,6 +177,22 @@ module _ (S : System) where
   enters_higher (Some v) true m n = omega arith
   enters_higher (Some v) false m n = omega arith
 
+  -- what is known of the job that is chosen
+  pub record IsChosen (jobs : List Job) (c : Job) : Type 0 where
+    pub apart : Pairs AreApart jobs
+    pub itself : AllByRecursion (λ k. same_id k.id c.id ≡ true → k ≡ c) jobs
+    pub dispatched : IsDispatched S jobs c
+
+  pub chosen : (made : List ℕ) (running : Option JobId) (jobs : List Job) (c : Job) → choice S jobs ≡ Some c → AreSingle S made running jobs
+      → AreRanked S running jobs → IsChosen jobs c
+  chosen made running jobs c e single ranked =
+      let apart : Pairs AreApart jobs = pairs_weaker (IsSoundPair S) AreApart jobs (λ x y h. h.apart) single.pairs in
+      record {
+        apart = apart;
+        itself = only c jobs (found (λ x. AllByRecursion (EitherWay AreApart x) jobs) _ jobs c (either_way AreApart jobs apart) e).0;
+        dispatched = choice_dispatched S jobs c apart ranked.pairs e;
+      }
+
   -- what a reschedule leaves
   pub record IsRescheduled (running : Option JobId) (jobs : List Job) : Type 0 where
     pub ordered : IsOrdered running jobs
@@ -197,31 +213,25 @@ module _ (S : System) where
   }
   chosen_rescheduled made running jobs (Some c) e single ranked = record {
     ordered = record {
-      ranked = redispatched S (entered S) c jobs apart itself dispatched (heightened S c (entered S c) higher) ranked.still ranked.pairs;
+      ranked = redispatched S (entered S) c jobs facts.apart facts.itself facts.dispatched (heightened S c (entered S c) higher) ranked.still ranked.pairs;
       ready = all_map (λ k. same_id k.id c.id ≡ true → k ≡ c) (λ k. Some c.id ≡ Some k.id → waits k ≡ false) g jobs
-          (λ k one. entered_ready k (same_id k.id c.id) refl one) itself;
+          (λ k one. entered_ready k (same_id k.id c.id) refl one) facts.itself;
     };
     dispatched = all_map (λ k. same_id k.id c.id ≡ true → k ≡ c) (λ k. Some c.id ≡ Some k.id → IsDispatched S (map g jobs) k) g jobs
-        (λ k one. entered_dispatched k (same_id k.id c.id) refl one) itself;
+        (λ k one. entered_dispatched k (same_id k.id c.id) refl one) facts.itself;
   }
     where
       g : Job → Job
       g j = cond (same_id j.id c.id) (entered S j) j
 
-      apart : Pairs AreApart jobs
-      apart = pairs_weaker (IsSoundPair S) AreApart jobs (λ x y h. h.apart) single.pairs
-
-      itself : AllByRecursion (λ k. same_id k.id c.id ≡ true → k ≡ c) jobs
-      itself = only c jobs (found (λ x. AllByRecursion (EitherWay AreApart x) jobs) _ jobs c (either_way AreApart jobs apart) e).0
-
-      dispatched : IsDispatched S jobs c
-      dispatched = choice_dispatched S jobs c apart ranked.pairs e
+      facts : IsChosen jobs c
+      facts = chosen made running jobs c e single ranked
 
       higher : IsHeightened S c (entered S c)
       higher = record {
         id = refl;
         up = enters_higher (internal_ceiling S c.id.task) c.taken (static_priority S c) (greatest (map (ceiling S) c.held));
-        ready = dispatched.ready;
+        ready = facts.dispatched.ready;
       }
 
       not_same : {Y : Type 0} (k : Job) → same_id k.id c.id ≡ false → Some c.id ≡ Some k.id → Y
@@ -229,13 +239,13 @@ module _ (S : System) where
 
       entered_ready : (k : Job) (b : Bool) → same_id k.id c.id ≡ b → (same_id k.id c.id ≡ true → k ≡ c) → Some c.id ≡ Some (cond b (entered S k) k).id
           → waits (cond b (entered S k) k) ≡ false
-      entered_ready k true same one runs = ap waits (one same) ∙ dispatched.ready
+      entered_ready k true same one runs = ap waits (one same) ∙ facts.dispatched.ready
       entered_ready k false other one runs = not_same k other runs
 
       entered_dispatched : (k : Job) (b : Bool) → same_id k.id c.id ≡ b → (same_id k.id c.id ≡ true → k ≡ c) → Some c.id ≡ Some (cond b (entered S k) k).id
           → IsDispatched S (map g jobs) (cond b (entered S k) k)
       entered_dispatched k true same one runs =
-          subst (λ z. IsDispatched S (map g jobs) (entered S z)) (sym (one same)) (still_dispatched S (entered S) c jobs apart itself dispatched higher)
+          subst (λ z. IsDispatched S (map g jobs) (entered S z)) (sym (one same)) (still_dispatched S (entered S) c jobs facts.apart facts.itself facts.dispatched higher)
       entered_dispatched k false other one runs = not_same k other runs
 
   -- the running job is ready, or a reschedule comes

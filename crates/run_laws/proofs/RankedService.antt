@@ -7,6 +7,7 @@ use Rattle.osek_base.specs.declared.ids.ResId.{ResId}
 use Rattle.osek_base.specs.declared.task.Action.{Action}
 use Rattle.osek_base.specs.declared.status.Status.{Status}
 use Rattle.osek_base.specs.declared.instr.Service.{Service}
+use Rattle.osek_base.specs.Types.{ServiceCall}
 use Rattle.osek_base.specs.Lists.{is_empty, greatest, without_last}
 use Rattle.osek_base.specs.System.{System}
 use Rattle.osek_base.specs.Ceiling.{ceiling, internal_ceiling}
@@ -15,7 +16,7 @@ use Rattle.osek_base.specs.Priority.{static_priority, dynamic_priority}
 use Rattle.osek_base.specs.Activation.{activated, released}
 use Rattle.osek_base.specs.Service.{Caller, JobCalls, RoutineCalls, NobodyCalls, holds_any, first_refusal, refusals, with_caller, caller_ended, is_outranked, given_up, gets, releases, waiting_for, meets, is_met, released_by, with_events, event_set, events_cleared, event_awaited, effect, reply_to, service, unmasked_service}
 use Rattle.osek_base.specs.Tick.{action_call}
-use Rattle.run_laws.proofs.Lists.{Pairs, EitherWay, clash, all_kept, found, pairs_weaker, either_way}
+use Rattle.run_laws.proofs.Lists.{cond_case, Pairs, EitherWay, clash, all_kept, found, pairs_weaker, either_way}
 use Rattle.run_laws.proofs.Foremost.{AreApart, only}
 use Rattle.run_laws.proofs.Known.{met_waits, IsCaller, passed, all_passed}
 use Rattle.run_laws.proofs.Single.{IsSoundPair, IsSingle}
@@ -24,10 +25,6 @@ use Rattle.run_laws.proofs.Ranked.{AreRanked, IsDispatched, HasDispatched, IsRed
 use Rattle.run_laws.proofs.RankedMoves.{IsOrdered, IsReadyOrDue, kept_ranked, same_ready, activated_ordered, released_ordered}
 
 -- ---- priorities of what is held
-
-greatest_more : (ns : List ℕ) (n : ℕ) → greatest ns ≤ greatest (ns ++ n ∷ [])
-greatest_more [] n = omega arith
-greatest_more (m ∷ ns) n = let rest = greatest_more ns n in omega arith
 
 map_more : (S : System) (rs : List ResId) (r : ResId) → greatest (map (ceiling S) rs) ≤ greatest (map (ceiling S) (rs ++ r ∷ []))
 map_more S [] r = omega arith
@@ -79,10 +76,6 @@ module _ (S : System) (s : State) (single : IsSingle S s) (ordered : IsOrdered S
 
   apart : Pairs AreApart s.jobs
   apart = pairs_weaker (IsSoundPair S) AreApart s.jobs (λ x y h. h.apart) single.pairs
-
-  cond_left : (b : Bool) (x y : State) → (b ≡ true → IsLeft x) → (b ≡ false → IsLeft y) → IsLeft (cond b x y)
-  cond_left true x y f g = f refl
-  cond_left false x y f g = g refl
 
   -- ---- the calling job
 
@@ -173,7 +166,7 @@ module _ (S : System) (s : State) (single : IsSingle S s) (ordered : IsOrdered S
 
   awaited : (c : Caller) (m : ℕ) → IsCaller s c → MayCall S s c → holds_any c ≡ false → IsLeft (event_awaited c m s)
   awaited (JobCalls j) m calls may none =
-      cond_left (meets m (slice_index s.masks j.id.task)) s (with_caller (JobCalls j) (waiting_for m) s) (λ e. unchanged) (λ e. awaits_left j calls may m none)
+      cond_case IsLeft (meets m (slice_index s.masks j.id.task)) s (with_caller (JobCalls j) (waiting_for m) s) (λ e. unchanged) (λ e. awaits_left j calls may m none)
   awaited (RoutineCalls a) m calls may none = unchanged
   awaited NobodyCalls m calls may none = unchanged
 
@@ -203,11 +196,6 @@ module _ (S : System) (s : State) (single : IsSingle S s) (ordered : IsOrdered S
   chained (RoutineCalls a) t = activates t
   chained NobodyCalls t = activates t
 
-  cond_ordered : (b : Bool) (x y : State) → (b ≡ true → IsOrdered S s.running x.jobs) → (b ≡ false → IsOrdered S s.running y.jobs)
-      → IsOrdered S s.running (cond b x y).jobs
-  cond_ordered true x y f g = f refl
-  cond_ordered false x y f g = g refl
-
   set_ordered : (t m : ℕ) → IsOrdered S s.running (event_set t m s).jobs
   set_ordered t m = go (jobs_of t s.jobs) refl
     where
@@ -217,7 +205,7 @@ module _ (S : System) (s : State) (single : IsSingle S s) (ordered : IsOrdered S
       go : (js : List Job) → jobs_of t s.jobs ≡ js → IsOrdered S s.running (released_by events js (with_events t events s)).jobs
       go [] e = ordered
       go (j ∷ js) e =
-          cond_ordered (is_met events j.waits_for) (released j.id (with_events t events s)) (with_events t events s)
+          cond_case (λ (e : State). IsOrdered S s.running e.jobs) (is_met events j.waits_for) (released j.id (with_events t events s)) (with_events t events s)
           (λ met. released_ordered S j (with_events t events s) (λ P all. (subst (AllByRecursion P) e (all_kept P (λ k. k.id.task == t) s.jobs all)).0)
           (met_waits events j.waits_for met) apart ordered)
           (λ met. ordered)
@@ -225,13 +213,13 @@ module _ (S : System) (s : State) (single : IsSingle S s) (ordered : IsOrdered S
   set_left : (t m : ℕ) → IsLeft (event_set t m s)
   set_left t m = left (event_set t m s) (set_ordered t m)
 
-  effect_left : (c : Caller) (call : Service ℕ) → IsCaller s c → MayCall S s c → first_refusal (refusals S c s call) ≡ None → IsLeft (effect S c s call)
+  effect_left : (c : Caller) (call : ServiceCall) → IsCaller s c → MayCall S s c → first_refusal (refusals S c s call) ≡ None → IsLeft (effect S c s call)
   effect_left c (Service.ActivateTask None) calls may none = unchanged
   effect_left c (Service.ActivateTask (Some t)) calls may none = activates t
   effect_left c Service.TerminateTask calls may none = terminated c
   effect_left c (Service.ChainTask None) calls may none = unchanged
   effect_left c (Service.ChainTask (Some t)) calls may none = chained c t
-  effect_left c Service.Schedule calls may none = cond_left (is_outranked S c s.jobs) (with_caller c given_up s) s (λ e. gave_up c calls may) (λ e. unchanged)
+  effect_left c Service.Schedule calls may none = cond_case IsLeft (is_outranked S c s.jobs) (with_caller c given_up s) s (λ e. gave_up c calls may) (λ e. unchanged)
   effect_left c Service.GetTaskId calls may none = unchanged
   effect_left c (Service.GetTaskState o) calls may none = unchanged
   effect_left c (Service.GetResource None) calls may none = unchanged
@@ -255,7 +243,7 @@ module _ (S : System) (s : State) (single : IsSingle S s) (ordered : IsOrdered S
   effect_left c (Service.GetAlarm o) calls may none = unchanged
   effect_left c (Service.GetAlarmBase o) calls may none = unchanged
 
-  reply_left : (c : Caller) (call : Service ℕ) (o : Option Status) → IsCaller s c
+  reply_left : (c : Caller) (call : ServiceCall) (o : Option Status) → IsCaller s c
       → (o ≡ None → MayCall S s c × (first_refusal (refusals S c s call) ≡ None)) → IsLeft (reply_to S c s call o).state
   reply_left c call None calls none =
       let h : IsLeft (effect S c s call) = effect_left c call calls (none refl).0 (none refl).1 in
@@ -275,7 +263,7 @@ module _ (S : System) (s : State) (single : IsSingle S s) (ordered : IsOrdered S
   may_call (RoutineCalls a) dispatching calls on = tt
   may_call NobodyCalls dispatching calls on = tt
 
-  pub service_left : (c : Caller) (call : Service ℕ) → (may_dispatch s ≡ true → HasDispatched S s.running s.jobs) → IsCaller s c → IsLeft (service S c s call).state
+  pub service_left : (c : Caller) (call : ServiceCall) → (may_dispatch s ≡ true → HasDispatched S s.running s.jobs) → IsCaller s c → IsLeft (service S c s call).state
   unfolding service
   service_left c call dispatching calls =
       reply_left c call (first_refusal ((interrupts_off s, Status.SysDisabled) ∷ refusals S c s call)) calls

@@ -5,7 +5,7 @@ use Rattle.std.specs.Option.{option_map}
 use Rattle.std.specs.List.{AllByRecursion}
 use Rattle.osek_base.specs.declared.ids.Owner.{Owner}
 use Rattle.osek_base.specs.declared.task.Action.{Action}
-use Rattle.osek_base.specs.declared.instr.Service.{Service}
+use Rattle.osek_base.specs.Types.{ServiceCall}
 use Rattle.osek_base.specs.declared.instr.Control.{Control}
 use Rattle.osek_base.specs.declared.instr.Instr.{Instr}
 use Rattle.osek_base.specs.declared.arrivals.Arrival.{Arrival}
@@ -73,7 +73,7 @@ may_start S s h = go (may_dispatch s) refl h
 module _ (S : System) (proper : IsProper S) where
   -- ---- phases 1 to 4
 
-  running_unmasked : (s : State) (call : Service ℕ) → (unmasked_service S NobodyCalls s call).state.running ≡ s.running
+  running_unmasked : (s : State) (call : ServiceCall) → (unmasked_service S NobodyCalls s call).state.running ≡ s.running
   unfolding unmasked_service
   running_unmasked s call = refl
 
@@ -158,11 +158,11 @@ module _ (S : System) (proper : IsProper S) where
       go (inr due) = inr (still_due e.active (interrupts_off e) due.0, due.1)
   moved NobodyCalls x s e h = record { ranked = h.ranked; ready = h.ready }
 
-  controlled_executed : (control : Control) (s : State) → IsOrdered S s.running s.jobs → IsExecuted s (controlled control s)
+  controlled_executed : (control : Control ℕ) (s : State) → IsOrdered S s.running s.jobs → IsExecuted s (controlled control s)
   controlled_executed Control.DisableAllInterrupts s h = record { ranked = h.ranked; ready = inl h.ready }
   controlled_executed _ s h = record { ranked = h.ranked; ready = inl h.ready }
 
-  service_executed : (s : State) (c : Caller) (call : Service ℕ) → IsExecuting s → IsCaller s c → IsExecuted s (service S c s call).state
+  service_executed : (s : State) (c : Caller) (call : ServiceCall) → IsExecuting s → IsCaller s c → IsExecuted s (service S c s call).state
   unfolding service
   service_executed s c call executing calls = record { ranked = h.ranked; ready = go h.ready }
     where

@@ -44,7 +44,7 @@ none_error S who what Status.State = none_hooked S.hooks.error (TraceEvent.Error
 none_error S who what Status.Value = none_hooked S.hooks.error (TraceEvent.Error who what Status.Value) refl
 none_error S who what Status.SysDisabled = none_hooked S.hooks.error (TraceEvent.Error who what Status.SysDisabled) refl
 
-pub none_shutdown : (S : System) (control : Control) → NoneExecuted (shutdown_record S control)
+pub none_shutdown : (S : System) (control : Control ℕ) → NoneExecuted (shutdown_record S control)
 none_shutdown S (Control.ShutdownOs n) = none_hooked S.hooks.shutdown (TraceEvent.Shutdown n) refl
 none_shutdown S _ = tt
 

@@ -1,17 +1,18 @@
 -- A service leaves of each task only the oldest job begun, whoever calls it.
-use Rattle.std.proofs.Common.{◌≡◌, ℕ, ◌<◌, Bool, true, false, cond, not, ◌&&◌, List, [], ◌∷◌, length, refl, sym, ◌∙◌, ap, subst}
+use Rattle.std.proofs.Common.{◌≡◌, ℕ, ◌<◌, Bool, true, false, not, ◌&&◌, List, [], ◌∷◌, length, refl, sym, ◌∙◌, ap, subst}
 use Rattle.std.specs.Prelude.{Option, Some, None, slice_index, bit_or, ◌==◌}
 use Rattle.std.specs.List.{AllByRecursion}
 use Rattle.osek_base.specs.declared.ids.ResId.{ResId}
 use Rattle.osek_base.specs.declared.status.Status.{Status}
 use Rattle.osek_base.specs.declared.instr.Service.{Service}
+use Rattle.osek_base.specs.Types.{ServiceCall}
 use Rattle.osek_base.specs.Lists.{without_last}
 use Rattle.osek_base.specs.System.{System, is_extended}
 use Rattle.osek_base.specs.State.{Job, JobId, State, interrupts_off, same_id, jobs_of, jobs_but}
 use Rattle.osek_base.specs.Activation.{is_full, activated, released}
 use Rattle.osek_base.specs.Service.{Caller, JobCalls, RoutineCalls, NobodyCalls, is_own_task, is_basic_caller, first_refusal, refusals, with_caller, caller_ended, is_outranked, given_up, gets, releases, waiting_for, meets, is_met, released_by, with_events, event_set, events_cleared, event_awaited, effect, reply_to, service, unmasked_service}
 use Rattle.osek_base.specs.Proper.{IsProper}
-use Rattle.run_laws.proofs.Lists.{clash, all_weaker, all_any, all_kept, all_filter, found}
+use Rattle.run_laws.proofs.Lists.{cond_case, clash, all_weaker, all_any, all_kept, all_filter, found}
 use Rattle.run_laws.proofs.Foremost.{equal, same_ids, same_self}
 use Rattle.run_laws.proofs.Known.{met_waits, IsCaller, ActivatesKnown, HasRoom, passed, all_passed, full_room}
 use Rattle.run_laws.proofs.Single.{IsSoundJob, HasRunner, AreSingle, IsSingle, IsFitChange, but_single, change_single, activated_single}
@@ -75,17 +76,13 @@ module _ (S : System) (s : State) (single : IsSingle S s) where
         };
       })) single
 
-  cond_single : (b : Bool) (x y : State) → (b ≡ true → LeftSingle S s x) → (b ≡ false → LeftSingle S s y) → LeftSingle S s (cond b x y)
-  cond_single true x y f g = f refl
-  cond_single false x y f g = g refl
-
   unbasic : (b : Bool) → not b ≡ false → b ≡ true
   unbasic true h = refl
   unbasic false h = clash h
 
   awaited_single : (c : Caller) (m : ℕ) → is_basic_caller S c ≡ false → LeftSingle S s (event_awaited c m s)
   awaited_single (JobCalls j) m h =
-      cond_single (meets m (slice_index s.masks j.id.task)) s (with_caller (JobCalls j) (waiting_for m) s) (λ e. single)
+      cond_case (LeftSingle S s) (meets m (slice_index s.masks j.id.task)) s (with_caller (JobCalls j) (waiting_for m) s) (λ e. single)
       (λ e. awaits j m (unbasic (is_extended S j.id.task) h))
   awaited_single (RoutineCalls a) m h = single
   awaited_single NobodyCalls m h = single
@@ -111,7 +108,7 @@ module _ (S : System) (s : State) (single : IsSingle S s) where
       go : (js : List Job) → jobs_of t s.jobs ≡ js → LeftSingle S s (released_by events js (with_events t events s))
       go [] e = single
       go (j ∷ js) e =
-          cond_single (is_met events j.waits_for) (released j.id (with_events t events s)) (with_events t events s)
+          cond_case (LeftSingle S s) (is_met events j.waits_for) (released j.id (with_events t events s)) (with_events t events s)
           (λ met. released_single S j (with_events t events s) member ((member (IsSoundJob S s.made) single.each).extended (met_waits events j.waits_for met)) single)
           (λ met. single)
         where
@@ -151,7 +148,7 @@ module _ (S : System) (s : State) (single : IsSingle S s) where
 
   -- ---- the effect
 
-  effect_single : (c : Caller) (call : Service ℕ) → IsProper S → IsCaller s c → ActivatesKnown S call → first_refusal (refusals S c s call) ≡ None
+  effect_single : (c : Caller) (call : ServiceCall) → IsProper S → IsCaller s c → ActivatesKnown S call → first_refusal (refusals S c s call) ≡ None
       → LeftSingle S s (effect S c s call)
   effect_single c (Service.ActivateTask None) proper calls known none = single
   effect_single c (Service.ActivateTask (Some t)) proper calls known none =
@@ -167,7 +164,7 @@ module _ (S : System) (s : State) (single : IsSingle S s) where
       let tests = all_passed (refusals S c s (Service.ChainTask (Some t))) none in
       chained_single c t known (chain_room c t proper calls known tests.1.1.0)
   effect_single c Service.Schedule proper calls known none =
-      cond_single (is_outranked S c s.jobs) (with_caller c given_up s) s (λ e. given_up_single c) (λ e. single)
+      cond_case (LeftSingle S s) (is_outranked S c s.jobs) (with_caller c given_up s) s (λ e. given_up_single c) (λ e. single)
   effect_single c Service.GetTaskId proper calls known none = single
   effect_single c (Service.GetTaskState o) proper calls known none = single
   effect_single c (Service.GetResource None) proper calls known none = single
@@ -193,18 +190,18 @@ module _ (S : System) (s : State) (single : IsSingle S s) where
   effect_single c (Service.GetAlarm o) proper calls known none = single
   effect_single c (Service.GetAlarmBase o) proper calls known none = single
 
-  changed_single : (c : Caller) (call : Service ℕ) (o : Option Status) → IsProper S → IsCaller s c → ActivatesKnown S call
+  changed_single : (c : Caller) (call : ServiceCall) (o : Option Status) → IsProper S → IsCaller s c → ActivatesKnown S call
       → (o ≡ None → first_refusal (refusals S c s call) ≡ None) → IsSingle S (reply_to S c s call o).state
   changed_single c call None proper calls known none = effect_single c call proper calls known (none refl)
   changed_single c call (Some refusal) proper calls known none = single
 
-  pub service_single : (c : Caller) (call : Service ℕ) → IsProper S → IsCaller s c → ActivatesKnown S call → IsSingle S (service S c s call).state
+  pub service_single : (c : Caller) (call : ServiceCall) → IsProper S → IsCaller s c → ActivatesKnown S call → IsSingle S (service S c s call).state
   unfolding service
   service_single c call proper calls known =
       changed_single c call (first_refusal ((interrupts_off s, Status.SysDisabled) ∷ refusals S c s call)) proper calls known
       (λ e. (passed (interrupts_off s) Status.SysDisabled (refusals S c s call) e).1)
 
-  pub unmasked_single : (c : Caller) (call : Service ℕ) → IsProper S → IsCaller s c → ActivatesKnown S call → IsSingle S (unmasked_service S c s call).state
+  pub unmasked_single : (c : Caller) (call : ServiceCall) → IsProper S → IsCaller s c → ActivatesKnown S call → IsSingle S (unmasked_service S c s call).state
   unfolding unmasked_service
   unmasked_single c call proper calls known =
       changed_single c call (first_refusal (refusals S c s call)) proper calls known (λ e. e)

@@ -2,11 +2,12 @@
 use Rattle.std.proofs.Common.{◌≡◌, ℕ, zero, suc, ◌<◌, ◌≤◌, ◌⊎◌, inl, inr, Bool, true, false, cond, not, List, [], ◌∷◌, drop, length, refl, sym, ◌∙◌, subst, arith}
 use Rattle.std.specs.Prelude.{Some, None, ◌==◌, nat_lt}
 use Rattle.std.specs.List.{list_all, AllByRecursion}
-use Rattle.std.proofs.lemmas.Bool.{cases_lt}
+use Rattle.std.proofs.lemmas.Bool.{cases_lt, and_parts}
 use Rattle.std.proofs.lemmas.List.{length-replicate, get_or_past}
 use Rattle.osek_base.specs.declared.ids.Owner.{Owner}
 use Rattle.osek_base.specs.declared.task.Action.{Action}
 use Rattle.osek_base.specs.declared.instr.Service.{Service}
+use Rattle.osek_base.specs.Types.{ServiceCall}
 use Rattle.osek_base.specs.declared.instr.Control.{Control}
 use Rattle.osek_base.specs.declared.instr.Plain.{Plain}
 use Rattle.osek_base.specs.declared.instr.Instr.{Instr}
@@ -23,7 +24,7 @@ use Rattle.osek_base.specs.declared.arrivals.Arrival.{Arrival}
 use Rattle.osek_base.specs.Trace.{Run, boot, all_activated, starting_tasks, starting_alarms, arriving, step_added, run}
 use Rattle.osek_base.specs.Separable.{IsOwner}
 use Rattle.osek_base.specs.Proper.{IsProper, is_proper_service, is_proper_instruction, is_proper_action}
-use Rattle.osek_base.proofs.PlaceLemmas.{and_split, is_routine, known_place}
+use Rattle.osek_base.proofs.PlaceLemmas.{is_routine, known_place}
 use Rattle.run_laws.proofs.Lists.{Pairs, clash, all_weaker, all_both, all_any, all_kept, all_filter, all_append, pairs_kept, pairs_append}
 use Rattle.osek_base.specs.Laws.{StartsSingly}
 use Rattle.run_laws.proofs.Foremost.{equal}
@@ -37,7 +38,7 @@ true_lt a b h = grind (arith, h)
 
 -- ---- what is called is known
 
-service_known : (S : System) (call : Service ℕ) → is_proper_service S call ≡ true → ActivatesKnown S call
+service_known : (S : System) (call : ServiceCall) → is_proper_service S call ≡ true → ActivatesKnown S call
 service_known S (Service.ActivateTask (Some t)) h = true_lt t (length S.tasks) h
 service_known S (Service.ChainTask (Some t)) h = true_lt t (length S.tasks) h
 service_known S (Service.ActivateTask None) h = tt
@@ -45,7 +46,7 @@ service_known S (Service.ChainTask None) h = tt
 service_known S Service.TerminateTask h = tt
 service_known S _ h = tt
 
-pub at_known : (S : System) (x : Context) (call : Service ℕ) → ActivatesKnown S call → ActivatesKnown S (at_values x call)
+pub at_known : (S : System) (x : Context) (call : ServiceCall) → ActivatesKnown S call → ActivatesKnown S (at_values x call)
 at_known S x (Service.SetRelAlarm a y z) h = tt
 at_known S x (Service.SetAbsAlarm a y z) h = tt
 at_known S x call h = h
@@ -85,7 +86,7 @@ action_known S (Action.SetEvent t m) h = tt
 
 -- the action of an alarm is known
 pub alarm_known : (S : System) (a : ℕ) → IsProper S → a < length S.alarms → ActivatesKnown S (action_call (alarm S a).action)
-alarm_known S a proper inside = action_known S (alarm S a).action (and_split _ _ (and_split _ _ (proper_alarm_at S a proper inside)).0).1
+alarm_known S a proper inside = action_known S (alarm S a).action (and_parts _ _ (and_parts _ _ (proper_alarm_at S a proper inside)).0).1
 
 -- ---- a tick
 
@@ -127,17 +128,17 @@ module _ (S : System) (proper : IsProper S) where
   caller_runs (RoutineCalls a) s calls = tt
   caller_runs NobodyCalls s calls = tt
 
-  pub service_runs : (c : Caller) (s : State) (call : Service ℕ) → IsCaller s c → CallerRuns (service S c s call).state c
+  pub service_runs : (c : Caller) (s : State) (call : ServiceCall) → IsCaller s c → CallerRuns (service S c s call).state c
   unfolding service
   service_runs (JobCalls j) s call calls = calls.runs
   service_runs (RoutineCalls a) s call calls = tt
   service_runs NobodyCalls s call calls = tt
 
-  controlled_runs : (control : Control) (c : Caller) (s : State) → IsCaller s c → CallerRuns (controlled control s) c
+  pub controlled_runs : (control : Control ℕ) (c : Caller) (s : State) → IsCaller s c → CallerRuns (controlled control s) c
   controlled_runs Control.DisableAllInterrupts c s calls = caller_runs c s calls
   controlled_runs _ c s calls = caller_runs c s calls
 
-  pub controlled_single : (control : Control) (s : State) → IsSingle S s → IsSingle S (controlled control s)
+  pub controlled_single : (control : Control ℕ) (s : State) → IsSingle S s → IsSingle S (controlled control s)
   controlled_single Control.DisableAllInterrupts s single = single
   controlled_single _ s single = single
 

@@ -1,25 +1,24 @@
 -- The tick since which a job is ready, from tick to tick.
-use Rattle.std.proofs.Common.{◌≡◌, ℕ, ◌<◌, ◌≤◌, suc, zero, Bool, true, false, cond, ◌&&◌, nat_le, List, [], ◌∷◌, ◌++◌, length, refl, sym, ◌∙◌, ap, subst, arith}
+use Rattle.std.proofs.Common.{◌≡◌, ℕ, ◌<◌, ◌≤◌, suc, zero, Bool, true, false, cond, ◌&&◌, nat_le, List, [], ◌∷◌, refl, sym, ◌∙◌, arith}
 use Rattle.std.specs.Prelude.{Option, Some, None, slice_get}
 use Rattle.std.specs.Option.{option_or}
-use Rattle.std.specs.List.{find, All}
+use Rattle.std.specs.List.{find}
 use Rattle.std.proofs.lemmas.List.Folds.{find-append}
 use Rattle.osek_base.specs.Lists.{below}
 use Rattle.osek_base.specs.System.{System}
 use Rattle.osek_base.specs.State.{JobId, State}
 use Rattle.osek_base.specs.Tick.{Step}
-use Rattle.osek_base.specs.Blocker.{executes, is_ready_from}
+use Rattle.osek_base.specs.Blocker.{is_ready_from}
 use Rattle.osek_base.specs.BlockingText.{executes_in, behind_last, ready_since}
-use Rattle.run_laws.proofs.Lists.{clash}
 
 -- ---- the first number that passes a test
 
 -- below n, nothing stands at n or above
-found_none : (f g : ℕ → Bool) (n : ℕ) → ((k : ℕ) → k < n → f k ≡ g k) → find f (below n) ≡ find g (below n)
-found_none f g zero same = refl
-found_none f g (suc n) same =
+pub same_found : (f g : ℕ → Bool) (n : ℕ) → ((k : ℕ) → k < n → f k ≡ g k) → find f (below n) ≡ find g (below n)
+same_found f g zero same = refl
+same_found f g (suc n) same =
     find-append f (below n) (n ∷ [])
-    ∙ rw (found_none f g n (λ k less. same k (omega (arith, less))), same n (omega arith)) refl
+    ∙ rw (same_found f g n (λ k less. same k (omega (arith, less))), same n (omega arith)) refl
     ∙ sym (find-append g (below n) (n ∷ []))
 
 none_found : (f : ℕ → Bool) (n : ℕ) → ((k : ℕ) → k < n → f k ≡ false) → find f (below n) ≡ None

@@ -5,6 +5,7 @@ use Rattle.std.specs.List.{filter, AllByRecursion}
 use Rattle.std.specs.Option.{option_map}
 use Rattle.osek_base.specs.declared.status.Status.{Status}
 use Rattle.osek_base.specs.declared.instr.Service.{Service}
+use Rattle.osek_base.specs.Types.{ServiceCall}
 use Rattle.osek_base.specs.System.{System, priority_of}
 use Rattle.osek_base.specs.State.{Job, JobId, State, may_dispatch, interrupts_off, same_id, waits, jobs_of, jobs_but, with_job}
 use Rattle.osek_base.specs.Priority.{static_priority, dynamic_priority}
@@ -13,14 +14,14 @@ use Rattle.osek_base.specs.Activation.{activated, released}
 use Rattle.osek_base.specs.Reschedule.{entered, id_of, jobs_entered, switched, with_dispatch_of, reschedule}
 use Rattle.osek_base.specs.GoodState.{is_raised}
 use Rattle.osek_base.specs.Service.{Caller, JobCalls, RoutineCalls, NobodyCalls, first_refusal, refusals, with_caller, caller_ended, is_outranked, given_up, gets, releases, waiting_for, meets, is_met, released_by, with_events, event_set, events_cleared, event_awaited, effect, reply_to, service, unmasked_service}
-use Rattle.run_laws.proofs.Lists.{some_inside, none_some, Pairs, EitherWay, clash, all_weaker, all_both, all_kept, all_append, all_map, found, pairs_weaker, either_way}
+use Rattle.run_laws.proofs.Lists.{cond_case, some_inside, none_some, Pairs, EitherWay, clash, all_weaker, all_both, all_kept, all_append, all_map, found, pairs_weaker, either_way}
 use Rattle.run_laws.proofs.Foremost.{AreApart, same_ids, same_self, only, static_le}
 use Rattle.run_laws.proofs.Known.{met_waits, IsCaller}
 use Rattle.run_laws.proofs.Single.{IsSoundPair, AreSingle, IsSingle}
 use Rattle.run_laws.proofs.SingleMoves.{other_way}
 use Rattle.run_laws.proofs.SingleService.{ended_single}
-use Rattle.run_laws.proofs.Ranked.{AreRanked, IsUnder, IsDispatched, raised_above, choice_dispatched}
-use Rattle.run_laws.proofs.RankedMoves.{IsNewest, IsOrdered, made_job, made_newest, woken_jobs, woken_newest}
+use Rattle.run_laws.proofs.Ranked.{AreRanked, IsUnder, raised_above}
+use Rattle.run_laws.proofs.RankedMoves.{IsNewest, IsOrdered, IsChosen, chosen, made_job, made_newest, woken_jobs, woken_newest}
 
 -- the id of the job that is watched, and of the one lower job that may execute
 pub record Watch : Type 0 where
@@ -192,10 +193,6 @@ module _ (S : System) (w : Option Watch) where
     apart : Pairs AreApart s.jobs
     apart = pairs_weaker (IsSoundPair S) AreApart s.jobs (λ x y h. h.apart) single.pairs
 
-    cond_watched : (b : Bool) (x y : State) → (b ≡ true → IsWatched S w s.running x.jobs) → (b ≡ false → IsWatched S w s.running y.jobs) → IsWatched S w s.running (cond b x y).jobs
-    cond_watched true x y f g = f refl
-    cond_watched false x y f g = g refl
-
     other_at : (j : Job) → IsOther w (JobCalls j) → (v : Watch) → w ≡ Some v → same_id j.id v.id ≡ false
     other_at j other v e = subst (λ o. IsOther o (JobCalls j)) e other
 
@@ -216,7 +213,7 @@ module _ (S : System) (w : Option Watch) where
 
     awaited_watched : (c : Caller) (m : ℕ) → IsCaller s c → IsOther w c → IsWatched S w s.running (event_awaited c m s).jobs
     awaited_watched (JobCalls j) m calls other =
-        cond_watched (meets m (slice_index s.masks j.id.task)) s (with_caller (JobCalls j) (waiting_for m) s) (λ e. watched)
+        cond_case (λ (e : State). IsWatched S w s.running e.jobs) (meets m (slice_index s.masks j.id.task)) s (with_caller (JobCalls j) (waiting_for m) s) (λ e. watched)
         (λ e. by_caller (JobCalls j) (waiting_for m) (λ k. refl) calls other)
     awaited_watched (RoutineCalls a) m calls other = watched
     awaited_watched NobodyCalls m calls other = watched
@@ -235,19 +232,19 @@ module _ (S : System) (w : Option Watch) where
         go : (js : List Job) → jobs_of t s.jobs ≡ js → IsWatched S w s.running (released_by events js (with_events t events s)).jobs
         go [] e = watched
         go (j ∷ js) e =
-            cond_watched (is_met events j.waits_for) (released j.id (with_events t events s)) (with_events t events s)
+            cond_case (λ (e : State). IsWatched S w s.running e.jobs) (is_met events j.waits_for) (released j.id (with_events t events s)) (with_events t events s)
             (λ met. released_watched j (with_events t events s) (λ P all. (subst (AllByRecursion P) e (all_kept P (λ k. k.id.task == t) s.jobs all)).0)
             (met_waits events j.waits_for met) apart ordered watched)
             (λ met. watched)
 
-    effect_watched : (c : Caller) (call : Service ℕ) → IsCaller s c → IsOther w c → IsWatched S w s.running (effect S c s call).jobs
+    effect_watched : (c : Caller) (call : ServiceCall) → IsCaller s c → IsOther w c → IsWatched S w s.running (effect S c s call).jobs
     effect_watched c (Service.ActivateTask None) calls other = watched
     effect_watched c (Service.ActivateTask (Some t)) calls other = activated_watched t s single watched
     effect_watched c Service.TerminateTask calls other = ended_watched c other
     effect_watched c (Service.ChainTask None) calls other = watched
     effect_watched c (Service.ChainTask (Some t)) calls other = chained_watched c t other
     effect_watched c Service.Schedule calls other =
-        cond_watched (is_outranked S c s.jobs) (with_caller c given_up s) s (λ e. by_caller c given_up (λ k. refl) calls other) (λ e. watched)
+        cond_case (λ (e : State). IsWatched S w s.running e.jobs) (is_outranked S c s.jobs) (with_caller c given_up s) s (λ e. by_caller c given_up (λ k. refl) calls other) (λ e. watched)
     effect_watched c Service.GetTaskId calls other = watched
     effect_watched c (Service.GetTaskState o) calls other = watched
     effect_watched c (Service.GetResource None) calls other = watched
@@ -271,15 +268,15 @@ module _ (S : System) (w : Option Watch) where
     effect_watched c (Service.GetAlarm o) calls other = watched
     effect_watched c (Service.GetAlarmBase o) calls other = watched
 
-    reply_watched : (c : Caller) (call : Service ℕ) (o : Option Status) → IsCaller s c → IsOther w c → IsWatched S w s.running (reply_to S c s call o).state.jobs
+    reply_watched : (c : Caller) (call : ServiceCall) (o : Option Status) → IsCaller s c → IsOther w c → IsWatched S w s.running (reply_to S c s call o).state.jobs
     reply_watched c call None calls other = effect_watched c call calls other
     reply_watched c call (Some refusal) calls other = watched
 
-    pub service_watched : (c : Caller) (call : Service ℕ) → IsCaller s c → IsOther w c → IsWatched S w (service S c s call).state.running (service S c s call).state.jobs
+    pub service_watched : (c : Caller) (call : ServiceCall) → IsCaller s c → IsOther w c → IsWatched S w (service S c s call).state.running (service S c s call).state.jobs
     unfolding service
     service_watched c call calls other = reply_watched c call (first_refusal ((interrupts_off s, Status.SysDisabled) ∷ refusals S c s call)) calls other
 
-    pub unmasked_watched : (call : Service ℕ) → IsOther w NobodyCalls → IsWatched S w (unmasked_service S NobodyCalls s call).state.running (unmasked_service S NobodyCalls s call).state.jobs
+    pub unmasked_watched : (call : ServiceCall) → IsOther w NobodyCalls → IsWatched S w (unmasked_service S NobodyCalls s call).state.running (unmasked_service S NobodyCalls s call).state.jobs
     unfolding unmasked_service
     unmasked_watched call other = reply_watched NobodyCalls call (first_refusal (refusals S NobodyCalls s call)) tt other
 
@@ -304,21 +301,15 @@ module _ (S : System) (w : Option Watch) where
     each = all_map (λ k. ((same_id k.id c.id ≡ true → k ≡ c) × IsUnder S c k) × IsSeen S w running k) (IsSeen S w (Some c.id)) g jobs
         (λ k h. seen k (same_id k.id c.id) refl h.0.0 h.0.1 h.1)
         (all_both (λ k. (same_id k.id c.id ≡ true → k ≡ c) × IsUnder S c k) (IsSeen S w running) jobs
-        (all_both (λ k. same_id k.id c.id ≡ true → k ≡ c) (IsUnder S c) jobs itself dispatched.under) watched.each);
+        (all_both (λ k. same_id k.id c.id ≡ true → k ≡ c) (IsUnder S c) jobs facts.itself facts.dispatched.under) watched.each);
     here = there w watched.here;
   }
     where
       g : Job → Job
       g j = cond (same_id j.id c.id) (entered S j) j
 
-      apart : Pairs AreApart jobs
-      apart = pairs_weaker (IsSoundPair S) AreApart jobs (λ x y h. h.apart) single.pairs
-
-      itself : AllByRecursion (λ k. same_id k.id c.id ≡ true → k ≡ c) jobs
-      itself = only c jobs (found (λ x. AllByRecursion (EitherWay AreApart x) jobs) _ jobs c (either_way AreApart jobs apart) e).0
-
-      dispatched : IsDispatched S jobs c
-      dispatched = choice_dispatched S jobs c apart ranked.pairs e
+      facts : IsChosen S jobs c
+      facts = chosen S made running jobs c e single ranked
 
       chosen_seen : IsSeen S w running c
       chosen_seen = (found (IsSeen S w running) _ jobs c watched.each e).0
@@ -326,11 +317,11 @@ module _ (S : System) (w : Option Watch) where
       -- the choice isn't below the watched job
       chosen_by : (v : Watch) → IsKnownBy S (Some v) running c → HasReadyJob v.id jobs → static_priority S c < priority_of S v.id.task → v.by ≡ Some c.id
       chosen_by v known here low =
-          let it = ready_all (IsUnder S c) v.id jobs dispatched.under here in
+          let it = ready_all (IsUnder S c) v.id jobs facts.dispatched.under here in
           let high : dynamic_priority S it.0 ≤ dynamic_priority S c = it.1.0.top it.1.2 in
           let own : static_priority S it.0 ≤ dynamic_priority S it.0 = static_le S it.0 in
           let same : static_priority S it.0 ≡ priority_of S v.id.task = ap (λ (n : JobId). priority_of S n.task) it.1.1 in
-          known low (inl (raised_above S c dispatched.ready (omega arith), omega arith))
+          known low (inl (raised_above S c facts.dispatched.ready (omega arith), omega arith))
 
       now : (v : Option Watch) → IsKnownBy S v running c → HasWatched v jobs → IsKnownBy S v (Some c.id) (entered S c)
       now None known here = tt

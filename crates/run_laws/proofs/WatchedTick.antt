@@ -2,9 +2,9 @@
 use Rattle.std.proofs.Common.{◌≡◌, ℕ, ◌<◌, ◌≤◌, ◌⊎◌, inl, inr, Bool, true, false, cond, ◌&&◌, nat_lt, nat_le, List, [], ◌∷◌, length, refl, sym, ◌∙◌, ap, subst, arith}
 use Rattle.std.specs.Prelude.{Option, Some, None}
 use Rattle.std.specs.List.{find, AllByRecursion}
-use Rattle.std.proofs.lemmas.Bool.{cases_lt}
+use Rattle.std.proofs.lemmas.Bool.{cases_lt, and_parts}
 use Rattle.osek_base.specs.declared.ids.Owner.{Owner}
-use Rattle.osek_base.specs.declared.instr.Service.{Service}
+use Rattle.osek_base.specs.Types.{ServiceCall}
 use Rattle.osek_base.specs.declared.instr.Control.{Control}
 use Rattle.osek_base.specs.declared.instr.Instr.{Instr}
 use Rattle.osek_base.specs.Lists.{below}
@@ -20,7 +20,6 @@ use Rattle.osek_base.specs.Service.{Caller, JobCalls, RoutineCalls, NobodyCalls,
 use Rattle.osek_base.specs.Tick.{at_values, action_call, alarm_acts, alarms_act, alarm_phase, arrival_phase, start_phase, job_moved, with_context, answered, executed, caller_executes, executor, execute_phase, before_execution, last_phase, tick}
 use Rattle.osek_base.specs.Trace.{boot, all_activated, starting_tasks}
 use Rattle.osek_base.specs.Proper.{IsProper}
-use Rattle.osek_base.proofs.PlaceLemmas.{and_split}
 use Rattle.run_laws.proofs.Lists.{some_inside, none_some, EitherWay, clash, all_kept, all_both, all_weaker, found, either_way}
 use Rattle.run_laws.proofs.Foremost.{same_ids}
 use Rattle.run_laws.proofs.Known.{IsCaller, executor_calls, all_below}
@@ -73,15 +72,15 @@ module _ (S : System) (proper : IsProper S) (w : Option Watch) where
   moved_watched (RoutineCalls a) x s e same calls other watched = watched
   moved_watched NobodyCalls x s e same calls other watched = watched
 
-  running_service : (s : State) (c : Caller) (call : Service ℕ) → (service S c s call).state.running ≡ s.running
+  running_service : (s : State) (c : Caller) (call : ServiceCall) → (service S c s call).state.running ≡ s.running
   unfolding service
   running_service s c call = refl
 
-  running_controlled : (control : Control) (s : State) → (controlled control s).running ≡ s.running
+  running_controlled : (control : Control ℕ) (s : State) → (controlled control s).running ≡ s.running
   running_controlled Control.DisableAllInterrupts s = refl
   running_controlled _ s = refl
 
-  controlled_watched : (control : Control) (s : State) → IsWatchedState s → IsWatchedState (controlled control s)
+  controlled_watched : (control : Control ℕ) (s : State) → IsWatchedState s → IsWatchedState (controlled control s)
   controlled_watched Control.DisableAllInterrupts s watched = watched
   controlled_watched _ s watched = watched
 
@@ -208,10 +207,10 @@ module _ (S : System) (proper : IsProper S) where
     -- two such are one
     one_above : (c k : Job) → is_above c ≡ true → is_above k ≡ true → EitherWay (IsRankedPair S) c k → c ≡ k
     one_above c k hc hk either =
-        let c2 = and_split (is_raised S c && nat_lt (static_priority S c) limit) (nat_le limit (dynamic_priority S c)) hc in
-        let c1 = and_split (is_raised S c) (nat_lt (static_priority S c) limit) c2.0 in
-        let k2 = and_split (is_raised S k && nat_lt (static_priority S k) limit) (nat_le limit (dynamic_priority S k)) hk in
-        let k1 = and_split (is_raised S k) (nat_lt (static_priority S k) limit) k2.0 in
+        let c2 = and_parts (is_raised S c && nat_lt (static_priority S c) limit) (nat_le limit (dynamic_priority S c)) hc in
+        let c1 = and_parts (is_raised S c) (nat_lt (static_priority S c) limit) c2.0 in
+        let k2 = and_parts (is_raised S k && nat_lt (static_priority S k) limit) (nat_le limit (dynamic_priority S k)) hk in
+        let k1 = and_parts (is_raised S k) (nat_lt (static_priority S k) limit) k2.0 in
         go c k c1.0 (true_lt _ _ c1.1) (true_le _ _ c2.1) k1.0 (true_lt _ _ k1.1) (true_le _ _ k2.1) either
       where
         never : (x y : Job) → is_raised S x ≡ true → static_priority S x < limit → limit ≤ dynamic_priority S x

@@ -7,7 +7,6 @@ use arrival_lists::read_arrivals;
 use observed_runs::ObservedRun;
 use osek_base::System;
 use std::alloc::Global;
-use std::io;
 use tracer::RunFault;
 
 /// What a run is of besides its system: its arrival list, the mode, and how many ticks, at most 1,000,000.
@@ -30,12 +29,4 @@ pub(crate) fn begin<'s>(
 {
     let arrivals = read_arrivals(alloc, irqs, system)?;
     Ok(ObservedRun::boot(alloc, system, mode, arrivals)?)
-}
-
-/// The fault of a write, where it failed.
-pub(crate) fn written(outcome: io::Result<()>) -> Result<(), RunFault> {
-    match outcome {
-        Ok(()) => Ok(()),
-        Err(_) => Err(RunFault::Write),
-    }
 }

@@ -1,6 +1,6 @@
 //! The figures of a run.
 
-use crate::beginning::{RunInput, begin, written};
+use crate::beginning::{RunInput, begin};
 use crate::progress::Progress;
 use figures::Figures;
 use osek_base::System;
@@ -35,8 +35,9 @@ pub fn write_stats<O: Write, E: Write>(
         figures.observe(run.observation());
         progress.note(run.ticks_done(), input.ticks);
     }
-    written(match form {
-        Form::Table => figures.write(system, out),
-        Form::Csv => figures.write_csv(system, out),
-    })
+    match form {
+        Form::Table => figures.write(system, out)?,
+        Form::Csv => figures.write_csv(system, out)?,
+    }
+    Ok(())
 }

@@ -1,6 +1,6 @@
 //! The picture of a run.
 
-use crate::beginning::{RunInput, begin, written};
+use crate::beginning::{RunInput, begin};
 use crate::progress::Progress;
 use osek_base::System;
 use std::alloc::Global;
@@ -27,5 +27,5 @@ pub fn write_timeline<O: Write, E: Write>(
         timeline.observe(system, run.observation(), run.records())?;
         progress.note(run.ticks_done(), input.ticks);
     }
-    written(timeline.write(system, out))
+    Ok(timeline.write(system, out)?)
 }

@@ -1,6 +1,6 @@
 //! The value change dump of a run.
 
-use crate::beginning::{RunInput, begin, written};
+use crate::beginning::{RunInput, begin};
 use crate::progress::Progress;
 use osek_base::System;
 use std::alloc::Global;
@@ -19,13 +19,13 @@ pub fn write_vcd<O: Write, E: Write>(
 ) -> Result<(), RunFault> {
     let mut run = begin(alloc, system, input.irqs, input.mode)?;
     let mut dump = ValueChanges::new(system);
-    written(dump.begin(out))?;
+    dump.begin(out)?;
     for _tick in 0..input.ticks {
         if !run.advance() {
             break;
         }
-        written(dump.observe(run.observation(), run.records(), out))?;
+        dump.observe(run.observation(), run.records(), out)?;
         progress.note(run.ticks_done(), input.ticks);
     }
-    written(dump.end(out))
+    Ok(dump.end(out)?)
 }

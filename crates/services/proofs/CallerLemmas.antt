@@ -4,6 +4,7 @@ use Rattle.std.specs.Option.{option_map}
 use Rattle.std.specs.Prelude.{◌==◌, Option, Some, None, is_some, slice_index, bit_or}
 use Rattle.osek_base.specs.declared.ids.Owner.{Owner}
 use Rattle.osek_base.specs.declared.instr.Service.{Service}
+use Rattle.osek_base.specs.Types.{ServiceCall}
 use Rattle.osek_base.specs.declared.instr.Control.{Control}
 use Rattle.osek_base.specs.declared.status.Status.{Status}
 use Rattle.osek_base.specs.System.{System}
@@ -78,7 +79,7 @@ activated S t o k alike = record {
   contexts = λ u stands. changed_context k.slots t u (one_more (k.slots t)) refl ∙ alike.contexts u stands;
 }
 
-effect_alike : (S : System) (d : KeptCaller) (o : Kept) (call : Service ℕ) → IsAlike o (effect_in S d o call)
+effect_alike : (S : System) (d : KeptCaller) (o : Kept) (call : ServiceCall) → IsAlike o (effect_in S d o call)
 effect_alike S d o (Service.ActivateTask (Some t)) = activated S t o o (same o)
 effect_alike S d o (Service.ActivateTask None) = record { running = refl; active = refl; contexts = λ u stands. refl }
 effect_alike S d o Service.TerminateTask = ended d o
@@ -98,7 +99,7 @@ effect_alike S d o (Service.ClearEvent m) = cleared d m o
 effect_alike S d o (Service.WaitEvent m) = awaited d m o
 effect_alike S d o call = record { running = refl; active = refl; contexts = λ u stands. refl }
 
-service_alike : (S : System) (d : KeptCaller) (o : Kept) (call : Service ℕ) → IsAlike o (service_in S d o call).state
+service_alike : (S : System) (d : KeptCaller) (o : Kept) (call : ServiceCall) → IsAlike o (service_in S d o call).state
 unfolding service_in
 service_alike S d o call = go (first_refusal ((interrupts_off (bare o), Status.SysDisabled) ∷ refusals_in S d o call))
   where
@@ -110,7 +111,7 @@ same_active : (a : Option Active) → IsSameActive a a
 same_active None = tt
 same_active (Some b) = refl
 
-control_active : (o : Kept) (control : Control) → IsSameActive o.active (controlled_in control o).active
+control_active : (o : Kept) (control : Control ℕ) → IsSameActive o.active (controlled_in control o).active
 control_active o Control.DisableAllInterrupts = same_active o.active
 control_active o Control.EnableAllInterrupts = same_active o.active
 control_active o Control.SuspendAllInterrupts = same_active o.active

@@ -2,7 +2,7 @@
 use Rattle.std.proofs.Common.{◌≡◌, ℕ, suc, Bool, true, false, cond, not, ◌&&◌, nat_le, ◌∷◌, refl, sym, ◌∙◌, ap, ap₂, arith}
 use Rattle.std.specs.Prelude.{◌==◌, Option, Some, None, is_some}
 use Rattle.std.proofs.Math.Path.{fun_ext}
-use Rattle.osek_base.specs.declared.instr.Service.{Service}
+use Rattle.osek_base.specs.Types.{ServiceCall}
 use Rattle.osek_base.specs.declared.status.Status.{Status}
 use Rattle.osek_base.specs.System.{System}
 use Rattle.osek_base.specs.Ceiling.{internal_ceiling, top_priority}
@@ -130,7 +130,7 @@ pub still_dispatched : (o n : Objects) (f : Kept → Kept) → n.system ≡ o.sy
 still_dispatched o n f system new same known = ap₂ is_dispatched_in system new ∙ same ∙ known
 
 -- a refused service changes nothing
-refused_in : (S : System) (d : KeptCaller) (o : Kept) (call : Service ℕ) (refusal : Option Status)
+refused_in : (S : System) (d : KeptCaller) (o : Kept) (call : ServiceCall) (refusal : Option Status)
     → is_refusal (Some (answer refusal)) ≡ true → changed_in S d o call refusal ≡ o
 refused_in S d o call None h = absurd (grind arith)
 refused_in S d o call (Some refusal) h = refl

@@ -5,6 +5,7 @@ use Rattle.std.specs.Option.{option_map}
 use Rattle.osek_base.specs.declared.ids.Owner.{Owner}
 use Rattle.osek_base.specs.declared.limits.TheConstants.{MAX_ACTIVATION}
 use Rattle.osek_base.specs.declared.instr.Service.{Service}
+use Rattle.osek_base.specs.Types.{ServiceCall}
 use Rattle.osek_base.specs.System.{System}
 use Rattle.osek_base.specs.Proper.{IsProper}
 use Rattle.osek_base.specs.Instruction.{Context}
@@ -110,7 +111,7 @@ overtaken_in : (S : System) (o : Objects) (w : Words) (r : Option ℕ) → is_ov
 overtaken_in S o w None = refl
 overtaken_in S o w (Some t) = refl
 
-activates : (S : System) (call : Service ℕ) → IsKnown S call → ActivatesKnown S call
+activates : (S : System) (call : ServiceCall) → IsKnown S call → ActivatesKnown S call
 activates S (Service.ActivateTask (Some t)) known = known
 activates S (Service.ActivateTask None) known = tt
 activates S (Service.ChainTask (Some t)) known = known

@@ -3,6 +3,7 @@ use Rattle.std.specs.Prelude.{ℕ, ◌≡◌, ◌<◌, Option, Some, None, false
 use Rattle.osek_base.specs.declared.ids.Owner.{Owner}
 use Rattle.osek_base.specs.declared.ids.ResId.{ResId}
 use Rattle.osek_base.specs.declared.instr.Service.{Service}
+use Rattle.osek_base.specs.Types.{ServiceCall}
 use Rattle.osek_base.specs.declared.status.Status.{Status}
 use Rattle.osek_base.specs.declared.trace_event.Results.{Results}
 use Rattle.osek_base.specs.System.{System}
@@ -29,7 +30,7 @@ IsSharedOperand S (Some (ResId.Declared r)) = r < length S.resources
 IsSharedOperand S _ = Unit {0}
 
 -- the operands of a service exist
-abbrev pub IsKnown : System → Service ℕ → Type 0
+abbrev pub IsKnown : System → ServiceCall → Type 0
 IsKnown S (Service.ActivateTask t) = IsTaskOperand S t
 IsKnown S (Service.ChainTask t) = IsTaskOperand S t
 IsKnown S (Service.GetTaskState t) = IsTaskOperand S t
@@ -49,7 +50,7 @@ IsKnownCall S (Call.Service s) = IsKnown S s
 IsKnownCall S (Call.Control c) = Unit {0}
 
 -- the service is one on alarms
-abbrev pub IsOnAlarm : Service ℕ → Type 0
+abbrev pub IsOnAlarm : ServiceCall → Type 0
 IsOnAlarm (Service.SetRelAlarm a x y) = Unit {0}
 IsOnAlarm (Service.SetAbsAlarm a x y) = Unit {0}
 IsOnAlarm (Service.CancelAlarm a) = Unit {0}
@@ -69,7 +70,7 @@ call_in S o (Call.Service s) =
 call_in S o (Call.Control c) = record { status = None; results = Results.Nothing; state = controlled_in c o }
 
 -- what a service answers the caller, interrupts being off aside, and what is kept after it
-abbrev pub unmasked : Objects → Service ℕ → KeptReply
+abbrev pub unmasked : Objects → ServiceCall → KeptReply
 unmasked o call = unmasked_in o.system (caller_in (kept_in o)) (kept_in o) call
 
 -- ---- who executes

@@ -188,11 +188,13 @@ impl<'s, Q: ReadyQueues> Objects<'s, Q> {
 
     /// With no routine active and interrupts on, the task that is to run becomes the running one: the first of the highest
     /// level, where that is above the running task's dynamic priority. Where the running job changes, there is a Post record
-    /// of the old one's task and a Pre record of the new one's. Answers whether it could dispatch.
+    /// of the old one's task and a Pre record of the new one's. `runner` is the running task, if its job stands and doesn't
+    /// wait. Answers whether it could dispatch.
     #[tactic(auto, unfolding(kept_state::specs::Moves::rescheduled))]
     #[inline(always)]
-    pub fn reschedule(&mut self, record_of_tick: &mut TickRecord) -> bool
+    pub fn reschedule(&mut self, runner: &Option<TaskId>, record_of_tick: &mut TickRecord) -> bool
         requires fit { AreFit self.old }
+        requires runner { runner.now ≡ contender (kept_in self.old) }
         requires room { length record_of_tick.old + 2 ≤ MAX_RECORDS }
         ensures could { result ≡ may_dispatch_in (kept_in self.old) }
         ensures system { self.new.system ≡ self.old.system }
@@ -204,19 +206,19 @@ impl<'s, Q: ReadyQueues> Objects<'s, Q> {
             return false;
         }
         let highest = self.highest();
-        match self.contender() {
+        match runner {
             None => match highest {
                 None => self.stop(record_of_tick),
                 Some(level) => self.dispatch(level, record_of_tick),
             },
             Some(task) => match highest {
-                None => self.stay(task),
+                None => self.stay(*task),
                 Some(level) => {
-                    let own = self.dynamic(task);
+                    let own = self.dynamic(*task);
                     if level <= own {
-                        self.stay(task)
+                        self.stay(*task)
                     } else {
-                        self.preempt(task, own, level, record_of_tick)
+                        self.preempt(*task, own, level, record_of_tick)
                     }
                 }
             },

@@ -135,15 +135,6 @@ impl<'s, Q: ReadyQueues> Core<'s, Q> {
         self.objects.waits(task)
     }
 
-    /// The running task, if its job stands and doesn't wait.
-    #[inline(always)]
-    pub fn contender(&self) -> Option<TaskId>
-        ensures value { result ≡ contender (kept_in self.now) }
-        ensures known { IfSome result (λ t. t < length self.now.system.tasks) }
-    {
-        self.objects.contender()
-    }
-
     /// The running task, also where its job has ended.
     #[inline(always)]
     pub fn running(&self) -> Option<TaskId>
@@ -242,17 +233,22 @@ impl<'s, Q: ReadyQueues> Core<'s, Q> {
     }
 
     /// With no routine active and interrupts on, the task that is to run becomes the running one, with a Post record of the
-    /// old one and a Pre record of the new one where the running job changes.
+    /// old one and a Pre record of the new one where the running job changes. Answers the task that ran, if its job stood and
+    /// didn't wait.
     #[inline(always)]
-    pub fn reschedule(&mut self, record_of_tick: &mut TickRecord)
+    pub fn reschedule(&mut self, record_of_tick: &mut TickRecord) -> Option<TaskId>
         requires { length record_of_tick.old + 2 ≤ MAX_RECORDS }
+        ensures contender { result ≡ contender (kept_in self.old) }
+        ensures known { IfSome result (λ t. t < length self.old.system.tasks) }
         ensures system { self.new.system ≡ self.old.system }
         ensures kept { kept_in self.new ≡ (rescheduled self.old.system (kept_in self.old)).state }
         ensures events { record_of_tick.new ≡ record_of_tick.old ++ (rescheduled self.old.system (kept_in self.old)).events }
         ensures few { length record_of_tick.new ≤ length record_of_tick.old + 2 }
     {
-        let could = self.objects.reschedule(record_of_tick);
+        let runner = self.objects.contender();
+        let could = self.objects.reschedule(&runner, record_of_tick);
         self.is_dispatched = becomes_known(self.is_dispatched, could);
+        runner
     }
 
     /// The next tick begins, and the alarms that are due in it expire. The content of `due` becomes these alarms, in

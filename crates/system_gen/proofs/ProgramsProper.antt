@@ -6,9 +6,11 @@ use Rattle.std.specs.Option.{option_map_or}
 use Rattle.std.proofs.lemmas.Bool.{false≢true, ltb-true, lt-ltb, leb-true, le-leb, and_parts, and_from}
 use Rattle.std.proofs.lemmas.Nat.{or_of_32, le_or_r}
 use Rattle.std.proofs.lemmas.List.{length-map}
+use Rattle.osek_base.specs.declared.instr.Service.{Service}
 use Rattle.osek_base.specs.declared.limits.TheConstants.{MAX_INSTRUCTIONS, MAX_ROUTINE_PRIORITY}
 use Rattle.osek_base.specs.declared.ids.ResId.{ResId}
 use Rattle.osek_base.specs.declared.instr.Plain.{Plain}
+use Rattle.osek_base.specs.Types.{PlainInstr}
 use Rattle.osek_base.specs.declared.instr.Control.{Control}
 use Rattle.osek_base.specs.Lists.{is_empty}
 use Rattle.osek_base.specs.Names.{is_named}
@@ -18,14 +20,15 @@ use Rattle.osek_base.specs.Proper.{is_word, is_proper_mask, may_be_got, is_task_
 use Rattle.oil_reader.specs.Configuration.{Configuration, TaskRecord, IsrRecord}
 use Rattle.oil_reader.specs.declared.syntax.Kind.TheVariants as kind
 use Rattle.oil_reader.specs.Checked.{is_object_name, is_checked_isr}
-use Rattle.task_asm.specs.declared.program.NamedService.{NamedService}
+use Rattle.task_asm.specs.Named.{NamedService}
 use Rattle.task_asm.specs.declared.program.NamedInstr.{NamedInstr}
 use Rattle.task_asm.specs.declared.program.ProgramKind.{ProgramKind}
 use Rattle.task_asm.specs.Programs.{Program}
 use Rattle.system_gen.specs.Checks as checks
 use Rattle.system_gen.specs.DeclaredNames.{number}
 use Rattle.system_gen.specs.References.{first_of, unknown, unknown_in, unknown_operand, is_res_scheduler, resource_reference, service_reference, instruction_reference, owner_reference, program_reference}
-use Rattle.system_gen.specs.Programs.{is_end, ends_well, jumps_below, is_closed, is_return, may_have, returns_well, is_kind, is_program_of, has_task_program, has_routine_program}
+use Rattle.task_asm.specs.Labels.{is_kind}
+use Rattle.system_gen.specs.Programs.{is_end, ends_well, jumps_below, is_closed, is_return, may_have, returns_well, is_program_of, has_task_program, has_routine_program}
 use Rattle.system_gen.specs.Generated.{Known, task_operand, alarm_operand, resource_operand, mask_of, with_masks, union, resolved_service, resolved_instruction, resolved_program, program_for, resolved_routine}
 use Rattle.system_gen.specs.Typed.{is_typed_plain, is_typed_service, is_typed_control, is_typed, are_typed}
 use Rattle.system_gen.proofs.FaultLemmas.{none_of}
@@ -117,35 +120,35 @@ module _ (f : Configuration) (k : Known) (S : System) (known : AreKnown f k S) w
   resource_known (Some name) e = got (is_res_scheduler name) name (passed _ _ e)
 
   service_proper : (call : NamedService) → service_reference f k.declared call ≡ None → is_typed_service call ≡ true → is_proper_service S (resolved_service k call) ≡ true
-  service_proper (NamedService.ActivateTask task) e t = task_known task e
-  service_proper NamedService.TerminateTask e t = refl
-  service_proper (NamedService.ChainTask task) e t = task_known task e
-  service_proper NamedService.Schedule e t = refl
-  service_proper NamedService.GetTaskId e t = refl
-  service_proper (NamedService.GetTaskState task) e t = task_known task e
-  service_proper (NamedService.GetResource resource) e t = resource_known resource e
-  service_proper (NamedService.ReleaseResource resource) e t = resource_known resource e
-  service_proper (NamedService.LoadShared resource index) e t = and_from _ _ (resource_known resource e) t
-  service_proper (NamedService.StoreShared resource index word) e t =
+  service_proper (Service.ActivateTask task) e t = task_known task e
+  service_proper Service.TerminateTask e t = refl
+  service_proper (Service.ChainTask task) e t = task_known task e
+  service_proper Service.Schedule e t = refl
+  service_proper Service.GetTaskId e t = refl
+  service_proper (Service.GetTaskState task) e t = task_known task e
+  service_proper (Service.GetResource resource) e t = resource_known resource e
+  service_proper (Service.ReleaseResource resource) e t = resource_known resource e
+  service_proper (Service.LoadShared resource index) e t = and_from _ _ (resource_known resource e) t
+  service_proper (Service.StoreShared resource index word) e t =
       let h = and_parts _ _ t in
       and_from _ _ (and_from _ _ (resource_known resource e) h.0) h.1
-  service_proper (NamedService.SetEvent task events) e t =
+  service_proper (Service.SetEvent task events) e t =
       let h = none_of (unknown_operand k.declared.tasks task) (unknown_in k.declared.events events) e in
       and_from _ _ (task_known task h.0) (events_proper events h.1 t)
-  service_proper (NamedService.ClearEvent events) e t = events_proper events e t
-  service_proper (NamedService.GetEvent task) e t = task_known task e
-  service_proper (NamedService.WaitEvent events) e t = events_proper events e t
-  service_proper (NamedService.SetRelAlarm alarm increment cycle) e t =
+  service_proper (Service.ClearEvent events) e t = events_proper events e t
+  service_proper (Service.GetEvent task) e t = task_known task e
+  service_proper (Service.WaitEvent events) e t = events_proper events e t
+  service_proper (Service.SetRelAlarm alarm increment cycle) e t =
       let h = and_parts _ _ t in
       and_from _ _ (and_from _ _ (alarm_known alarm e) h.0) h.1
-  service_proper (NamedService.SetAbsAlarm alarm start cycle) e t =
+  service_proper (Service.SetAbsAlarm alarm start cycle) e t =
       let h = and_parts _ _ t in
       and_from _ _ (and_from _ _ (alarm_known alarm e) h.0) h.1
-  service_proper (NamedService.CancelAlarm alarm) e t = alarm_known alarm e
-  service_proper (NamedService.GetAlarm alarm) e t = alarm_known alarm e
-  service_proper (NamedService.GetAlarmBase alarm) e t = alarm_known alarm e
+  service_proper (Service.CancelAlarm alarm) e t = alarm_known alarm e
+  service_proper (Service.GetAlarm alarm) e t = alarm_known alarm e
+  service_proper (Service.GetAlarmBase alarm) e t = alarm_known alarm e
 
-  plain_proper : (size : ℕ) (plain : Plain) → jumps_below size (NamedInstr.Plain plain) ≡ true → is_typed_plain plain ≡ true → is_proper_plain size plain ≡ true
+  plain_proper : (size : ℕ) (plain : PlainInstr) → jumps_below size (NamedInstr.Plain plain) ≡ true → is_typed_plain plain ≡ true → is_proper_plain size plain ≡ true
   plain_proper size Plain.Nop j t = refl
   plain_proper size (Plain.Li d n) j t = t
   plain_proper size (Plain.Mov d a) j t = t
@@ -155,7 +158,7 @@ module _ (f : Configuration) (k : Known) (S : System) (known : AreKnown f k S) w
   plain_proper size (Plain.Jmp to) j t = j
   plain_proper size (Plain.JumpIf test a b to) j t = and_from _ _ t j
 
-  control_proper : (in_routine : Bool) (control : Control) → is_typed_control control ≡ true → may_stand in_routine (NamedInstr.Control control) ≡ true
+  control_proper : (in_routine : Bool) (control : Control ℕ) → is_typed_control control ≡ true → may_stand in_routine (NamedInstr.Control control) ≡ true
       → is_proper_control in_routine control ≡ true
   control_proper in_routine (Control.ShutdownOs n) t r = t
   control_proper in_routine Control.ReturnFromInterrupt t r = r

@@ -6,12 +6,13 @@ use Rattle.std.specs.Result.{result_unwrap_or}
 use Rattle.osek_base.specs.declared.limits.TheConstants.{MAX_MODES, MAX_TASKS, MAX_RESOURCES, MAX_COUNTERS, MAX_ALARMS}
 use Rattle.osek_base.specs.declared.ids.ResId.{ResId}
 use Rattle.osek_base.specs.declared.instr.Service.{Service}
+use Rattle.osek_base.specs.Types.{ServiceCall}
 use Rattle.osek_base.specs.declared.instr.Instr.{Instr}
 use Rattle.osek_base.specs.declared.task.Action.{Action}
 use Rattle.osek_base.specs.System.{System, Task, Routine, Alarm, AlarmStart, no_task}
 use Rattle.oil_reader.specs.declared.file.ActionObject.{ActionObject}
 use Rattle.oil_reader.specs.Configuration.{Configuration, TaskRecord, IsrRecord, AlarmRecord, AlarmStartRecord, EventRecord}
-use Rattle.task_asm.specs.declared.program.NamedService.{NamedService}
+use Rattle.task_asm.specs.Named.{NamedService}
 use Rattle.task_asm.specs.declared.program.NamedInstr.{NamedInstr}
 use Rattle.task_asm.specs.declared.program.ProgramKind.{ProgramKind}
 use Rattle.task_asm.specs.Programs.{Program}
@@ -63,26 +64,26 @@ union k names = with_masks k 0 names
 
 -- ---- programs
 
-abbrev pub resolved_service : Known → NamedService → Service ℕ
-resolved_service k (NamedService.ActivateTask task) = Service.ActivateTask (task_operand k task)
-resolved_service k NamedService.TerminateTask = Service.TerminateTask
-resolved_service k (NamedService.ChainTask task) = Service.ChainTask (task_operand k task)
-resolved_service k NamedService.Schedule = Service.Schedule
-resolved_service k NamedService.GetTaskId = Service.GetTaskId
-resolved_service k (NamedService.GetTaskState task) = Service.GetTaskState (task_operand k task)
-resolved_service k (NamedService.GetResource resource) = Service.GetResource (resource_operand k resource)
-resolved_service k (NamedService.ReleaseResource resource) = Service.ReleaseResource (resource_operand k resource)
-resolved_service k (NamedService.LoadShared resource index) = Service.LoadShared (resource_operand k resource) index
-resolved_service k (NamedService.StoreShared resource index word) = Service.StoreShared (resource_operand k resource) index word
-resolved_service k (NamedService.SetEvent task events) = Service.SetEvent (task_operand k task) (union k events)
-resolved_service k (NamedService.ClearEvent events) = Service.ClearEvent (union k events)
-resolved_service k (NamedService.GetEvent task) = Service.GetEvent (task_operand k task)
-resolved_service k (NamedService.WaitEvent events) = Service.WaitEvent (union k events)
-resolved_service k (NamedService.SetRelAlarm alarm increment cycle) = Service.SetRelAlarm (alarm_operand k alarm) increment cycle
-resolved_service k (NamedService.SetAbsAlarm alarm start cycle) = Service.SetAbsAlarm (alarm_operand k alarm) start cycle
-resolved_service k (NamedService.CancelAlarm alarm) = Service.CancelAlarm (alarm_operand k alarm)
-resolved_service k (NamedService.GetAlarm alarm) = Service.GetAlarm (alarm_operand k alarm)
-resolved_service k (NamedService.GetAlarmBase alarm) = Service.GetAlarmBase (alarm_operand k alarm)
+abbrev pub resolved_service : Known → NamedService → ServiceCall
+resolved_service k (Service.ActivateTask task) = Service.ActivateTask (task_operand k task)
+resolved_service k Service.TerminateTask = Service.TerminateTask
+resolved_service k (Service.ChainTask task) = Service.ChainTask (task_operand k task)
+resolved_service k Service.Schedule = Service.Schedule
+resolved_service k Service.GetTaskId = Service.GetTaskId
+resolved_service k (Service.GetTaskState task) = Service.GetTaskState (task_operand k task)
+resolved_service k (Service.GetResource resource) = Service.GetResource (resource_operand k resource)
+resolved_service k (Service.ReleaseResource resource) = Service.ReleaseResource (resource_operand k resource)
+resolved_service k (Service.LoadShared resource index) = Service.LoadShared (resource_operand k resource) index
+resolved_service k (Service.StoreShared resource index word) = Service.StoreShared (resource_operand k resource) index word
+resolved_service k (Service.SetEvent task events) = Service.SetEvent (task_operand k task) (union k events)
+resolved_service k (Service.ClearEvent events) = Service.ClearEvent (union k events)
+resolved_service k (Service.GetEvent task) = Service.GetEvent (task_operand k task)
+resolved_service k (Service.WaitEvent events) = Service.WaitEvent (union k events)
+resolved_service k (Service.SetRelAlarm alarm increment cycle) = Service.SetRelAlarm (alarm_operand k alarm) increment cycle
+resolved_service k (Service.SetAbsAlarm alarm start cycle) = Service.SetAbsAlarm (alarm_operand k alarm) start cycle
+resolved_service k (Service.CancelAlarm alarm) = Service.CancelAlarm (alarm_operand k alarm)
+resolved_service k (Service.GetAlarm alarm) = Service.GetAlarm (alarm_operand k alarm)
+resolved_service k (Service.GetAlarmBase alarm) = Service.GetAlarmBase (alarm_operand k alarm)
 
 abbrev pub resolved_instruction : Known → NamedInstr → Instr
 resolved_instruction k (NamedInstr.Plain plain) = Instr.Plain plain

@@ -1,5 +1,5 @@
 -- OIL: names of objects. The names that a system keeps.
-use Rattle.std.specs.Prelude.{◌≡◌, ℕ, List, [], map, slice_get}
+use Rattle.std.specs.Prelude.{ℕ, List, [], map, slice_get}
 use Rattle.std.specs.Option.{option_map_or}
 use Rattle.osek_base.specs.Names.{Names}
 use Rattle.osek_base.specs.Numbering.{task_order}

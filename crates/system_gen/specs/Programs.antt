@@ -8,6 +8,7 @@ use Rattle.osek_base.specs.declared.instr.Control.{Control}
 use Rattle.oil_reader.specs.Configuration.{TaskRecord, IsrRecord}
 use Rattle.task_asm.specs.declared.program.NamedInstr.{NamedInstr}
 use Rattle.task_asm.specs.declared.program.ProgramKind.{ProgramKind}
+use Rattle.task_asm.specs.Labels.{is_kind}
 use Rattle.task_asm.specs.Programs.{Program}
 use Rattle.system_gen.specs.declared.fault.GenFault.{GenFault}
 use Rattle.system_gen.specs.Checks.{first_fault}
@@ -44,11 +45,6 @@ may_have ProgramKind.Routine instructions = true
 
 abbrev pub returns_well : Program → Bool
 returns_well p = may_have p.kind p.instructions
-
-abbrev pub is_kind : ProgramKind → ProgramKind → Bool
-is_kind ProgramKind.Task ProgramKind.Task = true
-is_kind ProgramKind.Routine ProgramKind.Routine = true
-is_kind _ _ = false
 
 -- whether a program is that of the task or routine of that name
 abbrev pub is_program_of : ProgramKind → List ℕ → Program → Bool

@@ -1,10 +1,11 @@
 -- OIL: references between objects; the modelled processor: operands. The first name that stands for no object of its kind.
 use Rattle.std.specs.Prelude.{ℕ, Bool, not, ◌&&◌, if◌then◌else◌, List, [], ◌∷◌, Option, Some, None, codes, bytes_eq}
 use Rattle.std.specs.Option.{option_or}
+use Rattle.osek_base.specs.declared.instr.Service.{Service}
 use Rattle.osek_base.specs.Names.{is_named}
 use Rattle.oil_reader.specs.declared.file.ActionObject.{ActionObject}
 use Rattle.oil_reader.specs.Configuration.{Configuration, TaskRecord, AlarmRecord, AlarmStartRecord}
-use Rattle.task_asm.specs.declared.program.NamedService.{NamedService}
+use Rattle.task_asm.specs.Named.{NamedService}
 use Rattle.task_asm.specs.declared.program.NamedInstr.{NamedInstr}
 use Rattle.task_asm.specs.declared.program.ProgramKind.{ProgramKind}
 use Rattle.task_asm.specs.Programs.{Program}
@@ -66,25 +67,25 @@ resource_reference f d (Some name) = if may_be_got f d name then None else Some 
 
 -- the operands of a service, by place
 abbrev pub service_reference : Configuration → Declared → NamedService → Option GenFault
-service_reference f d (NamedService.ActivateTask task) = unknown_operand d.tasks task
-service_reference f d NamedService.TerminateTask = None
-service_reference f d (NamedService.ChainTask task) = unknown_operand d.tasks task
-service_reference f d NamedService.Schedule = None
-service_reference f d NamedService.GetTaskId = None
-service_reference f d (NamedService.GetTaskState task) = unknown_operand d.tasks task
-service_reference f d (NamedService.GetResource resource) = resource_reference f d resource
-service_reference f d (NamedService.ReleaseResource resource) = resource_reference f d resource
-service_reference f d (NamedService.LoadShared resource index) = resource_reference f d resource
-service_reference f d (NamedService.StoreShared resource index word) = resource_reference f d resource
-service_reference f d (NamedService.SetEvent task events) = option_or (unknown_operand d.tasks task) (unknown_in d.events events)
-service_reference f d (NamedService.ClearEvent events) = unknown_in d.events events
-service_reference f d (NamedService.GetEvent task) = unknown_operand d.tasks task
-service_reference f d (NamedService.WaitEvent events) = unknown_in d.events events
-service_reference f d (NamedService.SetRelAlarm alarm increment cycle) = unknown_operand d.alarms alarm
-service_reference f d (NamedService.SetAbsAlarm alarm start cycle) = unknown_operand d.alarms alarm
-service_reference f d (NamedService.CancelAlarm alarm) = unknown_operand d.alarms alarm
-service_reference f d (NamedService.GetAlarm alarm) = unknown_operand d.alarms alarm
-service_reference f d (NamedService.GetAlarmBase alarm) = unknown_operand d.alarms alarm
+service_reference f d (Service.ActivateTask task) = unknown_operand d.tasks task
+service_reference f d Service.TerminateTask = None
+service_reference f d (Service.ChainTask task) = unknown_operand d.tasks task
+service_reference f d Service.Schedule = None
+service_reference f d Service.GetTaskId = None
+service_reference f d (Service.GetTaskState task) = unknown_operand d.tasks task
+service_reference f d (Service.GetResource resource) = resource_reference f d resource
+service_reference f d (Service.ReleaseResource resource) = resource_reference f d resource
+service_reference f d (Service.LoadShared resource index) = resource_reference f d resource
+service_reference f d (Service.StoreShared resource index word) = resource_reference f d resource
+service_reference f d (Service.SetEvent task events) = option_or (unknown_operand d.tasks task) (unknown_in d.events events)
+service_reference f d (Service.ClearEvent events) = unknown_in d.events events
+service_reference f d (Service.GetEvent task) = unknown_operand d.tasks task
+service_reference f d (Service.WaitEvent events) = unknown_in d.events events
+service_reference f d (Service.SetRelAlarm alarm increment cycle) = unknown_operand d.alarms alarm
+service_reference f d (Service.SetAbsAlarm alarm start cycle) = unknown_operand d.alarms alarm
+service_reference f d (Service.CancelAlarm alarm) = unknown_operand d.alarms alarm
+service_reference f d (Service.GetAlarm alarm) = unknown_operand d.alarms alarm
+service_reference f d (Service.GetAlarmBase alarm) = unknown_operand d.alarms alarm
 
 abbrev pub instruction_reference : Configuration → Declared → NamedInstr → Option GenFault
 instruction_reference f d (NamedInstr.Plain plain) = None

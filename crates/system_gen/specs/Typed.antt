@@ -1,15 +1,17 @@
 -- The modelled processor: operands. What the types of an instruction keep: registers exist, a number has 32 bits, a union is of one event at least.
-use Rattle.std.specs.Prelude.{Bool, true, not, ◌&&◌, List}
+use Rattle.std.specs.Prelude.{ℕ, Bool, true, not, ◌&&◌, List}
 use Rattle.std.specs.List.{list_all}
+use Rattle.osek_base.specs.declared.instr.Service.{Service}
 use Rattle.osek_base.specs.declared.instr.Plain.{Plain}
+use Rattle.osek_base.specs.Types.{PlainInstr}
 use Rattle.osek_base.specs.declared.instr.Control.{Control}
 use Rattle.osek_base.specs.Lists.{is_empty}
 use Rattle.osek_base.specs.Proper.{is_register, is_word}
-use Rattle.task_asm.specs.declared.program.NamedService.{NamedService}
+use Rattle.task_asm.specs.Named.{NamedService}
 use Rattle.task_asm.specs.declared.program.NamedInstr.{NamedInstr}
 use Rattle.task_asm.specs.Programs.{Program}
 
-abbrev pub is_typed_plain : Plain → Bool
+abbrev pub is_typed_plain : PlainInstr → Bool
 is_typed_plain Plain.Nop = true
 is_typed_plain (Plain.Li d n) = is_register d && is_word n
 is_typed_plain (Plain.Mov d a) = is_register d && is_register a
@@ -20,16 +22,16 @@ is_typed_plain (Plain.Jmp to) = true
 is_typed_plain (Plain.JumpIf test a b to) = is_register a && is_register b
 
 abbrev pub is_typed_service : NamedService → Bool
-is_typed_service (NamedService.SetEvent task events) = not (is_empty events)
-is_typed_service (NamedService.ClearEvent events) = not (is_empty events)
-is_typed_service (NamedService.WaitEvent events) = not (is_empty events)
-is_typed_service (NamedService.LoadShared resource index) = is_register index
-is_typed_service (NamedService.StoreShared resource index word) = is_register index && is_register word
-is_typed_service (NamedService.SetRelAlarm alarm increment cycle) = is_register increment && is_register cycle
-is_typed_service (NamedService.SetAbsAlarm alarm start cycle) = is_register start && is_register cycle
+is_typed_service (Service.SetEvent task events) = not (is_empty events)
+is_typed_service (Service.ClearEvent events) = not (is_empty events)
+is_typed_service (Service.WaitEvent events) = not (is_empty events)
+is_typed_service (Service.LoadShared resource index) = is_register index
+is_typed_service (Service.StoreShared resource index word) = is_register index && is_register word
+is_typed_service (Service.SetRelAlarm alarm increment cycle) = is_register increment && is_register cycle
+is_typed_service (Service.SetAbsAlarm alarm start cycle) = is_register start && is_register cycle
 is_typed_service _ = true
 
-abbrev pub is_typed_control : Control → Bool
+abbrev pub is_typed_control : Control ℕ → Bool
 is_typed_control (Control.ShutdownOs n) = is_word n
 is_typed_control _ = true
 

@@ -10,13 +10,13 @@ ghost use Rattle.system_gen.specs.Programs.{
   ends_well,
   is_return,
   returns_well,
-  is_kind,
   is_program_of,
   end_fault,
   return_fault,
   task_program_fault,
   routine_program_fault,
 };
+ghost use Rattle.task_asm.specs.Labels.{is_kind};
 
 use crate::fault::GenFault;
 use oil_reader::{IsrObject, TaskObject};

@@ -34,7 +34,7 @@ use crate::fault::GenFault;
 use crate::object_checks::is_internal;
 use name_tables::NameTable;
 use oil_reader::{ActionObject, AlarmObject, AlarmStartObject, OilFile, TaskObject};
-use osek_base::{Control, Name, Plain, REGISTERS, Register};
+use osek_base::{Control, Name, Plain, REGISTERS, Register, Service};
 use task_asm::{NamedInstr, NamedLine, NamedProgram, NamedService, ProgramKind};
 
 /// Looks each name up: those of the tasks, of the alarms, and of the programs.
@@ -230,38 +230,37 @@ fn check_service(
     ensures typed { OnOk result (IsTrue (is_typed_service service.now)) }
 {
     match service {
-        NamedService::ActivateTask(task)
-        | NamedService::ChainTask(task)
-        | NamedService::GetTaskState(task)
-        | NamedService::GetEvent(task) => check_operand(&declared.tasks, task),
-        NamedService::GetResource(resource) | NamedService::ReleaseResource(resource) =>
+        Service::ActivateTask(task)
+        | Service::ChainTask(task)
+        | Service::GetTaskState(task)
+        | Service::GetEvent(task) => check_operand(&declared.tasks, task),
+        Service::GetResource(resource) | Service::ReleaseResource(resource) =>
             check_resource_operand(declared, file, resource),
-        NamedService::LoadShared(resource, index) => {
+        Service::LoadShared(resource, index) => {
             exists(*index);
             check_resource_operand(declared, file, resource)
         }
-        NamedService::StoreShared(resource, index, word) => {
+        Service::StoreShared(resource, index, word) => {
             exists(*index);
             exists(*word);
             check_resource_operand(declared, file, resource)
         }
-        NamedService::SetEvent(task, events) => {
+        Service::SetEvent(task, events) => {
             check_operand(&declared.tasks, task)?;
             check_names(&declared.events, events.names())
         }
-        NamedService::ClearEvent(events) | NamedService::WaitEvent(events) => check_names(
+        Service::ClearEvent(events) | Service::WaitEvent(events) => check_names(
             &declared.events,
             events.names(),
         ),
-        NamedService::SetRelAlarm(alarm, a, b) | NamedService::SetAbsAlarm(alarm, a, b) => {
+        Service::SetRelAlarm(alarm, a, b) | Service::SetAbsAlarm(alarm, a, b) => {
             exists(*a);
             exists(*b);
             check_operand(&declared.alarms, alarm)
         }
-        NamedService::CancelAlarm(alarm)
-        | NamedService::GetAlarm(alarm)
-        | NamedService::GetAlarmBase(alarm) => check_operand(&declared.alarms, alarm),
-        NamedService::TerminateTask | NamedService::Schedule | NamedService::GetTaskId => Ok(()),
+        Service::CancelAlarm(alarm) | Service::GetAlarm(alarm) | Service::GetAlarmBase(alarm) =>
+            check_operand(&declared.alarms, alarm),
+        Service::TerminateTask | Service::Schedule | Service::GetTaskId => Ok(()),
     }
 }
 

@@ -80,47 +80,45 @@ impl<'d, 'a, 'm> Resolver<'d, 'a, 'm> {
         ensures { result ≡ resolved_service self.now service.now }
     {
         match service {
-            NamedService::ActivateTask(task) => Service::ActivateTask(self.task_operand(task)),
-            NamedService::TerminateTask => Service::TerminateTask,
-            NamedService::ChainTask(task) => Service::ChainTask(self.task_operand(task)),
-            NamedService::Schedule => Service::Schedule,
-            NamedService::GetTaskId => Service::GetTaskId,
-            NamedService::GetTaskState(task) => Service::GetTaskState(self.task_operand(task)),
-            NamedService::GetResource(resource) => Service::GetResource(self.resource_operand(
+            Service::ActivateTask(task) => Service::ActivateTask(self.task_operand(task)),
+            Service::TerminateTask => Service::TerminateTask,
+            Service::ChainTask(task) => Service::ChainTask(self.task_operand(task)),
+            Service::Schedule => Service::Schedule,
+            Service::GetTaskId => Service::GetTaskId,
+            Service::GetTaskState(task) => Service::GetTaskState(self.task_operand(task)),
+            Service::GetResource(resource) => Service::GetResource(self.resource_operand(resource)),
+            Service::ReleaseResource(resource) => Service::ReleaseResource(self.resource_operand(
                 resource,
             )),
-            NamedService::ReleaseResource(resource) => Service::ReleaseResource(
-                self.resource_operand(resource),
-            ),
-            NamedService::LoadShared(resource, index) => Service::LoadShared(
+            Service::LoadShared(resource, index) => Service::LoadShared(
                 self.resource_operand(resource),
                 *index,
             ),
-            NamedService::StoreShared(resource, index, word) => Service::StoreShared(
+            Service::StoreShared(resource, index, word) => Service::StoreShared(
                 self.resource_operand(resource),
                 *index,
                 *word,
             ),
-            NamedService::SetEvent(task, events) => Service::SetEvent(
+            Service::SetEvent(task, events) => Service::SetEvent(
                 self.task_operand(task),
                 self.union(events.names()),
             ),
-            NamedService::ClearEvent(events) => Service::ClearEvent(self.union(events.names())),
-            NamedService::GetEvent(task) => Service::GetEvent(self.task_operand(task)),
-            NamedService::WaitEvent(events) => Service::WaitEvent(self.union(events.names())),
-            NamedService::SetRelAlarm(alarm, increment, cycle) => Service::SetRelAlarm(
+            Service::ClearEvent(events) => Service::ClearEvent(self.union(events.names())),
+            Service::GetEvent(task) => Service::GetEvent(self.task_operand(task)),
+            Service::WaitEvent(events) => Service::WaitEvent(self.union(events.names())),
+            Service::SetRelAlarm(alarm, increment, cycle) => Service::SetRelAlarm(
                 self.alarm_operand(alarm),
                 *increment,
                 *cycle,
             ),
-            NamedService::SetAbsAlarm(alarm, start, cycle) => Service::SetAbsAlarm(
+            Service::SetAbsAlarm(alarm, start, cycle) => Service::SetAbsAlarm(
                 self.alarm_operand(alarm),
                 *start,
                 *cycle,
             ),
-            NamedService::CancelAlarm(alarm) => Service::CancelAlarm(self.alarm_operand(alarm)),
-            NamedService::GetAlarm(alarm) => Service::GetAlarm(self.alarm_operand(alarm)),
-            NamedService::GetAlarmBase(alarm) => Service::GetAlarmBase(self.alarm_operand(alarm)),
+            Service::CancelAlarm(alarm) => Service::CancelAlarm(self.alarm_operand(alarm)),
+            Service::GetAlarm(alarm) => Service::GetAlarm(self.alarm_operand(alarm)),
+            Service::GetAlarmBase(alarm) => Service::GetAlarmBase(self.alarm_operand(alarm)),
         }
     }
 

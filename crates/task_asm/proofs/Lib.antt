@@ -6,6 +6,7 @@ pub mod FaultLemmas
 pub mod ProgramLemmas
 pub mod OneMeaning
 pub mod StandLemmas
+pub mod MnemonicLemmas
 pub mod Rising
 pub mod Firsts
 pub mod LabelLemmas

@@ -8,7 +8,6 @@ use Rattle.osek_base.specs.Tokens.{Lexeme, Lexes}
 use Rattle.osek_base.specs.Tokens.Lexes.{ends as text_ends, passes, takes}
 use Rattle.osek_base.specs.declared.instr.Plain.{Plain}
 use Rattle.osek_base.proofs.TokenLemmas.{line_some}
-use Rattle.task_asm.specs.declared.mnemonic.PlainMnemonic.{PlainMnemonic}
 use Rattle.task_asm.specs.declared.mnemonic.Mnemonic.{Mnemonic}
 use Rattle.task_asm.specs.declared.program.NamedInstr.{NamedInstr}
 use Rattle.task_asm.specs.declared.operands.Title.{Title}
@@ -16,7 +15,7 @@ use Rattle.task_asm.specs.declared.tokens.Sign.TheVariants as sign
 use Rattle.task_asm.specs.declared.tokens.Class.{Class}
 use Rattle.task_asm.specs.declared.tokens.Class.TheVariants as class
 use Rattle.task_asm.specs.Tokens.{Symbol, Word, Number, Directive, Mark, LineEnd, IsPiece, IsPieceOf, class_of}
-use Rattle.task_asm.specs.Mnemonics.{mnemonic_of}
+use Rattle.task_asm.specs.Mnemonics.{PlainMnemonic, mnemonic_of}
 use Rattle.task_asm.specs.Lines.{Tokens, Taken, Label, Written, Ready, Jump, JumpIf, after, first, ended, mark_of, a_mark, register_of, a_register, next_register, label_of, a_label, next_label, one_label, register_and_number, two_registers, three_registers, service_instruction, control_instruction, plain_instruction, instruction, title_of, one_title}
 use Rattle.task_asm.specs.Entries.{Entry, Item, Reads, head, line_len}
 use Rattle.task_asm.specs.Entries.Reads.{ends, new_line, label, heads}
@@ -197,14 +196,14 @@ module _ (q r : ℕ) where
   jump_if (Some l) h = h
 
   plain_if : (m : PlainMnemonic) (ts : Tokens) → AreInside q r ts → IfSome (plain_instruction m ts) OnLabel
-  plain_if PlainMnemonic.Nop ts h = ended_if OnLabel ts (Ready (NamedInstr.Plain Plain.Nop)) tt
-  plain_if PlainMnemonic.Li ts h = ready_if (λ o. NamedInstr.Plain (Plain.Li o.0 o.1)) (register_and_number ts)
-  plain_if PlainMnemonic.Mov ts h = ready_if (λ o. NamedInstr.Plain (Plain.Mov o.0 o.1)) (two_registers ts)
-  plain_if (PlainMnemonic.Compute operation) ts h = ready_if (λ o. NamedInstr.Plain (Plain.Compute operation o.0 o.1 o.2)) (three_registers ts)
-  plain_if PlainMnemonic.Ld ts h = ready_if (λ o. NamedInstr.Plain (Plain.Ld o.0 o.1)) (two_registers ts)
-  plain_if PlainMnemonic.St ts h = ready_if (λ o. NamedInstr.Plain (Plain.St o.0 o.1)) (two_registers ts)
-  plain_if PlainMnemonic.Jmp ts h = jump_if (one_label ts) (one_label_if ts h)
-  plain_if (PlainMnemonic.JumpIf test) ts h =
+  plain_if Plain.Nop ts h = ended_if OnLabel ts (Ready (NamedInstr.Plain Plain.Nop)) tt
+  plain_if (Plain.Li d n) ts h = ready_if (λ o. NamedInstr.Plain (Plain.Li o.0 o.1)) (register_and_number ts)
+  plain_if (Plain.Mov d a) ts h = ready_if (λ o. NamedInstr.Plain (Plain.Mov o.0 o.1)) (two_registers ts)
+  plain_if (Plain.Compute operation d a b) ts h = ready_if (λ o. NamedInstr.Plain (Plain.Compute operation o.0 o.1 o.2)) (three_registers ts)
+  plain_if (Plain.Ld d a) ts h = ready_if (λ o. NamedInstr.Plain (Plain.Ld o.0 o.1)) (two_registers ts)
+  plain_if (Plain.St a b) ts h = ready_if (λ o. NamedInstr.Plain (Plain.St o.0 o.1)) (two_registers ts)
+  plain_if (Plain.Jmp to) ts h = jump_if (one_label ts) (one_label_if ts h)
+  plain_if (Plain.JumpIf test l r to) ts h =
       after_if Anything OnLabel (a_register ts) (λ a rest. after (next_register rest) (λ b rest. after (next_label rest) (λ l rest. ended rest (JumpIf test a b l))))
       (λ a rest p i. after_if Anything OnLabel (next_register rest) (λ b rest. after (next_label rest) (λ l rest. ended rest (JumpIf test a b l)))
       (λ b rest p i. after_if LabelInside OnLabel (next_label rest) (λ l rest. ended rest (JumpIf test a b l))

@@ -2,6 +2,7 @@ pub mod Tokens
 pub mod Operands
 pub mod Mnemonics
 pub mod Programs
+pub mod Named
 pub mod Lines
 pub mod Rest
 pub mod Entries

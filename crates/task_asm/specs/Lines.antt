@@ -5,13 +5,11 @@ use Rattle.osek_base.specs.Words.{is_between}
 use Rattle.osek_base.specs.Names.{is_proper_name}
 use Rattle.osek_base.specs.Tokens.{Lexeme}
 use Rattle.osek_base.specs.declared.instr.Plain.{Plain}
+use Rattle.osek_base.specs.Types.{PlainInstr}
+use Rattle.osek_base.specs.declared.instr.Service.{Service}
 use Rattle.osek_base.specs.declared.instr.Control.{Control}
 use Rattle.osek_base.specs.declared.instr.Comparison.{Comparison}
-use Rattle.task_asm.specs.declared.mnemonic.PlainMnemonic.{PlainMnemonic}
-use Rattle.task_asm.specs.declared.mnemonic.ServiceMnemonic.{ServiceMnemonic}
-use Rattle.task_asm.specs.declared.mnemonic.ControlMnemonic.{ControlMnemonic}
 use Rattle.task_asm.specs.declared.mnemonic.Mnemonic.{Mnemonic}
-use Rattle.task_asm.specs.declared.program.NamedService.{NamedService}
 use Rattle.task_asm.specs.declared.program.NamedInstr.{NamedInstr}
 use Rattle.task_asm.specs.declared.operands.Refusal.{Refusal}
 use Rattle.task_asm.specs.declared.operands.Label.{Label as TheLabel}
@@ -22,6 +20,8 @@ use Rattle.task_asm.specs.declared.tokens.Sign.{Sign}
 use Rattle.task_asm.specs.declared.tokens.Sign.TheVariants as sign
 use Rattle.osek_base.specs.declared.lexing.Placed.{Placed}
 use Rattle.task_asm.specs.declared.tokens.Token.{Token}
+use Rattle.task_asm.specs.Mnemonics.{PlainMnemonic, ServiceMnemonic, ControlMnemonic}
+use Rattle.task_asm.specs.Named.{NamedService}
 use Rattle.task_asm.specs.Tokens.{lexeme_of, Symbol, Word, Number, Mark}
 
 abbrev pub Tokens : Type 0
@@ -191,51 +191,51 @@ pub data Written : Type 0 where
   Jump : Label → Written
   JumpIf : Comparison → ℕ → ℕ → Label → Written
 
-abbrev pub ready : Plain → Written
+abbrev pub ready : PlainInstr → Written
 ready p = Ready (NamedInstr.Plain p)
 
 abbrev pub plain_instruction : PlainMnemonic → Tokens → Option Written
-plain_instruction PlainMnemonic.Nop ts = ended ts (ready Plain.Nop)
-plain_instruction PlainMnemonic.Li ts = option_map (λ o. ready (Plain.Li o.0 o.1)) (register_and_number ts)
-plain_instruction PlainMnemonic.Mov ts = option_map (λ o. ready (Plain.Mov o.0 o.1)) (two_registers ts)
-plain_instruction (PlainMnemonic.Compute operation) ts =
+plain_instruction Plain.Nop ts = ended ts (ready Plain.Nop)
+plain_instruction (Plain.Li d n) ts = option_map (λ o. ready (Plain.Li o.0 o.1)) (register_and_number ts)
+plain_instruction (Plain.Mov d a) ts = option_map (λ o. ready (Plain.Mov o.0 o.1)) (two_registers ts)
+plain_instruction (Plain.Compute operation d a b) ts =
     option_map (λ o. ready (Plain.Compute operation o.0 o.1 o.2)) (three_registers ts)
-plain_instruction PlainMnemonic.Ld ts = option_map (λ o. ready (Plain.Ld o.0 o.1)) (two_registers ts)
-plain_instruction PlainMnemonic.St ts = option_map (λ o. ready (Plain.St o.0 o.1)) (two_registers ts)
-plain_instruction PlainMnemonic.Jmp ts = option_map Jump (one_label ts)
-plain_instruction (PlainMnemonic.JumpIf test) ts = after (a_register ts) (λ a rest. after (next_register rest) (λ b rest.
+plain_instruction (Plain.Ld d a) ts = option_map (λ o. ready (Plain.Ld o.0 o.1)) (two_registers ts)
+plain_instruction (Plain.St a b) ts = option_map (λ o. ready (Plain.St o.0 o.1)) (two_registers ts)
+plain_instruction (Plain.Jmp to) ts = option_map Jump (one_label ts)
+plain_instruction (Plain.JumpIf test l r to) ts = after (a_register ts) (λ a rest. after (next_register rest) (λ b rest.
     after (next_label rest) (λ l rest. ended rest (JumpIf test a b l))))
 
 abbrev pub service_instruction : ServiceMnemonic → Tokens → Option NamedService
-service_instruction ServiceMnemonic.ActivateTask ts = option_map NamedService.ActivateTask (one_object ts)
-service_instruction ServiceMnemonic.TerminateTask ts = ended ts NamedService.TerminateTask
-service_instruction ServiceMnemonic.ChainTask ts = option_map NamedService.ChainTask (one_object ts)
-service_instruction ServiceMnemonic.Schedule ts = ended ts NamedService.Schedule
-service_instruction ServiceMnemonic.GetTaskId ts = ended ts NamedService.GetTaskId
-service_instruction ServiceMnemonic.GetTaskState ts = option_map NamedService.GetTaskState (one_object ts)
-service_instruction ServiceMnemonic.GetResource ts = option_map NamedService.GetResource (one_object ts)
-service_instruction ServiceMnemonic.ReleaseResource ts = option_map NamedService.ReleaseResource (one_object ts)
-service_instruction ServiceMnemonic.LoadShared ts = option_map (λ o. NamedService.LoadShared o.0 o.1) (object_and_register ts)
-service_instruction ServiceMnemonic.StoreShared ts = option_map (λ o. NamedService.StoreShared o.0 o.1 o.2) (object_and_registers ts)
-service_instruction ServiceMnemonic.SetEvent ts = option_map (λ o. NamedService.SetEvent o.0 o.1) (object_and_events ts)
-service_instruction ServiceMnemonic.ClearEvent ts = option_map NamedService.ClearEvent (only_events ts)
-service_instruction ServiceMnemonic.GetEvent ts = option_map NamedService.GetEvent (one_object ts)
-service_instruction ServiceMnemonic.WaitEvent ts = option_map NamedService.WaitEvent (only_events ts)
-service_instruction ServiceMnemonic.SetRelAlarm ts = option_map (λ o. NamedService.SetRelAlarm o.0 o.1 o.2) (object_and_registers ts)
-service_instruction ServiceMnemonic.SetAbsAlarm ts = option_map (λ o. NamedService.SetAbsAlarm o.0 o.1 o.2) (object_and_registers ts)
-service_instruction ServiceMnemonic.CancelAlarm ts = option_map NamedService.CancelAlarm (one_object ts)
-service_instruction ServiceMnemonic.GetAlarm ts = option_map NamedService.GetAlarm (one_object ts)
-service_instruction ServiceMnemonic.GetAlarmBase ts = option_map NamedService.GetAlarmBase (one_object ts)
+service_instruction (Service.ActivateTask t) ts = option_map Service.ActivateTask (one_object ts)
+service_instruction Service.TerminateTask ts = ended ts Service.TerminateTask
+service_instruction (Service.ChainTask t) ts = option_map Service.ChainTask (one_object ts)
+service_instruction Service.Schedule ts = ended ts Service.Schedule
+service_instruction Service.GetTaskId ts = ended ts Service.GetTaskId
+service_instruction (Service.GetTaskState t) ts = option_map Service.GetTaskState (one_object ts)
+service_instruction (Service.GetResource r) ts = option_map Service.GetResource (one_object ts)
+service_instruction (Service.ReleaseResource r) ts = option_map Service.ReleaseResource (one_object ts)
+service_instruction (Service.LoadShared r x) ts = option_map (λ o. Service.LoadShared o.0 o.1) (object_and_register ts)
+service_instruction (Service.StoreShared r x y) ts = option_map (λ o. Service.StoreShared o.0 o.1 o.2) (object_and_registers ts)
+service_instruction (Service.SetEvent t m) ts = option_map (λ o. Service.SetEvent o.0 o.1) (object_and_events ts)
+service_instruction (Service.ClearEvent m) ts = option_map Service.ClearEvent (only_events ts)
+service_instruction (Service.GetEvent t) ts = option_map Service.GetEvent (one_object ts)
+service_instruction (Service.WaitEvent m) ts = option_map Service.WaitEvent (only_events ts)
+service_instruction (Service.SetRelAlarm a x y) ts = option_map (λ o. Service.SetRelAlarm o.0 o.1 o.2) (object_and_registers ts)
+service_instruction (Service.SetAbsAlarm a x y) ts = option_map (λ o. Service.SetAbsAlarm o.0 o.1 o.2) (object_and_registers ts)
+service_instruction (Service.CancelAlarm a) ts = option_map Service.CancelAlarm (one_object ts)
+service_instruction (Service.GetAlarm a) ts = option_map Service.GetAlarm (one_object ts)
+service_instruction (Service.GetAlarmBase a) ts = option_map Service.GetAlarmBase (one_object ts)
 
-abbrev pub control_instruction : ControlMnemonic → Tokens → Option Control
-control_instruction ControlMnemonic.DisableAllInterrupts ts = ended ts Control.DisableAllInterrupts
-control_instruction ControlMnemonic.EnableAllInterrupts ts = ended ts Control.EnableAllInterrupts
-control_instruction ControlMnemonic.SuspendAllInterrupts ts = ended ts Control.SuspendAllInterrupts
-control_instruction ControlMnemonic.ResumeAllInterrupts ts = ended ts Control.ResumeAllInterrupts
-control_instruction ControlMnemonic.SuspendOsInterrupts ts = ended ts Control.SuspendOsInterrupts
-control_instruction ControlMnemonic.ResumeOsInterrupts ts = ended ts Control.ResumeOsInterrupts
-control_instruction ControlMnemonic.ShutdownOs ts = option_map Control.ShutdownOs (one_number ts)
-control_instruction ControlMnemonic.ReturnFromInterrupt ts = ended ts Control.ReturnFromInterrupt
+abbrev pub control_instruction : ControlMnemonic → Tokens → Option (Control ℕ)
+control_instruction Control.DisableAllInterrupts ts = ended ts Control.DisableAllInterrupts
+control_instruction Control.EnableAllInterrupts ts = ended ts Control.EnableAllInterrupts
+control_instruction Control.SuspendAllInterrupts ts = ended ts Control.SuspendAllInterrupts
+control_instruction Control.ResumeAllInterrupts ts = ended ts Control.ResumeAllInterrupts
+control_instruction Control.SuspendOsInterrupts ts = ended ts Control.SuspendOsInterrupts
+control_instruction Control.ResumeOsInterrupts ts = ended ts Control.ResumeOsInterrupts
+control_instruction (Control.ShutdownOs n) ts = option_map Control.ShutdownOs (one_number ts)
+control_instruction Control.ReturnFromInterrupt ts = ended ts Control.ReturnFromInterrupt
 
 -- the instruction that a mnemonic and the tokens behind it on its line make, if they are just its operands
 abbrev pub instruction : Mnemonic → Tokens → Option Written

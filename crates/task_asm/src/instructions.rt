@@ -1,7 +1,7 @@
 //! Program texts: the instruction that the operands of a line make with their mnemonic.
 
 ghost use Rattle.std.specs.Prelude.{◌≡◌};
-ghost use Rattle.task_asm.specs.declared.mnemonic.PlainMnemonic.{PlainMnemonic};
+ghost use Rattle.osek_base.specs.declared.instr.Plain.{Plain};
 ghost use Rattle.task_asm.specs.Lines.{
   Answers,
   AnswersWritten,
@@ -14,10 +14,10 @@ ghost use Rattle.task_asm.specs.Lines.{
   written_value,
 };
 
-use crate::mnemonic::{ControlMnemonic, Mnemonic, PlainMnemonic, ServiceMnemonic};
+use crate::mnemonic::Mnemonic;
 use crate::operands::{Label, Operands, Refusal};
 use crate::program::{NamedInstr, NamedService};
-use osek_base::{Comparison, Control, Plain, Register};
+use osek_base::{Comparison, Control, Plain, Register, Service};
 use std::alloc::Global;
 
 /// An instruction as it stands in a line: finished, or a jump whose label is still to be found.
@@ -38,7 +38,7 @@ impl<'t, 'a> Operands<'t, 'a> {
     ghost use Rattle.task_asm.specs.Rest.{rest_of};
 
     fn jump_if(&mut self, test: Comparison) -> Result<Written<'a>, Refusal>
-        ensures { AnswersWritten (plain_instruction (PlainMnemonic.JumpIf test) (rest_of self.old)) result }
+        ensures { AnswersWritten (plain_instruction (Plain.JumpIf test tt tt tt) (rest_of self.old)) result }
     {
         let left = self.register()?;
         let right = self.next_register()?;
@@ -47,39 +47,39 @@ impl<'t, 'a> Operands<'t, 'a> {
         Ok(Written::JumpIf(test, left, right, label))
     }
 
-    fn plain(&mut self, mnemonic: PlainMnemonic) -> Result<Written<'a>, Refusal>
+    fn plain(&mut self, mnemonic: Plain<(), (), ()>) -> Result<Written<'a>, Refusal>
         ensures { AnswersWritten (plain_instruction mnemonic (rest_of self.old)) result }
     {
         match mnemonic {
-            PlainMnemonic::Nop => {
+            Plain::Nop => {
                 self.end()?;
                 Ok(ready(Plain::Nop))
             }
-            PlainMnemonic::Li => {
+            Plain::Li((), ()) => {
                 let (to, number) = self.register_and_number()?;
                 Ok(ready(Plain::Li(to, number)))
             }
-            PlainMnemonic::Mov => {
+            Plain::Mov((), ()) => {
                 let (to, from) = self.two_registers()?;
                 Ok(ready(Plain::Mov(to, from)))
             }
-            PlainMnemonic::Compute(operation) => {
+            Plain::Compute(operation, (), (), ()) => {
                 let (to, left, right) = self.three_registers()?;
                 Ok(ready(Plain::Compute(operation, to, left, right)))
             }
-            PlainMnemonic::Ld => {
+            Plain::Ld((), ()) => {
                 let (to, address) = self.two_registers()?;
                 Ok(ready(Plain::Ld(to, address)))
             }
-            PlainMnemonic::St => {
+            Plain::St((), ()) => {
                 let (address, from) = self.two_registers()?;
                 Ok(ready(Plain::St(address, from)))
             }
-            PlainMnemonic::Jmp => {
+            Plain::Jmp(()) => {
                 let label = self.one_label()?;
                 Ok(Written::Jump(label))
             }
-            PlainMnemonic::JumpIf(test) => self.jump_if(test),
+            Plain::JumpIf(test, (), (), ()) => self.jump_if(test),
         }
     }
 
@@ -91,63 +91,67 @@ impl<'t, 'a> Operands<'t, 'a> {
         Ok(service)
     }
 
-    fn service(&mut self, alloc: Global, mnemonic: ServiceMnemonic) -> Result<NamedService, Refusal>
+    fn service(
+        &mut self,
+        alloc: Global,
+        mnemonic: Service<(), (), (), (), ()>,
+    ) -> Result<NamedService, Refusal>
         ensures { Answers (service_instruction mnemonic (rest_of self.old)) result }
     {
         Ok(match mnemonic {
-            ServiceMnemonic::ActivateTask => NamedService::ActivateTask(self.one_object()?),
-            ServiceMnemonic::TerminateTask => self.bare(NamedService::TerminateTask)?,
-            ServiceMnemonic::ChainTask => NamedService::ChainTask(self.one_object()?),
-            ServiceMnemonic::Schedule => self.bare(NamedService::Schedule)?,
-            ServiceMnemonic::GetTaskId => self.bare(NamedService::GetTaskId)?,
-            ServiceMnemonic::GetTaskState => NamedService::GetTaskState(self.one_object()?),
-            ServiceMnemonic::GetResource => NamedService::GetResource(self.one_object()?),
-            ServiceMnemonic::ReleaseResource => NamedService::ReleaseResource(self.one_object()?),
-            ServiceMnemonic::LoadShared => {
+            Service::ActivateTask(()) => Service::ActivateTask(self.one_object()?),
+            Service::TerminateTask => self.bare(Service::TerminateTask)?,
+            Service::ChainTask(()) => Service::ChainTask(self.one_object()?),
+            Service::Schedule => self.bare(Service::Schedule)?,
+            Service::GetTaskId => self.bare(Service::GetTaskId)?,
+            Service::GetTaskState(()) => Service::GetTaskState(self.one_object()?),
+            Service::GetResource(()) => Service::GetResource(self.one_object()?),
+            Service::ReleaseResource(()) => Service::ReleaseResource(self.one_object()?),
+            Service::LoadShared((), ()) => {
                 let (resource, index) = self.object_and_register()?;
-                NamedService::LoadShared(resource, index)
+                Service::LoadShared(resource, index)
             }
-            ServiceMnemonic::StoreShared => {
+            Service::StoreShared((), (), ()) => {
                 let (resource, index, word) = self.object_and_registers()?;
-                NamedService::StoreShared(resource, index, word)
+                Service::StoreShared(resource, index, word)
             }
-            ServiceMnemonic::SetEvent => {
+            Service::SetEvent((), ()) => {
                 let (task, events) = self.object_and_events(alloc)?;
-                NamedService::SetEvent(task, events)
+                Service::SetEvent(task, events)
             }
-            ServiceMnemonic::ClearEvent => NamedService::ClearEvent(self.only_events(alloc)?),
-            ServiceMnemonic::GetEvent => NamedService::GetEvent(self.one_object()?),
-            ServiceMnemonic::WaitEvent => NamedService::WaitEvent(self.only_events(alloc)?),
-            ServiceMnemonic::SetRelAlarm => {
+            Service::ClearEvent(()) => Service::ClearEvent(self.only_events(alloc)?),
+            Service::GetEvent(()) => Service::GetEvent(self.one_object()?),
+            Service::WaitEvent(()) => Service::WaitEvent(self.only_events(alloc)?),
+            Service::SetRelAlarm((), (), ()) => {
                 let (alarm, increment, cycle) = self.object_and_registers()?;
-                NamedService::SetRelAlarm(alarm, increment, cycle)
+                Service::SetRelAlarm(alarm, increment, cycle)
             }
-            ServiceMnemonic::SetAbsAlarm => {
+            Service::SetAbsAlarm((), (), ()) => {
                 let (alarm, start, cycle) = self.object_and_registers()?;
-                NamedService::SetAbsAlarm(alarm, start, cycle)
+                Service::SetAbsAlarm(alarm, start, cycle)
             }
-            ServiceMnemonic::CancelAlarm => NamedService::CancelAlarm(self.one_object()?),
-            ServiceMnemonic::GetAlarm => NamedService::GetAlarm(self.one_object()?),
-            ServiceMnemonic::GetAlarmBase => NamedService::GetAlarmBase(self.one_object()?),
+            Service::CancelAlarm(()) => Service::CancelAlarm(self.one_object()?),
+            Service::GetAlarm(()) => Service::GetAlarm(self.one_object()?),
+            Service::GetAlarmBase(()) => Service::GetAlarmBase(self.one_object()?),
         })
     }
 
-    fn control(&mut self, mnemonic: ControlMnemonic) -> Result<Control, Refusal>
+    fn control(&mut self, mnemonic: Control<()>) -> Result<Control, Refusal>
         ensures { Answers (control_instruction mnemonic (rest_of self.old)) result }
     {
-        if let ControlMnemonic::ShutdownOs = mnemonic {
+        if let Control::ShutdownOs(()) = mnemonic {
             return Ok(Control::ShutdownOs(self.one_number()?));
         }
         self.end()?;
         Ok(match mnemonic {
-            ControlMnemonic::DisableAllInterrupts => Control::DisableAllInterrupts,
-            ControlMnemonic::EnableAllInterrupts => Control::EnableAllInterrupts,
-            ControlMnemonic::SuspendAllInterrupts => Control::SuspendAllInterrupts,
-            ControlMnemonic::ResumeAllInterrupts => Control::ResumeAllInterrupts,
-            ControlMnemonic::SuspendOsInterrupts => Control::SuspendOsInterrupts,
-            ControlMnemonic::ResumeOsInterrupts => Control::ResumeOsInterrupts,
-            ControlMnemonic::ReturnFromInterrupt => Control::ReturnFromInterrupt,
-            ControlMnemonic::ShutdownOs => unreachable!(),
+            Control::DisableAllInterrupts => Control::DisableAllInterrupts,
+            Control::EnableAllInterrupts => Control::EnableAllInterrupts,
+            Control::SuspendAllInterrupts => Control::SuspendAllInterrupts,
+            Control::ResumeAllInterrupts => Control::ResumeAllInterrupts,
+            Control::SuspendOsInterrupts => Control::SuspendOsInterrupts,
+            Control::ResumeOsInterrupts => Control::ResumeOsInterrupts,
+            Control::ReturnFromInterrupt => Control::ReturnFromInterrupt,
+            Control::ShutdownOs(()) => unreachable!(),
         })
     }
 

@@ -1,148 +1,92 @@
 //! The modelled processor and OSEK/VDX OS: system services. The mnemonics of instructions.
 
-ghost use Rattle.std.specs.Prelude.{◌≡◌};
-ghost use Rattle.task_asm.specs.Mnemonics.{plain_mnemonic, service_mnemonic, control_mnemonic, mnemonic_of};
+ghost use Rattle.std.specs.Prelude.{◌≡◌, ◌≤◌, Some, length};
+ghost use Rattle.task_asm.specs.Mnemonics.{mnemonic_in, mnemonic_of, mnemonic_word};
 
-use osek_base::{Comparison, Operation};
+use osek_base::{Comparison, Control, Operation, Plain, Service};
 
-/// The mnemonics that touch registers, words and the place alone.
-#[derive(Clone, Copy)]
-pub enum PlainMnemonic {
-    Nop,
-    Li,
-    Mov,
-    Compute(Operation),
-    Ld,
-    St,
-    Jmp,
-    JumpIf(Comparison),
-}
-
-/// The mnemonics of the services with a status.
-#[derive(Clone, Copy)]
-pub enum ServiceMnemonic {
-    ActivateTask,
-    TerminateTask,
-    ChainTask,
-    Schedule,
-    GetTaskId,
-    GetTaskState,
-    GetResource,
-    ReleaseResource,
-    LoadShared,
-    StoreShared,
-    SetEvent,
-    ClearEvent,
-    GetEvent,
-    WaitEvent,
-    SetRelAlarm,
-    SetAbsAlarm,
-    CancelAlarm,
-    GetAlarm,
-    GetAlarmBase,
-}
-
-/// The mnemonics of the services without a status.
-#[derive(Clone, Copy)]
-pub enum ControlMnemonic {
-    DisableAllInterrupts,
-    EnableAllInterrupts,
-    SuspendAllInterrupts,
-    ResumeAllInterrupts,
-    SuspendOsInterrupts,
-    ResumeOsInterrupts,
-    ShutdownOs,
-    ReturnFromInterrupt,
-}
-
-/// What an instruction begins with.
+/// What an instruction begins with: the instruction without its operands.
 #[derive(Clone, Copy)]
 pub enum Mnemonic {
-    Plain(PlainMnemonic),
-    Service(ServiceMnemonic),
-    Control(ControlMnemonic),
+    Plain(Plain<(), (), ()>),
+    Service(Service<(), (), (), (), ()>),
+    Control(Control<()>),
 }
 
 impl Mnemonic {
-    /// The mnemonic with that word. All are in upper case.
+    /// The word, in upper case.
+    pub fn word(&self) -> &'static str
+        ensures word { result.now ≡ mnemonic_word self.now }
+        ensures back { mnemonic_of result.now ≡ Some self.now }
+    {
+        match self {
+            Mnemonic::Plain(plain) => plain.word(),
+            Mnemonic::Service(service) => service.word(),
+            Mnemonic::Control(control) => control.word(),
+        }
+    }
+
+    /// The mnemonic with that word.
     pub fn of(word: &str) -> Option<Mnemonic>
         ensures { result ≡ mnemonic_of word.now }
     {
-        if let Some(mnemonic) = plain(word) {
-            return Some(Mnemonic::Plain(mnemonic));
-        }
-        if let Some(mnemonic) = service(word) {
-            return Some(Mnemonic::Service(mnemonic));
-        }
-        match control(word) {
-            Some(mnemonic) => Some(Mnemonic::Control(mnemonic)),
-            None => None,
-        }
+        first_with(&MNEMONICS, word)
     }
 }
 
-fn plain(word: &str) -> Option<PlainMnemonic>
-    ensures { result ≡ plain_mnemonic word.now }
+/// The first of some mnemonics with that word.
+fn first_with(mnemonics: &[Mnemonic], word: &str) -> Option<Mnemonic>
+    ensures { result ≡ mnemonic_in mnemonics.now word.now }
 {
-    match word {
-        "NOP" => Some(PlainMnemonic::Nop),
-        "LI" => Some(PlainMnemonic::Li),
-        "MOV" => Some(PlainMnemonic::Mov),
-        "ADD" => Some(PlainMnemonic::Compute(Operation::Add)),
-        "SUB" => Some(PlainMnemonic::Compute(Operation::Sub)),
-        "MUL" => Some(PlainMnemonic::Compute(Operation::Mul)),
-        "AND" => Some(PlainMnemonic::Compute(Operation::And)),
-        "OR" => Some(PlainMnemonic::Compute(Operation::Or)),
-        "XOR" => Some(PlainMnemonic::Compute(Operation::Xor)),
-        "LD" => Some(PlainMnemonic::Ld),
-        "ST" => Some(PlainMnemonic::St),
-        "JMP" => Some(PlainMnemonic::Jmp),
-        "JEQ" => Some(PlainMnemonic::JumpIf(Comparison::Equal)),
-        "JNE" => Some(PlainMnemonic::JumpIf(Comparison::NotEqual)),
-        "JLT" => Some(PlainMnemonic::JumpIf(Comparison::Less)),
-        _ => None,
+    match mnemonics {
+        [] => None,
+        [first, ..] if first.word() == word => Some(*first),
+        [_, rest @ ..] => first_with(rest, word),
     }
 }
 
-fn service(word: &str) -> Option<ServiceMnemonic>
-    ensures { result ≡ service_mnemonic word.now }
-{
-    match word {
-        "ACT" => Some(ServiceMnemonic::ActivateTask),
-        "TERM" => Some(ServiceMnemonic::TerminateTask),
-        "CHAIN" => Some(ServiceMnemonic::ChainTask),
-        "SCHED" => Some(ServiceMnemonic::Schedule),
-        "GTID" => Some(ServiceMnemonic::GetTaskId),
-        "GTST" => Some(ServiceMnemonic::GetTaskState),
-        "GETR" => Some(ServiceMnemonic::GetResource),
-        "RELR" => Some(ServiceMnemonic::ReleaseResource),
-        "LDR" => Some(ServiceMnemonic::LoadShared),
-        "STR" => Some(ServiceMnemonic::StoreShared),
-        "SETE" => Some(ServiceMnemonic::SetEvent),
-        "CLRE" => Some(ServiceMnemonic::ClearEvent),
-        "GETE" => Some(ServiceMnemonic::GetEvent),
-        "WAIT" => Some(ServiceMnemonic::WaitEvent),
-        "SREL" => Some(ServiceMnemonic::SetRelAlarm),
-        "SABS" => Some(ServiceMnemonic::SetAbsAlarm),
-        "CANA" => Some(ServiceMnemonic::CancelAlarm),
-        "GALM" => Some(ServiceMnemonic::GetAlarm),
-        "GBAS" => Some(ServiceMnemonic::GetAlarmBase),
-        _ => None,
-    }
-}
-
-fn control(word: &str) -> Option<ControlMnemonic>
-    ensures { result ≡ control_mnemonic word.now }
-{
-    match word {
-        "DAI" => Some(ControlMnemonic::DisableAllInterrupts),
-        "EAI" => Some(ControlMnemonic::EnableAllInterrupts),
-        "SAI" => Some(ControlMnemonic::SuspendAllInterrupts),
-        "RAI" => Some(ControlMnemonic::ResumeAllInterrupts),
-        "SOI" => Some(ControlMnemonic::SuspendOsInterrupts),
-        "ROI" => Some(ControlMnemonic::ResumeOsInterrupts),
-        "SHUT" => Some(ControlMnemonic::ShutdownOs),
-        "RETI" => Some(ControlMnemonic::ReturnFromInterrupt),
-        _ => None,
-    }
-}
+/// All mnemonics.
+const MNEMONICS: [Mnemonic; 42] = [
+    Mnemonic::Plain(Plain::Nop),
+    Mnemonic::Plain(Plain::Li((), ())),
+    Mnemonic::Plain(Plain::Mov((), ())),
+    Mnemonic::Plain(Plain::Compute(Operation::Add, (), (), ())),
+    Mnemonic::Plain(Plain::Compute(Operation::Sub, (), (), ())),
+    Mnemonic::Plain(Plain::Compute(Operation::Mul, (), (), ())),
+    Mnemonic::Plain(Plain::Compute(Operation::And, (), (), ())),
+    Mnemonic::Plain(Plain::Compute(Operation::Or, (), (), ())),
+    Mnemonic::Plain(Plain::Compute(Operation::Xor, (), (), ())),
+    Mnemonic::Plain(Plain::Ld((), ())),
+    Mnemonic::Plain(Plain::St((), ())),
+    Mnemonic::Plain(Plain::Jmp(())),
+    Mnemonic::Plain(Plain::JumpIf(Comparison::Equal, (), (), ())),
+    Mnemonic::Plain(Plain::JumpIf(Comparison::NotEqual, (), (), ())),
+    Mnemonic::Plain(Plain::JumpIf(Comparison::Less, (), (), ())),
+    Mnemonic::Service(Service::ActivateTask(())),
+    Mnemonic::Service(Service::TerminateTask),
+    Mnemonic::Service(Service::ChainTask(())),
+    Mnemonic::Service(Service::Schedule),
+    Mnemonic::Service(Service::GetTaskId),
+    Mnemonic::Service(Service::GetTaskState(())),
+    Mnemonic::Service(Service::GetResource(())),
+    Mnemonic::Service(Service::ReleaseResource(())),
+    Mnemonic::Service(Service::LoadShared((), ())),
+    Mnemonic::Service(Service::StoreShared((), (), ())),
+    Mnemonic::Service(Service::SetEvent((), ())),
+    Mnemonic::Service(Service::ClearEvent(())),
+    Mnemonic::Service(Service::GetEvent(())),
+    Mnemonic::Service(Service::WaitEvent(())),
+    Mnemonic::Service(Service::SetRelAlarm((), (), ())),
+    Mnemonic::Service(Service::SetAbsAlarm((), (), ())),
+    Mnemonic::Service(Service::CancelAlarm(())),
+    Mnemonic::Service(Service::GetAlarm(())),
+    Mnemonic::Service(Service::GetAlarmBase(())),
+    Mnemonic::Control(Control::DisableAllInterrupts),
+    Mnemonic::Control(Control::EnableAllInterrupts),
+    Mnemonic::Control(Control::SuspendAllInterrupts),
+    Mnemonic::Control(Control::ResumeAllInterrupts),
+    Mnemonic::Control(Control::SuspendOsInterrupts),
+    Mnemonic::Control(Control::ResumeOsInterrupts),
+    Mnemonic::Control(Control::ShutdownOs(())),
+    Mnemonic::Control(Control::ReturnFromInterrupt),
+];

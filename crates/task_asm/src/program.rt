@@ -3,7 +3,7 @@
 ghost use Rattle.std.specs.Prelude.{◌≡◌, ◌∷◌, ◌++◌, [], IfOk, IsTrue, not};
 ghost use Rattle.osek_base.specs.Lists.{is_empty};
 
-use osek_base::{Control, Name, Plain, Register};
+use osek_base::{Control, Name, Plain, Register, Service};
 use std::alloc::{AllocError, Global};
 use std::marker::Model;
 
@@ -51,36 +51,9 @@ impl EventNames {
     }
 }
 
-/// A service with a status, its operands by their names. None is the operand INVALID.
-#[derive(Debug, Drop)]
-pub enum NamedService {
-    ActivateTask(Option<Name>),
-    TerminateTask,
-    ChainTask(Option<Name>),
-    Schedule,
-    GetTaskId,
-    GetTaskState(Option<Name>),
-    /// The name may be RES_SCHEDULER.
-    GetResource(Option<Name>),
-    /// The name may be RES_SCHEDULER.
-    ReleaseResource(Option<Name>),
-    /// A resource, which may be RES_SCHEDULER, and the register of the index.
-    LoadShared(Option<Name>, Register),
-    /// A resource, which may be RES_SCHEDULER, the register of the index and that of the new word.
-    StoreShared(Option<Name>, Register, Register),
-    /// A task and events.
-    SetEvent(Option<Name>, EventNames),
-    ClearEvent(EventNames),
-    GetEvent(Option<Name>),
-    WaitEvent(EventNames),
-    /// An alarm, the register of the increment and that of the cycle.
-    SetRelAlarm(Option<Name>, Register, Register),
-    /// An alarm, the register of the start and that of the cycle.
-    SetAbsAlarm(Option<Name>, Register, Register),
-    CancelAlarm(Option<Name>),
-    GetAlarm(Option<Name>),
-    GetAlarmBase(Option<Name>),
-}
+/// A service with a status, its operands by their names, of which that of a resource may be RES_SCHEDULER. None is the
+/// operand INVALID.
+pub type NamedService = Service<Register, Option<Name>, Option<Name>, Option<Name>, EventNames>;
 
 /// An instruction as it stands in a program text, with places for labels.
 #[derive(Debug, Drop)]

@@ -8,21 +8,19 @@ ghost use Rattle.osek_base.specs.Text.{
   alarm_text,
   register_text,
   mask_text,
-  operation_word,
-  comparison_word,
   written,
-  plain_text,
-  service_text,
-  control_text,
+  plain_operands,
+  service_operands,
+  control_operands,
   instruction_text,
 };
+ghost use Rattle.osek_base.specs.Mnemonics.{plain_word, service_word, control_word};
 ghost use Rattle.task_asm.specs.Operands.{last_digits};
 
 use arrayvec::ArrayString;
 use itoa::Buffer;
 use osek_base::{
-    AlarmId, Comparison, Control, Instr, Name, Names, Operation, Plain, Register, ResId, Service,
-    TaskId,
+    AlarmId, Control, Instr, Name, Names, Place, Plain, Register, ResId, Service, TaskId,
 };
 
 /// The text of one operand.
@@ -30,31 +28,6 @@ type OperandText = ArrayString<32>;
 
 /// What an instruction's text is written to: the longest mnemonic and three of the longest operands fit.
 type InstrText = ArrayString<128>;
-
-fn word_of_operation(operation: Operation) -> &'static str
-    ensures word { result.now ≡ operation_word operation }
-    ensures short { length result.now ≤ 5 }
-{
-    match operation {
-        Operation::Add => "ADD",
-        Operation::Sub => "SUB",
-        Operation::Mul => "MUL",
-        Operation::And => "AND",
-        Operation::Or => "OR",
-        Operation::Xor => "XOR",
-    }
-}
-
-fn word_of_comparison(test: Comparison) -> &'static str
-    ensures word { result.now ≡ comparison_word test }
-    ensures short { length result.now ≤ 5 }
-{
-    match test {
-        Comparison::Equal => "JEQ",
-        Comparison::NotEqual => "JNE",
-        Comparison::Less => "JLT",
-    }
-}
 
 fn short_text(text: &str) -> OperandText
     requires { length text.now ≤ 32 }
@@ -70,6 +43,12 @@ fn number_text(number: u32) -> OperandText
 {
     let mut buffer = Buffer::new();
     short_text(buffer.format(number))
+}
+
+fn place_text(place: Place) -> OperandText
+    ensures { result.bytes ≡ decimal place }
+{
+    number_text(place.number() as u32)
 }
 
 fn register_text(register: Register) -> OperandText
@@ -189,103 +168,93 @@ fn write_three(
 }
 
 fn write_plain(text: &mut InstrText, plain: &Plain)
-    ensures { text.new.bytes ≡ plain_text plain.now }
+    ensures { text.new.bytes ≡ written (plain_word plain.now) (plain_operands plain.now) }
 {
+    let word = plain.word();
     match *plain {
-        Plain::Nop => write_word(text, "NOP"),
-        Plain::Li(to, number) => { write_two(text, "LI", &register_text(to), &number_text(number)) }
-        Plain::Mov(to, from) => { write_two(text, "MOV", &register_text(to), &register_text(from)) }
-        Plain::Compute(operation, to, left, right) => write_three(
-            text,
-            word_of_operation(operation),
-            &register_text(to),
-            &register_text(left),
-            &register_text(right),
-        ),
-        Plain::Ld(to, address) => {
-            write_two(text, "LD", &register_text(to), &register_text(address))
+        Plain::Nop => write_word(text, word),
+        Plain::Li(to, number) => write_two(text, word, &register_text(to), &number_text(number)),
+        Plain::Mov(a, b) | Plain::Ld(a, b) | Plain::St(a, b) => {
+            write_two(text, word, &register_text(a), &register_text(b))
         }
-        Plain::St(address, from) => {
-            write_two(text, "ST", &register_text(address), &register_text(from))
+        Plain::Compute(_, to, a, b) => {
+            write_three(
+                text,
+                word,
+                &register_text(to),
+                &register_text(a),
+                &register_text(b),
+            )
         }
-        Plain::Jmp(place) => write_one(text, "JMP", &number_text(place.number() as u32)),
-        Plain::JumpIf(test, left, right, place) => write_three(
-            text,
-            word_of_comparison(test),
-            &register_text(left),
-            &register_text(right),
-            &number_text(place.number() as u32),
-        ),
+        Plain::Jmp(place) => write_one(text, word, &place_text(place)),
+        Plain::JumpIf(_, a, b, place) => {
+            write_three(
+                text,
+                word,
+                &register_text(a),
+                &register_text(b),
+                &place_text(place),
+            )
+        }
     }
 }
 
 fn write_service(text: &mut InstrText, service: &Service<Register>, names: &Names)
-    ensures { text.new.bytes ≡ service_text names.now service.now }
+    ensures { text.new.bytes ≡ written (service_word service.now) (service_operands names.now service.now) }
 {
+    let word = service.word();
     match *service {
-        Service::ActivateTask(task) => write_one(text, "ACT", &task_text(names, task)),
-        Service::TerminateTask => write_word(text, "TERM"),
-        Service::ChainTask(task) => write_one(text, "CHAIN", &task_text(names, task)),
-        Service::Schedule => write_word(text, "SCHED"),
-        Service::GetTaskId => write_word(text, "GTID"),
-        Service::GetTaskState(task) => write_one(text, "GTST", &task_text(names, task)),
-        Service::GetResource(resource) => {
-            write_one(text, "GETR", &resource_text(names, resource))
+        Service::TerminateTask | Service::Schedule | Service::GetTaskId => write_word(text, word),
+        Service::ActivateTask(task)
+        | Service::ChainTask(task)
+        | Service::GetTaskState(task)
+        | Service::GetEvent(task) => write_one(text, word, &task_text(names, task)),
+        Service::GetResource(resource) | Service::ReleaseResource(resource) => {
+            write_one(text, word, &resource_text(names, resource))
         }
-        Service::ReleaseResource(resource) => {
-            write_one(text, "RELR", &resource_text(names, resource))
+        Service::LoadShared(resource, index) => {
+            write_two(
+                text,
+                word,
+                &resource_text(names, resource),
+                &register_text(index),
+            )
         }
-        Service::LoadShared(resource, index) => write_two(
+        Service::StoreShared(resource, index, new) => write_three(
             text,
-            "LDR",
+            word,
             &resource_text(names, resource),
             &register_text(index),
-        ),
-        Service::StoreShared(resource, index, word) => write_three(
-            text,
-            "STR",
-            &resource_text(names, resource),
-            &register_text(index),
-            &register_text(word),
+            &register_text(new),
         ),
         Service::SetEvent(task, mask) => {
-            write_two(text, "SETE", &task_text(names, task), &mask_text(mask))
+            write_two(text, word, &task_text(names, task), &mask_text(mask))
         }
-        Service::ClearEvent(mask) => write_one(text, "CLRE", &mask_text(mask)),
-        Service::GetEvent(task) => write_one(text, "GETE", &task_text(names, task)),
-        Service::WaitEvent(mask) => write_one(text, "WAIT", &mask_text(mask)),
-        Service::SetRelAlarm(alarm, increment, cycle) => write_three(
-            text,
-            "SREL",
-            &alarm_text(names, alarm),
-            &register_text(increment),
-            &register_text(cycle),
-        ),
-        Service::SetAbsAlarm(alarm, start, cycle) => write_three(
-            text,
-            "SABS",
-            &alarm_text(names, alarm),
-            &register_text(start),
-            &register_text(cycle),
-        ),
-        Service::CancelAlarm(alarm) => write_one(text, "CANA", &alarm_text(names, alarm)),
-        Service::GetAlarm(alarm) => write_one(text, "GALM", &alarm_text(names, alarm)),
-        Service::GetAlarmBase(alarm) => write_one(text, "GBAS", &alarm_text(names, alarm)),
+        Service::ClearEvent(mask) | Service::WaitEvent(mask) => {
+            write_one(text, word, &mask_text(mask))
+        }
+        Service::SetRelAlarm(alarm, count, cycle) | Service::SetAbsAlarm(alarm, count, cycle) => {
+            write_three(
+                text,
+                word,
+                &alarm_text(names, alarm),
+                &register_text(count),
+                &register_text(cycle),
+            )
+        }
+        Service::CancelAlarm(alarm) | Service::GetAlarm(alarm) | Service::GetAlarmBase(alarm) => {
+            write_one(text, word, &alarm_text(names, alarm))
+        }
     }
 }
 
 fn write_control(text: &mut InstrText, control: &Control)
-    ensures { text.new.bytes ≡ control_text control.now }
+    ensures { text.new.bytes ≡ written (control_word control.now) (control_operands control.now) }
 {
+    let word = control.word();
     match *control {
-        Control::DisableAllInterrupts => write_word(text, "DAI"),
-        Control::EnableAllInterrupts => write_word(text, "EAI"),
-        Control::SuspendAllInterrupts => write_word(text, "SAI"),
-        Control::ResumeAllInterrupts => write_word(text, "RAI"),
-        Control::SuspendOsInterrupts => write_word(text, "SOI"),
-        Control::ResumeOsInterrupts => write_word(text, "ROI"),
-        Control::ShutdownOs(number) => write_one(text, "SHUT", &number_text(number)),
-        Control::ReturnFromInterrupt => write_word(text, "RETI"),
+        Control::ShutdownOs(number) => write_one(text, word, &number_text(number)),
+        _ => write_word(text, word),
     }
 }
 

@@ -10,8 +10,7 @@ use Rattle.osek_base.specs.View.{Sight}
 use Rattle.kernel.specs.declared.boot.BootFault.{BootFault}
 use Rattle.trace_lines.specs.Lines.{ended}
 use Rattle.arrival_lists.specs.ArrivalText.{lines_of}
-use Rattle.tracer.specs.UpperRuns.{IsShown}
-use Rattle.tracer.specs.WholeRuns.{RefusesStart}
+use Rattle.tracer.specs.WholeRuns.{IsShown, RefusesStart}
 use Rattle.tracer.specs.declared.run_fault.RunFault.{RunFault}
 use Rattle.tracer.specs.declared.shown.Shown.{Shown}
 use Rattle.tracer.proofs.RunTextLemmas.{view_shown}

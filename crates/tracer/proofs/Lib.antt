@@ -2,4 +2,5 @@ pub mod ProgramRecords
 pub mod RunTextLemmas
 pub mod FaultLemmas
 pub mod TraceLemmas
+pub mod WritesLemmas
 pub mod AloneLemmas

@@ -13,14 +13,13 @@ use Rattle.osek_base.specs.Tick.{Step}
 use Rattle.osek_base.specs.Trace.{Run, run}
 use Rattle.osek_base.specs.Text.{line, text}
 use Rattle.osek_base.specs.View.{Sight, sight}
-use Rattle.osek_base.specs.BlockingText.{blocking_text}
 use Rattle.kernel.specs.Run.{is_over}
 use Rattle.blocking_laws.specs.Steps.{step_at, record_at}
 use Rattle.kernel.proofs.RunLemmas.{going}
 use Rattle.blocking_laws.proofs.StepLemmas.{run_over, run_stays, steps_more, step_number}
 use Rattle.tracer.specs.declared.shown.Shown.{Shown}
 use Rattle.trace_lines.specs.Lines.{ended, numbered_line, tick_text}
-use Rattle.tracer.specs.Shown.{numbers_shown, records_shown, lines_shown, text_shown, view_text}
+use Rattle.tracer.specs.Shown.{records_shown, lines_shown, text_shown, view_text}
 use Rattle.trace_lines.specs.Sinks.{AppendsSome, Passes}
 use Rattle.trace_lines.proofs.SinkLemmas.{begins_longer, passes_more, stops_later}
 
@@ -51,12 +50,6 @@ pub view_shown : (S : System) (p : ℕ) (r : Run) → text_shown S (Shown.View p
 view_shown S p r =
     ap (flat_map ended) (steps_same S (Shown.View p) r.steps)
     ∙ ap (flat_map ended) (sym (flat_map-map (λ (seen : Sight). seen.lines) (sight S p) r.steps))
-
--- where the numbers are shown too, the text is that with the numbers of blockers
-pub blocking_shown : (S : System) (mode : ℕ) (arrivals : List Arrival) (n : ℕ)
-    → text_shown S Shown.Blocking (numbers_shown Shown.Blocking S mode arrivals) (run S mode arrivals n)
-    ≡ blocking_text S mode arrivals n
-blocking_shown S mode arrivals n = refl
 
 -- ---- the texts of two equal ticks
 

@@ -1,4 +1,5 @@
 pub mod Shown
+pub mod Writing
 pub mod RunFaults
 pub mod WholeRuns
 pub mod UpperRuns

@@ -18,7 +18,9 @@ use Rattle.osek_base.specs.Trace.{run}
 use Rattle.kernel.specs.declared.boot.BootFault.{BootFault}
 use Rattle.kernel.specs.Run.{Run}
 use Rattle.arrival_lists.specs.ArrivalText.{IsArrivalList, IsFirstFault}
+use Rattle.tracer.specs.Shown.{numbers_shown, text_shown}
 use Rattle.tracer.specs.declared.run_fault.RunFault.{RunFault}
+use Rattle.tracer.specs.declared.shown.Shown.{Shown}
 
 -- ---- the system of two texts
 
@@ -44,25 +46,35 @@ pub record IsBegun (S : System) (irqs mode : List ℕ) (r : Run) : Type 0 where
   pub started : number_of mode S.names.modes ≡ Some r.mode
   pub ticks : r.ticks ≡ 0
 
--- the bytes are the text of so many ticks of the system of the texts, in the mode of that name, with the arrivals
-pub record IsTrace (oil asm irqs mode : List ℕ) (ticks : ℕ) (bytes : List ℕ) : Type 0 where
-  pub system : System
+-- the bytes are the text of the run in the mode of that name, with the arrivals of that list
+pub record IsTextOf (S : System) (text_of : ℕ → List Arrival → List ℕ) (irqs mode bytes : List ℕ) : Type 0 where
   pub number : ℕ
   pub arrivals : List Arrival
-  pub made : IsSystemOf oil asm system
-  pub listed : IsArrivalList system.names irqs arrivals
-  pub started : number_of mode system.names.modes ≡ Some number
-  pub spelled : bytes ≡ text system.names (run system number arrivals ticks)
+  pub listed : IsArrivalList S.names irqs arrivals
+  pub started : number_of mode S.names.modes ≡ Some number
+  pub spelled : bytes ≡ text_of number arrivals
 
--- the bytes are that text with the numbers of blockers
-pub record IsBlockingTrace (oil asm irqs mode : List ℕ) (ticks : ℕ) (bytes : List ℕ) : Type 0 where
-  pub system : System
-  pub number : ℕ
-  pub arrivals : List Arrival
-  pub made : IsSystemOf oil asm system
-  pub listed : IsArrivalList system.names irqs arrivals
-  pub started : number_of mode system.names.modes ≡ Some number
-  pub spelled : bytes ≡ blocking_text system number arrivals ticks
+-- the bytes are what is shown of so many ticks of the system
+abbrev pub IsShown : System → Shown → List ℕ → List ℕ → ℕ → List ℕ → Type 0
+IsShown S shown irqs mode ticks =
+    IsTextOf S (λ number arrivals. text_shown S shown (numbers_shown shown S number arrivals) (run S number arrivals ticks)) irqs mode
+
+-- the bytes are what is shown of so many ticks of the system of the texts
+abbrev pub IsShownOf : List ℕ → List ℕ → Shown → List ℕ → List ℕ → ℕ → List ℕ → Type 0
+IsShownOf oil asm shown irqs mode ticks bytes =
+    (S : System) × IsSystemOf oil asm S × IsShown S shown irqs mode ticks bytes
+
+-- the bytes are the trace of so many ticks of the system of the texts
+abbrev pub IsTrace : List ℕ → List ℕ → List ℕ → List ℕ → ℕ → List ℕ → Type 0
+IsTrace oil asm irqs mode ticks bytes =
+    (S : System) × IsSystemOf oil asm S
+    × IsTextOf S (λ number arrivals. text S.names (run S number arrivals ticks)) irqs mode bytes
+
+-- the bytes are that trace with the numbers of blockers
+abbrev pub IsBlockingTrace : List ℕ → List ℕ → List ℕ → List ℕ → ℕ → List ℕ → Type 0
+IsBlockingTrace oil asm irqs mode ticks bytes =
+    (S : System) × IsSystemOf oil asm S
+    × IsTextOf S (λ number arrivals. blocking_text S number arrivals ticks) irqs mode bytes
 
 -- ---- the first fault
 

@@ -1,7 +1,6 @@
 //! Whole runs: what of them is written to a sink, and the first refusal.
 #![tactic(auto)]
 
-mod blocking_run;
 mod run_fault;
 mod shown;
 mod system_texts;
@@ -9,9 +8,8 @@ mod upper_run;
 mod whole_run;
 mod written_ticks;
 
-pub use blocking_run::run_blocking;
 pub use run_fault::RunFault;
 pub use system_texts::read_system;
 pub use trace_lines::{LineText, Sink, SinkFault, StdSink, line_text, upper_view};
 pub use upper_run::run_upper;
-pub use whole_run::run;
+pub use whole_run::{run, run_blocking};

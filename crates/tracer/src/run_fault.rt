@@ -7,6 +7,7 @@ use kernel::BootFault;
 use oil_reader::OilFault;
 use partition_check::NamedDenial;
 use std::alloc::AllocError;
+use std::io;
 use system_gen::GenFault;
 use task_asm::AsmFault;
 use thiserror::Error;
@@ -47,6 +48,16 @@ impl From<SinkFault> for RunFault {
     ghost from_gives = { λ _ e. e ≡ Write };
 
     fn from(_fault: SinkFault) -> RunFault {
+        RunFault::Write
+    }
+}
+
+impl From<io::Error> for RunFault {
+    ghost use Rattle.tracer.specs.declared.run_fault.RunFault.TheVariants.{Write};
+
+    ghost from_gives = { λ _ e. e ≡ Write };
+
+    fn from(_error: io::Error) -> RunFault {
         RunFault::Write
     }
 }

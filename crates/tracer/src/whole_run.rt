@@ -1,10 +1,8 @@
 //! Whole runs, no part of the standards: from the three texts to the trace.
 
-ghost use Rattle.std.specs.Prelude.{◌≡◌, ◌≢◌, ◌≤◌, ℕ, List, true, false, IfOk, IfErr, OnOk};
-ghost use Rattle.std.specs.Io.KnownBytes.{Appends};
-ghost use Rattle.trace_lines.specs.Sinks.{AppendsSome};
-ghost use Rattle.tracer.specs.UpperRuns.{IsShown};
-ghost use Rattle.tracer.specs.WholeRuns.{IsBegun, IsTrace, RefusesStart, IsFirstRefusal};
+ghost use Rattle.std.specs.Prelude.{◌≡◌, ◌≤◌, false, IfOk, IfErr};
+ghost use Rattle.tracer.specs.Writing.{Writes};
+ghost use Rattle.tracer.specs.WholeRuns.{IsBegun, IsShown, IsShownOf, IsTrace, IsBlockingTrace, RefusesStart, IsFirstRefusal};
 
 use crate::run_fault::RunFault;
 use crate::shown::Shown;
@@ -43,17 +41,31 @@ pub(crate) fn write_run<S: Sink>(
 ) -> Result<(), RunFault>
     requires ticks { ticks ≤ MAX_TICKS }
     requires fresh { S.has_failed out.old ≡ false }
-    ensures written { OnOk result ((bytes : List ℕ) × IsShown system.now shown irqs.now mode.now ticks bytes × Appends (S.taken out.old) (S.taken out.new) bytes) }
-    ensures still { OnOk result (S.has_failed out.new ≡ false) }
-    ensures beginning { IfErr result (λ fault. fault ≡ RunFault.Write → (bytes : List ℕ) × IsShown system.now shown irqs.now mode.now ticks bytes × AppendsSome (S.taken out.old) (S.taken out.new) bytes) }
-    ensures failed { IfErr result (λ fault. fault ≡ RunFault.Write → S.has_failed out.new ≡ true) }
-    ensures unwritten { IfErr result (λ fault. fault ≢ RunFault.Write → out.new ≡ out.old) }
-    ensures refusal { IfErr result (λ fault. fault ≢ RunFault.Write → RefusesStart system.now irqs.now mode.now fault) }
+    ensures { Writes S.taken S.has_failed (IsShown system.now shown irqs.now mode.now ticks) (RefusesStart system.now irqs.now mode.now) out.old out.new result }
 {
     let mut kernel = begin(alloc, system, irqs, mode)?;
     let texts = InstructionTexts::new(alloc, system)?;
     write_ticks(&mut kernel, system, &texts, shown, ticks, out)?;
     Ok(())
+}
+
+/// Makes the system of two texts, runs it, and writes what is shown of it.
+fn write_system<S: Sink>(
+    alloc: Global,
+    oil: &[u8],
+    asm: &[u8],
+    shown: Shown,
+    irqs: &[u8],
+    mode: &str,
+    ticks: u32,
+    out: &mut S,
+) -> Result<(), RunFault>
+    requires ticks { ticks ≤ MAX_TICKS }
+    requires fresh { S.has_failed out.old ≡ false }
+    ensures { Writes S.taken S.has_failed (IsShownOf oil.now asm.now shown irqs.now mode.now ticks) (IsFirstRefusal oil.now asm.now irqs.now mode.now) out.old out.new result }
+{
+    let system = read_system(alloc, oil, asm)?;
+    write_run(alloc, &system, shown, irqs, mode, ticks, out)
 }
 
 /// Runs a system for some ticks, at most 1,000,000, and writes its trace. The OIL text is read, then the programs, the
@@ -71,13 +83,25 @@ pub fn run<S: Sink>(
 ) -> Result<(), RunFault>
     requires ticks { ticks ≤ MAX_TICKS }
     requires fresh { S.has_failed out.old ≡ false }
-    ensures written { OnOk result ((bytes : List ℕ) × IsTrace oil.now asm.now irqs.now mode.now ticks bytes × Appends (S.taken out.old) (S.taken out.new) bytes) }
-    ensures still { OnOk result (S.has_failed out.new ≡ false) }
-    ensures beginning { IfErr result (λ fault. fault ≡ RunFault.Write → (bytes : List ℕ) × IsTrace oil.now asm.now irqs.now mode.now ticks bytes × AppendsSome (S.taken out.old) (S.taken out.new) bytes) }
-    ensures failed { IfErr result (λ fault. fault ≡ RunFault.Write → S.has_failed out.new ≡ true) }
-    ensures unwritten { IfErr result (λ fault. fault ≢ RunFault.Write → out.new ≡ out.old) }
-    ensures refusal { IfErr result (λ fault. fault ≢ RunFault.Write → IsFirstRefusal oil.now asm.now irqs.now mode.now fault) }
+    ensures { Writes S.taken S.has_failed (IsTrace oil.now asm.now irqs.now mode.now ticks) (IsFirstRefusal oil.now asm.now irqs.now mode.now) out.old out.new result }
 {
-    let system = read_system(alloc, oil, asm)?;
-    write_run(alloc, &system, Shown::All, irqs, mode, ticks, out)
+    write_system(alloc, oil, asm, Shown::All, irqs, mode, ticks, out)
+}
+
+/// As `run`, but each line of an instruction that is its job's first since the job became ready has ` ! ` behind it, and
+/// how many blockers the job had since then: jobs of a lower priority that executed.
+pub fn run_blocking<S: Sink>(
+    alloc: Global,
+    oil: &[u8],
+    asm: &[u8],
+    irqs: &[u8],
+    mode: &str,
+    ticks: u32,
+    out: &mut S,
+) -> Result<(), RunFault>
+    requires ticks { ticks ≤ MAX_TICKS }
+    requires fresh { S.has_failed out.old ≡ false }
+    ensures { Writes S.taken S.has_failed (IsBlockingTrace oil.now asm.now irqs.now mode.now ticks) (IsFirstRefusal oil.now asm.now irqs.now mode.now) out.old out.new result }
+{
+    write_system(alloc, oil, asm, Shown::Blocking, irqs, mode, ticks, out)
 }

@@ -1,4 +1,4 @@
-use Rattle.std.proofs.Common.{◌≡◌, ◌-◌, ◌<◌, length, slice_index_or, arith}
+use Rattle.std.proofs.Common.{◌-◌, ◌<◌, slice_index_or, arith}
 use Rattle.alarms.specs.declared.difference_list.Entry.{Entry}
 use Rattle.alarms.proofs.PlaceLemmas.{refill_set}
 use Rattle.alarms.proofs.WaitLemmas.{written_ahead}

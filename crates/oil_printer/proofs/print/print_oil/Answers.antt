@@ -2,7 +2,7 @@ use Rattle.std.proofs.Common.{◌≡◌, ℕ, List, [], subst, sym}
 use Rattle.std.specs.String.{string_bytes}
 use Rattle.oil_reader.specs.Faults.{Means}
 use Rattle.oil_printer.specs.Printed.{printed}
-use Rattle.oil_reader.proofs.CheckedParts.{CheckedParts}
+use Rattle.oil_reader.specs.Checked.{CheckedParts}
 use Rattle.oil_printer.proofs.ReadAgain.{parts_mean}
 use Rattle.oil_printer.specs.Layout.{file_start, file_text, object_text}
 use Rattle.oil_printer.proofs.LayoutLemmas.{begun, ended, more, one}

@@ -14,8 +14,8 @@ returns-clause-first c =
     (joined _ _ _ _ _ c.or-3.ensures
     (joined _ _ _ _ _ c.or-2.ensures
     (joined _ _ _ _ _ c.or.ensures c.first_not_full.ensures.first c.first_listing.ensures.first)
-    c.first_in_lower.ensures.first) c.first_in_lower-2.ensures.first) c.first_in_lower-3.ensures.first)
-    c.first_in_upper.ensures.first) c.first_in_routines.ensures.first) c.first_in_routines-2.ensures.first
+    c.first_in_tasks.ensures.first) c.first_in_tasks-2.ensures.first) c.first_in_tasks-3.ensures.first)
+    c.first_in_tasks-4.ensures.first) c.first_in_routines.ensures.first) c.first_in_routines-2.ensures.first
     ∙ sym (rules_in_turn c.args.system.now c.args.p)
 
 pub returns-clause-subject : goal.returns-clause-subject
@@ -28,5 +28,5 @@ returns-clause-subject c =
     (of_either known _ _ _ c.or-3.ensures
     (of_either known _ _ _ c.or-2.ensures
     (of_either known _ _ _ c.or.ensures c.first_not_full.ensures.subject c.first_listing.ensures.subject)
-    c.first_in_lower.ensures.subject) c.first_in_lower-2.ensures.subject) c.first_in_lower-3.ensures.subject)
-    c.first_in_upper.ensures.subject) c.first_in_routines.ensures.subject) c.first_in_routines-2.ensures.subject
+    c.first_in_tasks.ensures.subject) c.first_in_tasks-2.ensures.subject) c.first_in_tasks-3.ensures.subject)
+    c.first_in_tasks-4.ensures.subject) c.first_in_routines.ensures.subject) c.first_in_routines-2.ensures.subject

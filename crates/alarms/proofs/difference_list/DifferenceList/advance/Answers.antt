@@ -1,5 +1,5 @@
-use Rattle.std.proofs.Common.{◌≡◌, ◌∙◌, true, ap, sym, map}
-use Rattle.alarms.specs.Waits.{wait_of, is_over, one_less, is_raised, again, are_ahead, are_apart}
+use Rattle.std.proofs.Common.{◌≡◌, true, sym, map}
+use Rattle.alarms.specs.Waits.{wait_of, is_over, one_less, is_raised, are_ahead}
 use Rattle.alarms.proofs.ExpiryLemmas.{apart-less, ahead-again, ahead-over, or_none}
 use Rattle.alarms.proofs.difference_list.DifferenceList.advance.Goals as goal
 

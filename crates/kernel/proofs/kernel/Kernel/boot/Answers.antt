@@ -34,6 +34,7 @@ invariant_of-result g c =
       stamped = boot_listed S c.in-Some.mode c.args.arrivals (kept_in o) c.begun_stamps-stamps.result proper
           (ap (λ (k : Kept). k.slots) (begun_is S proper c.in-Some.mode c.args.arrivals w o none s.kept)) c.begun_stamps-stamps.ensures;
       levels = boot_last S c.in-Some.mode c.args.arrivals c.new-3.result c.new-3.ensures;
+      low = rw c.nothing.ensures (omega arith);
       counted = λ later. absurd (omega (arith, later));
     }
 

@@ -11,6 +11,7 @@ use Rattle.kernel.specs.Run.{Run, AreKnown, AreLeft, at_tick, is_over}
 use Rattle.blocking_laws.specs.Looks.{before_looked}
 use Rattle.blocking_laws.specs.Steps.{record_at}
 use Rattle.blocking_laws.specs.Stamps.{stamps_of}
+use Rattle.kernel.specs.Looking.{number_since}
 use Rattle.kernel.proofs.KeepingLemmas.{after_told, begun_listed, counted_of, counted_spent, levels_told, number_told, size_spent}
 use Rattle.kernel.proofs.LawLemmas.{lawful}
 use Rattle.kernel.proofs.RunLemmas.{IsGoing, going, unwritten_more}
@@ -109,7 +110,7 @@ execute_phase-requires-clause-stamps g c =
     (c.before_execution-self-inside.ensures.stamps w
     ∙ ap (λ (xs : List Arrival). before_looked S k.ticks (arriving xs k.ticks) (kept_of w (at_tick o k.ticks)) k.stamps) c.list.ensures.value)
     v.stamped in
-    size_spent S v.proper k.mode k.arrivals k.ticks w o v.kept on.on st before ys are c.begin-self-inside.new.stamps c.begin-self-inside.ensures.stamps
+    size_spent S v.proper k.mode k.arrivals k.ticks w o v.kept on.on st before ys are c.begin.new.stamps c.begin.ensures.stamps
 
 pub execute_phase-requires-clause-counted : goal.execute_phase-requires-clause-counted
 execute_phase-requires-clause-counted g c =
@@ -128,7 +129,7 @@ execute_phase-requires-clause-counted g c =
     (c.before_execution-self-inside.ensures.stamps w
     ∙ ap (λ (xs : List Arrival). before_looked S k.ticks (arriving xs k.ticks) (kept_of w (at_tick o k.ticks)) k.stamps) c.list.ensures.value)
     v.stamped in
-    counted_spent S v.proper k.mode k.arrivals k.ticks w o v.kept on.on st before ys are c.begin-self-inside.new.stamps c.begin-self-inside.ensures.stamps
+    counted_spent S v.proper k.mode k.arrivals k.ticks w o v.kept on.on st before ys are c.begin.new.stamps c.begin.ensures.stamps
 
 pub last_phase-requires-clause-stamps : goal.last_phase-requires-clause-stamps
 last_phase-requires-clause-stamps g c =
@@ -149,7 +150,7 @@ last_phase-requires-clause-stamps g c =
     v.stamped in
     let ex : Objects = c.execute_phase.new.core in
     let system_ex : ex.system ≡ S = c.execute_phase.ensures.system ∙ c.before_execution-self-inside.ensures.system ∙ v.system in
-    c.execute_phase.ensures.sized ∙ size_spent S v.proper k.mode k.arrivals k.ticks w o v.kept on.on st before ys are c.begin-self-inside.new.stamps c.begin-self-inside.ensures.stamps
+    c.execute_phase.ensures.sized ∙ size_spent S v.proper k.mode k.arrivals k.ticks w o v.kept on.on st before ys are c.begin.new.stamps c.begin.ensures.stamps
     ∙ ap (λ (T : System). length T.tasks) (sym system_ex)
 
 pub invariant_of-self : goal.invariant_of-self
@@ -193,10 +194,11 @@ invariant_of-self g c =
       unwritten = none ∙ sym (unwritten_more S k.mode k.arrivals k.ticks on.on);
       few = omega (arith, size);
       none_later = λ later. omega (arith, size);
-      stamped = after_told S v.proper k.mode k.arrivals k.ticks w o v.kept on.on st before ys are new ex c.begin-self-inside.new.stamps c.execute_phase.new.stamps c.last_phase.new.stamps system_ex
-          c.execute_phase.ensures.kept c.begin-self-inside.ensures.stamps c.execute_phase.ensures.stamps c.last_phase.ensures.stamps;
-      levels = levels_told S v.proper k.mode k.arrivals k.ticks w o v.kept on.on st before ys are k.behind c.begin-self-inside.new.behind v.levels c.begin-self-inside.ensures.behind;
-      counted = λ later. number_told S v.proper k.mode k.arrivals k.ticks w o v.kept on.on st before ys are k.behind c.begin-self-inside.result v.levels c.begin-self-inside.ensures.value;
+      stamped = after_told S v.proper k.mode k.arrivals k.ticks w o v.kept on.on st before ys are new ex c.begin.new.stamps c.execute_phase.new.stamps c.last_phase.new.stamps system_ex
+          c.execute_phase.ensures.kept c.begin.ensures.stamps c.execute_phase.ensures.stamps c.last_phase.ensures.stamps;
+      levels = levels_told S v.proper k.mode k.arrivals k.ticks w o v.kept on.on st before ys are k.behind c.begin.new.behind v.levels c.begin.ensures.behind;
+      counted = λ later. number_told S v.proper k.mode k.arrivals k.ticks w o v.kept on.on st before ys are k.behind (number_since c.begin.new.behind c.begin.new.begun) v.levels c.begin.ensures.value;
+      low = c.begin.ensures.low;
     }
 
 pub returns-clause-records : goal.returns-clause-records

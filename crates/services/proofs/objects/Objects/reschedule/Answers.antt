@@ -37,4 +37,4 @@ preempt-requires-clause-known g c =
 
 pub preempt-requires-clause-free : goal.preempt-requires-clause-free
 preempt-requires-clause-free g c =
-    contender_room c.args.self.now.system (kept_in c.args.self.now) c.requires.fit c.in-Some.task (sym c.contender.ensures ∙ c.in-Some.is)
+    contender_room c.args.self.now.system (kept_in c.args.self.now) c.requires.fit c.in-Some.task (sym c.requires.runner ∙ c.in-Some.is)

@@ -1,10 +1,23 @@
-use Rattle.std.proofs.Common.{◌||◌, sym, ◌∙◌, ap}
+use Rattle.std.proofs.Common.{◌<◌, ◌||◌, length, subst, sym, ◌∙◌, ap}
+use Rattle.std.specs.Prelude.{ℕ, Option, IfSome}
+use Rattle.services.specs.Objects.{Objects, kept_in}
+use Rattle.services.proofs.BoundLemmas.{contender_known}
 use Rattle.services.proofs.StandsLemmas.{fit_where_stands, stands_rescheduled}
 use Rattle.services.proofs.RescheduledLemmas.{core_rescheduled}
 use Rattle.services.proofs.os_core.Core.reschedule.Goals as goal
 
 pub reschedule-could-requires-clause-fit : goal.reschedule-could-requires-clause-fit
 reschedule-could-requires-clause-fit g c = fit_where_stands c.self.inside.objects c.self.invariant.stands
+
+pub contender-runner-requires : goal.contender-runner-requires
+contender-runner-requires g c = fit_where_stands c.self.inside.objects c.self.invariant.stands
+
+pub returns-clause-known : goal.returns-clause-known
+returns-clause-known g c =
+    let o : Objects = c.self.inside.objects in
+    subst (λ (x : Objects). IfSome c.contender-runner.result (λ t. t < length x.system.tasks)) c.self.view_is
+    (subst (λ (r : Option ℕ). IfSome r (λ t. t < length o.system.tasks)) (sym c.contender-runner.ensures)
+    (contender_known o.system (kept_in o) (fit_where_stands o c.self.invariant.stands)))
 
 pub invariant_of-self : goal.invariant_of-self
 invariant_of-self g c =

@@ -1,0 +1,61 @@
+//! What is written of a run: the lines of its trace, or how else it is shown.
+
+use crate::inputs::{Texts, system_of};
+use crate::line_watch::LineWatch;
+use crate::partitions::write_denial;
+use crate::request::{Lines, RunLine, View};
+use crate::status::Verdict;
+use osek_base::MAX_TICKS;
+use run_views::{Progress, RunInput, write_stats, write_timeline, write_vcd};
+use std::alloc::Global;
+use std::io::Write;
+use tracer::{RunFault, StdSink, run, run_blocking, run_upper};
+
+/// Writes lines of the trace of a run, or the first denial.
+pub(crate) fn write_lines<O: Write, E: Write>(
+    alloc: Global,
+    texts: &Texts,
+    line: RunLine<'_>,
+    lines: Lines,
+    progress: &mut Progress<'_, E>,
+    out: &mut O,
+) -> Result<Verdict, RunFault> {
+    let Texts { oil, asm, irq } = texts;
+    let mode = line.mode;
+    let ticks = line.ticks.min(MAX_TICKS);
+    let mut sink = StdSink::new(LineWatch::new(&mut *out, progress, ticks));
+    match lines {
+        Lines::All => run(alloc, oil, asm, irq, mode, ticks, &mut sink)?,
+        Lines::Blocking => run_blocking(alloc, oil, asm, irq, mode, ticks, &mut sink)?,
+        Lines::Upper { priority: p, alone } => {
+            match run_upper(alloc, oil, asm, irq, mode, ticks, p, alone, &mut sink) {
+                Err(RunFault::Denied(denial)) => return write_denial(p, denial, out),
+                outcome => outcome?,
+            }
+        }
+    }
+    Ok(Verdict::Done)
+}
+
+/// Writes what else is shown of a run.
+pub(crate) fn write_view<O: Write, E: Write>(
+    alloc: Global,
+    texts: &Texts,
+    line: RunLine<'_>,
+    view: View,
+    progress: &mut Progress<'_, E>,
+    out: &mut O,
+) -> Result<Verdict, RunFault> {
+    let system = system_of(alloc, texts)?;
+    let input = RunInput {
+        irqs: &texts.irq,
+        mode: line.mode,
+        ticks: line.ticks,
+    };
+    match view {
+        View::Vcd => write_vcd(alloc, &system, input, progress, out)?,
+        View::Timeline { from } => write_timeline(alloc, &system, input, from, progress, out)?,
+        View::Stats(form) => write_stats(alloc, &system, input, form, progress, out)?,
+    }
+    Ok(Verdict::Done)
+}

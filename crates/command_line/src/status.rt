@@ -1,0 +1,44 @@
+//! How a command line ends: its exit status.
+
+use partition_check::NamedDenial;
+use tracer::RunFault;
+
+/// Exit status: the line is answered, also one that asks for help.
+pub const DONE: u8 = 0;
+
+/// Exit status: an input is refused, a file is unreadable, or memory was refused.
+pub const REFUSED: u8 = 1;
+
+/// Exit status: the line itself is refused.
+pub const REFUSED_LINE: u8 = 2;
+
+/// Exit status: a partition is denied.
+pub const DENIED: u8 = 3;
+
+/// Exit status: a write failed.
+pub const WRITE_FAILED: u8 = 4;
+
+/// What is written of a request that wasn't refused.
+#[derive(Debug, Drop)]
+pub(crate) enum Verdict {
+    Done,
+    /// A partition is denied at a priority.
+    Denied(u8, NamedDenial),
+}
+
+impl Verdict {
+    pub(crate) fn status(&self) -> u8 {
+        match self {
+            Verdict::Done => DONE,
+            Verdict::Denied(..) => DENIED,
+        }
+    }
+}
+
+/// The status behind a fault.
+pub(crate) fn status_of(fault: &RunFault) -> u8 {
+    match fault {
+        RunFault::Write => WRITE_FAILED,
+        _ => REFUSED,
+    }
+}
