@@ -4,7 +4,7 @@ use Rattle.std.specs.Int.{bit_at}
 use Rattle.std.specs.List.{list_all, list_any}
 use Rattle.osek_base.specs.declared.limits.TheConstants.{MAX_ALARMS}
 use Rattle.osek_base.specs.State.{Expiry}
-use Rattle.alarms.specs.declared.difference_list.Entry.{Entry}
+use Rattle.alarms.specs.declared.difference_list.Waiting.{Waiting}
 
 -- a running alarm: how many counts are left before it expires, and its cycle
 pub record Wait : Type 0 where
@@ -13,39 +13,39 @@ pub record Wait : Type 0 where
   pub cycle : ℕ
 
 -- the sum of the differences
-abbrev pub span : List Entry → ℕ
+abbrev pub span : List Waiting → ℕ
 span [] = 0
 span (e ∷ es) = e.difference + span es
 
 -- an entry that has a list after it
-abbrev pub wait_before : ℕ → Entry → Wait
+abbrev pub wait_before : ℕ → Waiting → Wait
 wait_before n e = record { alarm = e.alarm; left = e.difference + n; cycle = e.cycle }
 
 -- what is left of each wait: its difference and all those after it
-abbrev pub waits : List Entry → List Wait
+abbrev pub waits : List Waiting → List Wait
 waits [] = []
 waits (e ∷ es) = wait_before (span es) e ∷ waits es
 
 -- what stands for an entry that isn't there
-abbrev pub no_entry : Entry
-no_entry = record { alarm = 0; difference = 0; cycle = 0 }
+abbrev pub not_waiting : Waiting
+not_waiting = record { alarm = 0; difference = 0; cycle = 0 }
 
 -- an entry with a smaller difference, and a list whose entry before a place has one
-abbrev pub cut : Entry → ℕ → Entry
+abbrev pub cut : Waiting → ℕ → Waiting
 cut e n = record e { difference = e.difference - n }
 
-abbrev pub cut_at : List Entry → ℕ → ℕ → List Entry
-cut_at es place n = if place == 0 then es else slice_set es (place - 1) (cut (slice_index_or es (place - 1) no_entry) n)
+abbrev pub cut_at : List Waiting → ℕ → ℕ → List Waiting
+cut_at es place n = if place == 0 then es else slice_set es (place - 1) (cut (slice_index_or es (place - 1) not_waiting) n)
 
 -- an entry with a larger difference, and a list whose entry before a place has that of the entry there
-abbrev pub grown : Entry → ℕ → Entry
+abbrev pub grown : Waiting → ℕ → Waiting
 grown e n = record e { difference = e.difference + n }
 
-abbrev pub grown_at : List Entry → ℕ → List Entry
-grown_at es place = if place == 0 then es else slice_set es (place - 1) (grown (slice_index_or es (place - 1) no_entry) (slice_index_or es place no_entry).difference)
+abbrev pub grown_at : List Waiting → ℕ → List Waiting
+grown_at es place = if place == 0 then es else slice_set es (place - 1) (grown (slice_index_or es (place - 1) not_waiting) (slice_index_or es place not_waiting).difference)
 
 -- whether an entry is of an alarm
-abbrev pub is_of : ℕ → Entry → Bool
+abbrev pub is_of : ℕ → Waiting → Bool
 is_of a e = e.alarm == a
 
 -- whether a wait ends before another one, or with it and is declared first

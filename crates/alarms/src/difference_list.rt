@@ -2,7 +2,7 @@
 
 ghost use Rattle.std.specs.Prelude.{◌≡◌, ◌==◌, ◌<◌, ◌≤◌, ◌^◌, ◌+◌, ◌-◌, [], ◌∷◌, ◌++◌, ◌||◌, ℕ, length, map, is_some, drop, take, Option, Some, None, IfSome, IfNone, MatchOption, slice_index_or, true, false};
 ghost use Rattle.std.specs.List.{list_all, insert, remove, list_any};
-ghost use Rattle.alarms.specs.Waits.{span, inserted, without, wait_of, left_in, one_less, Wait, waits, wait_before, is_sooner, no_entry, cut_at, grown_at, is_of, are_ahead, are_apart, overs, is_over, again, is_raised, restarted};
+ghost use Rattle.alarms.specs.Waits.{span, inserted, without, wait_of, left_in, one_less, Wait, waits, wait_before, is_sooner, not_waiting, cut_at, grown_at, is_of, are_ahead, are_apart, overs, is_over, again, is_raised, restarted};
 
 use crate::due_alarms::DueAlarms;
 use arrayvec::ArrayVec;
@@ -11,7 +11,7 @@ use std::marker::Model;
 
 /// A running alarm: how many counts it expires after the next one of the list, and its cycle in counts, 0 for once.
 #[derive(Clone, Copy, Debug, Default)]
-struct Entry {
+struct Waiting {
     alarm: AlarmId,
     difference: u32,
     cycle: u32,
@@ -27,7 +27,7 @@ pub struct Due {
 /// The running alarms of one counter, the one that expires first at the end. Contracts see what is left of each wait.
 #[derive(Drop)]
 pub struct DifferenceList {
-    entries: ArrayVec<Entry, MAX_ALARMS>,
+    entries: ArrayVec<Waiting, MAX_ALARMS>,
 }
 
 impl Model for DifferenceList {
@@ -65,7 +65,7 @@ impl DifferenceList {
         ensures { self.new ≡ inserted (record { alarm = alarm; left = wait; cycle = cycle }) self.old }
     {
         let (place, left) = place_for(&self.entries, alarm, wait);
-        let entry = Entry {
+        let entry = Waiting {
             alarm,
             difference: left,
             cycle,
@@ -166,10 +166,10 @@ impl DifferenceList {
 }
 
 /// The place of an alarm, or the length of the list.
-fn place_of(entries: &ArrayVec<Entry, MAX_ALARMS>, alarm: AlarmId) -> usize
+fn place_of(entries: &ArrayVec<Waiting, MAX_ALARMS>, alarm: AlarmId) -> usize
     ensures low { result ≤ length entries.now.items }
     ensures before { list_any (is_of alarm) (take result entries.now.items) ≡ false }
-    ensures here { result < length entries.now.items → is_of alarm (slice_index_or entries.now.items result no_entry) ≡ true }
+    ensures here { result < length entries.now.items → is_of alarm (slice_index_or entries.now.items result not_waiting) ≡ true }
 {
     for place in 0..entries.len() {
         let entry = &entries[place];
@@ -181,7 +181,7 @@ fn place_of(entries: &ArrayVec<Entry, MAX_ALARMS>, alarm: AlarmId) -> usize
 }
 
 /// The sum of the differences from a place on.
-fn span_from(entries: &ArrayVec<Entry, MAX_ALARMS>, place: usize) -> u32
+fn span_from(entries: &ArrayVec<Waiting, MAX_ALARMS>, place: usize) -> u32
     requires place { place ≤ length entries.now.items }
     requires low { span entries.now.items < 2 ^ 32 }
     ensures { result ≡ span (drop place entries.now.items) }
@@ -197,9 +197,9 @@ fn span_from(entries: &ArrayVec<Entry, MAX_ALARMS>, place: usize) -> u32
 
 /// Whether the last wait is over.
 #[inline(always)]
-fn is_over(entries: &ArrayVec<Entry, MAX_ALARMS>) -> bool
+fn is_over(entries: &ArrayVec<Waiting, MAX_ALARMS>) -> bool
     ensures some { result ≡ true → 0 < length entries.now.items }
-    ensures over { result ≡ true → (slice_index_or entries.now.items (length entries.now.items - 1) no_entry).difference ≡ 0 }
+    ensures over { result ≡ true → (slice_index_or entries.now.items (length entries.now.items - 1) not_waiting).difference ≡ 0 }
     ensures ahead { result ≡ false → are_ahead (waits entries.now.items) ≡ true }
 {
     let len = entries.len();
@@ -208,9 +208,9 @@ fn is_over(entries: &ArrayVec<Entry, MAX_ALARMS>) -> bool
 
 /// Takes the last entry out.
 #[inline(always)]
-fn take_last(entries: &mut ArrayVec<Entry, MAX_ALARMS>) -> Entry
+fn take_last(entries: &mut ArrayVec<Waiting, MAX_ALARMS>) -> Waiting
     requires { 0 < length entries.old.items }
-    ensures value { result ≡ slice_index_or entries.old.items (length entries.old.items - 1) no_entry }
+    ensures value { result ≡ slice_index_or entries.old.items (length entries.old.items - 1) not_waiting }
     ensures items { entries.new.items ≡ remove entries.old.items (length entries.old.items - 1) }
 {
     match entries.pop() {
@@ -221,8 +221,8 @@ fn take_last(entries: &mut ArrayVec<Entry, MAX_ALARMS>) -> Entry
 
 /// The last wait is one count shorter. Answers whether it is over.
 #[inline(always)]
-fn cut_last(entries: &mut ArrayVec<Entry, MAX_ALARMS>) -> bool
-    requires { 0 < length entries.old.items → 1 ≤ (slice_index_or entries.old.items (length entries.old.items - 1) no_entry).difference }
+fn cut_last(entries: &mut ArrayVec<Waiting, MAX_ALARMS>) -> bool
+    requires { 0 < length entries.old.items → 1 ≤ (slice_index_or entries.old.items (length entries.old.items - 1) not_waiting).difference }
     ensures items { entries.new.items ≡ cut_at entries.old.items (length entries.old.items) 1 }
     ensures ahead { result ≡ false → are_ahead (waits entries.new.items) ≡ true }
 {
@@ -236,7 +236,7 @@ fn cut_last(entries: &mut ArrayVec<Entry, MAX_ALARMS>) -> bool
 }
 
 /// Takes an entry out, whose difference the entry before it gets.
-fn take_out(entries: &mut ArrayVec<Entry, MAX_ALARMS>, place: usize)
+fn take_out(entries: &mut ArrayVec<Waiting, MAX_ALARMS>, place: usize)
     requires place { place < length entries.old.items }
     requires low { span entries.old.items < 2 ^ 32 }
     ensures { entries.new.items ≡ remove (grown_at entries.old.items place) place }
@@ -250,10 +250,10 @@ fn take_out(entries: &mut ArrayVec<Entry, MAX_ALARMS>, place: usize)
 }
 
 /// Puts an entry at a place, whose wait the entry before it no longer has to count.
-fn put_in(entries: &mut ArrayVec<Entry, MAX_ALARMS>, place: usize, entry: Entry)
+fn put_in(entries: &mut ArrayVec<Waiting, MAX_ALARMS>, place: usize, entry: Waiting)
     requires place { place ≤ length entries.old.items }
     requires room { length entries.old.items < MAX_ALARMS }
-    requires low { 0 < place → entry.difference ≤ (slice_index_or entries.old.items (place - 1) no_entry).difference }
+    requires low { 0 < place → entry.difference ≤ (slice_index_or entries.old.items (place - 1) not_waiting).difference }
     ensures { entries.new.items ≡ insert (cut_at entries.old.items place entry.difference) place entry }
 {
     if place > 0 {
@@ -268,11 +268,11 @@ fn put_in(entries: &mut ArrayVec<Entry, MAX_ALARMS>, place: usize, entry: Entry)
 }
 
 /// Where an alarm that is to expire in `wait` counts goes, and what is left of its wait there.
-fn place_for(entries: &ArrayVec<Entry, MAX_ALARMS>, alarm: AlarmId, wait: u32) -> (usize, u32)
+fn place_for(entries: &ArrayVec<Waiting, MAX_ALARMS>, alarm: AlarmId, wait: u32) -> (usize, u32)
     ensures place { result.0 ≤ length entries.now.items }
     ensures left { result.1 + span (drop result.0 entries.now.items) ≡ wait }
     ensures sooner { list_all (is_sooner (record { alarm = alarm; left = wait; cycle = 0 })) (waits (drop result.0 entries.now.items)) ≡ true }
-    ensures stop { 0 < result.0 → is_sooner (record { alarm = alarm; left = result.1; cycle = 0 }) (wait_before 0 (slice_index_or entries.now.items (result.0 - 1) no_entry)) ≡ false }
+    ensures stop { 0 < result.0 → is_sooner (record { alarm = alarm; left = result.1; cycle = 0 }) (wait_before 0 (slice_index_or entries.now.items (result.0 - 1) not_waiting)) ≡ false }
 {
     let mut place = entries.len();
     let mut left = wait;
@@ -288,7 +288,7 @@ fn place_for(entries: &ArrayVec<Entry, MAX_ALARMS>, alarm: AlarmId, wait: u32) -
 }
 
 /// Whether an entry stays nearer to the end than an alarm with so much left.
-fn is_before(entry: &Entry, alarm: AlarmId, left: u32) -> bool
+fn is_before(entry: &Waiting, alarm: AlarmId, left: u32) -> bool
     ensures value { result ≡ is_sooner (record { alarm = alarm; left = left; cycle = 0 }) (wait_before 0 entry.now) }
     ensures low { result ≡ true → entry.now.difference ≤ left }
 {

@@ -1,14 +1,14 @@
 //! Reads OIL, the configuration language of OSEK/VDX: a subset of OIL 2.5, and a PRIORITY for interrupt routines.
 //!
-//! Bytes become tokens (`tokens`), these a tree (`syntax`, made by `parser`), whose faults are sought (`checks`, by the
-//! attributes of `table`), and a tree without a fault becomes the file that it means (`objects`).
+//! Bytes become tokens (`tokens`), these a tree (`syntax`, made by `parser`), whose faults are sought (`object_faults`, by
+//! the attributes of `table`), and a tree without a fault becomes the file that it means (`object_values`).
 #![tactic(auto)]
 
-mod checks;
 mod fault;
 mod file;
 mod ident;
-mod objects;
+mod object_faults;
+mod object_values;
 mod parser;
 mod reading;
 mod syntax;

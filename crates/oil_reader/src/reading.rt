@@ -9,10 +9,10 @@ ghost use Rattle.oil_reader.specs.Attributes.{IsSoundFile};
 ghost use Rattle.oil_reader.specs.Faults.{IsTreeOf, HasSyntaxFault, HasFault, Means};
 ghost use Rattle.oil_reader.specs.Trees.{file_of};
 
-use crate::checks::file_fault;
 use crate::fault::OilFault;
 use crate::file::OilFile;
-use crate::objects::oil_file;
+use crate::object_faults::file_fault;
+use crate::object_values::oil_file;
 use crate::parser::parse;
 use crate::syntax::SyntaxTree;
 use crate::tokens::tokenize;

@@ -1,7 +1,7 @@
 pub mod DigitLemmas
 pub mod PieceLemmas
 pub mod EventLemmas
-pub mod EntryLemmas
+pub mod StatementLemmas
 pub mod FaultLemmas
 pub mod ProgramLemmas
 pub mod OneMeaning

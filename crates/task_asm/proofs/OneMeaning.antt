@@ -1,4 +1,4 @@
--- A program text has one list of tokens, which says one list of entries; a text with programs has no fault.
+-- A program text has one list of tokens, which says one list of statements; a text with programs has no fault.
 use Rattle.std.proofs.Common.{◌≡◌, ℕ, Bool, true, false, List, ◌∷◌, take, Some, None, refl, sym, ap, ◌∙◌, subst, inl, inr, arith}
 use Rattle.std.specs.Prelude.{if◌then◌else◌}
 use Rattle.osek_base.specs.Tokens.{Lexeme}
@@ -9,14 +9,14 @@ use Rattle.task_asm.specs.declared.fault.AsmFault.TheVariants as fault
 use Rattle.task_asm.specs.Tokens.{Symbol, Word, Number, Directive, Mark, LineEnd, IsPiece, IsTokenFault}
 use Rattle.task_asm.specs.Lines.{Tokens}
 use Rattle.task_asm.specs.Programs.{Program}
-use Rattle.task_asm.specs.Entries.{Entry, Reads, head, line_len, label_at, word_of, is_colon, is_line_end}
-use Rattle.task_asm.specs.Entries.Reads.{ends, new_line, label, heads}
-use Rattle.task_asm.specs.Meaning.{Says, IsProgramText, HasEntryFault, HasFault, programs_of}
+use Rattle.task_asm.specs.Statements.{Statement, Reads, head, line_len, label_at, word_of, is_colon, is_line_end}
+use Rattle.task_asm.specs.Statements.Reads.{ends, new_line, label, heads}
+use Rattle.task_asm.specs.Meaning.{Says, IsProgramText, HasStatementFault, HasFault, programs_of}
 use Rattle.task_asm.specs.Order.{place_of, number_of, rank, IsFirstFault}
 use Rattle.task_asm.specs.Faults.{Stands}
 use Rattle.task_asm.proofs.PieceLemmas.{pieces_are_tokens}
 
--- ---- entries
+-- ---- statements
 
 -- the end of a line is no word
 no_word : (place : ℕ) (s : Symbol) → is_line_end (record { place = place; word = s }) ≡ true → word_of (record { place = place; word = s }) ≡ None
@@ -36,7 +36,7 @@ no_label t u ts w e l = label_by t (is_colon u) w (no_word t.place t.word e) l
 word_same : (v w : List ℕ) → Some v ≡ Some w → v ≡ w
 word_same v w e = cc
 
-pub Reads-unique : {ts : Tokens} {es fs : List Entry} → Reads ts es → Reads ts fs → es ≡ fs
+pub Reads-unique : {ts : Tokens} {es fs : List Statement} → Reads ts es → Reads ts fs → es ≡ fs
 Reads-unique ends ends = refl
 Reads-unique (new_line t e more) (new_line u f more2) = Reads-unique more more2
 Reads-unique (new_line t e more) (label t2 u {ts} w l more2) = absurd (no_label t u ts w e l)
@@ -50,9 +50,9 @@ Reads-unique (label t u w l more) (heads t2 f none more2) = absurd cc
 Reads-unique (heads t f none more) (new_line t2 e more2) = absurd cc
 Reads-unique (heads t f none more) (label t2 u w l more2) = absurd cc
 Reads-unique (heads t {ts} f none more) (heads t2 g none2 more2) =
-    ap (λ (es : List Entry). let said : Entry = record { place = t.place; item = head t (take (line_len ts) ts) } in said ∷ es) (Reads-unique more more2)
+    ap (λ (es : List Statement). let said : Statement = record { place = t.place; item = head t (take (line_len ts) ts) } in said ∷ es) (Reads-unique more more2)
 
-pub says_one : (text : List ℕ) (es fs : List Entry) → Says text es → Says text fs → es ≡ fs
+pub says_one : (text : List ℕ) (es fs : List Statement) → Says text es → Says text fs → es ≡ fs
 says_one text es fs p q =
     Reads-unique p.reads (subst (λ (ts : Tokens). Reads ts fs) (Lexes-unique IsPiece pieces_are_tokens text q.lexes p.lexes) q.reads)
 
@@ -72,7 +72,7 @@ told _ _ p n = absurd (omega (arith, n))
 -- ---- texts
 
 pub one_list : (text : List ℕ) (ps qs : List Program) → IsProgramText text ps → IsProgramText text qs → ps ≡ qs
-one_list text ps qs p q = p.are ∙ ap programs_of (says_one text p.entries q.entries p.says q.says) ∙ sym q.are
+one_list text ps qs p q = p.are ∙ ap programs_of (says_one text p.statements q.statements p.says q.says) ∙ sym q.are
 
 no_token_fault : (text : List ℕ) (ps : List Program) (e : AsmFault) → IsProgramText text ps → IsTokenFault text e → e ≡ fault.Memory
 no_token_fault text ps fault.Memory p h = refl
@@ -83,18 +83,18 @@ no_token_fault text ps (fault.UnknownLabel at) p h = absurd h
 no_token_fault text ps (fault.Twice at) p h = absurd h
 no_token_fault text ps (fault.TooLong at) p h = absurd h
 
-no_entry_fault : (text : List ℕ) (ps : List Program) (e : AsmFault) → IsProgramText text ps → HasEntryFault text e → ⊥
-no_entry_fault text ps e p h =
-    p.faultless e (subst (λ (es : List Entry). Stands es e) (says_one text h.entries p.entries h.says p.says) h.first.stands)
+no_statement_fault : (text : List ℕ) (ps : List Program) (e : AsmFault) → IsProgramText text ps → HasStatementFault text e → ⊥
+no_statement_fault text ps e p h =
+    p.faultless e (subst (λ (es : List Statement). Stands es e) (says_one text h.statements p.statements h.says p.says) h.first.stands)
 
 pub no_fault : (text : List ℕ) (ps : List Program) (e : AsmFault) → IsProgramText text ps → HasFault text e → e ≡ fault.Memory
 no_fault text ps e p (inl h) = no_token_fault text ps e p h
-no_fault text ps e p (inr h) = absurd (no_entry_fault text ps e p h)
+no_fault text ps e p (inr h) = absurd (no_statement_fault text ps e p h)
 
 -- ---- one fault
 
--- where a token fault stands there are no entries
-no_says : (text : List ℕ) (e : AsmFault) (es : List Entry) → (e ≡ fault.Memory → ⊥) → IsTokenFault text e → Says text es → ⊥
+-- where a token fault stands there are no statements
+no_says : (text : List ℕ) (e : AsmFault) (es : List Statement) → (e ≡ fault.Memory → ⊥) → IsTokenFault text e → Says text es → ⊥
 no_says text fault.Memory es real h says = real refl
 no_says text (fault.Token at) es real h says = fails_apart IsPiece pieces_are_tokens text h says.lexes
 no_says text (fault.UnknownMnemonic at) es real h says = h
@@ -120,8 +120,8 @@ one_token_fault text (fault.TooLong p) f er fr a b = absurd a
 
 pub one_fault : (text : List ℕ) (e f : AsmFault) → HasFault text e → HasFault text f → (e ≡ fault.Memory → ⊥) → (f ≡ fault.Memory → ⊥) → e ≡ f
 one_fault text e f (inl a) (inl b) er fr = one_token_fault text e f er fr a b
-one_fault text e f (inl a) (inr b) er fr = absurd (no_says text e b.entries er a b.says)
-one_fault text e f (inr a) (inl b) er fr = absurd (no_says text f a.entries fr b a.says)
+one_fault text e f (inl a) (inr b) er fr = absurd (no_says text e b.statements er a b.says)
+one_fault text e f (inr a) (inl b) er fr = absurd (no_says text f a.statements fr b a.says)
 one_fault text e f (inr a) (inr b) er fr =
-    let same = says_one text b.entries a.entries b.says a.says in
-    first_unique rank told (Stands a.entries) e f a.first (subst (λ (es : List Entry). IsFirstFault (Stands es) f) same b.first)
+    let same = says_one text b.statements a.statements b.says a.says in
+    first_unique rank told (Stands a.statements) e f a.first (subst (λ (es : List Statement). IsFirstFault (Stands es) f) same b.first)

@@ -1,4 +1,4 @@
--- The programs of what stands in a text, from the last entry to the first.
+-- The programs of what stands in a text, from the last statement to the first.
 use Rattle.std.proofs.Common.{◌≡◌, ℕ, suc, ◌+◌, ◌≤◌, ◌<◌, List, [], ◌∷◌, ◌++◌, length, drop, get_or, Some, None, refl, sym, ap, ◌∙◌, arith, append_assoc}
 use Rattle.std.specs.Prelude.{reverse}
 use Rattle.std.proofs.lemmas.List.{drop_more, reverse-append, append-nil}
@@ -7,29 +7,28 @@ use Rattle.task_asm.specs.declared.program.NamedInstr.{NamedInstr}
 use Rattle.task_asm.specs.declared.operands.Title.{Title}
 use Rattle.task_asm.specs.Programs.{Program}
 use Rattle.task_asm.specs.Lines.{Written}
-use Rattle.task_asm.specs.Entries.{Entry, Item}
+use Rattle.task_asm.specs.Statements.{Statement, Item}
 use Rattle.task_asm.specs.Meaning.{instructions, programs_of, finished, target_of}
 use Rattle.task_asm.specs.Walk.{targets_from, lines_with, programs_with}
 
 -- ---- with the places at hand
 
-LinesAgree : List Entry → List Entry → Type 0
+abbrev LinesAgree : List Statement → List Statement → Type 0
 LinesAgree program es = lines_with es (targets_from program es) ≡ instructions program es
 
-lines_at : (program : List Entry) (place : ℕ) (i : Item) (es : List Entry) → lines_with es (targets_from program es) ≡ instructions program es
-    → lines_with (record { place = place; item = i } ∷ es) (targets_from program (record { place = place; item = i } ∷ es))
-    ≡ instructions program (record { place = place; item = i } ∷ es)
+lines_at : (program : List Statement) (place : ℕ) (i : Item) (es : List Statement) → LinesAgree program es
+    → LinesAgree program (record { place = place; item = i } ∷ es)
 lines_at program place (Item.Label w) es h = h
 lines_at program place (Item.Instruction None) es h = h
 lines_at program place (Item.Instruction (Some w)) es h = ap (λ (is : List NamedInstr). finished (target_of program w) w ∷ is) h
 lines_at program place (Item.Program kind o) es h = refl
 lines_at program place Item.Unknown es h = h
 
-pub lines_are : (program es : List Entry) → lines_with es (targets_from program es) ≡ instructions program es
+pub lines_are : (program es : List Statement) → LinesAgree program es
 lines_are program [] = refl
 lines_are program (x ∷ es) = lines_at program x.place x.item es (lines_are program es)
 
-programs_at : (program : List Entry) (place : ℕ) (i : Item) (es : List Entry) → ((whole : List Entry) → programs_with es (targets_from whole es) ≡ programs_of es)
+programs_at : (program : List Statement) (place : ℕ) (i : Item) (es : List Statement) → ((whole : List Statement) → programs_with es (targets_from whole es) ≡ programs_of es)
     → programs_with (record { place = place; item = i } ∷ es) (targets_from program (record { place = place; item = i } ∷ es))
     ≡ programs_of (record { place = place; item = i } ∷ es)
 programs_at program place (Item.Label w) es h = h program
@@ -41,11 +40,11 @@ programs_at program place (Item.Program kind (Some t)) es h =
     ∙ ap (λ (ps : List Program). let p : Program = record { kind = kind; name = t.name; instructions = instructions es es } in p ∷ ps) (h es)
 programs_at program place Item.Unknown es h = h program
 
-pub programs_are : (es program : List Entry) → programs_with es (targets_from program es) ≡ programs_of es
+pub programs_are : (es program : List Statement) → programs_with es (targets_from program es) ≡ programs_of es
 programs_are [] program = refl
 programs_are (x ∷ es) program = programs_at program x.place x.item es (programs_are es)
 
-targets_length_at : (program : List Entry) (place : ℕ) (i : Item) (es : List Entry) → ((whole : List Entry) → length (targets_from whole es) ≡ length es)
+targets_length_at : (program : List Statement) (place : ℕ) (i : Item) (es : List Statement) → ((whole : List Statement) → length (targets_from whole es) ≡ length es)
     → length (targets_from program (record { place = place; item = i } ∷ es)) ≡ suc (length es)
 targets_length_at program place (Item.Label w) es h = ap suc (h program)
 targets_length_at program place (Item.Instruction None) es h = ap suc (h program)
@@ -53,24 +52,24 @@ targets_length_at program place (Item.Instruction (Some w)) es h = ap suc (h pro
 targets_length_at program place (Item.Program kind o) es h = ap suc (h es)
 targets_length_at program place Item.Unknown es h = ap suc (h program)
 
-pub targets_length : (es program : List Entry) → length (targets_from program es) ≡ length es
+pub targets_length : (es program : List Statement) → length (targets_from program es) ≡ length es
 targets_length [] program = refl
 targets_length (x ∷ es) program = targets_length_at program x.place x.item es (targets_length es)
 
--- ---- from the last entry to the first
+-- ---- from the last statement to the first
 
--- the entries that were taken, with their places, have these instructions and programs, each last one first
-pub record Built (es : List Entry) (ts : List ℕ) (left : List Entry) (n : ℕ) (lines : List NamedInstr) (programs : List Program) : Type 0 where
-  pub rest : List Entry
+-- the statements that were taken, with their places, have these instructions and programs, each last one first
+pub record Built (es : List Statement) (ts : List ℕ) (left : List Statement) (n : ℕ) (lines : List NamedInstr) (programs : List Program) : Type 0 where
+  pub rest : List Statement
   pub whole : es ≡ left ++ rest
   pub within : n ≤ length ts
   pub built_lines : reverse lines ≡ lines_with rest (drop n ts)
   pub built_programs : reverse programs ≡ programs_with rest (drop n ts)
 
-pub begin : (es : List Entry) (ts : List ℕ) (n : ℕ) → n ≤ length ts → Built es ts es n [] []
+pub begin : (es : List Statement) (ts : List ℕ) (n : ℕ) → n ≤ length ts → Built es ts es n [] []
 begin es ts n within = record { rest = []; whole = sym (append-nil es); within = within; built_lines = refl; built_programs = refl }
 
-module _ (es : List Entry) (ts : List ℕ) (left fewer : List Entry) (x : Entry) (n m : ℕ) (lines : List NamedInstr) (programs : List Program)
+module _ (es : List Statement) (ts : List ℕ) (left fewer : List Statement) (x : Statement) (n m : ℕ) (lines : List NamedInstr) (programs : List Program)
     (popped : left ≡ fewer ++ x ∷ []) (size : m + 1 ≡ n) (built : Built es ts left n lines programs) where
   here : drop m ts ≡ get_or ts m 0 ∷ drop n ts
   here = let inside : m < length ts = omega (arith, built.within) in
@@ -80,19 +79,19 @@ module _ (es : List Entry) (ts : List ℕ) (left fewer : List Entry) (x : Entry)
       → reverse ps ≡ programs_with (x ∷ built.rest) (get_or ts m 0 ∷ drop n ts) → Built es ts fewer m ls ps
   step ls ps e f = record {
     rest = x ∷ built.rest;
-    whole = built.whole ∙ ap (λ (xs : List Entry). xs ++ built.rest) popped ∙ append_assoc fewer (x ∷ []) built.rest;
+    whole = built.whole ∙ ap (λ (xs : List Statement). xs ++ built.rest) popped ∙ append_assoc fewer (x ∷ []) built.rest;
     within = omega (arith, built.within);
     built_lines = e ∙ ap (lines_with (x ∷ built.rest)) (sym here);
     built_programs = f ∙ ap (programs_with (x ∷ built.rest)) (sym here);
   }
 
-  -- what an entry with that item adds
+  -- what an statement with that item adds
   step_at : (place : ℕ) (i : Item) → x ≡ record { place = place; item = i } → (ls : List NamedInstr) (ps : List Program)
       → reverse ls ≡ lines_with (record { place = place; item = i } ∷ built.rest) (get_or ts m 0 ∷ drop n ts)
       → reverse ps ≡ programs_with (record { place = place; item = i } ∷ built.rest) (get_or ts m 0 ∷ drop n ts) → Built es ts fewer m ls ps
   step_at place i is ls ps e f =
-      step ls ps (e ∙ ap (λ (y : Entry). lines_with (y ∷ built.rest) (get_or ts m 0 ∷ drop n ts)) (sym is))
-      (f ∙ ap (λ (y : Entry). programs_with (y ∷ built.rest) (get_or ts m 0 ∷ drop n ts)) (sym is))
+      step ls ps (e ∙ ap (λ (y : Statement). lines_with (y ∷ built.rest) (get_or ts m 0 ∷ drop n ts)) (sym is))
+      (f ∙ ap (λ (y : Statement). programs_with (y ∷ built.rest) (get_or ts m 0 ∷ drop n ts)) (sym is))
 
   pub at_title : (place : ℕ) (kind : ProgramKind) (t : Title) → x ≡ record { place = place; item = Item.Program kind (Some t) }
       → (ps : List Program) → ps ≡ programs ++ record { kind = kind; name = t.name; instructions = reverse lines } ∷ [] → Built es ts fewer m [] ps
@@ -122,8 +121,8 @@ module _ (es : List Entry) (ts : List ℕ) (left fewer : List Entry) (x : Entry)
   pub at_unknown : (place : ℕ) → x ≡ record { place = place; item = Item.Unknown } → Built es ts fewer m lines programs
   at_unknown place is = step_at place Item.Unknown is lines programs built.built_lines built.built_programs
 
-pub at_end : (es : List Entry) (ts : List ℕ) (left : List Entry) (lines : List NamedInstr) (programs : List Program) (n : ℕ)
+pub at_end : (es : List Statement) (ts : List ℕ) (left : List Statement) (lines : List NamedInstr) (programs : List Program) (n : ℕ)
     → left ≡ [] → n ≡ 0 → Built es ts left n lines programs → reverse programs ≡ programs_with es ts
 at_end es ts left lines programs n empty zero built =
     built.built_programs ∙ ap (λ (k : ℕ). programs_with built.rest (drop k ts)) zero
-    ∙ ap (λ (xs : List Entry). programs_with xs ts) (sym (built.whole ∙ ap (λ (xs : List Entry). xs ++ built.rest) empty))
+    ∙ ap (λ (xs : List Statement). programs_with xs ts) (sym (built.whole ∙ ap (λ (xs : List Statement). xs ++ built.rest) empty))

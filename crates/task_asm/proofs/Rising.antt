@@ -17,8 +17,8 @@ use Rattle.task_asm.specs.declared.tokens.Class.TheVariants as class
 use Rattle.task_asm.specs.Tokens.{Symbol, Word, Number, Directive, Mark, LineEnd, IsPiece, IsPieceOf, class_of}
 use Rattle.task_asm.specs.Mnemonics.{PlainMnemonic, mnemonic_of}
 use Rattle.task_asm.specs.Lines.{Tokens, Taken, Label, Written, Ready, Jump, JumpIf, after, first, ended, mark_of, a_mark, register_of, a_register, next_register, label_of, a_label, next_label, one_label, register_and_number, two_registers, three_registers, service_instruction, control_instruction, plain_instruction, instruction, title_of, one_title}
-use Rattle.task_asm.specs.Entries.{Entry, Item, Reads, head, line_len}
-use Rattle.task_asm.specs.Entries.Reads.{ends, new_line, label, heads}
+use Rattle.task_asm.specs.Statements.{Statement, Item, Reads, head, line_len}
+use Rattle.task_asm.specs.Statements.Reads.{ends, new_line, label, heads}
 
 -- ---- tokens
 
@@ -223,19 +223,19 @@ OnName q r (Item.Instruction o) = IfSome o (OnLabel q r)
 OnName q r (Item.Program kind o) = IfSome o (λ t. Inside q r t.place)
 OnName q r Item.Unknown = Unit {0}
 
--- the places of an entry stand from one on and before another, its own first
-pub record Lies (x : Entry) (q r : ℕ) : Type 0 where
+-- the places of an statement stand from one on and before another, its own first
+pub record Lies (x : Statement) (q r : ℕ) : Type 0 where
   pub from : q ≤ x.place
   pub before : x.place < r
   pub named : OnName (x.place + 1) r x.item
 
-abbrev pub EntriesRise : ℕ → List Entry → Type 0
-EntriesRise q [] = Unit {0}
-EntriesRise q (x ∷ es) = (r : ℕ) × Lies x q r × EntriesRise r es
+abbrev pub StatementsRise : ℕ → List Statement → Type 0
+StatementsRise q [] = Unit {0}
+StatementsRise q (x ∷ es) = (r : ℕ) × Lies x q r × StatementsRise r es
 
-entries_from : (p q : ℕ) (es : List Entry) → p ≤ q → EntriesRise q es → EntriesRise p es
-entries_from p q [] le h = tt
-entries_from p q (x ∷ es) le h = (h.0, record { from = omega (arith, h.1.from); before = h.1.before; named = h.1.named }, h.2)
+statements_from : (p q : ℕ) (es : List Statement) → p ≤ q → StatementsRise q es → StatementsRise p es
+statements_from p q [] le h = tt
+statements_from p q (x ∷ es) le h = (h.0, record { from = omega (arith, h.1.from); before = h.1.before; named = h.1.named }, h.2)
 
 word_on : (q r : ℕ) (o : Option Mnemonic) (line : Tokens) → AreInside q r line
     → OnName q r (elim o [ Some m ↦ Item.Instruction (instruction m line) | None ↦ Item.Unknown ])
@@ -249,9 +249,9 @@ head_on q r place (Number n) line h = tt
 head_on q r place (Mark s) line h = tt
 head_on q r place LineEnd line h = tt
 
-pub reads_rise : {ts : Tokens} {es : List Entry} (q : ℕ) → Reads ts es → TokensRise q ts → EntriesRise q es
+pub reads_rise : {ts : Tokens} {es : List Statement} (q : ℕ) → Reads ts es → TokensRise q ts → StatementsRise q es
 reads_rise q ends h = tt
-reads_rise q (new_line t {es = es} e more) h = entries_from q (t.place + 1) es (omega (arith, h.0)) (reads_rise (t.place + 1) more h.1)
+reads_rise q (new_line t {es = es} e more) h = statements_from q (t.place + 1) es (omega (arith, h.0)) (reads_rise (t.place + 1) more h.1)
 reads_rise q (label t u w l more) h =
     (u.place + 1, record { from = h.0; before = omega (arith, h.1.0); named = tt }, reads_rise (u.place + 1) more h.1.1)
 reads_rise q (heads t {ts} e none more) h =

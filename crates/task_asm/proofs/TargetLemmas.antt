@@ -1,4 +1,4 @@
--- The places that instructions name, one entry after the other.
+-- The places that instructions name, one statement after the other.
 use Rattle.std.proofs.Common.{◌≡◌, ℕ, ◌+◌, ◌<◌, ◌≤◌, List, [], ◌∷◌, ◌++◌, length, drop, get_or, Option, Some, None, refl, sym, ap, ◌∙◌, arith, append_assoc}
 use Rattle.std.specs.Prelude.{unwrap_or}
 use Rattle.std.specs.Option.{option_map}
@@ -6,7 +6,7 @@ use Rattle.std.proofs.lemmas.List.{drop_more, drop_all, append-nil}
 use Rattle.task_asm.specs.declared.labels.Definition.{Definition}
 use Rattle.task_asm.specs.declared.labels.Labels.{Labels}
 use Rattle.task_asm.specs.Lines.{Written, Ready, Jump, JumpIf, Label}
-use Rattle.task_asm.specs.Entries.{Entry, Item}
+use Rattle.task_asm.specs.Statements.{Statement, Item}
 use Rattle.task_asm.specs.Labels.{place_in}
 use Rattle.task_asm.specs.Meaning.{within_program, target, target_of}
 use Rattle.task_asm.specs.Walk.{finds, Knows, found_place, found_target, targets_from, targets_of}
@@ -18,39 +18,39 @@ place_same None (Some n) e = absurd cc
 place_same (Some d) None e = absurd cc
 place_same (Some d) (Some n) e = let same : d.place ≡ 0 + n = cc in let zero : 0 + n ≡ n = omega arith in ap within_program (same ∙ zero)
 
-label_target : (labels : Labels) (program : List Entry) → Knows labels program → (l : Label) → found_place (finds labels.definitions l.word) ≡ target program l
+label_target : (labels : Labels) (program : List Statement) → Knows labels program → (l : Label) → found_place (finds labels.definitions l.word) ≡ target program l
 label_target labels program knows l =
     place_same (finds labels.definitions l.word) (place_in program l.word)
     (ap (λ (p : Option Definition). option_map (λ d. d.place) p) (knows.found l.word) ∙ same_place 0 0 program l.word)
 
 -- what is known of the labels says which places are named
-pub same_target : (labels : Labels) (program : List Entry) → Knows labels program → (w : Written) → found_target labels w ≡ target_of program w
+pub same_target : (labels : Labels) (program : List Statement) → Knows labels program → (w : Written) → found_target labels w ≡ target_of program w
 same_target labels program knows (Ready i) = refl
 same_target labels program knows (Jump l) = label_target labels program knows l
 same_target labels program knows (JumpIf test a b l) = label_target labels program knows l
 
--- the places so far go on with those of the entries that are left, in a program with these labels
-pub record Aimed (es : List Entry) (at : ℕ) (labels : Labels) (targets : List ℕ) : Type 0 where
+-- the places so far go on with those of the statements that are left, in a program with these labels
+pub record Aimed (es : List Statement) (at : ℕ) (labels : Labels) (targets : List ℕ) : Type 0 where
   pub within : at ≤ length es
-  pub program : List Entry
+  pub program : List Statement
   pub knows : Knows labels program
   pub whole : targets ++ targets_from program (drop at es) ≡ targets_of es
 
-pub begin : (es : List Entry) (labels : Labels) (targets : List ℕ) → targets ≡ [] → Knows labels es → Aimed es 0 labels targets
+pub begin : (es : List Statement) (labels : Labels) (targets : List ℕ) → targets ≡ [] → Knows labels es → Aimed es 0 labels targets
 begin es labels targets e knows = record { within = omega arith; program = es; knows = knows; whole = ap (λ (ts : List ℕ). ts ++ targets_of es) e }
 
-pub done : (es : List Entry) (at : ℕ) (labels : Labels) (targets : List ℕ) → length es ≤ at → Aimed es at labels targets → targets ≡ targets_of es
+pub done : (es : List Statement) (at : ℕ) (labels : Labels) (targets : List ℕ) → length es ≤ at → Aimed es at labels targets → targets ≡ targets_of es
 done es at labels targets past it =
-    sym (append-nil targets) ∙ ap (λ (xs : List Entry). targets ++ targets_from it.program xs) (sym (drop_all at es past)) ∙ it.whole
+    sym (append-nil targets) ∙ ap (λ (xs : List Statement). targets ++ targets_from it.program xs) (sym (drop_all at es past)) ∙ it.whole
 
-module _ (es : List Entry) (at : ℕ) (labels : Labels) (targets : List ℕ) (it : Aimed es at labels targets) (x : Entry) (inside : at < length es) (is : x ≡ get_or es at x) where
-  said : Item → Entry
+module _ (es : List Statement) (at : ℕ) (labels : Labels) (targets : List ℕ) (it : Aimed es at labels targets) (x : Statement) (inside : at < length es) (is : x ≡ get_or es at x) where
+  said : Item → Statement
   said i = record { place = x.place; item = i }
 
   front : (i : Item) → x.item ≡ i → drop at es ≡ record { place = x.place; item = i } ∷ drop (at + 1) es
-  front i e = drop_more es at x inside ∙ ap (λ (y : Entry). y ∷ drop (at + 1) es) (sym is) ∙ ap (λ (j : Item). let y : Entry = record { place = x.place; item = j } in y ∷ drop (at + 1) es) e
+  front i e = drop_more es at x inside ∙ ap (λ (y : Statement). y ∷ drop (at + 1) es) (sym is) ∙ ap (λ (j : Item). let y : Statement = record { place = x.place; item = j } in y ∷ drop (at + 1) es) e
 
-  step : (next : Labels) (program : List Entry) → Knows next program → (to : ℕ) (more : List ℕ) → more ≡ targets ++ to ∷ []
+  step : (next : Labels) (program : List Statement) → Knows next program → (to : ℕ) (more : List ℕ) → more ≡ targets ++ to ∷ []
       → targets_from it.program (drop at es) ≡ to ∷ targets_from program (drop (at + 1) es) → Aimed es (at + 1) next more
   step next program knows to more e rest = record {
     within = omega arith;

@@ -5,7 +5,7 @@ pub mod Programs
 pub mod Named
 pub mod Lines
 pub mod Rest
-pub mod Entries
+pub mod Statements
 pub mod Labels
 pub mod Order
 pub mod Faults

@@ -1,6 +1,5 @@
 -- The tokens of a program text, each with its place.
 use Rattle.std.specs.Prelude.{◌≡◌, ℕ, ◌<◌, ◌≤◌, ◌⊎◌, ◌||◌, ◌==◌, IsTrue, List, length, take, slice_index, Option, Some, None, option_map, if◌then◌else◌, codes}
-use Rattle.std.specs.List.{AllByRecursion}
 use Rattle.osek_base.specs.declared.limits.TheConstants.{MAX_NAME}
 use Rattle.osek_base.specs.Words.{is_letter, is_digit, IsRun, IsNumeral, IsLine}
 use Rattle.osek_base.specs.Names.{is_proper_name}
@@ -79,9 +78,6 @@ lexemes_of ts = base.lexemes_of symbol_of ts
 abbrev pub IsProperSymbol : Symbol → Type 0
 IsProperSymbol (Word w) = IsTrue (is_proper_name w)
 IsProperSymbol _ = Unit {0}
-
-abbrev pub AreProper : List (Lexeme Symbol) → Type 0
-AreProper ts = AllByRecursion (λ t. IsProperSymbol t.word) ts
 
 -- a function that looks for a piece of a class: what it found, or there is none
 abbrev pub GivesPiece : Class → List ℕ → Option (Piece Token) → Type 0

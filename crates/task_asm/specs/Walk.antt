@@ -8,8 +8,8 @@ use Rattle.std.specs.BTreeSet.{contains_by}
 use Rattle.osek_base.specs.declared.limits.TheConstants.{MAX_INSTRUCTIONS}
 use Rattle.task_asm.specs.declared.labels.Definition.{Definition}
 use Rattle.task_asm.specs.declared.labels.Labels.{Labels}
-use Rattle.task_asm.specs.declared.checks.Open.{Open}
-use Rattle.task_asm.specs.declared.checks.ProgramNames.{ProgramNames}
+use Rattle.task_asm.specs.declared.text_faults.Open.{Open}
+use Rattle.task_asm.specs.declared.text_faults.ProgramNames.{ProgramNames}
 use Rattle.task_asm.specs.declared.program.ProgramKind.{ProgramKind}
 use Rattle.task_asm.specs.declared.program.NamedInstr.{NamedInstr}
 use Rattle.task_asm.specs.declared.operands.Title.{Title}
@@ -18,75 +18,75 @@ use Rattle.task_asm.specs.declared.fault.AsmFault.TheVariants as fault
 use Rattle.task_asm.specs.Programs.{Program}
 use Rattle.task_asm.specs.Mnemonics.{or_else}
 use Rattle.task_asm.specs.Lines.{Written, Ready, Jump, JumpIf, Label}
-use Rattle.task_asm.specs.Entries.{Entry, Item}
+use Rattle.task_asm.specs.Statements.{Statement, Item}
 use Rattle.task_asm.specs.Labels.{is_program, is_kind, place_in, has_instruction, defines, instruction_count, has_program, open_after}
 use Rattle.task_asm.specs.Meaning.{within_program, target_of, finished}
 
 -- ---- faults
 
--- a label, where a program is open with these entries before it, and these come after
-abbrev pub label_fault : Option (List Entry) → ℕ → List ℕ → List Entry → Option AsmFault
+-- a label, where a program is open with these statements before it, and these come after
+abbrev pub label_fault : Option (List Statement) → ℕ → List ℕ → List Statement → Option AsmFault
 label_fault None place w after = Some (fault.UnknownMnemonic place)
 label_fault (Some own) place w after = if has_instruction after
     then (if defines own w then Some (fault.Twice place) else None)
     else Some (fault.UnknownLabel place)
 
--- a jump, in a program with these entries
-abbrev pub jump_fault : List Entry → Label → Option AsmFault
+-- a jump, in a program with these statements
+abbrev pub jump_fault : List Statement → Label → Option AsmFault
 jump_fault program l = elim (place_in program l.word) [ Some n ↦ None | None ↦ Some (fault.UnknownLabel l.place) ]
 
-abbrev pub operand_fault : List Entry → Written → Option AsmFault
+abbrev pub operand_fault : List Statement → Written → Option AsmFault
 operand_fault program (Ready i) = None
 operand_fault program (Jump l) = jump_fault program l
 operand_fault program (JumpIf test a b l) = jump_fault program l
 
--- an instruction, where a program is open with these entries before it, and these from it on: 1,024 instructions are the most
-abbrev pub instruction_fault : Option (List Entry) → List Entry → ℕ → Option Written → Option AsmFault
+-- an instruction, where a program is open with these statements before it, and these from it on: 1,024 instructions are the most
+abbrev pub instruction_fault : Option (List Statement) → List Statement → ℕ → Option Written → Option AsmFault
 instruction_fault None here place o = Some (fault.UnknownMnemonic place)
 instruction_fault (Some own) here place None = Some (fault.Operand place)
 instruction_fault (Some own) here place (Some w) =
     if instruction_count own == MAX_INSTRUCTIONS then Some (fault.TooLong place) else operand_fault (own ++ here) w
 
--- a directive behind these entries
-abbrev pub program_fault : List Entry → ℕ → ProgramKind → Option Title → Option AsmFault
+-- a directive behind these statements
+abbrev pub program_fault : List Statement → ℕ → ProgramKind → Option Title → Option AsmFault
 program_fault before place kind None = Some (fault.Operand place)
 program_fault before place kind (Some t) = if has_program before kind t.name then Some (fault.Twice t.place) else None
 
--- an entry with these before it, of which those of its program if one is open, and these after it
-abbrev pub entry_fault : List Entry → Option (List Entry) → Entry → List Entry → Option AsmFault
-entry_fault before own x after = elim x.item [
+-- an statement with these before it, of which those of its program if one is open, and these after it
+abbrev pub statement_fault : List Statement → Option (List Statement) → Statement → List Statement → Option AsmFault
+statement_fault before own x after = elim x.item [
   | Item.Label w ↦ label_fault own x.place w after
   | Item.Instruction o ↦ instruction_fault own (x ∷ after) x.place o
   | Item.Program kind o ↦ program_fault before x.place kind o
   | Item.Unknown ↦ Some (fault.UnknownMnemonic x.place)
 ]
 
--- the first of these entries, if there is one
-abbrev pub front_fault : List Entry → Option (List Entry) → List Entry → Option AsmFault
+-- the first of these statements, if there is one
+abbrev pub front_fault : List Statement → Option (List Statement) → List Statement → Option AsmFault
 front_fault before own [] = None
-front_fault before own (x ∷ after) = entry_fault before own x after
+front_fault before own (x ∷ after) = statement_fault before own x after
 
--- the first fault of the entries behind others
-abbrev pub fault_behind : List Entry → List Entry → Option AsmFault
+-- the first fault of the statements behind others
+abbrev pub fault_behind : List Statement → List Statement → Option AsmFault
 fault_behind before [] = None
-fault_behind before (x ∷ after) = or_else (entry_fault before (open_after None before) x after) (fault_behind (before ++ x ∷ []) after)
+fault_behind before (x ∷ after) = or_else (statement_fault before (open_after None before) x after) (fault_behind (before ++ x ∷ []) after)
 
--- the first fault of all entries: they stand by their places
-abbrev pub first_fault : List Entry → Option AsmFault
+-- the first fault of all statements: they stand by their places
+abbrev pub first_fault : List Statement → Option AsmFault
 first_fault es = fault_behind [] es
 
 -- ---- what is kept of a program and of the names of programs
 
 -- the instructions up to the next directive
-abbrev pub program_size : List Entry → ℕ
+abbrev pub program_size : List Statement → ℕ
 program_size [] = 0
 program_size (x ∷ es) = elim x.item [ Item.Instruction o ↦ suc (program_size es) | Item.Program kind o ↦ 0 | _ ↦ program_size es ]
 
--- where a label is first defined up to the next directive, behind so many entries and instructions
-abbrev pub definition_from : ℕ → ℕ → List Entry → List ℕ → Option Definition
+-- where a label is first defined up to the next directive, behind so many statements and instructions
+abbrev pub definition_from : ℕ → ℕ → List Statement → List ℕ → Option Definition
 definition_from at place [] w = None
 definition_from at place (x ∷ es) w = elim x.item [
-  | Item.Label v ↦ if bytes_eq v w then Some (record { entry = at; place = place }) else definition_from (at + 1) place es w
+  | Item.Label v ↦ if bytes_eq v w then Some (record { statement = at; place = place }) else definition_from (at + 1) place es w
   | Item.Instruction o ↦ definition_from (at + 1) (place + 1) es w
   | Item.Program kind o ↦ None
   | Item.Unknown ↦ definition_from (at + 1) place es w
@@ -96,15 +96,15 @@ definition_from at place (x ∷ es) w = elim x.item [
 abbrev pub finds : {X : Type 0} → BTreeMap (Bor (List ℕ)) X → List ℕ → Option X
 finds m w = get_by (λ k. slice_cmp nat_cmp w k.now) m
 
--- the labels and the size of the program with these entries
-pub record Knows (l : Labels) (program : List Entry) : Type 0 where
+-- the labels and the size of the program with these statements
+pub record Knows (l : Labels) (program : List Statement) : Type 0 where
   pub found : (w : List ℕ) → finds l.definitions w ≡ definition_from 0 0 program w
   pub size : l.instructions ≡ program_size program
 
--- the label is defined among so many entries
+-- the label is defined among so many statements
 abbrev pub is_before : ℕ → Option Definition → Bool
 is_before n None = false
-is_before n (Some d) = nat_lt d.entry n
+is_before n (Some d) = nat_lt d.statement n
 
 abbrev pub open_label_fault : Open → ℕ → ℕ → ℕ → List ℕ → Option AsmFault
 open_label_fault o at passed place w = if nat_lt passed o.labels.instructions
@@ -133,13 +133,13 @@ found_target labels (Ready i) = 0
 found_target labels (Jump l) = found_place (finds labels.definitions l.word)
 found_target labels (JumpIf test a b l) = found_place (finds labels.definitions l.word)
 
--- no directive is among the entries
-abbrev pub IsClosed : List Entry → Type 0
+-- no directive is among the statements
+abbrev pub IsClosed : List Statement → Type 0
 IsClosed [] = Unit {0}
 IsClosed (x ∷ es) = (is_program x ≡ false) × IsClosed es
 
--- behind so many entries, of which so many are its instructions, this program is open
-pub record IsOpen (es : List Entry) (at passed : ℕ) (o : Open) : Type 0 where
+-- behind so many statements, of which so many are its instructions, this program is open
+pub record IsOpen (es : List Statement) (at passed : ℕ) (o : Open) : Type 0 where
   pub started : o.start ≤ at
   pub closed : IsClosed (take (at - o.start) (drop o.start es))
   pub count : passed ≡ instruction_count (take (at - o.start) (drop o.start es))
@@ -158,14 +158,14 @@ abbrev pub has_title : ProgramKind → Option Title → ProgramKind → List ℕ
 has_title kind None k w = false
 has_title kind (Some t) k w = is_kind kind k && bytes_eq t.name w
 
--- the names are those of the programs among the entries
-abbrev pub KnowsNames : ProgramNames → List Entry → Type 0
+-- the names are those of the programs among the statements
+abbrev pub KnowsNames : ProgramNames → List Statement → Type 0
 KnowsNames names es = (kind : ProgramKind) (w : List ℕ) → has_name names kind w ≡ has_program es kind w
 
 -- ---- programs
 
--- the places that the instructions name, each at the number of its entry
-abbrev pub targets_from : List Entry → List Entry → List ℕ
+-- the places that the instructions name, each at the number of its statement
+abbrev pub targets_from : List Statement → List Statement → List ℕ
 targets_from program [] = []
 targets_from program (x ∷ es) = elim x.item [
   | Item.Program kind o ↦ 0 ∷ targets_from es es
@@ -173,11 +173,11 @@ targets_from program (x ∷ es) = elim x.item [
   | _ ↦ 0 ∷ targets_from program es
 ]
 
-abbrev pub targets_of : List Entry → List ℕ
+abbrev pub targets_of : List Statement → List ℕ
 targets_of es = targets_from es es
 
 -- the instructions up to the next directive, and the programs, where the targets are known
-abbrev pub lines_with : List Entry → List ℕ → List NamedInstr
+abbrev pub lines_with : List Statement → List ℕ → List NamedInstr
 lines_with [] ts = []
 lines_with (x ∷ es) [] = []
 lines_with (x ∷ es) (t ∷ ts) = elim x.item [
@@ -186,7 +186,7 @@ lines_with (x ∷ es) (t ∷ ts) = elim x.item [
   | _ ↦ lines_with es ts
 ]
 
-abbrev pub programs_with : List Entry → List ℕ → List Program
+abbrev pub programs_with : List Statement → List ℕ → List Program
 programs_with [] ts = []
 programs_with (x ∷ es) [] = []
 programs_with (x ∷ es) (t ∷ ts) = elim x.item [
@@ -197,6 +197,6 @@ programs_with (x ∷ es) (t ∷ ts) = elim x.item [
   | _ ↦ programs_with es ts
 ]
 
--- the entries from a number up to another
-abbrev pub own_of : List Entry → ℕ → Option ℕ → Option (List Entry)
+-- the statements from a number up to another
+abbrev pub own_of : List Statement → ℕ → Option ℕ → Option (List Statement)
 own_of es at start = option_map (λ s. take (at - s) (drop s es)) start

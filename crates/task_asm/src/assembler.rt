@@ -8,12 +8,12 @@ ghost use Rattle.task_asm.specs.Lines.{written_value};
 ghost use Rattle.task_asm.specs.Meaning.{within_program, target_of, finished, IsProgramText, HasFault};
 ghost use Rattle.task_asm.specs.Walk.{found_target, targets_of, programs_with, first_fault};
 
-use crate::checks::first_fault;
-use crate::entries::{Entry, Item, read_entries};
 use crate::fault::AsmFault;
 use crate::instructions::Written;
 use crate::labels::Labels;
 use crate::program::{NamedInstr, NamedLine, NamedProgram};
+use crate::statements::{Item, Statement, read_statements};
+use crate::text_faults::first_fault;
 use crate::tokens::tokenize;
 use osek_base::{MAX_INSTRUCTIONS, Place, Plain};
 use std::alloc::{AllocError, Global};
@@ -44,18 +44,18 @@ fn target_of(labels: &Labels<'_>, written: &Written<'_>) -> Place
     }
 }
 
-/// The places that the instructions name, each at the number of its entry.
-fn targets(alloc: Global, entries: &[Entry<'_>]) -> Result<Vec<Place>, AllocError>
-    ensures { IfOk result (λ targets. targets.items ≡ targets_of entries.now) }
+/// The places that the instructions name, each at the number of its statement.
+fn targets(alloc: Global, statements: &[Statement<'_>]) -> Result<Vec<Place>, AllocError>
+    ensures { IfOk result (λ targets. targets.items ≡ targets_of statements.now) }
 {
     let mut targets = Vec::new(alloc);
-    let mut labels = Labels::of(alloc, entries)?;
+    let mut labels = Labels::of(alloc, statements)?;
     let mut at = 0;
-    'entries: while at < entries.len() {
-        let entry = &entries[at];
+    'statements: while at < statements.len() {
+        let statement = &statements[at];
         let mut target = Place::new(0);
-        match &entry.item {
-            Item::Program(_, _) => labels = Labels::of(alloc, &entries[at + 1..])?,
+        match &statement.item {
+            Item::Program(_, _) => labels = Labels::of(alloc, &statements[at + 1..])?,
             Item::Instruction(Some(written)) => target = target_of(&labels, written),
             Item::Instruction(None) => {}
             Item::Label(_) => {}
@@ -79,19 +79,19 @@ fn finished(written: Written<'_>, target: Place) -> NamedInstr
     }
 }
 
-/// The programs of the entries, which are taken from the last to the first.
+/// The programs of the statements, which are taken from the last to the first.
 fn programs(
     alloc: Global,
-    mut entries: Vec<Entry<'_>>,
+    mut statements: Vec<Statement<'_>>,
     targets: &[Place],
 ) -> Result<Vec<NamedProgram>, AllocError>
-    requires { length entries.items ≡ length targets.now }
-    ensures { IfOk result (λ programs. programs.items ≡ programs_with entries.entry.items targets.now) }
+    requires { length statements.items ≡ length targets.now }
+    ensures { IfOk result (λ programs. programs.items ≡ programs_with statements.entry.items targets.now) }
 {
     let mut programs = Vec::new(alloc);
     let mut lines = Vec::new(alloc);
-    'entries: while let Some(entry) = entries.pop() {
-        match entry.item {
+    'statements: while let Some(statement) = statements.pop() {
+        match statement.item {
             Item::Program(kind, title) => {
                 if let Some(title) = title {
                     lines.reverse();
@@ -104,7 +104,7 @@ fn programs(
                 lines = Vec::new(alloc);
             }
             Item::Instruction(Some(written)) => {
-                let target = targets[entries.len()];
+                let target = targets[statements.len()];
                 lines.push(NamedLine::new(finished(written, target)))?;
             }
             Item::Instruction(None) => {}
@@ -123,12 +123,12 @@ pub fn assemble(alloc: Global, text: &[u8]) -> Result<Vec<NamedProgram>, AsmFaul
     ensures fault { IfErr result (λ e. HasFault text.now e) }
 {
     let tokens = tokenize(alloc, text)?;
-    let entries = read_entries(alloc, tokens.as_slice())?;
-    if let Some(fault) = first_fault(alloc, entries.as_slice())? {
+    let statements = read_statements(alloc, tokens.as_slice())?;
+    if let Some(fault) = first_fault(alloc, statements.as_slice())? {
         return Err(fault);
     }
-    let targets = targets(alloc, entries.as_slice())?;
-    Ok(programs(alloc, entries, targets.as_slice())?)
+    let targets = targets(alloc, statements.as_slice())?;
+    Ok(programs(alloc, statements, targets.as_slice())?)
 }
 
 /// A program text has one list of programs, and then no fault; it has one fault at most. Of want of memory nothing is

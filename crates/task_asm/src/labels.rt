@@ -3,14 +3,14 @@
 ghost use Rattle.std.specs.Prelude.{◌≡◌, ℕ, List, IfOk, length};
 ghost use Rattle.task_asm.specs.Walk.{program_size, definition_from, finds, Knows};
 
-use crate::entries::{Entry, Item};
+use crate::statements::{Item, Statement};
 use std::alloc::{AllocError, Global};
 use std::collections::BTreeMap;
 
-/// Where a label is defined: how many entries and how many instructions of its program stand before it.
+/// Where a label is defined: how many statements and how many instructions of its program stand before it.
 #[derive(Clone, Copy)]
 pub struct Definition {
-    pub entry: usize,
+    pub statement: usize,
     pub place: usize,
 }
 
@@ -21,13 +21,13 @@ pub struct Labels<'a> {
     pub instructions: usize,
 }
 
-/// How many instructions the program has whose entries stand first.
-fn program_size(entries: &[Entry<'_>]) -> usize
-    ensures { result ≡ program_size entries.now }
+/// How many instructions the program has whose statements stand first.
+fn program_size(statements: &[Statement<'_>]) -> usize
+    ensures { result ≡ program_size statements.now }
 {
     let mut size = 0;
-    'entries: for entry in entries {
-        match &entry.item {
+    'statements: for statement in statements {
+        match &statement.item {
             Item::Instruction(_) => size += 1,
             Item::Program(_, _) => return size,
             _ => {}
@@ -36,22 +36,28 @@ fn program_size(entries: &[Entry<'_>]) -> usize
     size
 }
 
-/// The first definitions of the labels of the program whose entries stand first.
+/// The first definitions of the labels of the program whose statements stand first.
 fn definitions<'a>(
     alloc: Global,
-    entries: &[Entry<'a>],
+    statements: &[Statement<'a>],
 ) -> Result<BTreeMap<&'a str, Definition>, AllocError>
-    ensures { IfOk result (λ m. (w : List ℕ) → finds m w ≡ definition_from 0 0 entries.now w) }
+    ensures { IfOk result (λ m. (w : List ℕ) → finds m w ≡ definition_from 0 0 statements.now w) }
 {
     let mut definitions = BTreeMap::new(alloc);
     let mut place = 0;
     let mut at = 0;
-    'entries: while at < entries.len() {
-        let entry = &entries[at];
-        match &entry.item {
+    'statements: while at < statements.len() {
+        let statement = &statements[at];
+        match &statement.item {
             Item::Label(word) => {
                 if !definitions.contains_key(*word) {
-                    definitions.insert(*word, Definition { entry: at, place })?;
+                    definitions.insert(
+                        *word,
+                        Definition {
+                            statement: at,
+                            place,
+                        },
+                    )?;
                 }
             }
             Item::Instruction(_) => place += 1,
@@ -64,13 +70,13 @@ fn definitions<'a>(
 }
 
 impl<'a> Labels<'a> {
-    /// The labels of the program whose entries stand first.
-    pub fn of(alloc: Global, entries: &[Entry<'a>]) -> Result<Self, AllocError>
-        ensures { IfOk result (λ labels. Knows labels entries.now) }
+    /// The labels of the program whose statements stand first.
+    pub fn of(alloc: Global, statements: &[Statement<'a>]) -> Result<Self, AllocError>
+        ensures { IfOk result (λ labels. Knows labels statements.now) }
     {
         Ok(Labels {
-            definitions: definitions(alloc, entries)?,
-            instructions: program_size(entries),
+            definitions: definitions(alloc, statements)?,
+            instructions: program_size(statements),
         })
     }
 

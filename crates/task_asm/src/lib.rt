@@ -2,15 +2,15 @@
 #![tactic(auto)]
 
 mod assembler;
-mod checks;
-mod entries;
 mod fault;
 mod instructions;
 mod labels;
 mod mnemonic;
 mod operands;
 mod program;
+mod statements;
 mod text;
+mod text_faults;
 mod tokens;
 
 pub use assembler::{assemble, one_meaning};

@@ -58,13 +58,6 @@ impl<W> StdSink<W> {
             failed: false,
         }
     }
-
-    /// The writer, back from the sink.
-    pub fn into_writer(self) -> W
-        ensures { result ≡ self.writer }
-    {
-        self.writer
-    }
 }
 
 impl<W: Write> Sink for StdSink<W> {

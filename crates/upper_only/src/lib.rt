@@ -3,9 +3,9 @@
 
 mod by_itself;
 mod names;
-mod objects;
 mod programs;
 mod ranks;
+mod upper_objects;
 mod upper_part;
 
 pub use by_itself::upper_only;

@@ -3,8 +3,8 @@ use Rattle.std.proofs.Common.{length, ◌-◌}
 use Rattle.task_asm.proofs.TargetLemmas.{Aimed}
 use Rattle.task_asm.proofs.assembler.targets.Given as goal
 
-abbrev pub invariant-entries : goal.invariant-entries
-invariant-entries l = Aimed l.entries l.at l.labels l.targets.items
+abbrev pub invariant-statements : goal.invariant-statements
+invariant-statements l = Aimed l.statements l.at l.labels l.targets.items
 
-abbrev pub decreases-entries : goal.decreases-entries
-decreases-entries l = length l.entries - l.at
+abbrev pub decreases-statements : goal.decreases-statements
+decreases-statements l = length l.statements - l.at

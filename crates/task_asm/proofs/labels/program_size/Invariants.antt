@@ -3,8 +3,8 @@ use Rattle.std.proofs.Common.{◌≡◌, ◌+◌, ◌≤◌, drop}
 use Rattle.task_asm.specs.Walk.{program_size}
 use Rattle.task_asm.proofs.labels.program_size.Given as goal
 
-abbrev pub invariant-entries : goal.invariant-entries
-invariant-entries l = record {
-  so_far : l.size ≤ l.entry-index;
-  whole : l.size + program_size (drop l.entry-index l.entries) ≡ program_size l.entries;
+abbrev pub invariant-statements : goal.invariant-statements
+invariant-statements l = record {
+  so_far : l.size ≤ l.statement-index;
+  whole : l.size + program_size (drop l.statement-index l.statements) ≡ program_size l.statements;
 }
