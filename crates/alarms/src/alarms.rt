@@ -13,6 +13,7 @@ ghost use Rattle.alarms.specs.Alarms.{IsTableOf, status_of, after_call, counter_
 use crate::counter_alarms::CounterAlarms;
 use crate::counters::{advance_each, cancel_on, counter_numbers, idle_counters, start_on};
 use crate::due_alarms::DueAlarms;
+use crate::due_list::DueList;
 use arrayvec::ArrayVec;
 use osek_base::{AlarmId, Counter, MAX_ALARMS, MAX_COUNTERS, MAX_TICKS, ModeId, Status, System};
 use std::marker::Model;
@@ -150,10 +151,10 @@ impl Alarms {
     /// The next tick begins, and the alarms that are due in it expire: each expires again a cycle later, or goes off. The
     /// content of `due` becomes these alarms, in declaration order.
     #[inline(always)]
-    pub fn advance(&mut self, system: &System, due: &mut ArrayVec<AlarmId, MAX_ALARMS>)
+    pub fn advance(&mut self, system: &System, due: &mut DueList)
         requires table { IsTableOf system.now self.old }
         requires last { self.old.tick + 1 < MAX_TICKS }
-        ensures due { due.new.items ≡ due_of system.now (next_tick self.old) }
+        ensures due { due.new ≡ due_of system.now (next_tick self.old) }
         ensures alarms { self.new ≡ expired system.now (next_tick self.old) }
         ensures table { IsTableOf system.now self.new }
     {

@@ -5,7 +5,7 @@ ghost use Rattle.std.specs.List.{filter};
 ghost use Rattle.osek_base.specs.Lists.{below};
 ghost use Rattle.alarms.specs.Waits.{is_raised};
 
-use arrayvec::ArrayVec;
+use crate::due_list::DueList;
 use osek_base::{AlarmId, MAX_ALARMS};
 use std::marker::Model;
 
@@ -51,9 +51,9 @@ impl DueAlarms {
 
     /// The content of `due` becomes the alarms that are due, of the first `count`, in declaration order.
     #[inline(always)]
-    pub fn list(&self, count: usize, due: &mut ArrayVec<AlarmId, MAX_ALARMS>)
+    pub fn list(&self, count: usize, due: &mut DueList)
         requires { count ≤ MAX_ALARMS }
-        ensures { due.new.items ≡ filter (λ a. is_raised a self.now) (below count) }
+        ensures { due.new ≡ filter (λ a. is_raised a self.now) (below count) }
     {
         due.clear();
         if self.word != 0 {
@@ -64,10 +64,10 @@ impl DueAlarms {
 
 /// Adds the alarms whose bits are set, of the first `count`, in declaration order.
 #[inline(never)]
-fn list_set(word: u64, count: usize, due: &mut ArrayVec<AlarmId, MAX_ALARMS>)
+fn list_set(word: u64, count: usize, due: &mut DueList)
     requires count { count ≤ MAX_ALARMS }
-    requires none { due.old.items ≡ [] }
-    ensures { due.new.items ≡ filter (λ a. is_raised a word) (below count) }
+    requires none { due.old ≡ [] }
+    ensures { due.new ≡ filter (λ a. is_raised a word) (below count) }
 {
     for number in 0..count {
         if (word >> number) % 2 == 1 {

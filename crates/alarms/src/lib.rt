@@ -6,6 +6,8 @@ mod counter_alarms;
 mod counters;
 mod difference_list;
 mod due_alarms;
+mod due_list;
 
 pub use alarms::Alarms;
 pub use due_alarms::DueAlarms;
+pub use due_list::DueList;

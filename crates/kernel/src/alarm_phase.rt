@@ -12,7 +12,7 @@ ghost use Rattle.blocking_laws.specs.Looks.{alarm_looked, alarm_phase_looked};
 ghost use Rattle.kernel.specs.Looking.{AreCounted, acts_on};
 
 use crate::stamping::{looked_at, seen};
-use arrayvec::ArrayVec;
+use alarms::DueList;
 use osek_base::{
     Action, AlarmId, Instr, MAX_ALARMS, MAX_RECORDS, MAX_TICKS, Service, Source, Status, System,
     TaskId, TickRecord, TraceEvent,
@@ -27,7 +27,7 @@ use services::Core;
 pub fn alarm_phase<Q: ReadyQueues>(
     core: &mut Core<'_, Q>,
     system: &System,
-    due: &mut ArrayVec<AlarmId, MAX_ALARMS>,
+    due: &mut DueList,
     stamps: &mut JobStamps,
     tick: u32,
     record_of_tick: &mut TickRecord,
@@ -60,7 +60,7 @@ pub fn alarm_phase<Q: ReadyQueues>(
 fn advance<Q: ReadyQueues>(
     core: &mut Core<'_, Q>,
     system: &System,
-    due: &mut ArrayVec<AlarmId, MAX_ALARMS>,
+    due: &mut DueList,
     stamps: &mut JobStamps,
     tick: u32,
     record_of_tick: &mut TickRecord,
@@ -81,7 +81,7 @@ fn advance<Q: ReadyQueues>(
 {
     core.advance(due);
     for number in 0..due.len() {
-        alarm_seen(core, system, due[number], stamps, tick, record_of_tick);
+        alarm_seen(core, system, due.at(number), stamps, tick, record_of_tick);
     }
 }
 

@@ -14,8 +14,8 @@ ghost use Rattle.kernel.specs.Looking.{AreCounted};
 use crate::alarm_phase::alarm_phase;
 use crate::arrival_phase::arrival_phase;
 use crate::stamping::reschedule;
-use arrayvec::ArrayVec;
-use osek_base::{AlarmId, Arrival, MAX_ALARMS, MAX_TICKS, System, TickRecord};
+use alarms::DueList;
+use osek_base::{Arrival, MAX_ALARMS, MAX_TICKS, System, TickRecord};
 use readiness::JobStamps;
 use ready_queues::ReadyQueues;
 use services::Core;
@@ -29,7 +29,7 @@ pub fn before_execution<Q: ReadyQueues>(
     system: &System,
     list: &[Arrival],
     arrived: usize,
-    due: &mut ArrayVec<AlarmId, MAX_ALARMS>,
+    due: &mut DueList,
     stamps: &mut JobStamps,
     tick: u32,
     record_of_tick: &mut TickRecord,

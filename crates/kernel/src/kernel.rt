@@ -20,11 +20,11 @@ use crate::boot::{BootFault, begun_stamps, booted};
 use crate::early_phases::before_execution;
 use crate::execute_phase::execute_phase;
 use crate::stamping::reschedule;
-use arrayvec::ArrayVec;
+use alarms::DueList;
 use machine::{Code, Windows};
 use osek_base::{
-    AlarmId, Arrivals, MAX_ALARMS, MAX_RECORDS, MAX_TICKS, ModeId, Owner, ResourceNumber,
-    SHARED_WORDS, System, TickRecord, WINDOW_WORDS,
+    Arrivals, MAX_RECORDS, MAX_TICKS, ModeId, Owner, ResourceNumber, SHARED_WORDS, System,
+    TickRecord, WINDOW_WORDS,
 };
 use readiness::{JobStamps, LastTicks};
 use ready_queues::ReadyQueues;
@@ -46,7 +46,7 @@ pub struct Kernel<'s, Q: ReadyQueues> {
     code: Code,
     opening: TickRecord,
     /// Room for the alarms that are due in a tick.
-    due: ArrayVec<AlarmId, MAX_ALARMS>,
+    due: DueList,
     stamps: JobStamps,
     behind: LastTicks,
     begun: Begun,
@@ -119,7 +119,7 @@ impl<'s, Q: ReadyQueues> Kernel<'s, Q> {
             windows: Windows::new(),
             code,
             opening,
-            due: ArrayVec::new(),
+            due: DueList::new(),
             stamps,
             behind: LastTicks::new(),
             begun: Begun::nothing(),

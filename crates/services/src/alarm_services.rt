@@ -12,8 +12,8 @@ ghost use Rattle.services.specs.Calls.{unmasked};
 
 use crate::calls::Answer;
 use crate::objects::Objects;
-use arrayvec::ArrayVec;
-use osek_base::{AlarmId, MAX_ALARMS, MAX_TICKS, Results, Status};
+use alarms::DueList;
+use osek_base::{AlarmId, MAX_TICKS, Results, Status};
 use ready_queues::ReadyQueues;
 
 impl<'s, Q: ReadyQueues> Objects<'s, Q> {
@@ -80,9 +80,9 @@ impl<'s, Q: ReadyQueues> Objects<'s, Q> {
     /// The next tick begins, and the alarms that are due in it expire. The content of `due` becomes these alarms, in
     /// declaration order.
     #[inline(always)]
-    pub fn advance(&mut self, due: &mut ArrayVec<AlarmId, MAX_ALARMS>)
+    pub fn advance(&mut self, due: &mut DueList)
         requires { self.old.tick + 1 < MAX_TICKS }
-        ensures due { due.new.items ≡ due_alarms self.old.system (bare (record (kept_in self.old) { tick = self.old.tick + 1 })) }
+        ensures due { due.new ≡ due_alarms self.old.system (bare (record (kept_in self.old) { tick = self.old.tick + 1 })) }
         ensures objects { self.new ≡ record self.old { tick = self.old.tick + 1; alarms = alarms_advanced self.old.system (bare (record (kept_in self.old) { tick = self.old.tick + 1 })) } }
     {
         self.alarms.advance(self.system, due);

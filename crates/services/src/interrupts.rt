@@ -67,7 +67,7 @@ impl<'s, Q: ReadyQueues> Objects<'s, Q> {
     pub fn interrupts_off(&self) -> bool
         ensures { result ≡ interrupts_off (bare (kept_in self.now)) }
     {
-        self.disabled || 0 < self.suspended_all || 0 < self.suspended_os
+        self.disabled | (0 < self.suspended_all) | (0 < self.suspended_os)
     }
 
     /// Whether no routine is active and interrupts are on.

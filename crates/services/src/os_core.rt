@@ -23,12 +23,12 @@ ghost use Rattle.services.specs.Calls.{IsExecuting, IsKnown, IsKnownCall, IsTher
 
 use crate::calls::{Answer, Call};
 use crate::objects::Objects;
-use arrayvec::ArrayVec;
+use alarms::DueList;
 use machine::{Cpu, Windows};
 use osek_base::{
-    AlarmId, Effect, IsrId, MAX_ACTIVATION, MAX_ALARMS, MAX_INSTRUCTIONS, MAX_RECORDS, MAX_TICKS,
-    ModeId, Owner, Plain, Register, ResourceNumber, Results, SHARED_WORDS, Service, Status, System,
-    TaskId, TickRecord,
+    AlarmId, Effect, IsrId, MAX_ACTIVATION, MAX_INSTRUCTIONS, MAX_RECORDS, MAX_TICKS, ModeId,
+    Owner, Plain, Register, ResourceNumber, Results, SHARED_WORDS, Service, Status, System, TaskId,
+    TickRecord,
 };
 use ready_queues::ReadyQueues;
 use std::alloc::{AllocError, Global};
@@ -254,9 +254,9 @@ impl<'s, Q: ReadyQueues> Core<'s, Q> {
     /// The next tick begins, and the alarms that are due in it expire. The content of `due` becomes these alarms, in
     /// declaration order.
     #[inline(always)]
-    pub fn advance(&mut self, due: &mut ArrayVec<AlarmId, MAX_ALARMS>)
+    pub fn advance(&mut self, due: &mut DueList)
         requires { self.old.tick + 1 < MAX_TICKS }
-        ensures due { due.new.items ≡ due_alarms self.old.system (bare (record (kept_in self.old) { tick = self.old.tick + 1 })) }
+        ensures due { due.new ≡ due_alarms self.old.system (bare (record (kept_in self.old) { tick = self.old.tick + 1 })) }
         ensures objects { self.new ≡ record self.old { tick = self.old.tick + 1; alarms = alarms_advanced self.old.system (bare (record (kept_in self.old) { tick = self.old.tick + 1 })) } }
     {
         self.objects.advance(due);

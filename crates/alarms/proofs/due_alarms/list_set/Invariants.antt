@@ -5,4 +5,4 @@ use Rattle.alarms.specs.Waits.{is_raised}
 use Rattle.alarms.proofs.due_alarms.list_set.Given as goal
 
 abbrev pub invariant-loop-number : goal.invariant-loop-number
-invariant-loop-number l = l.due.items ≡ filter (λ a. is_raised a l.word) (below l.number)
+invariant-loop-number l = l.due ≡ filter (λ a. is_raised a l.word) (below l.number)

@@ -11,9 +11,9 @@ abbrev pub invariant-loop-number : goal.invariant-loop-number
 invariant-loop-number g l = record {
   system : l.core.system ≡ l.system;
   ready : runner_waits (kept_in l.core) ≡ false;
-  acting : AreActing l.system l.due.items l.number l.initial.core l.core l.initial.record_of_tick l.record_of_tick;
+  acting : AreActing l.system l.due l.number l.initial.core l.core l.initial.record_of_tick l.record_of_tick;
   few : length l.record_of_tick ≤ length l.fn.record_of_tick + l.number;
   sized : length l.stamps ≡ length l.fn.stamps;
   counted : AreCounted l.stamps (kept_in l.core);
-  looked : AreLooked l.system l.tick l.due.items l.number l.initial.core l.core l.fn.stamps l.stamps;
+  looked : AreLooked l.system l.tick l.due l.number l.initial.core l.core l.fn.stamps l.stamps;
 }
