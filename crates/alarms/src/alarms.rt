@@ -159,7 +159,10 @@ impl Alarms {
         ensures table { IsTableOf system.now self.new }
     {
         let expired = self.expire();
-        expired.list(system.alarm_count(), due);
+        due.clear();
+        if !expired.is_none() {
+            expired.list(system.alarm_count(), due);
+        }
     }
 
     /// The next tick begins, and the alarms that are due in it expire: each expires again a cycle later, or goes off. The

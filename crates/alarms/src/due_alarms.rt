@@ -43,6 +43,7 @@ impl DueAlarms {
     }
 
     /// Whether no alarm is due.
+    #[inline(always)]
     pub fn is_none(&self) -> bool
         ensures { result ≡ true → (count : ℕ) → filter (λ a. is_raised a self.now) (below count) ≡ [] }
     {
@@ -56,9 +57,7 @@ impl DueAlarms {
         ensures { due.new ≡ filter (λ a. is_raised a self.now) (below count) }
     {
         due.clear();
-        if self.word != 0 {
-            list_set(self.word, count, due);
-        }
+        list_set(self.word, count, due);
     }
 }
 

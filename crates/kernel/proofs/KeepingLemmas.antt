@@ -33,7 +33,7 @@ use Rattle.blocking_laws.proofs.AfterStamps.{run_listed}
 use Rattle.blocking_laws.proofs.BeforeStamps.{before_listed}
 use Rattle.kernel.proofs.NumberLemmas.{noted_last, number_is}
 use Rattle.blocking_laws.proofs.StepLemmas.{run_tick}
-use Rattle.blocking_laws.proofs.SpentStamps.{spent_at, spent_here, spent_many}
+use Rattle.blocking_laws.proofs.SpentStamps.{spent_at, spent_here}
 use Rattle.blocking_laws.proofs.StampLemmas.{Going, blockers_are}
 use Rattle.kernel.proofs.TickLemmas.{before_run}
 
@@ -149,9 +149,6 @@ module _ (S : System) (proper : IsProper S) (mode : ℕ) (arrivals : List Arriva
     settled =
         let executing : IsExecuting S proper e = before_executing S proper (arriving arrivals n) (run S mode arrivals n).state (run_ordered S proper mode arrivals n) in
         settled_of S e executing.good.single executing.good.ordered.ranked
-
-    pub size_spent : (ts : StampLists) → ts ≡ spent_of (caller_in (kept_in st)) zs → length ts ≡ length S.tasks
-    size_spent ts is = ap (λ (vs : StampLists). length vs) is ∙ spent_many (caller_in (kept_in st)) zs ∙ are.count
 
     pub counted_spent : (ts : StampLists) → ts ≡ spent_of (caller_in (kept_in st)) zs → AreCounted ts (kept_in st)
     counted_spent ts is t =

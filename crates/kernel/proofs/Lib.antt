@@ -1,6 +1,7 @@
 pub mod PlaceLemmas
 pub mod ArrivalLemmas
 pub mod PhaseLemmas
+pub mod KindLemmas
 pub mod ExecutionLemmas
 pub mod RunLemmas
 pub mod AlarmLemmas

@@ -1,5 +1,5 @@
 -- OSEK/VDX OS: system start-up. What a kernel keeps of a run.
-use Rattle.std.specs.Prelude.{ℕ, ◌≡◌, ◌≤◌, ◌-◌, ◌+◌, List, length, slice_index_or}
+use Rattle.std.specs.Prelude.{ℕ, Bool, true, ◌≡◌, ◌≤◌, ◌-◌, ◌+◌, List, length, slice_index_or}
 use Rattle.osek_base.specs.declared.limits.TheConstants.{MAX_TICKS, MAX_TASK_PRIORITY}
 use Rattle.osek_base.specs.declared.arrivals.Arrival.{Arrival}
 use Rattle.osek_base.specs.declared.trace_event.TraceEvent.{TraceEvent}
@@ -23,9 +23,9 @@ pub record AreLast (S : System) (mode : ℕ) (arrivals : List Arrival) (ticks : 
   pub each : (l : ℕ) → l ≤ MAX_TASK_PRIORITY → slice_index_or behind l 0 ≡ levels_of S mode arrivals ticks l
 
 -- what a kernel keeps after so many ticks: what is kept of the state of the run, with the number of the next tick, the
--- programs of the system, and what tells the number of blockers
+-- programs of the system, and what tells the number of blockers where they are counted
 pub record IsKept (S : System) (mode : ℕ) (arrivals : List Arrival) (ticks cursor : ℕ) (o : Objects) (words : List ℕ) (code : Programs) (opening : List TraceEvent)
-    (stamps : StampLists) (behind : List ℕ) (begun : Begun) : Type 0 where
+    (counted : Bool) (stamps : StampLists) (behind : List ℕ) (begun : Begun) : Type 0 where
   pub system : o.system ≡ S
   pub proper : IsProper S
   pub programs : code ≡ programs_of S
@@ -39,8 +39,10 @@ pub record IsKept (S : System) (mode : ℕ) (arrivals : List Arrival) (ticks cur
   pub unwritten : opening ≡ (run S mode arrivals ticks).unwritten
   pub few : length opening ≤ 3
   pub none_later : 1 ≤ ticks → length opening ≤ 0
-  -- the stamps of jobs, the last ticks of levels, and what tells the number of blockers of the tick just done
-  pub stamped : AreListed S stamps (stamps_of S mode arrivals ticks) (run S mode arrivals ticks).state
-  pub levels : AreLast S mode arrivals ticks behind
+  -- where blockers are counted: the stamps of jobs, the last ticks of levels, and what tells the number of blockers of the
+  -- tick just done
+  pub sized : length stamps ≡ length S.tasks
+  pub stamped : counted ≡ true → AreListed S stamps (stamps_of S mode arrivals ticks) (run S mode arrivals ticks).state
+  pub levels : counted ≡ true → AreLast S mode arrivals ticks behind
   pub low : begun.level ≤ MAX_TASK_PRIORITY
-  pub counted : 1 ≤ ticks → number_since behind begun ≡ blockers_at S mode arrivals (ticks - 1)
+  pub numbered : counted ≡ true → 1 ≤ ticks → number_since behind begun ≡ blockers_at S mode arrivals (ticks - 1)

@@ -1,6 +1,6 @@
 //! OSEK/VDX OS: alarms; error handling, ErrorHook. The first phase of a tick: counters advance, and due alarms act.
 
-ghost use Rattle.std.specs.Prelude.{◌≡◌, ◌<◌, ◌≤◌, ◌+◌, ◌++◌, ◌-◌, false, length};
+ghost use Rattle.std.specs.Prelude.{◌≡◌, ◌<◌, ◌≤◌, ◌+◌, ◌++◌, ◌-◌, false, true, length};
 ghost use Rattle.osek_base.specs.Proper.{IsProper};
 ghost use Rattle.osek_base.specs.State.{Words};
 ghost use Rattle.osek_base.specs.Tick.{error_record};
@@ -11,31 +11,32 @@ ghost use Rattle.kernel.specs.Run.{AreAhead, at_tick};
 ghost use Rattle.blocking_laws.specs.Looks.{alarm_looked, alarm_phase_looked};
 ghost use Rattle.kernel.specs.Looking.{AreCounted, acts_on};
 
-use crate::stamping::{looked_at, seen};
+use crate::blockers::Blockers;
+use crate::ready_since::ReadySince;
+use crate::stamping::seen;
 use alarms::DueList;
 use osek_base::{
     Action, AlarmId, Instr, MAX_ALARMS, MAX_RECORDS, MAX_TICKS, Service, Source, Status, System,
     TaskId, TickRecord, TraceEvent,
 };
-use readiness::JobStamps;
 use ready_queues::ReadyQueues;
 use services::Core;
 
 /// Counters advance, and the due alarms act in declaration order. In the first tick the counters stand, and none is due.
 /// `due` is room for these alarms.
 #[inline(always)]
-pub fn alarm_phase<Q: ReadyQueues>(
+pub fn alarm_phase<Q: ReadyQueues, B: Blockers>(
     core: &mut Core<'_, Q>,
     system: &System,
     due: &mut DueList,
-    stamps: &mut JobStamps,
+    stamps: &mut ReadySince<B>,
     tick: u32,
     record_of_tick: &mut TickRecord,
 )
     requires proper { IsProper system.now }
     requires system { core.old.system ≡ system.now }
     requires stamps { length stamps.old ≡ length system.now.tasks }
-    requires counted { AreCounted stamps.old (kept_in core.old) }
+    requires counted { B.are_counted ≡ true → AreCounted stamps.old (kept_in core.old) }
     requires tick { core.old.tick ≡ tick - 1 }
     requires limit { tick < MAX_TICKS }
     requires size { length core.old.alarms ≡ length system.now.alarms }
@@ -47,7 +48,7 @@ pub fn alarm_phase<Q: ReadyQueues>(
     ensures kept { (w : Words) → kept_of w core.new ≡ (alarm_phase_in system.now (kept_of w (at_tick core.old tick))).state }
     ensures events { (w : Words) → record_of_tick.new ≡ record_of_tick.old ++ (alarm_phase_in system.now (kept_of w (at_tick core.old tick))).events }
     ensures few { length record_of_tick.new ≤ MAX_ALARMS }
-    ensures stamps { stamps.new ≡ alarm_phase_looked system.now tick (kept_in (at_tick core.old tick)) stamps.old }
+    ensures stamps { B.are_counted ≡ true → stamps.new ≡ alarm_phase_looked system.now tick (kept_in (at_tick core.old tick)) stamps.old }
     ensures sized { length stamps.new ≡ length stamps.old }
 {
     if 0 < tick {
@@ -57,18 +58,18 @@ pub fn alarm_phase<Q: ReadyQueues>(
 
 /// The next tick begins: counters advance, and the due alarms act in declaration order.
 #[inline(always)]
-fn advance<Q: ReadyQueues>(
+fn advance<Q: ReadyQueues, B: Blockers>(
     core: &mut Core<'_, Q>,
     system: &System,
     due: &mut DueList,
-    stamps: &mut JobStamps,
+    stamps: &mut ReadySince<B>,
     tick: u32,
     record_of_tick: &mut TickRecord,
 )
     requires proper { IsProper system.now }
     requires system { core.old.system ≡ system.now }
     requires stamps { length stamps.old ≡ length system.now.tasks }
-    requires counted { AreCounted stamps.old (kept_in core.old) }
+    requires counted { B.are_counted ≡ true → AreCounted stamps.old (kept_in core.old) }
     requires last { core.old.tick + 1 < MAX_TICKS }
     requires ready { runner_waits (kept_in core.old) ≡ false }
     requires room { length record_of_tick.old ≤ 0 }
@@ -76,7 +77,7 @@ fn advance<Q: ReadyQueues>(
     ensures kept { (w : Words) → kept_of w core.new ≡ (alarm_phase_in system.now (kept_of w (at_tick core.old (core.old.tick + 1)))).state }
     ensures events { (w : Words) → record_of_tick.new ≡ record_of_tick.old ++ (alarm_phase_in system.now (kept_of w (at_tick core.old (core.old.tick + 1)))).events }
     ensures few { length record_of_tick.new ≤ MAX_ALARMS }
-    ensures stamps { stamps.new ≡ alarm_phase_looked system.now tick (kept_in (at_tick core.old (core.old.tick + 1))) stamps.old }
+    ensures stamps { B.are_counted ≡ true → stamps.new ≡ alarm_phase_looked system.now tick (kept_in (at_tick core.old (core.old.tick + 1))) stamps.old }
     ensures sized { length stamps.new ≡ length stamps.old }
 {
     core.advance(due);
@@ -98,11 +99,11 @@ fn acting_task(system: &System, alarm: AlarmId) -> TaskId
 
 /// An alarm acts, and the task on which it acts is looked at before and after.
 #[inline(never)]
-fn alarm_seen<Q: ReadyQueues>(
+fn alarm_seen<Q: ReadyQueues, B: Blockers>(
     core: &mut Core<'_, Q>,
     system: &System,
     alarm: AlarmId,
-    stamps: &mut JobStamps,
+    stamps: &mut ReadySince<B>,
     tick: u32,
     record_of_tick: &mut TickRecord,
 )
@@ -112,19 +113,19 @@ fn alarm_seen<Q: ReadyQueues>(
     requires ready { runner_waits (kept_in core.old) ≡ false }
     requires room { length record_of_tick.old < MAX_RECORDS }
     requires stamps { length stamps.old ≡ length system.now.tasks }
-    requires counted { AreCounted stamps.old (kept_in core.old) }
+    requires counted { B.are_counted ≡ true → AreCounted stamps.old (kept_in core.old) }
     ensures system { core.new.system ≡ core.old.system }
     ensures ready { runner_waits (kept_in core.new) ≡ false }
     ensures kept { (w : Words) → kept_of w core.new ≡ (alarm_acts_in system.now alarm (kept_of w core.old)).state }
     ensures events { (w : Words) → record_of_tick.new ≡ record_of_tick.old ++ (alarm_acts_in system.now alarm (kept_of w core.old)).events }
     ensures few { length record_of_tick.new ≤ length record_of_tick.old + 1 }
-    ensures stamps { stamps.new ≡ alarm_looked system.now tick alarm (kept_in core.old) stamps.old }
+    ensures stamps { B.are_counted ≡ true → stamps.new ≡ alarm_looked system.now tick alarm (kept_in core.old) stamps.old }
     ensures sized { length stamps.new ≡ length stamps.old }
-    ensures counted { AreCounted stamps.new (kept_in core.new) }
+    ensures counted { B.are_counted ≡ true → AreCounted stamps.new (kept_in core.new) }
 {
     let before = seen(core, acting_task(system, alarm));
     alarm_acts(core, system, alarm, record_of_tick);
-    looked_at(core, stamps, &before, tick);
+    stamps.looked_at(core, &before, tick);
 }
 
 /// An alarm acts: it activates a task, or sets events. A refusal is an error record of the alarm, and changes nothing.

@@ -1,6 +1,6 @@
 //! OSEK/VDX OS: alarms; interrupt processing; task management, scheduling policy. The phases of a tick before its instruction.
 
-ghost use Rattle.std.specs.Prelude.{◌≡◌, ◌≤◌, ◌+◌, ◌++◌, ◌-◌, ◌<◌, false, length};
+ghost use Rattle.std.specs.Prelude.{◌≡◌, ◌≤◌, ◌+◌, ◌++◌, ◌-◌, ◌<◌, false, true, length};
 ghost use Rattle.osek_base.specs.Proper.{IsProper};
 ghost use Rattle.osek_base.specs.State.{Words};
 ghost use Rattle.osek_base.specs.Trace.{arriving};
@@ -13,33 +13,33 @@ ghost use Rattle.kernel.specs.Looking.{AreCounted};
 
 use crate::alarm_phase::alarm_phase;
 use crate::arrival_phase::arrival_phase;
-use crate::stamping::reschedule;
+use crate::blockers::Blockers;
+use crate::ready_since::ReadySince;
+use crate::rescheduling::reschedule;
 use alarms::DueList;
-use osek_base::{Arrival, MAX_ALARMS, MAX_TICKS, System, TickRecord};
-use readiness::JobStamps;
+use osek_base::{Arrivals, MAX_ALARMS, MAX_TICKS, System, TickRecord};
 use ready_queues::ReadyQueues;
 use services::Core;
 
 /// The first four phases of a tick: alarms act, interrupts arrive, the task that is to run becomes the running one, and a
-/// routine starts. Answers how many of the list of arrivals have arrived by its end. `due` is room for the alarms that are
-/// due.
+/// routine starts. `arrived` counts how many of the arrivals have arrived. `due` is room for the alarms that are due.
 #[inline(always)]
-pub fn before_execution<Q: ReadyQueues>(
+pub fn before_execution<Q: ReadyQueues, B: Blockers>(
     core: &mut Core<'_, Q>,
     system: &System,
-    list: &[Arrival],
-    arrived: usize,
+    arrivals: &Arrivals,
+    arrived: &mut usize,
     due: &mut DueList,
-    stamps: &mut JobStamps,
+    stamps: &mut ReadySince<B>,
     tick: u32,
     record_of_tick: &mut TickRecord,
-) -> usize
+)
     requires proper { IsProper system.now }
     requires system { core.old.system ≡ system.now }
-    requires known { AreKnown system.now list.now }
-    requires left { AreLeft list.now arrived tick }
+    requires known { AreKnown system.now arrivals.now }
+    requires left { AreLeft arrivals.now arrived.old tick }
     requires stamps { length stamps.old ≡ length system.now.tasks }
-    requires counted { AreCounted stamps.old (kept_in core.old) }
+    requires counted { B.are_counted ≡ true → AreCounted stamps.old (kept_in core.old) }
     requires tick { core.old.tick ≡ tick - 1 }
     requires limit { tick < MAX_TICKS }
     requires size { length core.old.alarms ≡ length system.now.alarms }
@@ -48,16 +48,15 @@ pub fn before_execution<Q: ReadyQueues>(
     requires room { length record_of_tick.old ≤ 3 }
     requires room_later { 1 ≤ tick → length record_of_tick.old ≤ 0 }
     ensures system { core.new.system ≡ core.old.system }
-    ensures kept { (w : Words) → kept_of w core.new ≡ (before_execution_in system.now (arriving list.now tick) (kept_of w (at_tick core.old tick))).state }
-    ensures events { (w : Words) → record_of_tick.new ≡ record_of_tick.old ++ (before_execution_in system.now (arriving list.now tick) (kept_of w (at_tick core.old tick))).events }
+    ensures kept { (w : Words) → kept_of w core.new ≡ (before_execution_in system.now (arriving arrivals.now tick) (kept_of w (at_tick core.old tick))).state }
+    ensures events { (w : Words) → record_of_tick.new ≡ record_of_tick.old ++ (before_execution_in system.now (arriving arrivals.now tick) (kept_of w (at_tick core.old tick))).events }
     ensures few { length record_of_tick.new ≤ MAX_ALARMS + 2 }
-    ensures stamps { (w : Words) → stamps.new ≡ before_looked system.now tick (arriving list.now tick) (kept_of w (at_tick core.old tick)) stamps.old }
+    ensures stamps { B.are_counted ≡ true → (w : Words) → stamps.new ≡ before_looked system.now tick (arriving arrivals.now tick) (kept_of w (at_tick core.old tick)) stamps.old }
     ensures sized { length stamps.new ≡ length stamps.old }
-    ensures left { AreLeft list.now result (tick + 1) }
+    ensures left { AreLeft arrivals.now arrived.new (tick + 1) }
 {
     alarm_phase(core, system, due, stamps, tick, record_of_tick);
-    let next = arrival_phase(core, list, arrived, tick);
+    *arrived = arrival_phase(core, arrivals.list(), *arrived, tick);
     reschedule(core, stamps, tick, record_of_tick);
     core.start_routine();
-    next
 }

@@ -1,6 +1,6 @@
 //! OSEK/VDX OS: system services; the modelled processor. The fifth phase of a tick: one instruction of who executes.
 
-ghost use Rattle.std.specs.Prelude.{◌≡◌, ◌<◌, ◌≤◌, ◌+◌, ◌∷◌, ◌++◌, [], IfSome, MatchOption, false, length};
+ghost use Rattle.std.specs.Prelude.{◌≡◌, ◌<◌, ◌≤◌, ◌+◌, ◌∷◌, ◌++◌, [], IfSome, MatchOption, false, true, length};
 ghost use Rattle.osek_base.specs.declared.instr.Instr.{Instr};
 ghost use Rattle.osek_base.specs.declared.trace_event.TraceEvent.{TraceEvent};
 ghost use Rattle.osek_base.specs.Proper.{IsProper};
@@ -9,36 +9,36 @@ ghost use Rattle.osek_base.specs.Tick.{shutdown_record};
 ghost use Rattle.run_laws.proofs.Formed.{IsPlaced};
 ghost use Rattle.machine.specs.Windows.{word};
 ghost use Rattle.machine.specs.Code.{programs_of};
+ghost use Rattle.machine.specs.Packed.{instr_of, is_control, is_plain, plain_of, service_of};
 ghost use Rattle.kept_state.specs.KeptService.{ByNobody, caller_in};
 ghost use Rattle.kept_state.specs.KeptTick.{execute_phase_in};
 ghost use Rattle.kept_state.specs.Standing.{MayServe};
 ghost use Rattle.services.specs.Objects.{kept_in, kept_of};
 ghost use Rattle.services.specs.Calls.{IsExecuting, context_in};
 ghost use Rattle.kernel.specs.Run.{IsNext, executed_by, executing, next_of, ends_routine, control_context};
-ghost use Rattle.blocking_laws.specs.Looks.{named_by};
 ghost use Rattle.kernel.specs.Looking.{AreCounted, executed_by_looked, executed_looked};
 
-use crate::alarm_phase::record_error;
-use crate::stamping::{executed_since, seen_if};
-use machine::{Code, Cpu, Windows};
+use crate::blockers::Blockers;
+use crate::ready_since::ReadySince;
+use crate::service_call::serve_packed;
+use machine::{Code, Cpu, PackedInstr, Windows};
 use osek_base::{
-    Control, Instr, MAX_INSTRUCTIONS, MAX_RECORDS, MAX_TICKS, Outcome, Owner, Plain, Register,
+    Control, Instr, MAX_INSTRUCTIONS, MAX_RECORDS, MAX_TICKS, Outcome, Owner, Place, Register,
     Service, Source, System, TaskId, TickRecord, TraceEvent,
 };
-use readiness::JobStamps;
 use ready_queues::ReadyQueues;
 use services::{Call, Core};
 
 /// Who executes, the active routine or else the running task, executes one instruction; where there is neither, nobody does.
 #[tactic(auto, unfolding(kept_state::specs::KeptTick::execute_phase_in))]
 #[inline(always)]
-pub fn execute_phase<Q: ReadyQueues>(
+pub fn execute_phase<Q: ReadyQueues, B: Blockers>(
     core: &mut Core<'_, Q>,
     windows: &mut Windows,
     code: &Code,
     system: &System,
     owner: Option<Owner>,
-    stamps: &mut JobStamps,
+    stamps: &mut ReadySince<B>,
     tick: u32,
     record_of_tick: &mut TickRecord,
 )
@@ -51,13 +51,13 @@ pub fn execute_phase<Q: ReadyQueues>(
     requires who { MatchOption owner (caller_in (kept_in core.old) ≡ ByNobody) (IsExecuting (kept_in core.old)) }
     requires placed { IfSome owner (λ w. IsPlaced system.now w (context_in (kept_in core.old) w)) }
     requires stamps { length stamps.old ≡ length system.now.tasks }
-    requires counted { AreCounted stamps.old (kept_in core.old) }
+    requires counted { B.are_counted ≡ true → AreCounted stamps.old (kept_in core.old) }
     requires room { length record_of_tick.old + 2 ≤ MAX_RECORDS }
     ensures system { core.new.system ≡ core.old.system }
     ensures kept { kept_of (word windows.new) core.new ≡ (execute_phase_in system.now (kept_of (word windows.old) core.old)).state }
     ensures events { record_of_tick.new ≡ record_of_tick.old ++ (execute_phase_in system.now (kept_of (word windows.old) core.old)).events }
     ensures few { length record_of_tick.new ≤ length record_of_tick.old + 2 }
-    ensures stamps { stamps.new ≡ executed_looked system.now tick (kept_of (word windows.old) core.old) stamps.old }
+    ensures stamps { B.are_counted ≡ true → stamps.new ≡ executed_looked system.now tick (kept_of (word windows.old) core.old) stamps.old }
     ensures sized { length stamps.new ≡ length stamps.old }
 {
     match owner {
@@ -87,13 +87,13 @@ fn record_idle(record_of_tick: &mut TickRecord)
 
 /// The next instruction of who executes.
 #[inline(always)]
-fn execute<Q: ReadyQueues>(
+fn execute<Q: ReadyQueues, B: Blockers>(
     core: &mut Core<'_, Q>,
     windows: &mut Windows,
     code: &Code,
     system: &System,
     owner: Owner,
-    stamps: &mut JobStamps,
+    stamps: &mut ReadySince<B>,
     tick: u32,
     record_of_tick: &mut TickRecord,
 )
@@ -106,23 +106,24 @@ fn execute<Q: ReadyQueues>(
     requires who { IsExecuting (kept_in core.old) owner }
     requires placed { IsPlaced system.now owner (context_in (kept_in core.old) owner) }
     requires stamps { length stamps.old ≡ length system.now.tasks }
-    requires counted { AreCounted stamps.old (kept_in core.old) }
+    requires counted { B.are_counted ≡ true → AreCounted stamps.old (kept_in core.old) }
     requires room { length record_of_tick.old + 2 ≤ MAX_RECORDS }
     ensures system { core.new.system ≡ core.old.system }
     ensures kept { kept_of (word windows.new) core.new ≡ (executed_by system.now (executing core.old owner) (next_of system.now (executing core.old owner)) (word windows.old) core.old).state }
     ensures events { record_of_tick.new ≡ record_of_tick.old ++ (executed_by system.now (executing core.old owner) (next_of system.now (executing core.old owner)) (word windows.old) core.old).events }
     ensures few { length record_of_tick.new ≤ length record_of_tick.old + 2 }
-    ensures stamps { stamps.new ≡ executed_by_looked tick (next_of system.now (executing core.old owner)) (kept_in core.old) (kept_in core.new) stamps.old }
+    ensures stamps { B.are_counted ≡ true → stamps.new ≡ executed_by_looked tick (next_of system.now (executing core.old owner)) (kept_in core.old) (kept_in core.new) stamps.old }
     ensures sized { length stamps.new ≡ length stamps.old }
 {
     let cpu = core.cpu_of(owner);
-    let instr = next_instruction(code, system, &owner, &cpu);
+    let packed = next_instruction(code, system, &owner, &cpu);
     execute_instr(
         core,
         windows,
         system,
         owner,
-        instr,
+        cpu.place(),
+        packed,
         stamps,
         tick,
         record_of_tick,
@@ -131,13 +132,14 @@ fn execute<Q: ReadyQueues>(
 
 /// An instruction of who executes. Services with a status alone make, release or end jobs.
 #[inline(always)]
-fn execute_instr<Q: ReadyQueues>(
+fn execute_instr<Q: ReadyQueues, B: Blockers>(
     core: &mut Core<'_, Q>,
     windows: &mut Windows,
     system: &System,
     owner: Owner,
-    instr: Instr,
-    stamps: &mut JobStamps,
+    place: Place,
+    packed: PackedInstr,
+    stamps: &mut ReadySince<B>,
     tick: u32,
     record_of_tick: &mut TickRecord,
 )
@@ -148,42 +150,42 @@ fn execute_instr<Q: ReadyQueues>(
     requires os { core.old.suspended_os < MAX_TICKS }
     requires who { IsExecuting (kept_in core.old) owner }
     requires placed { IsPlaced system.now owner (context_in (kept_in core.old) owner) }
-    requires instruction { IsNext system.now (executing core.old owner) instr }
+    requires place { place ≡ (context_in (kept_in core.old) owner).place }
+    requires instruction { IsNext system.now (executing core.old owner) (instr_of packed) }
     requires stamps { length stamps.old ≡ length system.now.tasks }
-    requires counted { AreCounted stamps.old (kept_in core.old) }
+    requires counted { B.are_counted ≡ true → AreCounted stamps.old (kept_in core.old) }
     requires room { length record_of_tick.old + 2 ≤ MAX_RECORDS }
     ensures system { core.new.system ≡ core.old.system }
-    ensures kept { kept_of (word windows.new) core.new ≡ (executed_by system.now (executing core.old owner) instr (word windows.old) core.old).state }
-    ensures events { record_of_tick.new ≡ record_of_tick.old ++ (executed_by system.now (executing core.old owner) instr (word windows.old) core.old).events }
+    ensures kept { kept_of (word windows.new) core.new ≡ (executed_by system.now (executing core.old owner) (instr_of packed) (word windows.old) core.old).state }
+    ensures events { record_of_tick.new ≡ record_of_tick.old ++ (executed_by system.now (executing core.old owner) (instr_of packed) (word windows.old) core.old).events }
     ensures few { length record_of_tick.new ≤ length record_of_tick.old + 2 }
-    ensures stamps { stamps.new ≡ executed_by_looked tick instr (kept_in core.old) (kept_in core.new) stamps.old }
+    ensures stamps { B.are_counted ≡ true → stamps.new ≡ executed_by_looked tick (instr_of packed) (kept_in core.old) (kept_in core.new) stamps.old }
     ensures sized { length stamps.new ≡ length stamps.old }
 {
-    match instr {
-        Instr::Plain(plain) => {
-            execute_plain(core, windows, system, &owner, &plain, record_of_tick)
-        }
-        Instr::Service(service) => serve(
+    if packed.is_plain() {
+        execute_plain(core, windows, system, &owner, place, packed, record_of_tick);
+    } else if packed.is_control() {
+        execute_control(core, system, &owner, &packed.control(), record_of_tick);
+    } else {
+        serve_packed(
             core,
             system,
             owner,
-            &service,
+            place,
+            packed,
             stamps,
             tick,
             record_of_tick,
-        ),
-        Instr::Control(control) => {
-            execute_control(core, system, &owner, &control, record_of_tick)
-        }
+        );
     }
 }
 
-/// The instruction that who executes comes to.
+/// The instruction that who executes comes to, as its word.
 #[inline(always)]
-fn next_instruction(code: &Code, _system: &System, owner: &Owner, cpu: &Cpu) -> Instr
+fn next_instruction(code: &Code, _system: &System, owner: &Owner, cpu: &Cpu) -> PackedInstr
     requires code { code.now ≡ programs_of _system.now }
     requires placed { IsPlaced _system.now owner.now cpu.now }
-    ensures { IsNext _system.now (record { owner = owner.now; cpu = cpu.now }) result }
+    ensures { IsNext _system.now (record { owner = owner.now; cpu = cpu.now }) (instr_of result) }
 {
     code.fetch(*owner, cpu.place())
 }
@@ -195,122 +197,30 @@ fn execute_plain<Q: ReadyQueues>(
     windows: &mut Windows,
     _system: &System,
     owner: &Owner,
-    plain: &Plain,
+    place: Place,
+    packed: PackedInstr,
     record_of_tick: &mut TickRecord,
 )
     requires proper { IsProper _system.now }
     requires system { core.old.system ≡ _system.now }
     requires who { IsExecuting (kept_in core.old) owner.now }
     requires placed { IsPlaced _system.now owner.now (context_in (kept_in core.old) owner.now) }
-    requires instruction { IsNext _system.now (executing core.old owner.now) (Instr.Plain plain.now) }
+    requires place { place ≡ (context_in (kept_in core.old) owner.now).place }
+    requires plain { is_plain (instr_of packed) ≡ true }
+    requires instruction { IsNext _system.now (executing core.old owner.now) (Instr.Plain (plain_of (instr_of packed))) }
     requires room { length record_of_tick.old < MAX_RECORDS }
     ensures system { core.new.system ≡ core.old.system }
-    ensures kept { kept_of (word windows.new) core.new ≡ (executed_by _system.now (executing core.old owner.now) (Instr.Plain plain.now) (word windows.old) core.old).state }
-    ensures events { record_of_tick.new ≡ record_of_tick.old ++ (executed_by _system.now (executing core.old owner.now) (Instr.Plain plain.now) (word windows.old) core.old).events }
+    ensures kept { kept_of (word windows.new) core.new ≡ (executed_by _system.now (executing core.old owner.now) (Instr.Plain (plain_of (instr_of packed))) (word windows.old) core.old).state }
+    ensures events { record_of_tick.new ≡ record_of_tick.old ++ (executed_by _system.now (executing core.old owner.now) (Instr.Plain (plain_of (instr_of packed))) (word windows.old) core.old).events }
     ensures few { length record_of_tick.new ≤ length record_of_tick.old + 1 }
 {
-    let place = core.cpu_of(*owner).place();
-    let effect = core.exec_plain(windows, *owner, plain);
+    let executed = core.exec_packed(windows, *owner, packed);
     record_of_tick.push(TraceEvent::Executed(
         *owner,
         place,
-        Instr::Plain(*plain),
-        Outcome::Plain(effect),
+        Instr::Plain(executed.instr),
+        Outcome::Plain(executed.effect),
     ));
-}
-
-/// A service with a status. The task on which it acts is looked at before and after.
-#[inline(never)]
-fn serve<Q: ReadyQueues>(
-    core: &mut Core<'_, Q>,
-    system: &System,
-    owner: Owner,
-    service: &Service<Register>,
-    stamps: &mut JobStamps,
-    tick: u32,
-    record_of_tick: &mut TickRecord,
-)
-    requires proper { IsProper system.now }
-    requires system { core.old.system ≡ system.now }
-    requires serves { MayServe system.now (kept_in core.old) }
-    requires all { core.old.suspended_all < MAX_TICKS }
-    requires os { core.old.suspended_os < MAX_TICKS }
-    requires who { IsExecuting (kept_in core.old) owner }
-    requires placed { IsPlaced system.now owner (context_in (kept_in core.old) owner) }
-    requires instruction { IsNext system.now (executing core.old owner) (Instr.Service service.now) }
-    requires stamps { length stamps.old ≡ length system.now.tasks }
-    requires counted { AreCounted stamps.old (kept_in core.old) }
-    requires room { length record_of_tick.old + 2 ≤ MAX_RECORDS }
-    ensures system { core.new.system ≡ core.old.system }
-    ensures kept { (w : Words) → kept_of w core.new ≡ (executed_by system.now (executing core.old owner) (Instr.Service service.now) w core.old).state }
-    ensures events { (w : Words) → record_of_tick.new ≡ record_of_tick.old ++ (executed_by system.now (executing core.old owner) (Instr.Service service.now) w core.old).events }
-    ensures few { length record_of_tick.new ≤ length record_of_tick.old + 2 }
-    ensures stamps { stamps.new ≡ executed_by_looked tick (Instr.Service service.now) (kept_in core.old) (kept_in core.new) stamps.old }
-    ensures sized { length stamps.new ≡ length stamps.old }
-{
-    let before = seen_if(core, acting_task(service));
-    let running = core.running();
-    let gone = core.is_gone();
-    execute_service(core, system, &owner, service, record_of_tick);
-    executed_since(core, stamps, &before, &running, gone, tick);
-}
-
-/// The task on which a service acts.
-#[inline(always)]
-fn acting_task(service: &Service<Register>) -> Option<TaskId>
-    ensures { result ≡ named_by (Instr.Service service.now) }
-{
-    match service {
-        Service::ActivateTask(task) => *task,
-        Service::ChainTask(task) => *task,
-        Service::SetEvent(task, _) => *task,
-        _ => None,
-    }
-}
-
-/// A service with a status, which goes to r0, with its results behind it.
-#[inline(always)]
-fn execute_service<Q: ReadyQueues>(
-    core: &mut Core<'_, Q>,
-    system: &System,
-    owner: &Owner,
-    service: &Service<Register>,
-    record_of_tick: &mut TickRecord,
-)
-    requires proper { IsProper system.now }
-    requires system { core.old.system ≡ system.now }
-    requires serves { MayServe system.now (kept_in core.old) }
-    requires all { core.old.suspended_all < MAX_TICKS }
-    requires os { core.old.suspended_os < MAX_TICKS }
-    requires who { IsExecuting (kept_in core.old) owner.now }
-    requires placed { IsPlaced system.now owner.now (context_in (kept_in core.old) owner.now) }
-    requires instruction { IsNext system.now (executing core.old owner.now) (Instr.Service service.now) }
-    requires room { length record_of_tick.old + 2 ≤ MAX_RECORDS }
-    ensures system { core.new.system ≡ core.old.system }
-    ensures kept { (w : Words) → kept_of w core.new ≡ (executed_by system.now (executing core.old owner.now) (Instr.Service service.now) w core.old).state }
-    ensures events { (w : Words) → record_of_tick.new ≡ record_of_tick.old ++ (executed_by system.now (executing core.old owner.now) (Instr.Service service.now) w core.old).events }
-    ensures few { length record_of_tick.new ≤ length record_of_tick.old + 2 }
-{
-    let place = core.cpu_of(*owner).place();
-    let answer = core.serve(*owner, service);
-    let Some(status) = answer.status else {
-        unreachable!()
-    };
-    core.answer(*owner, status, answer.results);
-    record_of_tick.push(TraceEvent::Executed(
-        *owner,
-        place,
-        Instr::Service(*service),
-        Outcome::Answer(status, answer.results),
-    ));
-    let source = Source::Owner(*owner);
-    record_error(
-        system,
-        source,
-        Instr::Service(*service),
-        status,
-        record_of_tick,
-    );
 }
 
 /// A service without a status.

@@ -1,6 +1,6 @@
 //! OSEK/VDX OS: system start-up; application modes. The kernel: boot, and ticks.
 
-ghost use Rattle.std.specs.Prelude.{◌≡◌, ◌<◌, ◌≤◌, ◌+◌, ◌-◌, ◌++◌, ◌↔◌, [], false, Some, None, IfOk, slice_index, length};
+ghost use Rattle.std.specs.Prelude.{◌≡◌, ◌<◌, ◌≤◌, ◌+◌, ◌-◌, ◌++◌, ◌↔◌, [], false, true, Some, None, IfOk, slice_index, length};
 ghost use Rattle.osek_base.specs.BlockingText.{blockers_at};
 ghost use Rattle.osek_base.specs.Names.{number_of};
 ghost use Rattle.osek_base.specs.Proper.{IsProper};
@@ -15,18 +15,20 @@ ghost use Rattle.kernel.specs.Run.{AreKnown, IsLawful, is_over, run_of};
 ghost use Rattle.blocking_laws.specs.Steps.{record_at};
 ghost use Rattle.blocking_laws.specs.Looks.{last_looked, reschedule_looked};
 
-use crate::blocking::{Begun, begin, number_since};
-use crate::boot::{BootFault, begun_stamps, booted};
+use crate::blockers::{Blockers, Counted};
+use crate::blocking::{Begun, number_since};
+use crate::boot::{BootFault, booted};
 use crate::early_phases::before_execution;
 use crate::execute_phase::execute_phase;
-use crate::stamping::reschedule;
+use crate::ready_since::ReadySince;
+use crate::rescheduling::reschedule;
 use alarms::DueList;
 use machine::{Code, Windows};
 use osek_base::{
     Arrivals, MAX_RECORDS, MAX_TICKS, ModeId, Owner, ResourceNumber, SHARED_WORDS, System,
     TickRecord, WINDOW_WORDS,
 };
-use readiness::{JobStamps, LastTicks};
+use readiness::LastTicks;
 use ready_queues::ReadyQueues;
 use services::Core;
 use std::alloc::Global;
@@ -34,8 +36,9 @@ use std::marker::Model;
 use std::mem;
 
 /// A kernel that runs a system from boot in a mode, with the interrupts of a list of arrivals, over ready queues of any kind.
+/// It counts the blockers of jobs, if it isn't told not to.
 #[derive(Drop)]
-pub struct Kernel<'s, Q: ReadyQueues> {
+pub struct Kernel<'s, Q: ReadyQueues, B: Blockers = Counted> {
     system: &'s System,
     mode: ModeId,
     arrivals: Arrivals,
@@ -47,12 +50,12 @@ pub struct Kernel<'s, Q: ReadyQueues> {
     opening: TickRecord,
     /// Room for the alarms that are due in a tick.
     due: DueList,
-    stamps: JobStamps,
+    stamps: ReadySince<B>,
     behind: LastTicks,
     begun: Begun,
 }
 
-impl<'s, Q: ReadyQueues> Model for Kernel<'s, Q> {
+impl<'s, Q: ReadyQueues, B: Blockers> Model for Kernel<'s, Q, B> {
     ghost use Rattle.kernel.specs.Keeping.{IsKept};
     ghost use Rattle.kernel.specs.Run.{Run};
 
@@ -65,7 +68,7 @@ impl<'s, Q: ReadyQueues> Model for Kernel<'s, Q> {
       ticks = k.ticks;
     } };
 
-    ghost invariant = { λ k. IsKept k.system.now k.mode k.arrivals k.ticks k.arrived k.core k.windows k.code k.opening k.stamps k.behind k.begun };
+    ghost invariant = { λ k. IsKept k.system.now k.mode k.arrivals k.ticks k.arrived k.core k.windows k.code k.opening B.are_counted k.stamps k.behind k.begun };
 }
 
 /// Puts in the records that stand before a tick's own: those of boot in tick 0, else none.
@@ -89,7 +92,7 @@ fn mode_of(system: &System, name: &str) -> Option<ModeId>
     system.names().mode(name)
 }
 
-impl<'s, Q: ReadyQueues> Kernel<'s, Q> {
+impl<'s, Q: ReadyQueues, B: Blockers> Kernel<'s, Q, B> {
     /// Boots a system in the application mode of that name. Its programs are packed here, once.
     pub fn boot(
         alloc: Global,
@@ -108,7 +111,7 @@ impl<'s, Q: ReadyQueues> Kernel<'s, Q> {
         let mut opening = TickRecord::new();
         let core = booted(alloc, system, mode, &mut opening)?;
         let code = Code::of(alloc, system)?;
-        let stamps = begun_stamps(&core, system);
+        let stamps = ReadySince::boot(&core, system);
         Ok(Kernel {
             system,
             mode,
@@ -159,12 +162,17 @@ impl<'s, Q: ReadyQueues> Kernel<'s, Q> {
     }
 
     /// The number of blockers of the job that executed in the last tick, where that was its first instruction since it became
-    /// ready.
+    /// ready. None where blockers aren't counted.
     pub fn blockers(&self) -> Option<u32>
         requires { 1 ≤ self.now.ticks }
-        ensures { result ≡ blockers_at self.now.system self.now.mode self.now.arrivals (self.now.ticks - 1) }
+        ensures counted { B.are_counted ≡ true → result ≡ blockers_at self.now.system self.now.mode self.now.arrivals (self.now.ticks - 1) }
+        ensures uncounted { B.are_counted ≡ false → result ≡ None }
     {
-        number_since(&self.behind, &self.begun)
+        if B::are_counted() {
+            number_since(&self.behind, &self.begun)
+        } else {
+            None
+        }
     }
 
     /// Does one tick, and answers its records. It takes no memory and never fails.
@@ -188,21 +196,20 @@ impl<'s, Q: ReadyQueues> Kernel<'s, Q> {
         ensures lawful { IsLawful self.new }
     {
         put_first(&mut self.opening, self.ticks, record_of_tick);
-        self.arrived = before_execution(
+        before_execution(
             &mut self.core,
             self.system,
-            self.arrivals.list(),
-            self.arrived,
+            &self.arrivals,
+            &mut self.arrived,
             &mut self.due,
             &mut self.stamps,
             self.ticks,
             record_of_tick,
         );
         let owner = self.core.executor();
-        begin(
+        self.stamps.begin(
             &self.core,
             self.system,
-            &mut self.stamps,
             &mut self.behind,
             &mut self.begun,
             self.ticks,
@@ -224,9 +231,9 @@ impl<'s, Q: ReadyQueues> Kernel<'s, Q> {
 
 /// The task that is to run becomes the running one, which is left out after ShutdownOS.
 #[inline(always)]
-fn last_phase<Q: ReadyQueues>(
+fn last_phase<Q: ReadyQueues, B: Blockers>(
     core: &mut Core<'_, Q>,
-    stamps: &mut JobStamps,
+    stamps: &mut ReadySince<B>,
     tick: u32,
     record_of_tick: &mut TickRecord,
 )
@@ -235,7 +242,8 @@ fn last_phase<Q: ReadyQueues>(
     ensures system { core.new.system ≡ core.old.system }
     ensures kept { (w : Words) → kept_of w core.new ≡ (last_phase_in core.old.system (kept_of w core.old)).state }
     ensures events { (w : Words) → record_of_tick.new ≡ record_of_tick.old ++ (last_phase_in core.old.system (kept_of w core.old)).events }
-    ensures stamps { stamps.new ≡ last_looked core.old.system tick (kept_in core.old) stamps.old }
+    ensures stamps { B.are_counted ≡ true → stamps.new ≡ last_looked core.old.system tick (kept_in core.old) stamps.old }
+    ensures sized { length stamps.new ≡ length stamps.old }
 {
     if !core.is_over() {
         dispatch_again(core, stamps, tick, record_of_tick);
@@ -244,9 +252,9 @@ fn last_phase<Q: ReadyQueues>(
 
 /// After an instruction the task that is to run becomes the running one.
 #[inline(always)]
-fn dispatch_again<Q: ReadyQueues>(
+fn dispatch_again<Q: ReadyQueues, B: Blockers>(
     core: &mut Core<'_, Q>,
-    stamps: &mut JobStamps,
+    stamps: &mut ReadySince<B>,
     tick: u32,
     record_of_tick: &mut TickRecord,
 )
@@ -255,7 +263,8 @@ fn dispatch_again<Q: ReadyQueues>(
     ensures system { core.new.system ≡ core.old.system }
     ensures kept { kept_in core.new ≡ (rescheduled core.old.system (kept_in core.old)).state }
     ensures events { record_of_tick.new ≡ record_of_tick.old ++ (rescheduled core.old.system (kept_in core.old)).events }
-    ensures stamps { stamps.new ≡ reschedule_looked core.old.system tick (kept_in core.old) stamps.old }
+    ensures stamps { B.are_counted ≡ true → stamps.new ≡ reschedule_looked core.old.system tick (kept_in core.old) stamps.old }
+    ensures sized { length stamps.new ≡ length stamps.old }
 {
     reschedule(core, stamps, tick, record_of_tick);
 }

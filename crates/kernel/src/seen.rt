@@ -11,11 +11,12 @@ ghost use Rattle.services.specs.Seen.{counts_left, routine_of};
 ghost use Rattle.kernel.specs.Run.{run_of};
 ghost use Rattle.kernel.specs.Shown.{at_last_tick, awaited_by, holder, is_held_by, oldest_job};
 
+use crate::blockers::Blockers;
 use crate::kernel::Kernel;
 use osek_base::{AlarmId, IsrId, ResId, TaskId, TaskState};
 use ready_queues::ReadyQueues;
 
-impl<'s, Q: ReadyQueues> Kernel<'s, Q> {
+impl<'s, Q: ReadyQueues, B: Blockers> Kernel<'s, Q, B> {
     /// The state of a task, as GetTaskState answers it (task management, task state model).
     pub fn task_state(&self, task: TaskId) -> TaskState
         requires { task < length self.now.system.tasks }

@@ -1,12 +1,11 @@
 //! Since which tick each job is ready: how the stamps of jobs follow what a kernel does. No part of the standards.
 
 ghost use Rattle.std.specs.Prelude.{◌≡◌, ◌<◌, ◌≤◌, ◌+◌, ◌++◌, ◌&&◌, not, IfSome, length};
-ghost use Rattle.kept_state.specs.Moves.{contender, rescheduled};
 ghost use Rattle.services.specs.Objects.{kept_in};
-ghost use Rattle.blocking_laws.specs.Looks.{ended_of, is_task, preempted_by, reschedule_looked, stamps_at};
+ghost use Rattle.blocking_laws.specs.Looks.{ended_of, is_task, preempted_by, stamps_at};
 ghost use Rattle.kernel.specs.Looking.{ended_since, looked_since, looked_since_if, seen, seen_if};
 
-use osek_base::{MAX_RECORDS, TaskId, TickRecord};
+use osek_base::TaskId;
 use readiness::JobStamps;
 use ready_queues::ReadyQueues;
 use services::Core;
@@ -86,7 +85,7 @@ fn is_that(running: &Option<TaskId>, task: TaskId) -> bool
 
 /// A job that ran, and neither ended nor waits, is ready again where its task runs no more.
 #[inline(always)]
-fn preempted<Q: ReadyQueues>(
+pub fn preempted<Q: ReadyQueues>(
     core: &Core<'_, Q>,
     stamps: &mut JobStamps,
     runner: Option<TaskId>,
@@ -100,50 +99,6 @@ fn preempted<Q: ReadyQueues>(
             stamps.stamp(task, tick);
         }
     }
-}
-
-/// The task that is to run becomes the running one, as in `Core::reschedule`. Nothing is done where it is known to run
-/// already.
-#[inline(always)]
-pub fn reschedule<Q: ReadyQueues>(
-    core: &mut Core<'_, Q>,
-    stamps: &mut JobStamps,
-    tick: u32,
-    record_of_tick: &mut TickRecord,
-)
-    requires room { length record_of_tick.old + 2 ≤ MAX_RECORDS }
-    requires size { length stamps.old ≡ length core.old.system.tasks }
-    ensures system { core.new.system ≡ core.old.system }
-    ensures kept { kept_in core.new ≡ (rescheduled core.old.system (kept_in core.old)).state }
-    ensures events { record_of_tick.new ≡ record_of_tick.old ++ (rescheduled core.old.system (kept_in core.old)).events }
-    ensures few { length record_of_tick.new ≤ length record_of_tick.old + 2 }
-    ensures stamps { stamps.new ≡ reschedule_looked core.old.system tick (kept_in core.old) stamps.old }
-    ensures sized { length stamps.new ≡ length stamps.old }
-{
-    if !core.is_dispatched() {
-        reschedule_anew(core, stamps, tick, record_of_tick);
-    }
-}
-
-/// The task that is to run becomes the running one.
-#[inline(never)]
-fn reschedule_anew<Q: ReadyQueues>(
-    core: &mut Core<'_, Q>,
-    stamps: &mut JobStamps,
-    tick: u32,
-    record_of_tick: &mut TickRecord,
-)
-    requires room { length record_of_tick.old + 2 ≤ MAX_RECORDS }
-    requires size { length stamps.old ≡ length core.old.system.tasks }
-    ensures system { core.new.system ≡ core.old.system }
-    ensures kept { kept_in core.new ≡ (rescheduled core.old.system (kept_in core.old)).state }
-    ensures events { record_of_tick.new ≡ record_of_tick.old ++ (rescheduled core.old.system (kept_in core.old)).events }
-    ensures few { length record_of_tick.new ≤ length record_of_tick.old + 2 }
-    ensures stamps { stamps.new ≡ reschedule_looked core.old.system tick (kept_in core.old) stamps.old }
-    ensures sized { length stamps.new ≡ length stamps.old }
-{
-    let runner = core.reschedule(record_of_tick);
-    preempted(core, stamps, runner, tick);
 }
 
 /// After an instruction: the job of the task that ran may have ended, and the task on which the instruction acts, which was

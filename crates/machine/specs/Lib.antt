@@ -1,4 +1,5 @@
 pub mod Windows
 pub mod Execution
 pub mod Packing
+pub mod Packed
 pub mod Code

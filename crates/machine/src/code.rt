@@ -3,9 +3,11 @@
 ghost use Rattle.std.specs.Prelude.{◌≡◌, ◌<◌, IfOk, length, map};
 ghost use Rattle.osek_base.specs.System.{instruction_in, Task as Configured, Routine as ConfiguredRoutine};
 ghost use Rattle.machine.specs.Code.{program_in, programs_of};
+ghost use Rattle.machine.specs.Packed.{instr_of};
 
+use crate::packed_instr::PackedInstr;
 use crate::packed_program::PackedProgram;
-use osek_base::{Instr, Owner, Place, Routine, System, Task};
+use osek_base::{Owner, Place, Routine, System, Task};
 use std::alloc::{AllocError, Global};
 use std::marker::Model;
 
@@ -37,11 +39,11 @@ impl Code {
         })
     }
 
-    /// The instruction at a place of a task's or routine's program: one word is read and unpacked.
+    /// The instruction at a place of a task's or routine's program: one word is read.
     #[inline(always)]
-    pub fn fetch(&self, owner: Owner, place: Place) -> Instr
+    pub fn fetch(&self, owner: Owner, place: Place) -> PackedInstr
         requires { place < length (program_in self.now owner) }
-        ensures { result ≡ instruction_in (program_in self.now owner) place }
+        ensures { instr_of result ≡ instruction_in (program_in self.now owner) place }
     {
         self.program(owner).at(place)
     }

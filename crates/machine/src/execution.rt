@@ -1,13 +1,15 @@
 //! The plain instructions.
 
-ghost use Rattle.std.specs.Prelude.{◌≡◌, ◌<◌, ◌+◌, ◌%◌, ℕ};
+ghost use Rattle.std.specs.Prelude.{◌≡◌, ◌<◌, ◌+◌, ◌%◌, ℕ, true};
 ghost use Rattle.osek_base.specs.declared.ids.Owner.{Owner};
 ghost use Rattle.osek_base.specs.Instruction.{plain, sets, operate, holds};
 ghost use Rattle.osek_base.specs.State.{words_after};
 ghost use Rattle.machine.specs.Windows.{word};
 ghost use Rattle.machine.specs.Execution.{HasNext};
+ghost use Rattle.machine.specs.Packed.{instr_of, is_plain, plain_of};
 
 use crate::cpu::Cpu;
+use crate::packed_instr::PackedInstr;
 use crate::windows::Windows;
 use osek_base::{
     Comparison, Effect, MAX_INSTRUCTIONS, Operation, Owner, Plain, Register, WINDOW_WORDS,
@@ -55,6 +57,33 @@ pub fn exec_plain(cpu: &mut Cpu, windows: &mut Windows, owner: Owner, instructio
             Effect::Nothing
         }
     }
+}
+
+/// A plain instruction that was executed, and what it did.
+#[derive(Clone, Copy, Debug)]
+pub struct Executed {
+    pub instr: Plain,
+    pub effect: Effect,
+}
+
+/// Executes the plain instruction of a word, as [`exec_plain`].
+#[inline(always)]
+pub fn exec_packed(
+    cpu: &mut Cpu,
+    windows: &mut Windows,
+    owner: Owner,
+    packed: PackedInstr,
+) -> Executed
+    requires plain { is_plain (instr_of packed) ≡ true }
+    requires next { HasNext (plain_of (instr_of packed)) cpu.old }
+    ensures instr { result.instr ≡ plain_of (instr_of packed) }
+    ensures effect { result.effect ≡ (plain (plain_of (instr_of packed)) cpu.old (word windows.old owner)).effect }
+    ensures context { cpu.new ≡ (plain (plain_of (instr_of packed)) cpu.old (word windows.old owner)).context }
+    ensures words { (o : Owner) (i : ℕ) → word windows.new o i ≡ words_after (word windows.old) owner result.effect o i }
+{
+    let instr = packed.plain();
+    let effect = exec_plain(cpu, windows, owner, &instr);
+    Executed { instr, effect }
 }
 
 /// Gives a register a value, which is shown, and goes on.

@@ -5,6 +5,7 @@ mod code;
 mod cpu;
 mod execution;
 mod fields;
+mod packed_instr;
 mod packed_program;
 mod packing;
 mod unpacking;
@@ -12,7 +13,8 @@ mod windows;
 
 pub use code::Code;
 pub use cpu::Cpu;
-pub use execution::exec_plain;
+pub use execution::{Executed, exec_packed, exec_plain};
+pub use packed_instr::PackedInstr;
 pub use packing::pack;
 pub use unpacking::unpack;
 pub use windows::Windows;

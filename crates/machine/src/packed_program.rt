@@ -3,10 +3,11 @@
 ghost use Rattle.std.specs.Prelude.{◌≡◌, ◌<◌, IfOk, Some, length, slice_index_or};
 ghost use Rattle.osek_base.specs.System.{instruction_in};
 ghost use Rattle.machine.specs.Code.{meant};
+ghost use Rattle.machine.specs.Packed.{instr_of};
 
+use crate::packed_instr::PackedInstr;
 use crate::packing::pack;
-use crate::unpacking::decode;
-use osek_base::{Instr, Place, Program};
+use osek_base::{Place, Program};
 use std::alloc::{AllocError, Global};
 use std::marker::Model;
 
@@ -40,12 +41,12 @@ impl PackedProgram {
         Ok(PackedProgram { words })
     }
 
-    /// The instruction at a place.
+    /// The instruction at a place, as its word.
     #[inline(always)]
-    pub fn at(&self, place: Place) -> Instr
+    pub fn at(&self, place: Place) -> PackedInstr
         requires { place < length self.now }
-        ensures { result ≡ instruction_in self.now place }
+        ensures { instr_of result ≡ instruction_in self.now place }
     {
-        decode(self.words[place.number() as usize])
+        PackedInstr::new(self.words[place.number() as usize])
     }
 }

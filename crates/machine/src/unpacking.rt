@@ -40,7 +40,6 @@ pub fn unpack(word: u64) -> Option<Instr>
 }
 
 /// The instruction that a word tells, where it is known to be the word of one: what isn't used is not looked at.
-#[inline(always)]
 pub fn decode(word: u64) -> Instr
     ensures { result ≡ instr_at (fields_in word) }
 {
@@ -48,7 +47,6 @@ pub fn decode(word: u64) -> Instr
 }
 
 /// What fields tell, whatever stands in those that aren't used; 0 for a number beyond its limit.
-#[inline(always)]
 fn instr_at(fields: &Fields) -> Instr
     ensures { result ≡ instr_at fields.now }
 {
@@ -61,8 +59,9 @@ fn instr_at(fields: &Fields) -> Instr
     }
 }
 
+/// What fields tell of a plain instruction.
 #[inline(always)]
-fn plain_at(fields: &Fields) -> Plain
+pub fn plain_at(fields: &Fields) -> Plain
     ensures { result ≡ plain_at fields.now }
 {
     match fields.operation {
@@ -84,8 +83,9 @@ fn plain_at(fields: &Fields) -> Plain
     }
 }
 
+/// What fields tell of a service with a status.
 #[inline(always)]
-fn service_at(fields: &Fields) -> Service<Register>
+pub fn service_at(fields: &Fields) -> Service<Register>
     ensures { result ≡ service_at fields.now }
 {
     match fields.operation {
@@ -120,8 +120,9 @@ fn service_at(fields: &Fields) -> Service<Register>
     }
 }
 
+/// What fields tell of a service without a status.
 #[inline(never)]
-fn control_at(fields: &Fields) -> Control
+pub fn control_at(fields: &Fields) -> Control
     ensures { result ≡ control_at fields.now }
 {
     match fields.operation {

@@ -1,6 +1,6 @@
 //! OSEK/VDX OS: system services. Who calls: the active routine, or else the running task.
 
-ghost use Rattle.std.specs.Prelude.{◌≡◌, ◌<◌, ◌+◌, MatchOption, IfSome, ℕ, is_some, length};
+ghost use Rattle.std.specs.Prelude.{◌≡◌, ◌<◌, ◌+◌, MatchOption, IfSome, ℕ, is_some, length, true};
 ghost use Rattle.osek_base.specs.Instruction.{plain};
 ghost use Rattle.run_laws.proofs.Formed.{IsPlaced};
 ghost use Rattle.kept_state.specs.KeptService.{ByNobody, by_routine_in, caller_in, holds_any_in, is_above_ceiling_in, is_basic_in, is_outranked_in, is_own_in, may_take_in, caller_holds_in, running_number, with_caller_in, caller_ended_in, slot_given_up};
@@ -12,12 +12,11 @@ ghost use Rattle.osek_base.specs.State.{words_after};
 ghost use Rattle.osek_base.specs.Tick.{answered, at_values};
 ghost use Rattle.machine.specs.Windows.{word};
 ghost use Rattle.machine.specs.Execution.{HasNext};
+ghost use Rattle.machine.specs.Packed.{instr_of, is_plain, plain_of};
 
 use crate::objects::Objects;
-use machine::{Cpu, Windows};
-use osek_base::{
-    Effect, MAX_INSTRUCTIONS, Owner, Plain, Register, ResId, Results, Service, Status, TaskId,
-};
+use machine::{Cpu, Executed, PackedInstr, Windows};
+use osek_base::{MAX_INSTRUCTIONS, Owner, Register, ResId, Results, Service, Status, TaskId};
 use ready_queues::ReadyQueues;
 
 /// What GetTaskID answers where no task is running.
@@ -236,30 +235,37 @@ impl<'s, Q: ReadyQueues> Objects<'s, Q> {
             }
             Owner::Routine(_) => match &self.active {
                 None => unreachable!(),
-                Some(active) => active.cpu().with_values(service),
+                Some(active) => active.with_values(service),
             },
         }
     }
 
     /// A plain instruction of who executes, on its registers, its place and its window.
     #[inline(always)]
-    pub fn exec_plain(&mut self, windows: &mut Windows, owner: Owner, instr: &Plain) -> Effect
+    pub fn exec_packed(
+        &mut self,
+        windows: &mut Windows,
+        owner: Owner,
+        packed: PackedInstr,
+    ) -> Executed
         requires fit { AreFit self.old }
         requires who { IsThere self.old owner }
-        requires next { HasNext instr.now (context_in (kept_in self.old) owner) }
+        requires plain { is_plain (instr_of packed) ≡ true }
+        requires next { HasNext (plain_of (instr_of packed)) (context_in (kept_in self.old) owner) }
         ensures system { self.new.system ≡ self.old.system }
-        ensures effect { result ≡ (plain instr.now (context_in (kept_in self.old) owner) (word windows.old owner)).effect }
-        ensures words { (o : Owner) (i : ℕ) → word windows.new o i ≡ words_after (word windows.old) owner result o i }
-        ensures kept { kept_in self.new ≡ with_context_in (caller_as owner) (plain instr.now (context_in (kept_in self.old) owner) (word windows.old owner)).context (kept_in self.old) }
+        ensures instr { result.instr ≡ plain_of (instr_of packed) }
+        ensures effect { result.effect ≡ (plain (plain_of (instr_of packed)) (context_in (kept_in self.old) owner) (word windows.old owner)).effect }
+        ensures words { (o : Owner) (i : ℕ) → word windows.new o i ≡ words_after (word windows.old) owner result.effect o i }
+        ensures kept { kept_in self.new ≡ with_context_in (caller_as owner) (plain (plain_of (instr_of packed)) (context_in (kept_in self.old) owner) (word windows.old owner)).context (kept_in self.old) }
     {
         match owner {
             Owner::Task(task) => {
                 let slot = &mut self.slots[task.number() as usize];
-                slot.exec_plain(windows, owner, instr)
+                slot.exec_packed(windows, owner, packed)
             }
             Owner::Routine(_) => match &mut self.active {
                 None => unreachable!(),
-                Some(active) => active.exec_plain(windows, owner, *instr),
+                Some(active) => active.exec_packed(windows, owner, packed),
             },
         }
     }

@@ -8,15 +8,16 @@ ghost use Rattle.osek_base.specs.Instruction.{plain};
 ghost use Rattle.osek_base.specs.State.{interrupts_off, words_after};
 ghost use Rattle.machine.specs.Windows.{word};
 ghost use Rattle.machine.specs.Execution.{HasNext};
-ghost use Rattle.osek_base.specs.Tick.{moved, routine_choice};
+ghost use Rattle.machine.specs.Packed.{instr_of, is_plain, plain_of};
+ghost use Rattle.osek_base.specs.Tick.{at_values, moved, routine_choice};
 ghost use Rattle.kept_state.specs.KeptService.{bare};
 ghost use Rattle.kept_state.specs.KeptTick.{controlled_in, routine_started_in, start_phase_in};
 ghost use Rattle.kept_state.specs.Moves.{may_dispatch_in};
 ghost use Rattle.services.specs.Objects.{kept_in};
 
 use crate::objects::Objects;
-use machine::{Cpu, Windows, exec_plain};
-use osek_base::{Control, Effect, IsrId, Owner, Plain, System};
+use machine::{Cpu, Executed, PackedInstr, Windows, exec_packed};
+use osek_base::{Control, IsrId, Owner, Register, Service, System};
 use ready_queues::ReadyQueues;
 use std::marker::Model;
 
@@ -45,13 +46,28 @@ impl Active {
 
     /// A plain instruction of the routine, on its registers, its place and its owner's window.
     #[inline(never)]
-    pub fn exec_plain(&mut self, windows: &mut Windows, owner: Owner, instr: Plain) -> Effect
-        requires { HasNext instr self.old.context }
-        ensures effect { result ≡ (plain instr self.old.context (word windows.old owner)).effect }
-        ensures words { (o : Owner) (i : ℕ) → word windows.new o i ≡ words_after (word windows.old) owner result o i }
-        ensures context { self.new ≡ moved (plain instr self.old.context (word windows.old owner)).context self.old }
+    pub fn exec_packed(
+        &mut self,
+        windows: &mut Windows,
+        owner: Owner,
+        packed: PackedInstr,
+    ) -> Executed
+        requires plain { is_plain (instr_of packed) ≡ true }
+        requires next { HasNext (plain_of (instr_of packed)) self.old.context }
+        ensures instr { result.instr ≡ plain_of (instr_of packed) }
+        ensures effect { result.effect ≡ (plain (plain_of (instr_of packed)) self.old.context (word windows.old owner)).effect }
+        ensures words { (o : Owner) (i : ℕ) → word windows.new o i ≡ words_after (word windows.old) owner result.effect o i }
+        ensures context { self.new ≡ moved (plain (plain_of (instr_of packed)) self.old.context (word windows.old owner)).context self.old }
     {
-        exec_plain(&mut self.cpu, windows, owner, &instr)
+        exec_packed(&mut self.cpu, windows, owner, packed)
+    }
+
+    /// A service of a program with the values of the routine's registers.
+    #[inline(never)]
+    pub fn with_values(&self, service: &Service<Register>) -> Service<u32>
+        ensures { result ≡ at_values self.now.context service.now }
+    {
+        self.cpu.with_values(service)
     }
 
     /// The routine gets other registers and another place.

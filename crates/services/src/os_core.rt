@@ -8,6 +8,7 @@ ghost use Rattle.osek_base.specs.State.{Words, shared_window, words_after};
 ghost use Rattle.machine.specs.Windows.{word};
 ghost use Rattle.osek_base.specs.Tick.{answered, at_values};
 ghost use Rattle.machine.specs.Execution.{HasNext};
+ghost use Rattle.machine.specs.Packed.{instr_of, is_plain, plain_of};
 ghost use Rattle.osek_base.specs.Alarm.{due_alarms, alarms_advanced};
 ghost use Rattle.osek_base.specs.Trace.{starting_alarms};
 ghost use Rattle.run_laws.proofs.Formed.{IsPlaced};
@@ -24,11 +25,10 @@ ghost use Rattle.services.specs.Calls.{IsExecuting, IsKnown, IsKnownCall, IsTher
 use crate::calls::{Answer, Call};
 use crate::objects::Objects;
 use alarms::DueList;
-use machine::{Cpu, Windows};
+use machine::{Cpu, Executed, PackedInstr, Windows};
 use osek_base::{
-    AlarmId, Effect, IsrId, MAX_ACTIVATION, MAX_INSTRUCTIONS, MAX_RECORDS, MAX_TICKS, ModeId,
-    Owner, Plain, Register, ResourceNumber, Results, SHARED_WORDS, Service, Status, System, TaskId,
-    TickRecord,
+    AlarmId, IsrId, MAX_ACTIVATION, MAX_INSTRUCTIONS, MAX_RECORDS, MAX_TICKS, ModeId, Owner,
+    Register, ResourceNumber, Results, SHARED_WORDS, Service, Status, System, TaskId, TickRecord,
 };
 use ready_queues::ReadyQueues;
 use std::alloc::{AllocError, Global};
@@ -63,12 +63,14 @@ fn stays_known(known: bool, answer: &Answer) -> bool
     known && answer.is_refusal()
 }
 
-/// Whether a reschedule is known to change nothing after one, which could dispatch or not.
+/// After a reschedule, another is known to change nothing where it could dispatch.
 #[inline(always)]
-fn becomes_known(known: bool, could: bool) -> bool
-    ensures { result ≡ (known || could) }
+fn becomes_known(known: &mut bool, could: bool)
+    ensures { known.new ≡ (known.old || could) }
 {
-    known || could
+    if could {
+        *known = true;
+    }
 }
 
 impl<'s, Q: ReadyQueues> Core<'s, Q> {
@@ -247,7 +249,7 @@ impl<'s, Q: ReadyQueues> Core<'s, Q> {
     {
         let runner = self.objects.contender();
         let could = self.objects.reschedule(&runner, record_of_tick);
-        self.is_dispatched = becomes_known(self.is_dispatched, could);
+        becomes_known(&mut self.is_dispatched, could);
         runner
     }
 
@@ -300,16 +302,23 @@ impl<'s, Q: ReadyQueues> Core<'s, Q> {
 
     /// A plain instruction of who executes, on its registers, its place and its window.
     #[inline(always)]
-    pub fn exec_plain(&mut self, windows: &mut Windows, owner: Owner, instr: &Plain) -> Effect
+    pub fn exec_packed(
+        &mut self,
+        windows: &mut Windows,
+        owner: Owner,
+        packed: PackedInstr,
+    ) -> Executed
         requires who { IsExecuting (kept_in self.old) owner }
-        requires next { HasNext instr.now (context_in (kept_in self.old) owner) }
-        requires placed { IsPlaced self.old.system owner (plain instr.now (context_in (kept_in self.old) owner) (word windows.old owner)).context }
+        requires plain { is_plain (instr_of packed) ≡ true }
+        requires next { HasNext (plain_of (instr_of packed)) (context_in (kept_in self.old) owner) }
+        requires placed { IsPlaced self.old.system owner (plain (plain_of (instr_of packed)) (context_in (kept_in self.old) owner) (word windows.old owner)).context }
         ensures system { self.new.system ≡ self.old.system }
-        ensures effect { result ≡ (plain instr.now (context_in (kept_in self.old) owner) (word windows.old owner)).effect }
-        ensures words { (o : Owner) (i : ℕ) → word windows.new o i ≡ words_after (word windows.old) owner result o i }
-        ensures kept { kept_in self.new ≡ with_context_in (caller_as owner) (plain instr.now (context_in (kept_in self.old) owner) (word windows.old owner)).context (kept_in self.old) }
+        ensures instr { result.instr ≡ plain_of (instr_of packed) }
+        ensures effect { result.effect ≡ (plain (plain_of (instr_of packed)) (context_in (kept_in self.old) owner) (word windows.old owner)).effect }
+        ensures words { (o : Owner) (i : ℕ) → word windows.new o i ≡ words_after (word windows.old) owner result.effect o i }
+        ensures kept { kept_in self.new ≡ with_context_in (caller_as owner) (plain (plain_of (instr_of packed)) (context_in (kept_in self.old) owner) (word windows.old owner)).context (kept_in self.old) }
     {
-        self.objects.exec_plain(windows, owner, instr)
+        self.objects.exec_packed(windows, owner, packed)
     }
 
     /// Gives who executed other registers and another place, where it is still there.

@@ -1,6 +1,6 @@
 //! OSEK/VDX OS: task management, task state model. The control block of a task.
 
-ghost use Rattle.std.specs.Prelude.{if◌then◌else◌, ◌≡◌, ◌<◌, ◌+◌, ◌-◌, ℕ, IsFalse, is_some, length};
+ghost use Rattle.std.specs.Prelude.{if◌then◌else◌, ◌≡◌, ◌<◌, ◌+◌, ◌-◌, ℕ, IsFalse, is_some, length, true};
 ghost use Rattle.osek_base.specs.Lists.{is_empty};
 ghost use Rattle.osek_base.specs.Service.{is_met, is_resource};
 ghost use Rattle.osek_base.specs.Lists.{last_of};
@@ -11,14 +11,14 @@ ghost use Rattle.osek_base.specs.State.{words_after};
 ghost use Rattle.osek_base.specs.Tick.{answered, at_values};
 ghost use Rattle.machine.specs.Windows.{word};
 ghost use Rattle.machine.specs.Execution.{HasNext};
+ghost use Rattle.machine.specs.Packed.{instr_of, is_plain, plain_of};
 ghost use Rattle.kept_state.specs.Kept.{unbegun};
 ghost use Rattle.kept_state.specs.KeptService.{slot_given_up, slot_gets, slot_releases, slot_waiting, slot_moved, holds_in};
 ghost use Rattle.kept_state.specs.Moves.{one_more, slot_entered, slot_woken, dynamic_in};
 
-use machine::{Cpu, Windows, exec_plain};
+use machine::{Cpu, Executed, PackedInstr, Windows, exec_packed};
 use osek_base::{
-    Effect, MAX_INSTRUCTIONS, Owner, Plain, Register, ResId, Results, Service, Status, System,
-    TaskId,
+    MAX_INSTRUCTIONS, Owner, Register, ResId, Results, Service, Status, System, TaskId,
 };
 use resources::Held;
 use std::marker::Model;
@@ -211,13 +211,20 @@ impl Slot {
 
     /// A plain instruction of the oldest job, on its registers, its place and its owner's window.
     #[inline(always)]
-    pub fn exec_plain(&mut self, windows: &mut Windows, owner: Owner, instr: &Plain) -> Effect
-        requires { HasNext instr.now self.old.context }
-        ensures effect { result ≡ (plain instr.now self.old.context (word windows.old owner)).effect }
-        ensures words { (o : Owner) (i : ℕ) → word windows.new o i ≡ words_after (word windows.old) owner result o i }
-        ensures context { self.new ≡ slot_moved (plain instr.now self.old.context (word windows.old owner)).context self.old }
+    pub fn exec_packed(
+        &mut self,
+        windows: &mut Windows,
+        owner: Owner,
+        packed: PackedInstr,
+    ) -> Executed
+        requires plain { is_plain (instr_of packed) ≡ true }
+        requires next { HasNext (plain_of (instr_of packed)) self.old.context }
+        ensures instr { result.instr ≡ plain_of (instr_of packed) }
+        ensures effect { result.effect ≡ (plain (plain_of (instr_of packed)) self.old.context (word windows.old owner)).effect }
+        ensures words { (o : Owner) (i : ℕ) → word windows.new o i ≡ words_after (word windows.old) owner result.effect o i }
+        ensures context { self.new ≡ slot_moved (plain (plain_of (instr_of packed)) self.old.context (word windows.old owner)).context self.old }
     {
-        exec_plain(&mut self.cpu, windows, owner, instr)
+        exec_packed(&mut self.cpu, windows, owner, packed)
     }
     /// A service of a program with the values of the oldest job's registers.
     #[inline(always)]

@@ -44,6 +44,27 @@ fn copy_in(cells: &mut [u8; BLOCK_SIZE], start: usize, bytes: &[u8])
     cells[..start + bytes.len()][start..].copy_from_slice(bytes);
 }
 
+/// Copies as many bytes as are known when this is built over all of `places`.
+#[inline(always)]
+fn fill<const N: usize>(places: &mut [u8], bytes: &[u8; N])
+    requires { length places.old ≡ N }
+    ensures { places.new ≡ bytes.now }
+{
+    if let Some(places) = places.as_mut_array() {
+        *places = *bytes;
+    }
+}
+
+/// Writes as many bytes as are known when this is built over the cells from `start` on.
+#[inline(always)]
+fn set_places<const N: usize>(cells: &mut [u8; BLOCK_SIZE], start: usize, bytes: &[u8; N])
+    requires { start + N ≤ BLOCK_SIZE }
+    ensures front { take (start + N) cells.new ≡ take start cells.old ++ bytes.now }
+    ensures len { length cells.new ≡ BLOCK_SIZE }
+{
+    fill(&mut cells[start..start + N], bytes);
+}
+
 impl Block {
     /// A block with no byte.
     pub fn new() -> Self
@@ -98,8 +119,19 @@ impl Block {
         ensures short { length self.new ≤ length self.old + N }
     {
         let start = self.len;
-        copy_in(&mut self.cells, start, text.cells());
+        set_places(&mut self.cells, start, text.cells());
         self.len = start + text.len();
+    }
+
+    /// Appends as many bytes as are known when this is built.
+    #[inline(always)]
+    pub(crate) fn push_array<const N: usize>(&mut self, bytes: &[u8; N])
+        requires { length self.old + N ≤ BLOCK_SIZE }
+        ensures { self.new ≡ self.old ++ bytes.now }
+    {
+        let start = self.len;
+        set_places(&mut self.cells, start, bytes);
+        self.len = start + N;
     }
 
     /// Appends some bytes.

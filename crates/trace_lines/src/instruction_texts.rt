@@ -6,8 +6,9 @@ ghost use Rattle.osek_base.specs.declared.ids.Owner.{Owner};
 ghost use Rattle.trace_lines.specs.Programs.{AreTextsOf, EachAt, IsOfProgram, IsTextAt};
 
 use crate::block::{BLOCK_SIZE, Block, RECORD_SIZE};
+use crate::block_outcome::push_outcome;
 use crate::kept_text::KeptText;
-use crate::line::{push_event, push_outcome};
+use crate::line::push_event;
 use crate::program_texts::ProgramTexts;
 use crate::tick_text::TickText;
 use osek_base::{IsrId, Owner, Place, System, TaskId, TraceEvent};

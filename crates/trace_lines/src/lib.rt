@@ -2,6 +2,7 @@
 #![tactic(auto)]
 
 mod block;
+mod block_outcome;
 mod instruction_texts;
 mod kept_text;
 mod line;

@@ -16,7 +16,9 @@ ghost use Rattle.osek_base.specs.Text.{
 use crate::text::Text;
 use arrayvec::ArrayString;
 use itoa::Buffer;
-use osek_base::{Effect, Instr, Name, Names, Outcome, Owner, Place, Results, Source, TraceEvent};
+use osek_base::{
+    Effect, Instr, Name, Names, Outcome, Owner, Place, Results, Source, Status, TraceEvent,
+};
 use task_asm::instr_text;
 
 /// What a trace line is written to: it has room for whatever names of 32 bytes and numbers of 32 bits come together.
@@ -60,7 +62,7 @@ pub(crate) fn push_number<T: Text>(text: &mut T, number: u32)
 /// The digits of a number. It is called, and not written out where it is used, so that the room for them is filled with zeros
 /// in a call alone.
 #[inline(never)]
-fn push_digits<T: Text>(text: &mut T, number: u32)
+pub(crate) fn push_digits<T: Text>(text: &mut T, number: u32)
     requires { length (T.bytes text.old) + 10 ≤ T.room }
     ensures same { T.bytes text.new ≡ T.bytes text.old ++ decimal number }
     ensures short { length (T.bytes text.new) ≤ length (T.bytes text.old) + 10 }
@@ -139,7 +141,7 @@ pub(crate) fn push_executed<T: Text>(
 }
 
 #[inline(never)]
-fn push_results<T: Text>(text: &mut T, results: Results)
+pub(crate) fn push_results<T: Text>(text: &mut T, results: Results)
     requires { length (T.bytes text.old) + 35 ≤ T.room }
     ensures same { T.bytes text.new ≡ T.bytes text.old ++ results_text results }
     ensures short { length (T.bytes text.new) ≤ length (T.bytes text.old) + 35 }
@@ -162,7 +164,7 @@ fn push_results<T: Text>(text: &mut T, results: Results)
 }
 
 #[inline(always)]
-fn push_effect<T: Text>(text: &mut T, effect: Effect)
+pub(crate) fn push_effect<T: Text>(text: &mut T, effect: Effect)
     requires { length (T.bytes text.old) + 48 ≤ T.room }
     ensures same { T.bytes text.new ≡ T.bytes text.old ++ outcome_text (Outcome.Plain effect) }
     ensures short { length (T.bytes text.new) ≤ length (T.bytes text.old) + 48 }
@@ -183,7 +185,7 @@ fn push_effect<T: Text>(text: &mut T, effect: Effect)
 }
 
 #[inline(always)]
-pub(crate) fn push_outcome<T: Text>(text: &mut T, outcome: &Outcome)
+fn push_outcome<T: Text>(text: &mut T, outcome: &Outcome)
     requires { length (T.bytes text.old) + 48 ≤ T.room }
     ensures same { T.bytes text.new ≡ T.bytes text.old ++ outcome_text outcome.now }
     ensures short { length (T.bytes text.new) ≤ length (T.bytes text.old) + 48 }

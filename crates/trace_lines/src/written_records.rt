@@ -12,7 +12,7 @@ use crate::line::push_blockers;
 use crate::sink::{Sink, SinkFault};
 use crate::text::Text;
 use crate::tick_text::TickText;
-use osek_base::{TickRecord, TraceEvent};
+use osek_base::{Entry, TickRecord, TraceEvent};
 
 /// Appends the line of a record, the number of blockers where there is one, and the line's end.
 #[inline(always)]
@@ -54,7 +54,31 @@ fn write_record<S: Sink>(
     Ok(())
 }
 
-/// Writes the lines of a tick by way of the block, with the number of blockers where there is one.
+/// Writes the lines of some records of a tick by way of the block.
+#[inline(never)]
+fn write_records<S: Sink>(
+    texts: &InstructionTexts<'_>,
+    tick: &TickText,
+    number: Option<u32>,
+    entries: &[Entry],
+    text: &mut Block,
+    out: &mut S,
+) -> Result<(), SinkFault>
+    requires listed { AllByRecursion (IsOfProgram texts.now) entries.now }
+    requires fresh { S.has_failed out.old ≡ false }
+    ensures written { OnOk result (Passes (S.taken out.old) (S.taken out.new) text.old text.new (tick_text texts.now.names tick.now number entries.now)) }
+    ensures beginning { OnErr result (AppendsSome (S.taken out.old) (S.taken out.new) (text.old ++ tick_text texts.now.names tick.now number entries.now)) }
+    ensures still { OnOk result (S.has_failed out.new ≡ false) }
+    ensures failed { OnErr result (S.has_failed out.new ≡ true) }
+{
+    'records: for entry in entries {
+        write_record(texts, tick, number, entry.event(), text, out)?;
+    }
+    Ok(())
+}
+
+/// Writes the lines of a tick by way of the block, with the number of blockers where there is one. Most ticks have one record,
+/// which is written where this is called.
 #[inline(always)]
 pub fn write_tick<S: Sink>(
     texts: &InstructionTexts<'_>,
@@ -71,8 +95,11 @@ pub fn write_tick<S: Sink>(
     ensures still { OnOk result (S.has_failed out.new ≡ false) }
     ensures failed { OnErr result (S.has_failed out.new ≡ true) }
 {
-    'records: for entry in records.entries() {
-        write_record(texts, tick, number, entry.event(), text, out)?;
+    if let Some((first, rest)) = records.entries().split_first() {
+        write_record(texts, tick, number, first.event(), text, out)?;
+        if !rest.is_empty() {
+            write_records(texts, tick, number, rest, text, out)?;
+        }
     }
     Ok(())
 }

@@ -9,8 +9,9 @@ use Rattle.osek_base.specs.Tick.{Step}
 use Rattle.osek_base.specs.Trace.{Run}
 use Rattle.osek_base.specs.View.{view_records, view_lines}
 use Rattle.osek_base.specs.BlockingText.{blockers_at}
+use Rattle.blocking_laws.specs.Steps.{record_at}
 use Rattle.tracer.specs.declared.shown.Shown.{Shown}
-use Rattle.trace_lines.specs.Lines.{ended, numbered_line}
+use Rattle.trace_lines.specs.Lines.{ended, numbered_line, tick_text}
 
 -- the text of the view of a run: each line with its LF
 abbrev pub view_text : System → ℕ → Run → List ℕ
@@ -27,6 +28,11 @@ abbrev pub numbers_shown : Shown → System → ℕ → List Arrival → ℕ →
 numbers_shown Shown.All S mode arrivals t = None
 numbers_shown Shown.Blocking S mode arrivals t = blockers_at S mode arrivals t
 numbers_shown (Shown.View p) S mode arrivals t = None
+
+-- what is written of tick t of a run
+abbrev pub tick_text_shown : System → Shown → System → ℕ → List Arrival → ℕ → List ℕ
+tick_text_shown V shown S mode arrivals t =
+    tick_text V.names t (numbers_shown shown S mode arrivals t) (records_shown V shown (record_at S mode arrivals t))
 
 -- the lines of a step, where each tick has its number
 abbrev pub lines_shown : System → Shown → (ℕ → Option ℕ) → Step → List (List ℕ)

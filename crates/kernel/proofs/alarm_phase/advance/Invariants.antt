@@ -1,4 +1,4 @@
-use Rattle.std.proofs.Common.{◌≡◌, ◌≤◌, ◌+◌, false, length}
+use Rattle.std.proofs.Common.{◌≡◌, ◌≤◌, ◌+◌, true, false, length}
 use Rattle.kept_state.specs.Standing.{runner_waits}
 use Rattle.services.specs.Objects.{kept_in}
 use Rattle.kernel.specs.Looking.{AreCounted}
@@ -14,6 +14,6 @@ invariant-loop-number g l = record {
   acting : AreActing l.system l.due l.number l.initial.core l.core l.initial.record_of_tick l.record_of_tick;
   few : length l.record_of_tick ≤ length l.fn.record_of_tick + l.number;
   sized : length l.stamps ≡ length l.fn.stamps;
-  counted : AreCounted l.stamps (kept_in l.core);
-  looked : AreLooked l.system l.tick l.due l.number l.initial.core l.core l.fn.stamps l.stamps;
+  counted : g.B.Blockers.are_counted ≡ true → AreCounted l.stamps (kept_in l.core);
+  looked : g.B.Blockers.are_counted ≡ true → AreLooked l.system l.tick l.due l.number l.initial.core l.core l.fn.stamps l.stamps;
 }

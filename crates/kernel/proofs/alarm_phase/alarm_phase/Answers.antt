@@ -27,7 +27,7 @@ returns-else-tick-gt0-clause-events g c = λ w.
     (first_alarm_phase S (kept_of w (at_tick o c.args.tick)) first c.requires.size (c.requires.ahead first)))
 
 pub returns-else-tick-gt0-clause-stamps : goal.returns-else-tick-gt0-clause-stamps
-returns-else-tick-gt0-clause-stamps g c =
+returns-else-tick-gt0-clause-stamps g c = λ on.
     let S = c.args.system.now in
     let o : Objects = c.args.core.now in
     let first : c.args.tick ≡ 0 = omega (arith, c.if-tick-gt0.false) in

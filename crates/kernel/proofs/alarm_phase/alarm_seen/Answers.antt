@@ -22,7 +22,7 @@ looked_at-requires-clause-task g c =
     (acts_task S c.args.alarm (alarm S c.args.alarm).action c.requires.proper c.requires.alarm refl))
 
 pub returns-clause-counted : goal.returns-clause-counted
-returns-clause-counted g c =
+returns-clause-counted g c = λ on.
     let S = c.args.system.now in
     let o : Objects = c.args.core.now in
     let n : Objects = c.alarm_acts.new.core in
@@ -30,8 +30,8 @@ returns-clause-counted g c =
     subst (λ k. acts_on S c.args.alarm < k) (sym c.requires.stamps)
     (acts_task S c.args.alarm (alarm S c.args.alarm).action c.requires.proper c.requires.alarm refl) in
     let state = c.alarm_acts.ensures.kept no_words in
-    let looks : c.looked_at.new.stamps ≡ alarm_looked S c.args.tick c.args.alarm (kept_in o) c.args.stamps.now =
+    let looks : c.looked_at.new.self ≡ alarm_looked S c.args.tick c.args.alarm (kept_in o) c.args.stamps.now =
     acted_looked S c.args.tick c.args.alarm c.acting_task.result (kept_in o) (kept_in n) c.seen-before.result c.args.stamps.now
-    c.looked_at.new.stamps c.looked_at.ensures c.seen-before.ensures c.acting_task.ensures state in
+    c.looked_at.new.self (c.looked_at.ensures.stamps on) c.seen-before.ensures c.acting_task.ensures state in
     subst (λ (ys : StampLists). AreCounted ys (kept_in n)) (sym looks)
-    (acted_counted S c.args.tick c.args.alarm (kept_in o) (kept_in n) c.args.stamps.now c.requires.counted inside state)
+    (acted_counted S c.args.tick c.args.alarm (kept_in o) (kept_in n) c.args.stamps.now (c.requires.counted on) inside state)

@@ -42,7 +42,7 @@ returns-in-Some-clause-events g c =
     ∙ ap (λ (r : KeptRecorded). c.args.record_of_tick.now ++ r.events) (sym (execute_phase-some c.args.system.now w c.args.core.now (executing c.args.core.now c.in-Some.owner) who))
 
 pub returns-in-Some-clause-stamps : goal.returns-in-Some-clause-stamps
-returns-in-Some-clause-stamps g c =
+returns-in-Some-clause-stamps g c = λ on.
     let who = subst (Executes c.args.core.now) c.in-Some.is c.requires.who in
     executed_stamps c.args.system.now c.args.tick (word c.args.windows.now) (word c.execute.new.windows) c.args.core.now c.execute.new.core c.in-Some.owner
-    c.args.stamps.now c.execute.new.stamps who c.execute.ensures.kept c.execute.ensures.stamps
+    c.args.stamps.now c.execute.new.stamps who c.execute.ensures.kept (c.execute.ensures.stamps on)

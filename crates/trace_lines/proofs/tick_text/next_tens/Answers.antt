@@ -1,6 +1,5 @@
-use Rattle.std.proofs.Common.{◌≡◌, ℕ, ◌+◌, ◌-◌, ◌%◌, ◌<◌, ◌++◌, ◌∷◌, [], List, set, length, subst, arith}
+use Rattle.std.proofs.Common.{◌≡◌, ◌+◌, ◌-◌, ◌%◌, ◌<◌, ◌++◌, ◌∷◌, [], set, length, subst, arith}
 use Rattle.std.specs.Prelude.{decimal}
-use Rattle.trace_lines.specs.Lines.{front_digits}
 use Rattle.trace_lines.proofs.NumberLemmas.{tens_long, tens_written}
 use Rattle.trace_lines.proofs.tick_text.next_tens.Goals as goal
 

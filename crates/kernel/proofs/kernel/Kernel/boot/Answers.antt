@@ -31,11 +31,12 @@ invariant_of-result g c =
       unwritten = opening_begun S c.in-Some.mode c.args.arrivals c.booted.new.opening proper s.events;
       few = s.few;
       none_later = λ later. absurd (omega (arith, later));
-      stamped = boot_listed S c.in-Some.mode c.args.arrivals (kept_in o) c.begun_stamps-stamps.result proper
-          (ap (λ (k : Kept). k.slots) (begun_is S proper c.in-Some.mode c.args.arrivals w o none s.kept)) c.begun_stamps-stamps.ensures;
-      levels = boot_last S c.in-Some.mode c.args.arrivals c.new-3.result c.new-3.ensures;
+      sized = c.boot-stamps.ensures.size;
+      stamped = λ counting. boot_listed S c.in-Some.mode c.args.arrivals (kept_in o) c.boot-stamps.result proper
+          (ap (λ (k : Kept). k.slots) (begun_is S proper c.in-Some.mode c.args.arrivals w o none s.kept)) c.boot-stamps.ensures;
+      levels = λ counting. boot_last S c.in-Some.mode c.args.arrivals c.new-3.result c.new-3.ensures;
       low = rw c.nothing.ensures (omega arith);
-      counted = λ later. absurd (omega (arith, later));
+      numbered = λ counting later. absurd (omega (arith, later));
     }
 
 pub returns-clause-lawful : goal.returns-clause-lawful

@@ -1,9 +1,8 @@
-use Rattle.std.proofs.Common.{◌≡◌, ◌+◌, ◌++◌, List, [], length, sym, ◌∙◌, ap, subst, arith}
+use Rattle.std.proofs.Common.{◌≡◌, ◌+◌, ◌++◌, true, List, [], length, sym, ◌∙◌, ap, subst, arith}
 use Rattle.osek_base.specs.declared.arrivals.Arrival.{Arrival}
 use Rattle.osek_base.specs.declared.trace_event.TraceEvent.{TraceEvent}
 use Rattle.osek_base.specs.Trace.{arriving, run}
 use Rattle.machine.specs.Windows.{word}
-use Rattle.osek_base.specs.System.{System}
 use Rattle.kept_state.specs.Kept.{Kept}
 use Rattle.kept_state.specs.KeptTick.{before_execution_in, execute_phase_in, last_phase_in}
 use Rattle.services.specs.Objects.{Objects, kept_of}
@@ -12,40 +11,36 @@ use Rattle.blocking_laws.specs.Looks.{before_looked}
 use Rattle.blocking_laws.specs.Steps.{record_at}
 use Rattle.blocking_laws.specs.Stamps.{stamps_of}
 use Rattle.kernel.specs.Looking.{number_since}
-use Rattle.kernel.proofs.KeepingLemmas.{after_told, begun_listed, counted_of, counted_spent, levels_told, number_told, size_spent}
+use Rattle.kernel.proofs.KeepingLemmas.{after_told, begun_listed, counted_of, counted_spent, levels_told, number_told}
 use Rattle.kernel.proofs.LawLemmas.{lawful}
 use Rattle.kernel.proofs.RunLemmas.{IsGoing, going, unwritten_more}
 use Rattle.kernel.proofs.TickLemmas.{ready, size, serves, few_all, few_os, number, kept_more, records_more}
 use Rattle.kernel.proofs.kernel.Kernel.tick_into.Goals as goal
 
-pub before_execution-self-inside-requires-clause-known : goal.before_execution-self-inside-requires-clause-known
-before_execution-self-inside-requires-clause-known g c =
-    subst (AreKnown c.self.inside.system.now) (sym c.list.ensures.value) c.self.invariant.known
+pub before_execution-requires-clause-known : goal.before_execution-requires-clause-known
+before_execution-requires-clause-known g c =
+    c.self.invariant.known
 
-pub before_execution-self-inside-requires-clause-left : goal.before_execution-self-inside-requires-clause-left
-before_execution-self-inside-requires-clause-left g c =
-    let k = c.self.inside in
-    subst (λ (xs : List Arrival). AreLeft xs k.arrived k.ticks) (sym c.list.ensures.value) c.self.invariant.left
+pub before_execution-requires-clause-left : goal.before_execution-requires-clause-left
+before_execution-requires-clause-left g c =
+    c.self.invariant.left
 
-pub before_execution-self-inside-requires-clause-size : goal.before_execution-self-inside-requires-clause-size
-before_execution-self-inside-requires-clause-size g c =
+pub before_execution-requires-clause-size : goal.before_execution-requires-clause-size
+before_execution-requires-clause-size g c =
     let k = c.self.inside in
     let v = c.self.invariant in
     size k.system.now v.proper k.mode k.arrivals k.ticks (word k.windows) k.core v.kept
 
-pub before_execution-self-inside-requires-clause-stamps : goal.before_execution-self-inside-requires-clause-stamps
-before_execution-self-inside-requires-clause-stamps g c = c.self.invariant.stamped.count
-
-pub before_execution-self-inside-requires-clause-counted : goal.before_execution-self-inside-requires-clause-counted
-before_execution-self-inside-requires-clause-counted g c =
+pub before_execution-requires-clause-counted : goal.before_execution-requires-clause-counted
+before_execution-requires-clause-counted g c = λ counting.
     let k = c.self.inside in
     let v = c.self.invariant in
     let o : Objects = k.core in
     counted_of k.system.now k.stamps (stamps_of k.system.now k.mode k.arrivals k.ticks) (run k.system.now k.mode k.arrivals k.ticks).state
-    (word k.windows) (at_tick o k.ticks) v.stamped v.kept
+    (word k.windows) (at_tick o k.ticks) (v.stamped counting) v.kept
 
-pub before_execution-self-inside-requires-clause-ready : goal.before_execution-self-inside-requires-clause-ready
-before_execution-self-inside-requires-clause-ready g c =
+pub before_execution-requires-clause-ready : goal.before_execution-requires-clause-ready
+before_execution-requires-clause-ready g c =
     let k = c.self.inside in
     let v = c.self.invariant in
     ready k.system.now v.proper k.mode k.arrivals k.ticks (word k.windows) k.core v.kept
@@ -57,10 +52,9 @@ execute_phase-requires-clause-serves g c =
     let S = k.system.now in
     let w = word k.windows in
     let o : Objects = k.core in
-    let st : Objects = c.before_execution-self-inside.new.core in
+    let st : Objects = c.before_execution.new.core in
     let before : kept_of w st ≡ (before_execution_in S (arriving k.arrivals k.ticks) (kept_of w (at_tick o k.ticks))).state =
-    c.before_execution-self-inside.ensures.kept w
-    ∙ ap (λ (xs : List Arrival). (before_execution_in S (arriving xs k.ticks) (kept_of w (at_tick o k.ticks))).state) c.list.ensures.value in
+    c.before_execution.ensures.kept w in
     serves S v.proper k.mode k.arrivals k.ticks w o v.kept st before
 
 pub execute_phase-requires-clause-all : goal.execute_phase-requires-clause-all
@@ -70,10 +64,9 @@ execute_phase-requires-clause-all g c =
     let S = k.system.now in
     let w = word k.windows in
     let o : Objects = k.core in
-    let st : Objects = c.before_execution-self-inside.new.core in
+    let st : Objects = c.before_execution.new.core in
     let before : kept_of w st ≡ (before_execution_in S (arriving k.arrivals k.ticks) (kept_of w (at_tick o k.ticks))).state =
-    c.before_execution-self-inside.ensures.kept w
-    ∙ ap (λ (xs : List Arrival). (before_execution_in S (arriving xs k.ticks) (kept_of w (at_tick o k.ticks))).state) c.list.ensures.value in
+    c.before_execution.ensures.kept w in
     let on : IsGoing S k.mode k.arrivals k.ticks = going S k.mode k.arrivals k.ticks (ap is_over c.self.view_is ∙ c.requires) in
     let few = few_all S v.proper k.mode k.arrivals k.ticks w o v.kept st before in
     omega (arith, few, on.limit)
@@ -85,73 +78,29 @@ execute_phase-requires-clause-os g c =
     let S = k.system.now in
     let w = word k.windows in
     let o : Objects = k.core in
-    let st : Objects = c.before_execution-self-inside.new.core in
+    let st : Objects = c.before_execution.new.core in
     let before : kept_of w st ≡ (before_execution_in S (arriving k.arrivals k.ticks) (kept_of w (at_tick o k.ticks))).state =
-    c.before_execution-self-inside.ensures.kept w
-    ∙ ap (λ (xs : List Arrival). (before_execution_in S (arriving xs k.ticks) (kept_of w (at_tick o k.ticks))).state) c.list.ensures.value in
+    c.before_execution.ensures.kept w in
     let on : IsGoing S k.mode k.arrivals k.ticks = going S k.mode k.arrivals k.ticks (ap is_over c.self.view_is ∙ c.requires) in
     let few = few_os S v.proper k.mode k.arrivals k.ticks w o v.kept st before in
     omega (arith, few, on.limit)
 
-pub execute_phase-requires-clause-stamps : goal.execute_phase-requires-clause-stamps
-execute_phase-requires-clause-stamps g c =
-    let k = c.self.inside in
-    let v = c.self.invariant in
-    let S = k.system.now in
-    let w = word k.windows in
-    let o : Objects = k.core in
-    let st : Objects = c.before_execution-self-inside.new.core in
-    let before : kept_of w st ≡ (before_execution_in S (arriving k.arrivals k.ticks) (kept_of w (at_tick o k.ticks))).state =
-    c.before_execution-self-inside.ensures.kept w
-    ∙ ap (λ (xs : List Arrival). (before_execution_in S (arriving xs k.ticks) (kept_of w (at_tick o k.ticks))).state) c.list.ensures.value in
-    let on : IsGoing S k.mode k.arrivals k.ticks = going S k.mode k.arrivals k.ticks (ap is_over c.self.view_is ∙ c.requires) in
-    let ys = c.before_execution-self-inside.new.stamps in
-    let are = begun_listed S v.proper k.mode k.arrivals k.ticks w o v.kept on.on k.stamps ys
-    (c.before_execution-self-inside.ensures.stamps w
-    ∙ ap (λ (xs : List Arrival). before_looked S k.ticks (arriving xs k.ticks) (kept_of w (at_tick o k.ticks)) k.stamps) c.list.ensures.value)
-    v.stamped in
-    size_spent S v.proper k.mode k.arrivals k.ticks w o v.kept on.on st before ys are c.begin.new.stamps c.begin.ensures.stamps
-
 pub execute_phase-requires-clause-counted : goal.execute_phase-requires-clause-counted
-execute_phase-requires-clause-counted g c =
+execute_phase-requires-clause-counted g c = λ counting.
     let k = c.self.inside in
     let v = c.self.invariant in
     let S = k.system.now in
     let w = word k.windows in
     let o : Objects = k.core in
-    let st : Objects = c.before_execution-self-inside.new.core in
+    let st : Objects = c.before_execution.new.core in
     let before : kept_of w st ≡ (before_execution_in S (arriving k.arrivals k.ticks) (kept_of w (at_tick o k.ticks))).state =
-    c.before_execution-self-inside.ensures.kept w
-    ∙ ap (λ (xs : List Arrival). (before_execution_in S (arriving xs k.ticks) (kept_of w (at_tick o k.ticks))).state) c.list.ensures.value in
+    c.before_execution.ensures.kept w in
     let on : IsGoing S k.mode k.arrivals k.ticks = going S k.mode k.arrivals k.ticks (ap is_over c.self.view_is ∙ c.requires) in
-    let ys = c.before_execution-self-inside.new.stamps in
+    let ys = c.before_execution.new.stamps in
     let are = begun_listed S v.proper k.mode k.arrivals k.ticks w o v.kept on.on k.stamps ys
-    (c.before_execution-self-inside.ensures.stamps w
-    ∙ ap (λ (xs : List Arrival). before_looked S k.ticks (arriving xs k.ticks) (kept_of w (at_tick o k.ticks)) k.stamps) c.list.ensures.value)
-    v.stamped in
-    counted_spent S v.proper k.mode k.arrivals k.ticks w o v.kept on.on st before ys are c.begin.new.stamps c.begin.ensures.stamps
-
-pub last_phase-requires-clause-stamps : goal.last_phase-requires-clause-stamps
-last_phase-requires-clause-stamps g c =
-    let k = c.self.inside in
-    let v = c.self.invariant in
-    let S = k.system.now in
-    let w = word k.windows in
-    let o : Objects = k.core in
-    let st : Objects = c.before_execution-self-inside.new.core in
-    let before : kept_of w st ≡ (before_execution_in S (arriving k.arrivals k.ticks) (kept_of w (at_tick o k.ticks))).state =
-    c.before_execution-self-inside.ensures.kept w
-    ∙ ap (λ (xs : List Arrival). (before_execution_in S (arriving xs k.ticks) (kept_of w (at_tick o k.ticks))).state) c.list.ensures.value in
-    let on : IsGoing S k.mode k.arrivals k.ticks = going S k.mode k.arrivals k.ticks (ap is_over c.self.view_is ∙ c.requires) in
-    let ys = c.before_execution-self-inside.new.stamps in
-    let are = begun_listed S v.proper k.mode k.arrivals k.ticks w o v.kept on.on k.stamps ys
-    (c.before_execution-self-inside.ensures.stamps w
-    ∙ ap (λ (xs : List Arrival). before_looked S k.ticks (arriving xs k.ticks) (kept_of w (at_tick o k.ticks)) k.stamps) c.list.ensures.value)
-    v.stamped in
-    let ex : Objects = c.execute_phase.new.core in
-    let system_ex : ex.system ≡ S = c.execute_phase.ensures.system ∙ c.before_execution-self-inside.ensures.system ∙ v.system in
-    c.execute_phase.ensures.sized ∙ size_spent S v.proper k.mode k.arrivals k.ticks w o v.kept on.on st before ys are c.begin.new.stamps c.begin.ensures.stamps
-    ∙ ap (λ (T : System). length T.tasks) (sym system_ex)
+    (c.before_execution.ensures.stamps counting w)
+    (v.stamped counting) in
+    counted_spent S v.proper k.mode k.arrivals k.ticks w o v.kept on.on st before ys are c.begin.new.self (c.begin.ensures.stamps counting)
 
 pub invariant_of-self : goal.invariant_of-self
 invariant_of-self g c =
@@ -160,18 +109,12 @@ invariant_of-self g c =
     let S = k.system.now in
     let w = word k.windows in
     let o : Objects = k.core in
-    let st : Objects = c.before_execution-self-inside.new.core in
+    let st : Objects = c.before_execution.new.core in
     let before : kept_of w st ≡ (before_execution_in S (arriving k.arrivals k.ticks) (kept_of w (at_tick o k.ticks))).state =
-    c.before_execution-self-inside.ensures.kept w
-    ∙ ap (λ (xs : List Arrival). (before_execution_in S (arriving xs k.ticks) (kept_of w (at_tick o k.ticks))).state) c.list.ensures.value in
+    c.before_execution.ensures.kept w in
     let on : IsGoing S k.mode k.arrivals k.ticks = going S k.mode k.arrivals k.ticks (ap is_over c.self.view_is ∙ c.requires) in
-    let ys = c.before_execution-self-inside.new.stamps in
-    let are = begun_listed S v.proper k.mode k.arrivals k.ticks w o v.kept on.on k.stamps ys
-    (c.before_execution-self-inside.ensures.stamps w
-    ∙ ap (λ (xs : List Arrival). before_looked S k.ticks (arriving xs k.ticks) (kept_of w (at_tick o k.ticks)) k.stamps) c.list.ensures.value)
-    v.stamped in
     let ex : Objects = c.execute_phase.new.core in
-    let system_ex : ex.system ≡ S = c.execute_phase.ensures.system ∙ c.before_execution-self-inside.ensures.system ∙ v.system in
+    let system_ex : ex.system ≡ S = c.execute_phase.ensures.system ∙ c.before_execution.ensures.system ∙ v.system in
     let la : Objects = c.last_phase.new.core in
     let new = word c.execute_phase.new.windows in
     let done : kept_of new la ≡ (last_phase_in S (execute_phase_in S (kept_of w st)).state).state =
@@ -180,13 +123,17 @@ invariant_of-self g c =
     let at : la.tick ≡ k.ticks = number S v.proper k.mode k.arrivals k.ticks w o v.kept st before on.on new la done in
     let none : c.put_first.new.opening ≡ [] = c.put_first.ensures.after in
     let size : length c.put_first.new.opening ≡ 0 = ap (λ (r : List TraceEvent). length r) none in
+    let ys = c.before_execution.new.stamps in
+    let listed = λ (counting : g.B.Blockers.are_counted ≡ true).
+    begun_listed S v.proper k.mode k.arrivals k.ticks w o v.kept on.on k.stamps ys
+    (c.before_execution.ensures.stamps counting w)
+    (v.stamped counting) in
     record {
       system = c.last_phase.ensures.system ∙ system_ex;
       proper = v.proper;
       programs = v.programs;
       known = v.known;
-      left =
-          subst (λ (xs : List Arrival). AreLeft xs c.before_execution-self-inside.result (k.ticks + 1)) c.list.ensures.value c.before_execution-self-inside.ensures.left;
+      left = c.before_execution.ensures.left;
       tick = omega (arith, at);
       limit = omega (arith, on.limit);
       kept = kept_more S v.proper k.mode k.arrivals k.ticks w o v.kept st before on.on new la done;
@@ -194,10 +141,11 @@ invariant_of-self g c =
       unwritten = none ∙ sym (unwritten_more S k.mode k.arrivals k.ticks on.on);
       few = omega (arith, size);
       none_later = λ later. omega (arith, size);
-      stamped = after_told S v.proper k.mode k.arrivals k.ticks w o v.kept on.on st before ys are new ex c.begin.new.stamps c.execute_phase.new.stamps c.last_phase.new.stamps system_ex
-          c.execute_phase.ensures.kept c.begin.ensures.stamps c.execute_phase.ensures.stamps c.last_phase.ensures.stamps;
-      levels = levels_told S v.proper k.mode k.arrivals k.ticks w o v.kept on.on st before ys are k.behind c.begin.new.behind v.levels c.begin.ensures.behind;
-      counted = λ later. number_told S v.proper k.mode k.arrivals k.ticks w o v.kept on.on st before ys are k.behind (number_since c.begin.new.behind c.begin.new.begun) v.levels c.begin.ensures.value;
+      sized = c.last_phase.ensures.sized ∙ c.execute_phase.ensures.sized ∙ c.begin.ensures.sized ∙ c.before_execution.ensures.sized ∙ v.sized;
+      stamped = λ counting. after_told S v.proper k.mode k.arrivals k.ticks w o v.kept on.on st before ys (listed counting) new ex c.begin.new.self c.execute_phase.new.stamps c.last_phase.new.stamps system_ex
+          c.execute_phase.ensures.kept (c.begin.ensures.stamps counting) (c.execute_phase.ensures.stamps counting) (c.last_phase.ensures.stamps counting);
+      levels = λ counting. levels_told S v.proper k.mode k.arrivals k.ticks w o v.kept on.on st before ys (listed counting) k.behind c.begin.new.behind (v.levels counting) (c.begin.ensures.behind counting);
+      numbered = λ counting later. number_told S v.proper k.mode k.arrivals k.ticks w o v.kept on.on st before ys (listed counting) k.behind (number_since c.begin.new.behind c.begin.new.begun) (v.levels counting) (c.begin.ensures.value counting);
       low = c.begin.ensures.low;
     }
 
@@ -208,18 +156,16 @@ returns-clause-records g c =
     let S = k.system.now in
     let w = word k.windows in
     let o : Objects = k.core in
-    let st : Objects = c.before_execution-self-inside.new.core in
+    let st : Objects = c.before_execution.new.core in
     let before : kept_of w st ≡ (before_execution_in S (arriving k.arrivals k.ticks) (kept_of w (at_tick o k.ticks))).state =
-    c.before_execution-self-inside.ensures.kept w
-    ∙ ap (λ (xs : List Arrival). (before_execution_in S (arriving xs k.ticks) (kept_of w (at_tick o k.ticks))).state) c.list.ensures.value in
+    c.before_execution.ensures.kept w in
     let on : IsGoing S k.mode k.arrivals k.ticks = going S k.mode k.arrivals k.ticks (ap is_over c.self.view_is ∙ c.requires) in
     let ex : Objects = c.execute_phase.new.core in
-    let system_ex : ex.system ≡ S = c.execute_phase.ensures.system ∙ c.before_execution-self-inside.ensures.system ∙ v.system in
+    let system_ex : ex.system ≡ S = c.execute_phase.ensures.system ∙ c.before_execution.ensures.system ∙ v.system in
     let new = word c.execute_phase.new.windows in
-    let some = c.before_execution-self-inside.ensures.events w
-    ∙ ap (λ (xs : List Arrival). c.put_first.new.record_of_tick ++ (before_execution_in S (arriving xs k.ticks) (kept_of w (at_tick o k.ticks))).events) c.list.ensures.value in
+    let some = c.before_execution.ensures.events w in
     records_more S v.proper k.mode k.arrivals k.ticks w o v.kept st before on.on (kept_of new ex) c.put_first.new.record_of_tick
-    c.before_execution-self-inside.new.record_of_tick c.execute_phase.new.record_of_tick c.last_phase.new.record_of_tick
+    c.before_execution.new.record_of_tick c.execute_phase.new.record_of_tick c.last_phase.new.record_of_tick
     c.execute_phase.ensures.kept (c.put_first.ensures.value ∙ v.unwritten) some c.execute_phase.ensures.events
     (c.last_phase.ensures.events new ∙ ap (λ T. c.execute_phase.new.record_of_tick ++ (last_phase_in T (kept_of new ex)).events) system_ex)
     ∙ ap (λ (r : Run). record_at r.system r.mode r.arrivals r.ticks) c.self.view_is

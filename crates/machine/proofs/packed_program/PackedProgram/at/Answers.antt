@@ -4,5 +4,5 @@ use Rattle.machine.proofs.packed_program.PackedProgram.at.Goals as goal
 
 pub returns : goal.returns
 returns c =
-    c.decode.ensures
+    c.new.ensures
     ∙ decoded c.index.result.now _ (meant_at _ _ _ _ _ c.self.invariant c.self.view_is c.number.ensures.is c.requires c.index.ensures)

@@ -27,5 +27,5 @@ invariant_of-self g c =
           stands_rescheduled c.self.inside.objects c.reschedule-could.new.self c.reschedule-could.ensures.system c.self.invariant.stands c.reschedule-could.ensures.kept;
       dispatched = λ known.
           core_rescheduled c.self.inside.objects c.reschedule-could.new.self was c.reschedule-could.ensures.system c.self.invariant c.reschedule-could.ensures.kept
-          (sym (ap (λ b. was || b) c.reschedule-could.ensures.could) ∙ sym c.becomes_known-self-inside.ensures ∙ known);
+          (sym (ap (λ b. was || b) c.reschedule-could.ensures.could) ∙ sym c.becomes_known.ensures ∙ known);
     }

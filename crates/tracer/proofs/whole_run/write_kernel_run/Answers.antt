@@ -3,7 +3,7 @@ use Rattle.std.proofs.lemmas.Result.{err_from_is_err_and}
 use Rattle.tracer.specs.WholeRuns.{IsShown, RefusesStart}
 use Rattle.tracer.proofs.TraceLemmas.{shown_of, no_write_of_start}
 use Rattle.tracer.proofs.WritesLemmas.{refused}
-use Rattle.tracer.proofs.whole_run.write_run.Goals as goal
+use Rattle.tracer.proofs.whole_run.write_kernel_run.Goals as goal
 
 pub returns-in_err-kernel : goal.returns-in_err-kernel
 returns-in_err-kernel g c =

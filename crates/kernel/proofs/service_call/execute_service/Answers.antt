@@ -12,7 +12,7 @@ use Rattle.services.specs.Calls.{IsKnown, CallReply, call_in, context_in}
 use Rattle.services.proofs.CallerLemmas.{answered_still, context_still}
 use Rattle.kernel.proofs.PlaceLemmas.{service_known, service_short, service_stays, placed_known}
 use Rattle.kernel.proofs.ExecutionLemmas.{may_go_on, may_still, service_goes, service_told}
-use Rattle.kernel.proofs.execute_phase.execute_service.Goals as goal
+use Rattle.kernel.proofs.service_call.execute_service.Goals as goal
 use Rattle.osek_base.specs.Tick.{answered, at_values}
 use Rattle.kernel.specs.Run.{executing}
 
@@ -78,5 +78,5 @@ returns-clause-events g c = λ w.
     c.requires.who (sym c.in-Some.is ∙ c.serve-answer.ensures.status ∙ ap (λ (r : CallReply). r.status) by)
     (c.serve-answer.ensures.results ∙ ap (λ (r : CallReply). r.results) by)
     c.args.record_of_tick.now c.push.new.self c.record_error.new.record_of_tick
-    (c.push.ensures ∙ ap (λ (n : ℕ). c.args.record_of_tick.now ++ TraceEvent.Executed e.owner n (Instr.Service c.args.service.now) (Outcome.Answer c.in-Some.status c.serve-answer.result.results) ∷ []) (c.place-place.ensures ∙ ap (λ (x : Context). x.place) c.cpu_of.ensures))
+    (c.push.ensures ∙ ap (λ (n : ℕ). c.args.record_of_tick.now ++ TraceEvent.Executed e.owner n (Instr.Service c.args.service.now) (Outcome.Answer c.in-Some.status c.serve-answer.result.results) ∷ []) c.requires.place)
     c.record_error.ensures.events

@@ -9,7 +9,7 @@ use Rattle.blocking_laws.specs.Looks.{named_by}
 use Rattle.kernel.specs.Looking.{seen_if}
 use Rattle.kernel.proofs.BegunLemmas.{named_known, seen_known}
 use Rattle.kernel.proofs.PlaceLemmas.{placed_known}
-use Rattle.kernel.proofs.execute_phase.serve.Goals as goal
+use Rattle.kernel.proofs.service_call.serve.Goals as goal
 use Rattle.services.specs.Objects.{kept_in}
 use Rattle.kernel.specs.Run.{executing}
 

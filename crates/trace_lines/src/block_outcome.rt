@@ -1,0 +1,62 @@
+//! The outcomes of instructions in a block, no part of the standards. What nearly all lines have, a number of one digit and the
+//! sign before it, is appended as one array.
+
+ghost use Rattle.std.specs.Prelude.{◌≡◌, ◌+◌, ◌≤◌, ◌++◌, length, decimal, codes};
+ghost use Rattle.osek_base.specs.Text.{outcome_text};
+ghost use Rattle.osek_base.specs.Tick.{status_number};
+
+use crate::block::{BLOCK_SIZE, Block};
+use crate::line::{push_digits, push_effect, push_results};
+use crate::text::Text;
+use osek_base::{Effect, Outcome, Results, Status};
+
+/// Appends ` = ` and the number of a status to a block.
+#[inline(always)]
+fn push_status(text: &mut Block, status: Status)
+    requires { length text.old + 48 ≤ BLOCK_SIZE }
+    ensures same { text.new ≡ text.old ++ codes " = " ++ decimal (status_number status) }
+    ensures short { length text.new ≤ length text.old + 13 }
+{
+    let number = status.number();
+    if number < 10 {
+        text.push_array(&[b' ', b'=', b' ', b'0' + number]);
+    } else {
+        text.push_str(" = ");
+        push_digits(text, number as u32);
+    }
+}
+
+/// Appends ` -> ` and a value to a block.
+#[inline(always)]
+fn push_value(text: &mut Block, value: u32)
+    requires { length text.old + 48 ≤ BLOCK_SIZE }
+    ensures same { text.new ≡ text.old ++ codes " -> " ++ decimal value }
+    ensures short { length text.new ≤ length text.old + 14 }
+{
+    if value < 10 {
+        text.push_array(&[b' ', b'-', b'>', b' ', b'0' + value as u8]);
+    } else {
+        text.push_str(" -> ");
+        push_digits(text, value);
+    }
+}
+
+/// Appends what the line of an instruction has behind its operands.
+#[inline(always)]
+pub(crate) fn push_outcome(text: &mut Block, outcome: &Outcome)
+    requires { length text.old + 48 ≤ BLOCK_SIZE }
+    ensures same { text.new ≡ text.old ++ outcome_text outcome.now }
+    ensures short { length text.new ≤ length text.old + 48 }
+{
+    match outcome {
+        Outcome::Plain(Effect::Nothing) | Outcome::Control => {}
+        Outcome::Plain(Effect::Value(value)) => push_value(text, *value),
+        Outcome::Plain(effect) => push_effect(text, *effect),
+        Outcome::Answer(status, results) => {
+            push_status(text, *status);
+            if !matches!(results, Results::Nothing) {
+                push_results(text, *results);
+            }
+        }
+    }
+}
