@@ -1,6 +1,6 @@
 -- One instruction of who executes, as what is kept and the words show it.
 use Rattle.std.proofs.Math.Path.{fun_ext}
-use Rattle.std.proofs.Common.{◌≡◌, ℕ, Bool, true, false, List, [], ◌∷◌, ◌++◌, append_assoc, refl, sym, ◌∙◌, ap, ap₂, subst}
+use Rattle.std.proofs.Common.{◌≡◌, ℕ, Bool, true, false, List, [], ◌∷◌, refl, sym, ◌∙◌, ap, ap₂, subst}
 use Rattle.std.specs.Prelude.{Option, Some, None, is_some}
 use Rattle.std.proofs.lemmas.Bool.{false≢true}
 use Rattle.osek_base.specs.declared.ids.Owner.{Owner}
@@ -137,11 +137,10 @@ pub service_told : (S : System) (e : Execution) (call : ServiceCall) (w : Words)
     → Executes (kept_in o) e.owner e.cpu
     → Some status ≡ (call_in S (kept_in o) (Call.Service (at_values e.cpu call))).status
     → results ≡ (call_in S (kept_in o) (Call.Service (at_values e.cpu call))).results
-    → (earlier executed all : List TraceEvent)
-    → executed ≡ earlier ++ TraceEvent.Executed e.owner e.cpu.place (Instr.Service call) (Outcome.Answer status results) ∷ []
-    → all ≡ executed ++ error_record S (Source.Owner e.owner) (Instr.Service call) status
-    → all ≡ earlier ++ (executed_by S e (Instr.Service call) w o).events
-service_told S e call w o status results who status_is results_is earlier executed all one more =
+    → (behind : List TraceEvent) → behind ≡ error_record S (Source.Owner e.owner) (Instr.Service call) status
+    → TraceEvent.Executed e.owner e.cpu.place (Instr.Service call) (Outcome.Answer status results) ∷ behind
+    ≡ (executed_by S e (Instr.Service call) w o).events
+service_told S e call w o status results who status_is results_is behind more =
     let d : KeptCaller = caller_as e.owner in
     let r : KeptReply = service_in S d (kept_of w o) (at_values e.cpu call) in
     let by : service_in S (caller_in (kept_in o)) (kept_in o) (at_values e.cpu call) ≡ service_in S d (kept_in o) (at_values e.cpu call) =
@@ -151,10 +150,9 @@ service_told S e call w o status results who status_is results_is earlier execut
     let two : status ≡ (service_in S (caller_in (kept_in o)) (kept_in o) (at_values e.cpu call)).status = cc in
     let same_status : status ≡ r.status = two ∙ ap (λ (v : KeptReply). v.status) by ∙ sym (ap (λ (v : KeptReply). v.status) with) in
     let same_results : results ≡ r.results = results_is ∙ ap (λ (v : KeptReply). v.results) by ∙ sym (ap (λ (v : KeptReply). v.results) with) in
-    more ∙ ap (λ v. v ++ error_record S (Source.Owner e.owner) (Instr.Service call) status) one
-    ∙ append_assoc earlier (TraceEvent.Executed e.owner e.cpu.place (Instr.Service call) (Outcome.Answer status results) ∷ []) _
-    ∙ ap₂ (λ (a : Status) (b : Results). earlier ++ (TraceEvent.Executed e.owner e.cpu.place (Instr.Service call) (Outcome.Answer a b)
-    ∷ error_record S (Source.Owner e.owner) (Instr.Service call) a)) same_status same_results
+    ap (λ v. TraceEvent.Executed e.owner e.cpu.place (Instr.Service call) (Outcome.Answer status results) ∷ v) more
+    ∙ ap₂ (λ (a : Status) (b : Results). TraceEvent.Executed e.owner e.cpu.place (Instr.Service call) (Outcome.Answer a b)
+    ∷ error_record S (Source.Owner e.owner) (Instr.Service call) a) same_status same_results
 
 -- ---- services without a status
 

@@ -1,5 +1,5 @@
 -- A tick as its phases, and boot: what is kept and the records of a run become.
-use Rattle.std.proofs.Common.{◌≡◌, ℕ, ◌+◌, ◌≤◌, false, List, ◌++◌, length, refl, sym, ◌∙◌, ap, ap₂, subst, append_assoc, arith}
+use Rattle.std.proofs.Common.{◌≡◌, ℕ, ◌+◌, ◌≤◌, false, List, ◌∷◌, ◌++◌, length, refl, sym, ◌∙◌, ap, ap₂, subst, append_assoc, arith}
 use Rattle.std.specs.Prelude.{Option, Some, None}
 use Rattle.osek_base.specs.declared.arrivals.Arrival.{Arrival}
 use Rattle.osek_base.specs.declared.trace_event.TraceEvent.{TraceEvent}
@@ -163,21 +163,22 @@ module _ (S : System) (proper : IsProper S) (mode : ℕ) (arrivals : List Arriva
       pub kept_more : kept_of new (at_tick after (n + 1)) ≡ kept S (run S mode arrivals (n + 1)).state
       kept_more = ap (λ t. kept_of new (at_tick after (t + 1))) (sym number) ∙ sym more_is
 
-    pub records_more : (run S mode arrivals n).state.over ≡ false → (executed : Kept) (opening some middle all : List TraceEvent)
+    pub records_more : (run S mode arrivals n).state.over ≡ false → (executed : Kept) (opening some behind all : List TraceEvent)
+        → (event : TraceEvent)
         → executed ≡ (execute_phase_in S (kept_of w next)).state
         → opening ≡ (run S mode arrivals n).unwritten
         → some ≡ opening ++ (before_execution_in S (arriving arrivals n) (kept_of w (at_tick o n))).events
-        → middle ≡ some ++ (execute_phase_in S (kept_of w next)).events
-        → all ≡ middle ++ (last_phase_in S executed).events
-        → all ≡ record_at S mode arrivals n
-    records_more going executed opening some middle all done first second third fourth =
+        → event ∷ behind ≡ (execute_phase_in S (kept_of w next)).events
+        → all ≡ behind ++ (last_phase_in S executed).events
+        → some ++ event ∷ all ≡ record_at S mode arrivals n
+    records_more going executed opening some behind all event done first second third fourth =
         let begun : Kept = kept_of w (at_tick o n) in
         let early : List TraceEvent = (before_execution_in S (arriving arrivals n) begun).events in
         let during : List TraceEvent = (execute_phase_in S (kept_of w next)).events in
         let late : List TraceEvent = (last_phase_in S (execute_phase_in S (kept_of w next)).state).events in
-        fourth
-        ∙ ap₂ (λ (v : List TraceEvent) (k : Kept). v ++ (last_phase_in S k).events) (third ∙ ap (λ v. v ++ during) second) done
-        ∙ append_assoc (opening ++ early) during late ∙ append_assoc opening early (during ++ late)
+        ap₂ (λ (u v : List TraceEvent). u ++ event ∷ v) second (fourth ∙ ap (λ k. behind ++ (last_phase_in S k).events) done)
+        ∙ ap (λ v. (opening ++ early) ++ (v ++ late)) third
+        ∙ append_assoc opening early (during ++ late)
         ∙ ap (λ k. opening ++ (early ++ ((execute_phase_in S k).events ++ (last_phase_in S (execute_phase_in S k).state).events))) before
         ∙ ap (λ v. opening ++ v) (sym (tick_events S (arriving arrivals n) begun))
         ∙ ap₂ (λ (v : List TraceEvent) (k : Kept). v ++ (tick_in S (arriving arrivals n) k).events) first same

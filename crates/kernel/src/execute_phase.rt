@@ -2,6 +2,7 @@
 
 ghost use Rattle.std.specs.Prelude.{◌≡◌, ◌<◌, ◌≤◌, ◌+◌, ◌∷◌, ◌++◌, [], IfSome, MatchOption, false, true, length};
 ghost use Rattle.osek_base.specs.declared.instr.Instr.{Instr};
+ghost use Rattle.osek_base.specs.declared.trace_event.Outcome.{Outcome};
 ghost use Rattle.osek_base.specs.declared.trace_event.TraceEvent.{TraceEvent};
 ghost use Rattle.osek_base.specs.Proper.{IsProper};
 ghost use Rattle.osek_base.specs.State.{Words};
@@ -17,19 +18,21 @@ ghost use Rattle.services.specs.Objects.{kept_in, kept_of};
 ghost use Rattle.services.specs.Calls.{IsExecuting, context_in};
 ghost use Rattle.kernel.specs.Run.{IsNext, executed_by, executing, next_of, ends_routine, control_context};
 ghost use Rattle.kernel.specs.Looking.{AreCounted, executed_by_looked, executed_looked};
+ghost use Rattle.osek_base.specs.Executed.{StandsIn, idle_or_executed, executed_record};
 
 use crate::blockers::Blockers;
 use crate::ready_since::ReadySince;
 use crate::service_call::serve_packed;
 use machine::{Code, Cpu, PackedInstr, Windows};
 use osek_base::{
-    Control, Instr, MAX_INSTRUCTIONS, MAX_RECORDS, MAX_TICKS, Outcome, Owner, Place, Register,
-    Service, Source, System, TaskId, TickRecord, TraceEvent,
+    Control, Executed, MAX_INSTRUCTIONS, MAX_RECORDS, MAX_TICKS, Outcome, Owner, Place, System,
+    TickRecord, TraceEvent,
 };
 use ready_queues::ReadyQueues;
 use services::{Call, Core};
 
 /// Who executes, the active routine or else the running task, executes one instruction; where there is neither, nobody does.
+/// `behind` gets the records behind that of the instruction.
 #[tactic(auto, unfolding(kept_state::specs::KeptTick::execute_phase_in))]
 #[inline(always)]
 pub fn execute_phase<Q: ReadyQueues, B: Blockers>(
@@ -40,8 +43,8 @@ pub fn execute_phase<Q: ReadyQueues, B: Blockers>(
     owner: Option<Owner>,
     stamps: &mut ReadySince<B>,
     tick: u32,
-    record_of_tick: &mut TickRecord,
-)
+    behind: &mut TickRecord,
+) -> Option<Executed>
     requires proper { IsProper system.now }
     requires code { code.now ≡ programs_of system.now }
     requires system { core.old.system ≡ system.now }
@@ -52,37 +55,19 @@ pub fn execute_phase<Q: ReadyQueues, B: Blockers>(
     requires placed { IfSome owner (λ w. IsPlaced system.now w (context_in (kept_in core.old) w)) }
     requires stamps { length stamps.old ≡ length system.now.tasks }
     requires counted { B.are_counted ≡ true → AreCounted stamps.old (kept_in core.old) }
-    requires room { length record_of_tick.old + 2 ≤ MAX_RECORDS }
+    requires none { behind.old ≡ [] }
     ensures system { core.new.system ≡ core.old.system }
     ensures kept { kept_of (word windows.new) core.new ≡ (execute_phase_in system.now (kept_of (word windows.old) core.old)).state }
-    ensures events { record_of_tick.new ≡ record_of_tick.old ++ (execute_phase_in system.now (kept_of (word windows.old) core.old)).events }
-    ensures few { length record_of_tick.new ≤ length record_of_tick.old + 2 }
+    ensures events { idle_or_executed system.now result ∷ behind.new ≡ (execute_phase_in system.now (kept_of (word windows.old) core.old)).events }
+    ensures there { IfSome result (StandsIn system.now) }
+    ensures few { length behind.new ≤ 1 }
     ensures stamps { B.are_counted ≡ true → stamps.new ≡ executed_looked system.now tick (kept_of (word windows.old) core.old) stamps.old }
     ensures sized { length stamps.new ≡ length stamps.old }
 {
     match owner {
-        None => record_idle(record_of_tick),
-        Some(owner) => execute(
-            core,
-            windows,
-            code,
-            system,
-            owner,
-            stamps,
-            tick,
-            record_of_tick,
-        ),
+        None => None,
+        Some(owner) => Some(execute(core, windows, code, system, owner, stamps, tick, behind)),
     }
-}
-
-/// Records that nobody executes.
-#[inline(never)]
-fn record_idle(record_of_tick: &mut TickRecord)
-    requires { length record_of_tick.old < MAX_RECORDS }
-    ensures events { record_of_tick.new ≡ record_of_tick.old ++ TraceEvent.Idle ∷ [] }
-    ensures few { length record_of_tick.new ≤ length record_of_tick.old + 1 }
-{
-    record_of_tick.push(TraceEvent::Idle);
 }
 
 /// The next instruction of who executes.
@@ -95,8 +80,8 @@ fn execute<Q: ReadyQueues, B: Blockers>(
     owner: Owner,
     stamps: &mut ReadySince<B>,
     tick: u32,
-    record_of_tick: &mut TickRecord,
-)
+    behind: &mut TickRecord,
+) -> Executed
     requires proper { IsProper system.now }
     requires code { code.now ≡ programs_of system.now }
     requires system { core.old.system ≡ system.now }
@@ -107,27 +92,26 @@ fn execute<Q: ReadyQueues, B: Blockers>(
     requires placed { IsPlaced system.now owner (context_in (kept_in core.old) owner) }
     requires stamps { length stamps.old ≡ length system.now.tasks }
     requires counted { B.are_counted ≡ true → AreCounted stamps.old (kept_in core.old) }
-    requires room { length record_of_tick.old + 2 ≤ MAX_RECORDS }
+    requires none { behind.old ≡ [] }
     ensures system { core.new.system ≡ core.old.system }
     ensures kept { kept_of (word windows.new) core.new ≡ (executed_by system.now (executing core.old owner) (next_of system.now (executing core.old owner)) (word windows.old) core.old).state }
-    ensures events { record_of_tick.new ≡ record_of_tick.old ++ (executed_by system.now (executing core.old owner) (next_of system.now (executing core.old owner)) (word windows.old) core.old).events }
-    ensures few { length record_of_tick.new ≤ length record_of_tick.old + 2 }
+    ensures events { executed_record system.now result ∷ behind.new ≡ (executed_by system.now (executing core.old owner) (next_of system.now (executing core.old owner)) (word windows.old) core.old).events }
+    ensures there { StandsIn system.now result }
+    ensures few { length behind.new ≤ 1 }
     ensures stamps { B.are_counted ≡ true → stamps.new ≡ executed_by_looked tick (next_of system.now (executing core.old owner)) (kept_in core.old) (kept_in core.new) stamps.old }
     ensures sized { length stamps.new ≡ length stamps.old }
 {
     let cpu = core.cpu_of(owner);
     let packed = next_instruction(code, system, &owner, &cpu);
-    execute_instr(
-        core,
-        windows,
-        system,
-        owner,
-        cpu.place(),
-        packed,
-        stamps,
-        tick,
-        record_of_tick,
+    let place = cpu.place();
+    let outcome = execute_instr(
+        core, windows, system, owner, place, packed, stamps, tick, behind,
     );
+    Executed {
+        owner,
+        place,
+        outcome,
+    }
 }
 
 /// An instruction of who executes. Services with a status alone make, release or end jobs.
@@ -141,8 +125,8 @@ fn execute_instr<Q: ReadyQueues, B: Blockers>(
     packed: PackedInstr,
     stamps: &mut ReadySince<B>,
     tick: u32,
-    record_of_tick: &mut TickRecord,
-)
+    behind: &mut TickRecord,
+) -> Outcome
     requires proper { IsProper system.now }
     requires system { core.old.system ≡ system.now }
     requires serves { MayServe system.now (kept_in core.old) }
@@ -154,29 +138,21 @@ fn execute_instr<Q: ReadyQueues, B: Blockers>(
     requires instruction { IsNext system.now (executing core.old owner) (instr_of packed) }
     requires stamps { length stamps.old ≡ length system.now.tasks }
     requires counted { B.are_counted ≡ true → AreCounted stamps.old (kept_in core.old) }
-    requires room { length record_of_tick.old + 2 ≤ MAX_RECORDS }
+    requires none { behind.old ≡ [] }
     ensures system { core.new.system ≡ core.old.system }
     ensures kept { kept_of (word windows.new) core.new ≡ (executed_by system.now (executing core.old owner) (instr_of packed) (word windows.old) core.old).state }
-    ensures events { record_of_tick.new ≡ record_of_tick.old ++ (executed_by system.now (executing core.old owner) (instr_of packed) (word windows.old) core.old).events }
-    ensures few { length record_of_tick.new ≤ length record_of_tick.old + 2 }
+    ensures events { TraceEvent.Executed owner place (instr_of packed) result ∷ behind.new ≡ (executed_by system.now (executing core.old owner) (instr_of packed) (word windows.old) core.old).events }
+    ensures few { length behind.new ≤ 1 }
     ensures stamps { B.are_counted ≡ true → stamps.new ≡ executed_by_looked tick (instr_of packed) (kept_in core.old) (kept_in core.new) stamps.old }
     ensures sized { length stamps.new ≡ length stamps.old }
 {
     if packed.is_plain() {
-        execute_plain(core, windows, system, &owner, place, packed, record_of_tick);
+        execute_plain(core, windows, system, &owner, place, packed)
     } else if packed.is_control() {
-        execute_control(core, system, &owner, &packed.control(), record_of_tick);
+        execute_control(core, system, &owner, &packed.control(), behind);
+        Outcome::Control
     } else {
-        serve_packed(
-            core,
-            system,
-            owner,
-            place,
-            packed,
-            stamps,
-            tick,
-            record_of_tick,
-        );
+        serve_packed(core, system, owner, place, packed, stamps, tick, behind)
     }
 }
 
@@ -199,8 +175,7 @@ fn execute_plain<Q: ReadyQueues>(
     owner: &Owner,
     place: Place,
     packed: PackedInstr,
-    record_of_tick: &mut TickRecord,
-)
+) -> Outcome
     requires proper { IsProper _system.now }
     requires system { core.old.system ≡ _system.now }
     requires who { IsExecuting (kept_in core.old) owner.now }
@@ -208,19 +183,11 @@ fn execute_plain<Q: ReadyQueues>(
     requires place { place ≡ (context_in (kept_in core.old) owner.now).place }
     requires plain { is_plain (instr_of packed) ≡ true }
     requires instruction { IsNext _system.now (executing core.old owner.now) (Instr.Plain (plain_of (instr_of packed))) }
-    requires room { length record_of_tick.old < MAX_RECORDS }
     ensures system { core.new.system ≡ core.old.system }
     ensures kept { kept_of (word windows.new) core.new ≡ (executed_by _system.now (executing core.old owner.now) (Instr.Plain (plain_of (instr_of packed))) (word windows.old) core.old).state }
-    ensures events { record_of_tick.new ≡ record_of_tick.old ++ (executed_by _system.now (executing core.old owner.now) (Instr.Plain (plain_of (instr_of packed))) (word windows.old) core.old).events }
-    ensures few { length record_of_tick.new ≤ length record_of_tick.old + 1 }
+    ensures events { TraceEvent.Executed owner.now place (Instr.Plain (plain_of (instr_of packed))) result ∷ [] ≡ (executed_by _system.now (executing core.old owner.now) (Instr.Plain (plain_of (instr_of packed))) (word windows.old) core.old).events }
 {
-    let executed = core.exec_packed(windows, *owner, packed);
-    record_of_tick.push(TraceEvent::Executed(
-        *owner,
-        place,
-        Instr::Plain(executed.instr),
-        Outcome::Plain(executed.effect),
-    ));
+    Outcome::Plain(core.exec_packed(windows, *owner, packed))
 }
 
 /// A service without a status.
@@ -230,7 +197,7 @@ fn execute_control<Q: ReadyQueues>(
     system: &System,
     owner: &Owner,
     control: &Control,
-    record_of_tick: &mut TickRecord,
+    behind: &mut TickRecord,
 )
     requires proper { IsProper system.now }
     requires system { core.old.system ≡ system.now }
@@ -240,27 +207,21 @@ fn execute_control<Q: ReadyQueues>(
     requires who { IsExecuting (kept_in core.old) owner.now }
     requires placed { IsPlaced system.now owner.now (context_in (kept_in core.old) owner.now) }
     requires instruction { IsNext system.now (executing core.old owner.now) (Instr.Control control.now) }
-    requires room { length record_of_tick.old + 2 ≤ MAX_RECORDS }
+    requires none { behind.old ≡ [] }
     ensures system { core.new.system ≡ core.old.system }
     ensures kept { (w : Words) → kept_of w core.new ≡ (executed_by system.now (executing core.old owner.now) (Instr.Control control.now) w core.old).state }
-    ensures events { (w : Words) → record_of_tick.new ≡ record_of_tick.old ++ (executed_by system.now (executing core.old owner.now) (Instr.Control control.now) w core.old).events }
-    ensures few { length record_of_tick.new ≤ length record_of_tick.old + 2 }
+    ensures events { (w : Words) → TraceEvent.Executed owner.now (context_in (kept_in core.old) owner.now).place (Instr.Control control.now) Outcome.Control ∷ behind.new ≡ (executed_by system.now (executing core.old owner.now) (Instr.Control control.now) w core.old).events }
+    ensures few { length behind.new ≤ 1 }
 {
     let cpu = core.cpu_of(*owner);
     let _answer = core.call(&Call::Control(*control));
-    core.go_on(*owner, behind(control, cpu));
-    record_of_tick.push(TraceEvent::Executed(
-        *owner,
-        cpu.place(),
-        Instr::Control(*control),
-        Outcome::Control,
-    ));
-    record_shutdown(system, control, record_of_tick);
+    core.go_on(*owner, following(control, cpu));
+    record_shutdown(system, control, behind);
 }
 
 /// Where who executes a service without a status goes on: behind it, but not at the end of a routine.
 #[inline(always)]
-fn behind(control: &Control, cpu: Cpu) -> Cpu
+fn following(control: &Control, cpu: Cpu) -> Cpu
     requires { ends_routine control.now ≡ false → cpu.place + 1 < MAX_INSTRUCTIONS }
     ensures { result ≡ control_context control.now cpu }
 {

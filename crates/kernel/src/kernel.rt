@@ -1,6 +1,6 @@
 //! OSEK/VDX OS: system start-up; application modes. The kernel: boot, and ticks.
 
-ghost use Rattle.std.specs.Prelude.{◌≡◌, ◌<◌, ◌≤◌, ◌+◌, ◌-◌, ◌++◌, ◌↔◌, [], false, true, Some, None, IfOk, slice_index, length};
+ghost use Rattle.std.specs.Prelude.{◌≡◌, ◌<◌, ◌≤◌, ◌+◌, ◌-◌, ◌∷◌, ◌++◌, ◌↔◌, [], false, true, Some, None, IfOk, IfSome, slice_index, length};
 ghost use Rattle.osek_base.specs.BlockingText.{blockers_at};
 ghost use Rattle.osek_base.specs.Names.{number_of};
 ghost use Rattle.osek_base.specs.Proper.{IsProper};
@@ -12,6 +12,7 @@ ghost use Rattle.kept_state.specs.Moves.{rescheduled};
 ghost use Rattle.services.specs.Objects.{kept_in, kept_of};
 ghost use Rattle.kernel.specs.declared.boot.BootFault.{BootFault};
 ghost use Rattle.kernel.specs.Run.{AreKnown, IsLawful, is_over, run_of};
+ghost use Rattle.osek_base.specs.Executed.{StandsIn, idle_or_executed};
 ghost use Rattle.blocking_laws.specs.Steps.{record_at};
 ghost use Rattle.blocking_laws.specs.Looks.{last_looked, reschedule_looked};
 
@@ -25,8 +26,8 @@ use crate::rescheduling::reschedule;
 use alarms::DueList;
 use machine::{Code, Windows};
 use osek_base::{
-    Arrivals, MAX_RECORDS, MAX_TICKS, ModeId, Owner, ResourceNumber, SHARED_WORDS, System,
-    TickRecord, WINDOW_WORDS,
+    Arrivals, Executed, MAX_RECORDS, MAX_TICKS, ModeId, Owner, ResourceNumber, SHARED_WORDS,
+    System, TickRecord, TraceEvent, WINDOW_WORDS,
 };
 use readiness::LastTicks;
 use ready_queues::ReadyQueues;
@@ -51,7 +52,7 @@ pub struct Kernel<'s, Q: ReadyQueues, B: Blockers = Counted> {
     /// Room for the alarms that are due in a tick.
     due: DueList,
     stamps: ReadySince<B>,
-    behind: LastTicks,
+    last_ticks: LastTicks,
     begun: Begun,
 }
 
@@ -68,7 +69,7 @@ impl<'s, Q: ReadyQueues, B: Blockers> Model for Kernel<'s, Q, B> {
       ticks = k.ticks;
     } };
 
-    ghost invariant = { λ k. IsKept k.system.now k.mode k.arrivals k.ticks k.arrived k.core k.windows k.code k.opening B.are_counted k.stamps k.behind k.begun };
+    ghost invariant = { λ k. IsKept k.system.now k.mode k.arrivals k.ticks k.arrived k.core k.windows k.code k.opening B.are_counted k.stamps k.last_ticks k.begun };
 }
 
 /// Puts in the records that stand before a tick's own: those of boot in tick 0, else none.
@@ -124,9 +125,25 @@ impl<'s, Q: ReadyQueues, B: Blockers> Kernel<'s, Q, B> {
             opening,
             due: DueList::new(),
             stamps,
-            behind: LastTicks::new(),
+            last_ticks: LastTicks::new(),
             begun: Begun::nothing(),
         })
+    }
+
+    /// How many ticks are done.
+    #[inline(always)]
+    pub fn ticks(&self) -> u32
+        ensures { result ≡ self.now.ticks }
+    {
+        self.ticks
+    }
+
+    /// Whether a ShutdownOS ended the run.
+    #[inline(always)]
+    pub fn is_shut_down(&self) -> bool
+        ensures { result ≡ (run_of self.now).state.over }
+    {
+        self.core.is_over()
     }
 
     /// Whether the run is over: after a ShutdownOS, or when [`MAX_TICKS`](osek_base::MAX_TICKS) are done.
@@ -134,7 +151,7 @@ impl<'s, Q: ReadyQueues, B: Blockers> Kernel<'s, Q, B> {
     pub fn is_over(&self) -> bool
         ensures { result ≡ is_over self.now }
     {
-        MAX_TICKS <= self.ticks || self.core.is_over()
+        MAX_TICKS <= self.ticks || self.is_shut_down()
     }
 
     /// The word of a task's or routine's window.
@@ -169,7 +186,7 @@ impl<'s, Q: ReadyQueues, B: Blockers> Kernel<'s, Q, B> {
         ensures uncounted { B.are_counted ≡ false → result ≡ None }
     {
         if B::are_counted() {
-            number_since(&self.behind, &self.begun)
+            number_since(&self.last_ticks, &self.begun)
         } else {
             None
         }
@@ -183,19 +200,44 @@ impl<'s, Q: ReadyQueues, B: Blockers> Kernel<'s, Q, B> {
         ensures lawful { IsLawful self.new }
     {
         let mut record_of_tick = TickRecord::new();
-        self.tick_into(&mut record_of_tick);
+        let mut room = TickRecord::new();
+        self.tick_into(&mut record_of_tick, &mut room);
         record_of_tick
     }
 
-    /// Does one tick, and leaves its records in place of those of an earlier one. That spares making a list a tick.
-    #[inline(always)]
-    pub fn tick_into(&mut self, record_of_tick: &mut TickRecord)
+    /// Does one tick, and leaves its records in place of those of an earlier one. That spares making lists a tick; `room` is
+    /// another list to work in.
+    pub fn tick_into(&mut self, record_of_tick: &mut TickRecord, room: &mut TickRecord)
         requires { is_over self.old ≡ false }
         ensures records { record_of_tick.new ≡ record_at self.old.system self.old.mode self.old.arrivals self.old.ticks }
         ensures next { self.new ≡ record self.old { ticks = self.old.ticks + 1 } }
         ensures lawful { IsLawful self.new }
     {
-        put_first(&mut self.opening, self.ticks, record_of_tick);
+        let executed = self.tick_parts(record_of_tick, room);
+        record_of_tick.push(match executed {
+            None => TraceEvent::Idle,
+            Some(executed) => executed.record_in(self.system),
+        });
+        push_all(record_of_tick, room);
+    }
+
+    /// Does one tick, and answers what it executed. The records before and behind that of the instruction are left in two
+    /// lists, in place of those of earlier ticks; most ticks have none.
+    #[inline(always)]
+    pub fn tick_parts(
+        &mut self,
+        before: &mut TickRecord,
+        behind: &mut TickRecord,
+    ) -> Option<Executed>
+        requires { is_over self.old ≡ false }
+        ensures records { before.new ++ idle_or_executed self.old.system result ∷ behind.new ≡ record_at self.old.system self.old.mode self.old.arrivals self.old.ticks }
+        ensures there { IfSome result (StandsIn self.old.system) }
+        ensures few { length before.new + length behind.new < MAX_RECORDS }
+        ensures next { self.new ≡ record self.old { ticks = self.old.ticks + 1 } }
+        ensures lawful { IsLawful self.new }
+    {
+        put_first(&mut self.opening, self.ticks, before);
+        behind.clear();
         before_execution(
             &mut self.core,
             self.system,
@@ -204,18 +246,18 @@ impl<'s, Q: ReadyQueues, B: Blockers> Kernel<'s, Q, B> {
             &mut self.due,
             &mut self.stamps,
             self.ticks,
-            record_of_tick,
+            before,
         );
         let owner = self.core.executor();
         self.stamps.begin(
             &self.core,
             self.system,
-            &mut self.behind,
+            &mut self.last_ticks,
             &mut self.begun,
             self.ticks,
         );
         self.ticks += 1;
-        execute_phase(
+        let executed = execute_phase(
             &mut self.core,
             &mut self.windows,
             &self.code,
@@ -223,9 +265,20 @@ impl<'s, Q: ReadyQueues, B: Blockers> Kernel<'s, Q, B> {
             owner,
             &mut self.stamps,
             self.ticks,
-            record_of_tick,
+            behind,
         );
-        last_phase(&mut self.core, &mut self.stamps, self.ticks, record_of_tick);
+        last_phase(&mut self.core, &mut self.stamps, self.ticks, behind);
+        executed
+    }
+}
+
+/// Adds some records at the end.
+fn push_all(record_of_tick: &mut TickRecord, more: &TickRecord)
+    requires { length record_of_tick.old + length more.now ≤ MAX_RECORDS }
+    ensures { record_of_tick.new ≡ record_of_tick.old ++ more.now }
+{
+    for index in 0..more.len() {
+        record_of_tick.push(more.at(index));
     }
 }
 
@@ -242,6 +295,7 @@ fn last_phase<Q: ReadyQueues, B: Blockers>(
     ensures system { core.new.system ≡ core.old.system }
     ensures kept { (w : Words) → kept_of w core.new ≡ (last_phase_in core.old.system (kept_of w core.old)).state }
     ensures events { (w : Words) → record_of_tick.new ≡ record_of_tick.old ++ (last_phase_in core.old.system (kept_of w core.old)).events }
+    ensures few { length record_of_tick.new ≤ length record_of_tick.old + 2 }
     ensures stamps { B.are_counted ≡ true → stamps.new ≡ last_looked core.old.system tick (kept_in core.old) stamps.old }
     ensures sized { length stamps.new ≡ length stamps.old }
 {
@@ -263,6 +317,7 @@ fn dispatch_again<Q: ReadyQueues, B: Blockers>(
     ensures system { core.new.system ≡ core.old.system }
     ensures kept { kept_in core.new ≡ (rescheduled core.old.system (kept_in core.old)).state }
     ensures events { record_of_tick.new ≡ record_of_tick.old ++ (rescheduled core.old.system (kept_in core.old)).events }
+    ensures few { length record_of_tick.new ≤ length record_of_tick.old + 2 }
     ensures stamps { B.are_counted ≡ true → stamps.new ≡ reschedule_looked core.old.system tick (kept_in core.old) stamps.old }
     ensures sized { length stamps.new ≡ length stamps.old }
 {

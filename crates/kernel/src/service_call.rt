@@ -1,7 +1,8 @@
 //! OSEK/VDX OS: system services. An instruction that calls a service with a status.
 
-ghost use Rattle.std.specs.Prelude.{◌≡◌, ◌<◌, ◌≤◌, ◌+◌, ◌++◌, false, true, length};
+ghost use Rattle.std.specs.Prelude.{◌≡◌, ◌<◌, ◌≤◌, ◌∷◌, [], false, true, length};
 ghost use Rattle.osek_base.specs.declared.instr.Instr.{Instr};
+ghost use Rattle.osek_base.specs.declared.trace_event.TraceEvent.{TraceEvent};
 ghost use Rattle.osek_base.specs.Proper.{IsProper};
 ghost use Rattle.osek_base.specs.State.{Words};
 ghost use Rattle.run_laws.proofs.Formed.{IsPlaced};
@@ -19,8 +20,7 @@ use crate::ready_since::ReadySince;
 use crate::stamping::seen_if;
 use machine::PackedInstr;
 use osek_base::{
-    Instr, MAX_RECORDS, MAX_TICKS, Outcome, Owner, Place, Register, Service, Source, System,
-    TaskId, TickRecord, TraceEvent,
+    Instr, MAX_TICKS, Outcome, Owner, Place, Register, Service, Source, System, TaskId, TickRecord,
 };
 use ready_queues::ReadyQueues;
 use services::Core;
@@ -35,8 +35,8 @@ pub fn serve_packed<Q: ReadyQueues, B: Blockers>(
     packed: PackedInstr,
     stamps: &mut ReadySince<B>,
     tick: u32,
-    record_of_tick: &mut TickRecord,
-)
+    behind: &mut TickRecord,
+) -> Outcome
     requires proper { IsProper system.now }
     requires system { core.old.system ≡ system.now }
     requires serves { MayServe system.now (kept_in core.old) }
@@ -50,25 +50,16 @@ pub fn serve_packed<Q: ReadyQueues, B: Blockers>(
     requires instruction { IsNext system.now (executing core.old owner) (Instr.Service (service_of (instr_of packed))) }
     requires stamps { length stamps.old ≡ length system.now.tasks }
     requires counted { B.are_counted ≡ true → AreCounted stamps.old (kept_in core.old) }
-    requires room { length record_of_tick.old + 2 ≤ MAX_RECORDS }
+    requires none { behind.old ≡ [] }
     ensures system { core.new.system ≡ core.old.system }
     ensures kept { (w : Words) → kept_of w core.new ≡ (executed_by system.now (executing core.old owner) (Instr.Service (service_of (instr_of packed))) w core.old).state }
-    ensures events { (w : Words) → record_of_tick.new ≡ record_of_tick.old ++ (executed_by system.now (executing core.old owner) (Instr.Service (service_of (instr_of packed))) w core.old).events }
-    ensures few { length record_of_tick.new ≤ length record_of_tick.old + 2 }
+    ensures events { (w : Words) → TraceEvent.Executed owner place (Instr.Service (service_of (instr_of packed))) result ∷ behind.new ≡ (executed_by system.now (executing core.old owner) (Instr.Service (service_of (instr_of packed))) w core.old).events }
+    ensures few { length behind.new ≤ 1 }
     ensures stamps { B.are_counted ≡ true → stamps.new ≡ executed_by_looked tick (Instr.Service (service_of (instr_of packed))) (kept_in core.old) (kept_in core.new) stamps.old }
     ensures sized { length stamps.new ≡ length stamps.old }
 {
     let service = packed.service();
-    serve(
-        core,
-        system,
-        owner,
-        place,
-        &service,
-        stamps,
-        tick,
-        record_of_tick,
-    );
+    serve(core, system, owner, place, &service, stamps, tick, behind)
 }
 
 /// A service with a status. The task on which it acts is looked at before and after.
@@ -81,8 +72,8 @@ fn serve<Q: ReadyQueues, B: Blockers>(
     service: &Service<Register>,
     stamps: &mut ReadySince<B>,
     tick: u32,
-    record_of_tick: &mut TickRecord,
-)
+    behind: &mut TickRecord,
+) -> Outcome
     requires proper { IsProper system.now }
     requires system { core.old.system ≡ system.now }
     requires serves { MayServe system.now (kept_in core.old) }
@@ -94,19 +85,20 @@ fn serve<Q: ReadyQueues, B: Blockers>(
     requires instruction { IsNext system.now (executing core.old owner) (Instr.Service service.now) }
     requires stamps { length stamps.old ≡ length system.now.tasks }
     requires counted { B.are_counted ≡ true → AreCounted stamps.old (kept_in core.old) }
-    requires room { length record_of_tick.old + 2 ≤ MAX_RECORDS }
+    requires none { behind.old ≡ [] }
     ensures system { core.new.system ≡ core.old.system }
     ensures kept { (w : Words) → kept_of w core.new ≡ (executed_by system.now (executing core.old owner) (Instr.Service service.now) w core.old).state }
-    ensures events { (w : Words) → record_of_tick.new ≡ record_of_tick.old ++ (executed_by system.now (executing core.old owner) (Instr.Service service.now) w core.old).events }
-    ensures few { length record_of_tick.new ≤ length record_of_tick.old + 2 }
+    ensures events { (w : Words) → TraceEvent.Executed owner place (Instr.Service service.now) result ∷ behind.new ≡ (executed_by system.now (executing core.old owner) (Instr.Service service.now) w core.old).events }
+    ensures few { length behind.new ≤ 1 }
     ensures stamps { B.are_counted ≡ true → stamps.new ≡ executed_by_looked tick (Instr.Service service.now) (kept_in core.old) (kept_in core.new) stamps.old }
     ensures sized { length stamps.new ≡ length stamps.old }
 {
     let before = seen_if(core, acting_task(service));
     let running = core.running();
     let gone = core.is_gone();
-    execute_service(core, system, &owner, place, service, record_of_tick);
+    let outcome = execute_service(core, system, &owner, place, service, behind);
     stamps.executed_since(core, &before, &running, gone, tick);
+    outcome
 }
 
 /// The task on which a service acts.
@@ -122,7 +114,8 @@ fn acting_task(service: &Service<Register>) -> Option<TaskId>
     }
 }
 
-/// A service with a status, which goes to r0, with its results behind it.
+/// A service with a status, which goes to r0, with its results behind it. Of what is recorded, `behind` gets what stands behind
+/// the instruction.
 #[inline(always)]
 fn execute_service<Q: ReadyQueues>(
     core: &mut Core<'_, Q>,
@@ -130,8 +123,8 @@ fn execute_service<Q: ReadyQueues>(
     owner: &Owner,
     place: Place,
     service: &Service<Register>,
-    record_of_tick: &mut TickRecord,
-)
+    behind: &mut TickRecord,
+) -> Outcome
     requires proper { IsProper system.now }
     requires system { core.old.system ≡ system.now }
     requires serves { MayServe system.now (kept_in core.old) }
@@ -141,29 +134,18 @@ fn execute_service<Q: ReadyQueues>(
     requires placed { IsPlaced system.now owner.now (context_in (kept_in core.old) owner.now) }
     requires place { place ≡ (context_in (kept_in core.old) owner.now).place }
     requires instruction { IsNext system.now (executing core.old owner.now) (Instr.Service service.now) }
-    requires room { length record_of_tick.old + 2 ≤ MAX_RECORDS }
+    requires none { behind.old ≡ [] }
     ensures system { core.new.system ≡ core.old.system }
     ensures kept { (w : Words) → kept_of w core.new ≡ (executed_by system.now (executing core.old owner.now) (Instr.Service service.now) w core.old).state }
-    ensures events { (w : Words) → record_of_tick.new ≡ record_of_tick.old ++ (executed_by system.now (executing core.old owner.now) (Instr.Service service.now) w core.old).events }
-    ensures few { length record_of_tick.new ≤ length record_of_tick.old + 2 }
+    ensures events { (w : Words) → TraceEvent.Executed owner.now place (Instr.Service service.now) result ∷ behind.new ≡ (executed_by system.now (executing core.old owner.now) (Instr.Service service.now) w core.old).events }
+    ensures few { length behind.new ≤ 1 }
 {
     let answer = core.serve(*owner, service);
     let Some(status) = answer.status else {
         unreachable!()
     };
     core.answer(*owner, status, answer.results);
-    record_of_tick.push(TraceEvent::Executed(
-        *owner,
-        place,
-        Instr::Service(*service),
-        Outcome::Answer(status, answer.results),
-    ));
     let source = Source::Owner(*owner);
-    record_error(
-        system,
-        source,
-        Instr::Service(*service),
-        status,
-        record_of_tick,
-    );
+    record_error(system, source, Instr::Service(*service), status, behind);
+    Outcome::Answer(status, answer.results)
 }

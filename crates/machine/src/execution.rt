@@ -59,13 +59,6 @@ pub fn exec_plain(cpu: &mut Cpu, windows: &mut Windows, owner: Owner, instructio
     }
 }
 
-/// A plain instruction that was executed, and what it did.
-#[derive(Clone, Copy, Debug)]
-pub struct Executed {
-    pub instr: Plain,
-    pub effect: Effect,
-}
-
 /// Executes the plain instruction of a word, as [`exec_plain`].
 #[inline(always)]
 pub fn exec_packed(
@@ -73,17 +66,14 @@ pub fn exec_packed(
     windows: &mut Windows,
     owner: Owner,
     packed: PackedInstr,
-) -> Executed
+) -> Effect
     requires plain { is_plain (instr_of packed) ≡ true }
     requires next { HasNext (plain_of (instr_of packed)) cpu.old }
-    ensures instr { result.instr ≡ plain_of (instr_of packed) }
-    ensures effect { result.effect ≡ (plain (plain_of (instr_of packed)) cpu.old (word windows.old owner)).effect }
+    ensures effect { result ≡ (plain (plain_of (instr_of packed)) cpu.old (word windows.old owner)).effect }
     ensures context { cpu.new ≡ (plain (plain_of (instr_of packed)) cpu.old (word windows.old owner)).context }
-    ensures words { (o : Owner) (i : ℕ) → word windows.new o i ≡ words_after (word windows.old) owner result.effect o i }
+    ensures words { (o : Owner) (i : ℕ) → word windows.new o i ≡ words_after (word windows.old) owner result o i }
 {
-    let instr = packed.plain();
-    let effect = exec_plain(cpu, windows, owner, &instr);
-    Executed { instr, effect }
+    exec_plain(cpu, windows, owner, &packed.plain())
 }
 
 /// Gives a register a value, which is shown, and goes on.

@@ -13,7 +13,7 @@ mod windows;
 
 pub use code::Code;
 pub use cpu::Cpu;
-pub use execution::{Executed, exec_packed, exec_plain};
+pub use execution::{exec_packed, exec_plain};
 pub use packed_instr::PackedInstr;
 pub use packing::pack;
 pub use unpacking::unpack;

@@ -41,6 +41,8 @@ pub struct ObservedRun<'s> {
     arrived: usize,
     ticks: u32,
     records: TickRecord,
+    /// Room for a tick's records.
+    room: TickRecord,
     before: Before,
     seen: Observation,
 }
@@ -132,6 +134,7 @@ impl<'s> ObservedRun<'s> {
             arrived: 0,
             ticks: 0,
             records: TickRecord::new(),
+            room: TickRecord::new(),
             before: Before::new(),
             seen: Observation::new(),
         })
@@ -148,7 +151,7 @@ impl<'s> ObservedRun<'s> {
             return false;
         }
         self.before.note(&self.kernel, self.system, self.ticks);
-        self.kernel.tick_into(&mut self.records);
+        self.kernel.tick_into(&mut self.records, &mut self.room);
         let list = self.arrivals.as_slice();
         see(
             &self.kernel,

@@ -22,6 +22,7 @@ pub mod Trace
 pub mod Text
 pub mod Upper
 pub mod Separable
+pub mod Executed
 pub mod Agree
 pub mod View
 pub mod Blocker

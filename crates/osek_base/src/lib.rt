@@ -3,6 +3,7 @@
 
 mod arrivals;
 mod ceilings;
+mod executed;
 mod ids;
 mod instr;
 pub mod lexing;
@@ -19,6 +20,7 @@ mod trace_event;
 pub mod words;
 
 pub use arrivals::{Arrival, Arrivals};
+pub use executed::Executed;
 pub use ids::{
     AlarmId, CounterId, IsrId, ModeId, Owner, Place, Register, ResId, ResourceNumber, TaskId,
 };

@@ -9,11 +9,11 @@ use osek_base::TaskId;
 use std::alloc::{AllocError, Global};
 use std::marker::Model;
 
-/// A ring of tasks, and a slot before it for the task that was put oldest. Contracts see the
-/// tasks, first the one in the slot, and how many the ring can hold.
+/// A ring of tasks, and a slot before it for the first task, which is empty after that one was
+/// taken. Contracts see the tasks, first the one in the slot, and how many the ring can hold.
 #[derive(Drop)]
 pub struct Level {
-    oldest: Option<TaskId>,
+    first: Option<TaskId>,
     ring: HeapCircularBuffer<TaskId>,
 }
 
@@ -28,7 +28,7 @@ impl Model for Level {
 
     ghost use Rattle.ready_queues.specs.Level.{slot_and_ring};
 
-    ghost view = { λ a. buffer (slot_and_ring a.oldest a.ring.items) a.ring.capacity };
+    ghost view = { λ a. buffer (slot_and_ring a.first a.ring.items) a.ring.capacity };
 }
 
 impl Level {
@@ -37,7 +37,7 @@ impl Level {
         ensures { IfOk result (λ level. level ≡ buffer [] count) }
     {
         let ring = HeapCircularBuffer::with_capacity(alloc, count)?;
-        Ok(Level { oldest: None, ring })
+        Ok(Level { first: None, ring })
     }
 
     /// Whether it has no task.
@@ -45,16 +45,20 @@ impl Level {
     pub fn is_empty(&self) -> bool
         ensures { result ≡ is_empty self.now.items }
     {
-        self.oldest.is_none() && self.ring.is_empty()
+        self.first.is_none() && self.ring.is_empty()
     }
 
-    /// Adds a task behind the others.
+    /// Adds a task behind the others; where there is none, into the slot.
     #[inline(always)]
     pub fn put_newest(&mut self, task: TaskId)
         requires { length self.old.items < self.old.capacity }
         ensures { self.new ≡ buffer (self.old.items ++ task ∷ []) self.old.capacity }
     {
-        let _ = self.ring.push_back(task);
+        if self.is_empty() {
+            self.first = Some(task);
+        } else {
+            let _ = self.ring.push_back(task);
+        }
     }
 
     /// Adds a task before the others. Where the slot is occupied, its task goes to the front of
@@ -64,10 +68,10 @@ impl Level {
         requires { length self.old.items < self.old.capacity }
         ensures { self.new ≡ buffer (task ∷ self.old.items) self.old.capacity }
     {
-        if let Some(before) = self.oldest {
+        if let Some(before) = self.first {
             put_in_front(&mut self.ring, before);
         }
-        self.oldest = Some(task);
+        self.first = Some(task);
     }
 
     /// Takes the first task.
@@ -76,7 +80,7 @@ impl Level {
         ensures value { result ≡ slice_get self.old.items 0 }
         ensures tasks { self.new ≡ buffer (drop 1 self.old.items) self.old.capacity }
     {
-        match self.oldest.take() {
+        match self.first.take() {
             Some(task) => Some(task),
             None => self.ring.pop_front(),
         }

@@ -15,8 +15,10 @@ ghost use Rattle.machine.specs.Execution.{HasNext};
 ghost use Rattle.machine.specs.Packed.{instr_of, is_plain, plain_of};
 
 use crate::objects::Objects;
-use machine::{Cpu, Executed, PackedInstr, Windows};
-use osek_base::{MAX_INSTRUCTIONS, Owner, Register, ResId, Results, Service, Status, TaskId};
+use machine::{Cpu, PackedInstr, Windows};
+use osek_base::{
+    Effect, MAX_INSTRUCTIONS, Owner, Register, ResId, Results, Service, Status, TaskId,
+};
 use ready_queues::ReadyQueues;
 
 /// What GetTaskID answers where no task is running.
@@ -247,15 +249,14 @@ impl<'s, Q: ReadyQueues> Objects<'s, Q> {
         windows: &mut Windows,
         owner: Owner,
         packed: PackedInstr,
-    ) -> Executed
+    ) -> Effect
         requires fit { AreFit self.old }
         requires who { IsThere self.old owner }
         requires plain { is_plain (instr_of packed) ≡ true }
         requires next { HasNext (plain_of (instr_of packed)) (context_in (kept_in self.old) owner) }
         ensures system { self.new.system ≡ self.old.system }
-        ensures instr { result.instr ≡ plain_of (instr_of packed) }
-        ensures effect { result.effect ≡ (plain (plain_of (instr_of packed)) (context_in (kept_in self.old) owner) (word windows.old owner)).effect }
-        ensures words { (o : Owner) (i : ℕ) → word windows.new o i ≡ words_after (word windows.old) owner result.effect o i }
+        ensures effect { result ≡ (plain (plain_of (instr_of packed)) (context_in (kept_in self.old) owner) (word windows.old owner)).effect }
+        ensures words { (o : Owner) (i : ℕ) → word windows.new o i ≡ words_after (word windows.old) owner result o i }
         ensures kept { kept_in self.new ≡ with_context_in (caller_as owner) (plain (plain_of (instr_of packed)) (context_in (kept_in self.old) owner) (word windows.old owner)).context (kept_in self.old) }
     {
         match owner {

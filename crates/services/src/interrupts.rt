@@ -16,8 +16,8 @@ ghost use Rattle.kept_state.specs.Moves.{may_dispatch_in};
 ghost use Rattle.services.specs.Objects.{kept_in};
 
 use crate::objects::Objects;
-use machine::{Cpu, Executed, PackedInstr, Windows, exec_packed};
-use osek_base::{Control, IsrId, Owner, Register, Service, System};
+use machine::{Cpu, PackedInstr, Windows, exec_packed};
+use osek_base::{Control, Effect, IsrId, Owner, Register, Service, System};
 use ready_queues::ReadyQueues;
 use std::marker::Model;
 
@@ -51,19 +51,18 @@ impl Active {
         windows: &mut Windows,
         owner: Owner,
         packed: PackedInstr,
-    ) -> Executed
+    ) -> Effect
         requires plain { is_plain (instr_of packed) ≡ true }
         requires next { HasNext (plain_of (instr_of packed)) self.old.context }
-        ensures instr { result.instr ≡ plain_of (instr_of packed) }
-        ensures effect { result.effect ≡ (plain (plain_of (instr_of packed)) self.old.context (word windows.old owner)).effect }
-        ensures words { (o : Owner) (i : ℕ) → word windows.new o i ≡ words_after (word windows.old) owner result.effect o i }
+        ensures effect { result ≡ (plain (plain_of (instr_of packed)) self.old.context (word windows.old owner)).effect }
+        ensures words { (o : Owner) (i : ℕ) → word windows.new o i ≡ words_after (word windows.old) owner result o i }
         ensures context { self.new ≡ moved (plain (plain_of (instr_of packed)) self.old.context (word windows.old owner)).context self.old }
     {
         exec_packed(&mut self.cpu, windows, owner, packed)
     }
 
     /// A service of a program with the values of the routine's registers.
-    #[inline(never)]
+    #[inline(always)]
     pub fn with_values(&self, service: &Service<Register>) -> Service<u32>
         ensures { result ≡ at_values self.now.context service.now }
     {

@@ -25,10 +25,11 @@ ghost use Rattle.services.specs.Calls.{IsExecuting, IsKnown, IsKnownCall, IsTher
 use crate::calls::{Answer, Call};
 use crate::objects::Objects;
 use alarms::DueList;
-use machine::{Cpu, Executed, PackedInstr, Windows};
+use machine::{Cpu, PackedInstr, Windows};
 use osek_base::{
-    AlarmId, IsrId, MAX_ACTIVATION, MAX_INSTRUCTIONS, MAX_RECORDS, MAX_TICKS, ModeId, Owner,
-    Register, ResourceNumber, Results, SHARED_WORDS, Service, Status, System, TaskId, TickRecord,
+    AlarmId, Effect, IsrId, MAX_ACTIVATION, MAX_INSTRUCTIONS, MAX_RECORDS, MAX_TICKS, ModeId,
+    Owner, Register, ResourceNumber, Results, SHARED_WORDS, Service, Status, System, TaskId,
+    TickRecord,
 };
 use ready_queues::ReadyQueues;
 use std::alloc::{AllocError, Global};
@@ -307,15 +308,14 @@ impl<'s, Q: ReadyQueues> Core<'s, Q> {
         windows: &mut Windows,
         owner: Owner,
         packed: PackedInstr,
-    ) -> Executed
+    ) -> Effect
         requires who { IsExecuting (kept_in self.old) owner }
         requires plain { is_plain (instr_of packed) ≡ true }
         requires next { HasNext (plain_of (instr_of packed)) (context_in (kept_in self.old) owner) }
         requires placed { IsPlaced self.old.system owner (plain (plain_of (instr_of packed)) (context_in (kept_in self.old) owner) (word windows.old owner)).context }
         ensures system { self.new.system ≡ self.old.system }
-        ensures instr { result.instr ≡ plain_of (instr_of packed) }
-        ensures effect { result.effect ≡ (plain (plain_of (instr_of packed)) (context_in (kept_in self.old) owner) (word windows.old owner)).effect }
-        ensures words { (o : Owner) (i : ℕ) → word windows.new o i ≡ words_after (word windows.old) owner result.effect o i }
+        ensures effect { result ≡ (plain (plain_of (instr_of packed)) (context_in (kept_in self.old) owner) (word windows.old owner)).effect }
+        ensures words { (o : Owner) (i : ℕ) → word windows.new o i ≡ words_after (word windows.old) owner result o i }
         ensures kept { kept_in self.new ≡ with_context_in (caller_as owner) (plain (plain_of (instr_of packed)) (context_in (kept_in self.old) owner) (word windows.old owner)).context (kept_in self.old) }
     {
         self.objects.exec_packed(windows, owner, packed)

@@ -16,9 +16,9 @@ ghost use Rattle.kept_state.specs.Kept.{unbegun};
 ghost use Rattle.kept_state.specs.KeptService.{slot_given_up, slot_gets, slot_releases, slot_waiting, slot_moved, holds_in};
 ghost use Rattle.kept_state.specs.Moves.{one_more, slot_entered, slot_woken, dynamic_in};
 
-use machine::{Cpu, Executed, PackedInstr, Windows, exec_packed};
+use machine::{Cpu, PackedInstr, Windows, exec_packed};
 use osek_base::{
-    MAX_INSTRUCTIONS, Owner, Register, ResId, Results, Service, Status, System, TaskId,
+    Effect, MAX_INSTRUCTIONS, Owner, Register, ResId, Results, Service, Status, System, TaskId,
 };
 use resources::Held;
 use std::marker::Model;
@@ -216,12 +216,11 @@ impl Slot {
         windows: &mut Windows,
         owner: Owner,
         packed: PackedInstr,
-    ) -> Executed
+    ) -> Effect
         requires plain { is_plain (instr_of packed) ≡ true }
         requires next { HasNext (plain_of (instr_of packed)) self.old.context }
-        ensures instr { result.instr ≡ plain_of (instr_of packed) }
-        ensures effect { result.effect ≡ (plain (plain_of (instr_of packed)) self.old.context (word windows.old owner)).effect }
-        ensures words { (o : Owner) (i : ℕ) → word windows.new o i ≡ words_after (word windows.old) owner result.effect o i }
+        ensures effect { result ≡ (plain (plain_of (instr_of packed)) self.old.context (word windows.old owner)).effect }
+        ensures words { (o : Owner) (i : ℕ) → word windows.new o i ≡ words_after (word windows.old) owner result o i }
         ensures context { self.new ≡ slot_moved (plain (plain_of (instr_of packed)) self.old.context (word windows.old owner)).context self.old }
     {
         exec_packed(&mut self.cpu, windows, owner, packed)

@@ -20,6 +20,13 @@ module _ {X : Type 0} where
   all_at P (y ∷ xs) zero x all h e = subst P (sym e) all.0
   all_at P (y ∷ xs) (suc i) x all h e = all_at P xs i x all.1 (omega (arith, h)) e
 
+  -- what holds of all holds of a front and of the rest
+  pub all_split : (P : X → Type 0) (xs ys : List X) → AllByRecursion P (xs ++ ys) → AllByRecursion P xs × AllByRecursion P ys
+  all_split P [] ys all = (tt, all)
+  all_split P (x ∷ xs) ys all =
+      let split = all_split P xs ys all.1 in
+      ((all.0, split.0), split.1)
+
   -- and there is one more
   pub one_longer : (xs ys : List X) (x : X) (n : ℕ) → length xs ≡ n → ys ≡ xs ++ x ∷ [] → length ys ≡ n + 1
   one_longer xs ys x n h e = ap length e ∙ length-append xs (x ∷ []) ∙ ap (λ k. k + 1) h

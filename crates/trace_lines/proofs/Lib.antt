@@ -1,3 +1,4 @@
 pub mod SinkLemmas
+pub mod TickTexts
 pub mod NumberLemmas
 pub mod EachLemmas

@@ -1,7 +1,8 @@
 //! The texts of a system's instructions, made before the first tick, no part of the standards.
 
 ghost use Rattle.std.specs.Prelude.{◌≡◌, ◌+◌, ◌<◌, ◌≤◌, ◌∷◌, ◌++◌, [], IfOk, IfSome, OnOk, length};
-ghost use Rattle.osek_base.specs.Text.{line};
+ghost use Rattle.osek_base.specs.Executed.{StandsIn, executed_record};
+ghost use Rattle.osek_base.specs.Text.{event_text, line};
 ghost use Rattle.osek_base.specs.declared.ids.Owner.{Owner};
 ghost use Rattle.trace_lines.specs.Programs.{AreTextsOf, EachAt, IsOfProgram, IsTextAt};
 
@@ -11,7 +12,7 @@ use crate::kept_text::KeptText;
 use crate::line::push_event;
 use crate::program_texts::ProgramTexts;
 use crate::tick_text::TickText;
-use osek_base::{IsrId, Owner, Place, System, TaskId, TraceEvent};
+use osek_base::{Executed, IsrId, Owner, Place, System, TaskId, TraceEvent};
 use std::alloc::{AllocError, Global};
 use std::marker::Model;
 
@@ -46,6 +47,17 @@ fn routine_texts(alloc: Global, system: &System) -> Result<Vec<ProgramTexts>, Al
         push_program(&mut programs, ProgramTexts::of(alloc, system, &who)?)?;
     }
     Ok(programs)
+}
+
+/// Appends what the line of an instruction has behind the tick, where its text isn't kept.
+#[inline(never)]
+fn push_unkept(system: &System, executed: Executed, text: &mut Block)
+    requires placed { StandsIn system.now executed }
+    requires room { length text.old + 240 ≤ BLOCK_SIZE }
+    ensures same { text.new ≡ text.old ++ event_text system.now.names (executed_record system.now executed) }
+    ensures short { length text.new ≤ length text.old + 222 }
+{
+    push_event(text, system.names(), &executed.record_in(system));
 }
 
 /// The texts of all instructions of a system. Seen as the system.
@@ -94,6 +106,23 @@ impl<'s> InstructionTexts<'s> {
             Owner::Routine(routine) => self.routines.get(routine.number() as usize)?,
         };
         program.at(place)
+    }
+
+    /// Appends the line of what a tick executed, without the line's end; the instruction isn't spelled again.
+    #[inline(always)]
+    pub(crate) fn push_executed_line(&self, tick: &TickText, executed: &Executed, text: &mut Block)
+        requires placed { StandsIn self.now executed.now }
+        requires room { length text.old + RECORD_SIZE ≤ BLOCK_SIZE }
+        ensures same { text.new ≡ text.old ++ line self.now.names tick.now (executed_record self.now executed.now) }
+        ensures short { length text.new ≤ length text.old + 238 }
+    {
+        tick.push_to(text);
+        if let Some(kept) = self.text_at(&executed.owner, &executed.place) {
+            kept.push_to(text);
+            push_outcome(text, &executed.outcome);
+        } else {
+            push_unkept(self.system, *executed, text);
+        }
     }
 
     /// Appends the line of a record of that tick, without the line's end; an instruction isn't spelled again.

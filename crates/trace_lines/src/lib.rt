@@ -20,4 +20,4 @@ pub use line::{LineText, line_text};
 pub use sink::{Sink, SinkFault, StdSink};
 pub use tick_text::TickText;
 pub use view::{upper_view, upper_view_into};
-pub use written_records::write_tick;
+pub use written_records::{write_tick, write_tick_parts};

@@ -1,6 +1,10 @@
 //! The lines of a trace, no part of the standards.
 
-ghost use Rattle.std.specs.Prelude.{◌≡◌, ◌+◌, ◌<◌, ◌≤◌, ◌++◌, length, decimal, codes};
+ghost use Rattle.std.specs.Prelude.{◌≡◌, ◌+◌, ◌<◌, ◌≤◌, ◌++◌, ℕ, length, decimal, codes};
+ghost use Rattle.osek_base.specs.declared.ids.Owner.{Owner};
+ghost use Rattle.osek_base.specs.declared.instr.Instr.{Instr};
+ghost use Rattle.osek_base.specs.declared.trace_event.Outcome.{Outcome};
+ghost use Rattle.osek_base.specs.declared.trace_event.TraceEvent.{TraceEvent};
 ghost use Rattle.trace_lines.specs.Lines.{executed_text};
 ghost use Rattle.osek_base.specs.Names.{name_at, owner_name};
 ghost use Rattle.osek_base.specs.BlockingText.{blockers_text};
@@ -240,6 +244,19 @@ pub(crate) fn push_event<T: Text>(text: &mut T, names: &Names, event: &TraceEven
     }
 }
 
+/// Appends what stands behind an instruction: ` ! ` and its number of blockers, where that is told.
+#[inline(always)]
+pub(crate) fn push_blocker_count<T: Text>(text: &mut T, number: Option<u32>)
+    requires { length (T.bytes text.old) + 13 ≤ T.room }
+    ensures same { (who : Owner) (place : ℕ) (what : Instr) (outcome : Outcome) → T.bytes text.new ≡ T.bytes text.old ++ blockers_text number (TraceEvent.Executed who place what outcome) }
+    ensures short { length (T.bytes text.new) ≤ length (T.bytes text.old) + 13 }
+{
+    if let Some(number) = number {
+        text.push_str(" ! ");
+        push_number(text, number);
+    }
+}
+
 /// Appends what stands behind a record where a number of blockers is told: ` ! ` and the number behind an instruction.
 #[inline(always)]
 pub(crate) fn push_blockers<T: Text>(text: &mut T, number: Option<u32>, event: &TraceEvent)
@@ -247,11 +264,8 @@ pub(crate) fn push_blockers<T: Text>(text: &mut T, number: Option<u32>, event: &
     ensures same { T.bytes text.new ≡ T.bytes text.old ++ blockers_text number event.now }
     ensures short { length (T.bytes text.new) ≤ length (T.bytes text.old) + 13 }
 {
-    if let Some(number) = number
-        && let TraceEvent::Executed(_, _, _, _) = event
-    {
-        text.push_str(" ! ");
-        push_number(text, number);
+    if let TraceEvent::Executed(_, _, _, _) = event {
+        push_blocker_count(text, number);
     }
 }
 

@@ -1,18 +1,20 @@
 //! The records of a tick as lines that are written, no part of the standards.
 
-ghost use Rattle.std.specs.Prelude.{◌≡◌, ◌≤◌, ◌+◌, ◌++◌, length, false, true, OnOk, OnErr};
+ghost use Rattle.std.specs.Prelude.{◌≡◌, ◌≤◌, ◌+◌, ◌∷◌, ◌++◌, length, false, true, IfSome, OnOk, OnErr};
 ghost use Rattle.std.specs.List.{AllByRecursion};
+ghost use Rattle.osek_base.specs.declared.trace_event.TraceEvent.{TraceEvent};
+ghost use Rattle.osek_base.specs.Executed.{StandsIn, executed_record, idle_or_executed};
 ghost use Rattle.trace_lines.specs.Lines.{record_text, tick_text};
 ghost use Rattle.trace_lines.specs.Programs.{IsOfProgram};
 ghost use Rattle.trace_lines.specs.Sinks.{AppendsSome, Passes};
 
 use crate::block::{BLOCK_SIZE, Block, RECORD_SIZE, make_room};
 use crate::instruction_texts::InstructionTexts;
-use crate::line::push_blockers;
+use crate::line::{push_blocker_count, push_blockers};
 use crate::sink::{Sink, SinkFault};
 use crate::text::Text;
 use crate::tick_text::TickText;
-use osek_base::{Entry, TickRecord, TraceEvent};
+use osek_base::{Entry, Executed, TickRecord, TraceEvent};
 
 /// Appends the line of a record, the number of blockers where there is one, and the line's end.
 #[inline(always)]
@@ -77,8 +79,7 @@ fn write_records<S: Sink>(
     Ok(())
 }
 
-/// Writes the lines of a tick by way of the block, with the number of blockers where there is one. Most ticks have one record,
-/// which is written where this is called.
+/// Writes the lines of a tick by way of the block, with the number of blockers where there is one.
 #[inline(always)]
 pub fn write_tick<S: Sink>(
     texts: &InstructionTexts<'_>,
@@ -95,11 +96,87 @@ pub fn write_tick<S: Sink>(
     ensures still { OnOk result (S.has_failed out.new ≡ false) }
     ensures failed { OnErr result (S.has_failed out.new ≡ true) }
 {
-    if let Some((first, rest)) = records.entries().split_first() {
-        write_record(texts, tick, number, first.event(), text, out)?;
-        if !rest.is_empty() {
-            write_records(texts, tick, number, rest, text, out)?;
-        }
+    if records.len() == 0 {
+        return Ok(());
+    }
+    write_records(texts, tick, number, records.entries(), text, out)
+}
+
+/// Appends the line of a tick in which nobody executed, and its end.
+#[inline(never)]
+fn push_idle(texts: &InstructionTexts<'_>, tick: &TickText, number: Option<u32>, text: &mut Block)
+    requires room { length text.old + RECORD_SIZE ≤ BLOCK_SIZE }
+    ensures { text.new ≡ text.old ++ record_text texts.now.names tick.now number TraceEvent.Idle }
+{
+    push_record(texts, tick, number, &TraceEvent::Idle, text);
+}
+
+/// Appends the line of an instruction that was executed, the number of blockers where there is one, and the line's end.
+#[inline(always)]
+fn push_executed_record(
+    texts: &InstructionTexts<'_>,
+    tick: &TickText,
+    number: Option<u32>,
+    executed: &Executed,
+    text: &mut Block,
+)
+    requires placed { StandsIn texts.now executed.now }
+    requires room { length text.old + RECORD_SIZE ≤ BLOCK_SIZE }
+    ensures { text.new ≡ text.old ++ record_text texts.now.names tick.now number (executed_record texts.now executed.now) }
+{
+    texts.push_executed_line(tick, executed, text);
+    push_blocker_count(text, number);
+    text.push_str("\n");
+}
+
+/// Writes the line of what a tick executed by way of the block.
+#[inline(always)]
+fn write_executed<S: Sink>(
+    texts: &InstructionTexts<'_>,
+    tick: &TickText,
+    number: Option<u32>,
+    executed: &Option<Executed>,
+    text: &mut Block,
+    out: &mut S,
+) -> Result<(), SinkFault>
+    requires placed { IfSome executed.now (StandsIn texts.now) }
+    requires fresh { S.has_failed out.old ≡ false }
+    ensures written { OnOk result (Passes (S.taken out.old) (S.taken out.new) text.old text.new (record_text texts.now.names tick.now number (idle_or_executed texts.now executed.now))) }
+    ensures beginning { OnErr result (AppendsSome (S.taken out.old) (S.taken out.new) (text.old ++ record_text texts.now.names tick.now number (idle_or_executed texts.now executed.now))) }
+    ensures still { OnOk result (S.has_failed out.new ≡ false) }
+    ensures failed { OnErr result (S.has_failed out.new ≡ true) }
+{
+    make_room(text, out)?;
+    match executed {
+        None => push_idle(texts, tick, number, text),
+        Some(executed) => push_executed_record(texts, tick, number, executed, text),
     }
     Ok(())
+}
+
+/// Writes the lines of a tick by way of the block: those before that of its instruction, which most ticks don't have, this one,
+/// with the number of blockers where there is one, and those behind it.
+#[inline(always)]
+pub fn write_tick_parts<S: Sink>(
+    texts: &InstructionTexts<'_>,
+    tick: &TickText,
+    number: Option<u32>,
+    before: &TickRecord,
+    executed: &Option<Executed>,
+    behind: &TickRecord,
+    text: &mut Block,
+    out: &mut S,
+) -> Result<(), SinkFault>
+    requires before { AllByRecursion (IsOfProgram texts.now) before.now }
+    requires placed { IfSome executed.now (StandsIn texts.now) }
+    requires behind { AllByRecursion (IsOfProgram texts.now) behind.now }
+    requires fresh { S.has_failed out.old ≡ false }
+    ensures written { OnOk result (Passes (S.taken out.old) (S.taken out.new) text.old text.new (tick_text texts.now.names tick.now number (before.now ++ idle_or_executed texts.now executed.now ∷ behind.now))) }
+    ensures beginning { OnErr result (AppendsSome (S.taken out.old) (S.taken out.new) (text.old ++ tick_text texts.now.names tick.now number (before.now ++ idle_or_executed texts.now executed.now ∷ behind.now))) }
+    ensures still { OnOk result (S.has_failed out.new ≡ false) }
+    ensures failed { OnErr result (S.has_failed out.new ≡ true) }
+{
+    write_tick(texts, tick, number, before, text, out)?;
+    write_executed(texts, tick, number, executed, text, out)?;
+    write_tick(texts, tick, number, behind, text, out)
 }

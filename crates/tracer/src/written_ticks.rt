@@ -1,11 +1,10 @@
 //! The ticks of a run that are written, no part of the standards.
 
-ghost use Rattle.std.specs.Prelude.{◌≡◌, ◌≤◌, ◌+◌, ◌++◌, [], length, false, true, OnOk, OnErr};
+ghost use Rattle.std.specs.Prelude.{◌≡◌, ◌≤◌, ◌+◌, ◌-◌, ◌++◌, List, false, true, OnOk, OnErr};
 ghost use Rattle.std.specs.Io.KnownBytes.{Appends};
+ghost use Rattle.osek_base.specs.declared.trace_event.TraceEvent.{TraceEvent};
 ghost use Rattle.osek_base.specs.Trace.{run};
-ghost use Rattle.osek_base.specs.View.{view_records};
 ghost use Rattle.kernel.specs.Run.{is_over};
-ghost use Rattle.blocking_laws.specs.Steps.{record_at};
 ghost use Rattle.tracer.specs.declared.shown.Shown.{Shown};
 ghost use Rattle.tracer.specs.Shown.{numbers_shown, records_shown, text_shown, tick_text_shown};
 ghost use Rattle.trace_lines.specs.Sinks.{AppendsSome, Passes};
@@ -16,81 +15,85 @@ use osek_base::{MAX_TICKS, System, TickRecord};
 use ready_queues::LevelQueues;
 use trace_lines::{
     Block, InstructionTexts, Sink, SinkFault, TickText, flush, upper_view_into, write_tick,
+    write_tick_parts,
 };
 
-/// Does a tick, and leaves its records that are in the view at a priority. `all` is room for all of them.
+/// Does a tick, and writes its records that are in the view at a priority by way of the block. `records` and `view` are room
+/// for its records.
 #[inline(never)]
-fn tick_viewed<B: Blockers>(
+fn pass_viewed<B: Blockers, S: Sink>(
     kernel: &mut Kernel<'_, LevelQueues, B>,
     system: &System,
+    texts: &InstructionTexts<'_>,
     p: u8,
-    all: &mut TickRecord,
+    digits: &TickText,
     records: &mut TickRecord,
-)
-    requires { is_over kernel.old ≡ false }
-    ensures records { records.new ≡ view_records system.now p (record_at kernel.old.system kernel.old.mode kernel.old.arrivals kernel.old.ticks) }
+    view: &mut TickRecord,
+    text: &mut Block,
+    out: &mut S,
+) -> Result<(), SinkFault>
+    requires texts { texts.now ≡ system.now }
+    requires system { kernel.old.system ≡ system.now }
+    requires counted { digits.now ≡ kernel.old.ticks }
+    requires going { is_over kernel.old ≡ false }
+    requires fresh { S.has_failed out.old ≡ false }
+    ensures written { OnOk result (Passes (S.taken out.old) (S.taken out.new) text.old text.new (tick_text_shown system.now (Shown.View p) kernel.old.system kernel.old.mode kernel.old.arrivals kernel.old.ticks)) }
+    ensures beginning { OnErr result (AppendsSome (S.taken out.old) (S.taken out.new) (text.old ++ tick_text_shown system.now (Shown.View p) kernel.old.system kernel.old.mode kernel.old.arrivals kernel.old.ticks)) }
     ensures next { kernel.new ≡ record kernel.old { ticks = kernel.old.ticks + 1 } }
+    ensures still { OnOk result (S.has_failed out.new ≡ false) }
+    ensures failed { OnErr result (S.has_failed out.new ≡ true) }
 {
-    kernel.tick_into(all);
-    upper_view_into(system, p, all, records);
+    kernel.tick_into(records, view);
+    upper_view_into(system, p, records, view);
+    write_tick(texts, digits, None, view, text, out)
 }
 
-/// Does a tick, leaves its records that are written, and answers the number of blockers where it is. `all` is room for the
-/// records of which a view is taken.
-fn tick_shown<B: Blockers>(
-    kernel: &mut Kernel<'_, LevelQueues, B>,
-    system: &System,
-    shown: Shown,
-    all: &mut TickRecord,
-    records: &mut TickRecord,
-) -> Option<u32>
+/// The number that is written behind the instruction of the last tick.
+#[inline(always)]
+fn number_shown<B: Blockers>(kernel: &Kernel<'_, LevelQueues, B>, shown: Shown) -> Option<u32>
     requires blockers { shown ≡ Shown.Blocking → B.are_counted ≡ true }
-    requires going { is_over kernel.old ≡ false }
-    ensures number { result ≡ numbers_shown shown kernel.old.system kernel.old.mode kernel.old.arrivals kernel.old.ticks }
-    ensures records { records.new ≡ records_shown system.now shown (record_at kernel.old.system kernel.old.mode kernel.old.arrivals kernel.old.ticks) }
-    ensures next { kernel.new ≡ record kernel.old { ticks = kernel.old.ticks + 1 } }
+    requires done { 1 ≤ kernel.now.ticks }
+    ensures { result ≡ numbers_shown shown kernel.now.system kernel.now.mode kernel.now.arrivals (kernel.now.ticks - 1) }
 {
-    if let Shown::View(p) = shown {
-        tick_viewed(kernel, system, p, all, records);
-        return None;
-    }
-    kernel.tick_into(records);
     match shown {
         Shown::Blocking => kernel.blockers(),
         Shown::All | Shown::View(_) => None,
     }
 }
 
-/// Does a tick, and writes what is shown of it by way of the block. `all` and `records` are room for its records.
-#[inline(never)]
-fn pass_shown<B: Blockers, S: Sink>(
+/// Does a tick, and writes all its records by way of the block. `before` and `behind` are room for those before and behind that
+/// of its instruction.
+#[inline(always)]
+fn pass_whole<B: Blockers, S: Sink>(
     kernel: &mut Kernel<'_, LevelQueues, B>,
-    system: &System,
+    _system: &System,
     texts: &InstructionTexts<'_>,
     shown: Shown,
     digits: &TickText,
-    all: &mut TickRecord,
-    records: &mut TickRecord,
+    before: &mut TickRecord,
+    behind: &mut TickRecord,
     text: &mut Block,
     out: &mut S,
 ) -> Result<(), SinkFault>
-    requires texts { texts.now ≡ system.now }
-    requires system { kernel.old.system ≡ system.now }
+    requires texts { texts.now ≡ _system.now }
+    requires system { kernel.old.system ≡ _system.now }
+    requires all { (told : List TraceEvent) → records_shown _system.now shown told ≡ told }
     requires blockers { shown ≡ Shown.Blocking → B.are_counted ≡ true }
     requires counted { digits.now ≡ kernel.old.ticks }
     requires going { is_over kernel.old ≡ false }
     requires fresh { S.has_failed out.old ≡ false }
-    ensures written { OnOk result (Passes (S.taken out.old) (S.taken out.new) text.old text.new (tick_text_shown system.now shown kernel.old.system kernel.old.mode kernel.old.arrivals kernel.old.ticks)) }
-    ensures beginning { OnErr result (AppendsSome (S.taken out.old) (S.taken out.new) (text.old ++ tick_text_shown system.now shown kernel.old.system kernel.old.mode kernel.old.arrivals kernel.old.ticks)) }
+    ensures written { OnOk result (Passes (S.taken out.old) (S.taken out.new) text.old text.new (tick_text_shown _system.now shown kernel.old.system kernel.old.mode kernel.old.arrivals kernel.old.ticks)) }
+    ensures beginning { OnErr result (AppendsSome (S.taken out.old) (S.taken out.new) (text.old ++ tick_text_shown _system.now shown kernel.old.system kernel.old.mode kernel.old.arrivals kernel.old.ticks)) }
     ensures next { kernel.new ≡ record kernel.old { ticks = kernel.old.ticks + 1 } }
     ensures still { OnOk result (S.has_failed out.new ≡ false) }
     ensures failed { OnErr result (S.has_failed out.new ≡ true) }
 {
-    let number = tick_shown(kernel, system, shown, all, records);
-    write_tick(texts, digits, number, records, text, out)
+    let executed = kernel.tick_parts(before, behind);
+    let number = number_shown(kernel, shown);
+    write_tick_parts(texts, digits, number, before, &executed, behind, text, out)
 }
 
-/// As `pass_shown`, where a tick of which all records are written is done where this is called.
+/// Does a tick, and writes what is shown of it by way of the block. `some` and `others` are room for its records.
 #[inline(always)]
 fn pass_tick<B: Blockers, S: Sink>(
     kernel: &mut Kernel<'_, LevelQueues, B>,
@@ -98,8 +101,8 @@ fn pass_tick<B: Blockers, S: Sink>(
     texts: &InstructionTexts<'_>,
     shown: Shown,
     digits: &TickText,
-    all: &mut TickRecord,
-    records: &mut TickRecord,
+    some: &mut TickRecord,
+    others: &mut TickRecord,
     text: &mut Block,
     out: &mut S,
 ) -> Result<(), SinkFault>
@@ -115,13 +118,11 @@ fn pass_tick<B: Blockers, S: Sink>(
     ensures still { OnOk result (S.has_failed out.new ≡ false) }
     ensures failed { OnErr result (S.has_failed out.new ≡ true) }
 {
-    if let Shown::All = shown {
-        kernel.tick_into(records);
-        write_tick(texts, digits, None, records, text, out)
-    } else {
-        pass_shown(
-            kernel, system, texts, shown, digits, all, records, text, out,
-        )
+    match shown {
+        Shown::View(p) => pass_viewed(kernel, system, texts, p, digits, some, others, text, out),
+        Shown::All | Shown::Blocking => pass_whole(
+            kernel, system, texts, shown, digits, some, others, text, out,
+        ),
     }
 }
 
@@ -146,11 +147,11 @@ fn pass_ticks<B: Blockers, S: Sink>(
     ensures still { OnOk result (S.has_failed out.new ≡ false) }
     ensures failed { OnErr result (S.has_failed out.new ≡ true) }
 {
-    let mut all = TickRecord::new();
-    let mut records = TickRecord::new();
+    let mut some = TickRecord::new();
+    let mut others = TickRecord::new();
     let mut digits = TickText::new();
-    'ticks: for tick in 0..ticks {
-        if kernel.is_over() {
+    'ticks: while kernel.ticks() < ticks {
+        if kernel.is_shut_down() {
             break;
         }
         pass_tick(
@@ -159,8 +160,8 @@ fn pass_ticks<B: Blockers, S: Sink>(
             texts,
             shown,
             &digits,
-            &mut all,
-            &mut records,
+            &mut some,
+            &mut others,
             text,
             out,
         )?;

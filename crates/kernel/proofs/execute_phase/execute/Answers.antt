@@ -9,7 +9,7 @@ pub next_instruction-packed-requires-clause-placed : goal.next_instruction-packe
 next_instruction-packed-requires-clause-placed g c =
     subst (λ (x : Context). IsPlaced c.args.system.now c.args.owner x) (sym c.cpu_of-cpu.ensures) c.requires.placed
 
-pub execute_instr-requires-clause-instruction : goal.execute_instr-requires-clause-instruction
-execute_instr-requires-clause-instruction g c =
+pub execute_instr-outcome-requires-clause-instruction : goal.execute_instr-outcome-requires-clause-instruction
+execute_instr-outcome-requires-clause-instruction g c =
     subst (λ (x : Context). IsNext c.args.system.now (record { owner = c.args.owner; cpu = x }) (instr_of c.next_instruction-packed.result))
     c.cpu_of-cpu.ensures c.next_instruction-packed.ensures

@@ -16,8 +16,8 @@ call-answer-requires-clause-serves g c =
     let o : Objects = c.args.core.now in
     subst (λ T. MayServe T (kept_in o)) (sym c.requires.system) c.requires.serves
 
-pub behind-requires : goal.behind-requires
-behind-requires g c = λ goes.
+pub following-requires : goal.following-requires
+following-requires g c = λ goes.
     let S = c.args.system.now in
     let e = executing c.args.core.now c.args.owner.now in
     let k : KnownPlace S e.owner e.cpu.place = placed_known S e.owner e.cpu c.requires.proper c.requires.placed in
@@ -34,8 +34,8 @@ go_on-requires-clause-placed g c =
     let S = c.args.system.now in
     let e = executing c.args.core.now c.args.owner.now in
     let k : KnownPlace S e.owner e.cpu.place = placed_known S e.owner e.cpu c.requires.proper c.requires.placed in
-    subst (λ T. IsPlaced T e.owner c.behind.result) (sym (c.call-answer.ensures.system ∙ c.requires.system))
-    (subst (λ (x : Context). IsPlaced S e.owner x) (sym (c.behind.ensures ∙ ap (λ (x : Context). control_context c.args.control.now x) c.cpu_of-cpu.ensures))
+    subst (λ T. IsPlaced T e.owner c.following.result) (sym (c.call-answer.ensures.system ∙ c.requires.system))
+    (subst (λ (x : Context). IsPlaced S e.owner x) (sym (c.following.ensures ∙ ap (λ (x : Context). control_context c.args.control.now x) c.cpu_of-cpu.ensures))
     (control_stays S e.owner e.cpu k c.requires.proper c.args.control.now c.requires.instruction c.requires.placed))
 
 pub returns-clause-kept : goal.returns-clause-kept
@@ -44,7 +44,7 @@ returns-clause-kept g c = λ w.
     let e = executing c.args.core.now c.args.owner.now in
     let o : Objects = c.args.core.now in
     let k : KnownPlace S e.owner e.cpu.place = placed_known S e.owner e.cpu c.requires.proper c.requires.placed in
-    control_goes S e c.args.control.now w o c.call-answer.new.self c.go_on.new.self c.behind.result
+    control_goes S e c.args.control.now w o c.call-answer.new.self c.go_on.new.self c.following.result
     (returning_routine S e.owner e.cpu.place c.args.control.now k c.requires.instruction)
     (c.call-answer.ensures.kept ∙ ap (λ T. (call_in T (kept_in o) (Call.Control c.args.control.now)).state) c.requires.system)
-    (c.behind.ensures ∙ ap (λ (x : Context). control_context c.args.control.now x) c.cpu_of-cpu.ensures) c.go_on.ensures.kept
+    (c.following.ensures ∙ ap (λ (x : Context). control_context c.args.control.now x) c.cpu_of-cpu.ensures) c.go_on.ensures.kept

@@ -1,5 +1,7 @@
-use Rattle.std.proofs.Common.{◌≡◌, ◌++◌, sym, ◌∙◌, ap}
+use Rattle.std.proofs.Common.{◌≡◌, ℕ, ◌∷◌, sym, ◌∙◌, ap, ap₂}
 use Rattle.osek_base.specs.declared.instr.Instr.{Instr}
+use Rattle.osek_base.specs.declared.trace_event.Outcome.{Outcome}
+use Rattle.osek_base.specs.declared.trace_event.TraceEvent.{TraceEvent}
 use Rattle.machine.specs.Windows.{word}
 use Rattle.machine.specs.Packed.{instr_of}
 use Rattle.services.specs.Objects.{kept_in}
@@ -16,8 +18,9 @@ returns-then-is_control-clause-events g c =
     let w = word c.args.windows.now in
     let next : instr_of c.args.packed ≡ Instr.Control c.control.result =
     control_is (instr_of c.args.packed) (sym c.is_control.ensures ∙ c.if-is_control.true) ∙ ap Instr.Control (sym c.control.ensures) in
-    c.execute_control.ensures.events w
-    ∙ ap (λ (i : Instr). c.args.record_of_tick.now ++ (executed_by S e i w c.args.core.now).events) (sym next)
+    ap₂ (λ (n : ℕ) (i : Instr). TraceEvent.Executed c.args.owner n i Outcome.Control ∷ c.execute_control.new.behind) c.requires.place next
+    ∙ c.execute_control.ensures.events w
+    ∙ ap (λ (i : Instr). (executed_by S e i w c.args.core.now).events) (sym next)
 
 pub returns-then-is_control-clause-stamps : goal.returns-then-is_control-clause-stamps
 returns-then-is_control-clause-stamps g c = λ counting.

@@ -1,5 +1,6 @@
-use Rattle.std.proofs.Common.{◌≡◌, ◌++◌, sym, ◌∙◌, ap, subst, Option, MatchOption}
+use Rattle.std.proofs.Common.{◌≡◌, ◌∷◌, sym, ◌∙◌, ap, subst, Option, MatchOption}
 use Rattle.osek_base.specs.declared.ids.Owner.{Owner}
+use Rattle.osek_base.specs.declared.trace_event.TraceEvent.{TraceEvent}
 use Rattle.machine.specs.Windows.{word}
 use Rattle.kept_state.specs.Moves.{KeptRecorded}
 use Rattle.kept_state.specs.KeptService.{ByNobody, caller_in}
@@ -24,8 +25,8 @@ pub returns-in-None-clause-events : goal.returns-in-None-clause-events
 returns-in-None-clause-events g c =
     let w = word c.args.windows.now in
     let nobody = subst (Executes c.args.core.now) c.in-None.is c.requires.who in
-    c.record_idle.ensures.events
-    ∙ ap (λ (r : KeptRecorded). c.args.record_of_tick.now ++ r.events) (sym (execute_phase-none c.args.system.now w c.args.core.now nobody))
+    ap (λ v. TraceEvent.Idle ∷ v) c.requires.none
+    ∙ ap (λ (r : KeptRecorded). r.events) (sym (execute_phase-none c.args.system.now w c.args.core.now nobody))
 
 pub returns-in-Some-clause-kept : goal.returns-in-Some-clause-kept
 returns-in-Some-clause-kept g c =
@@ -39,7 +40,7 @@ returns-in-Some-clause-events g c =
     let w = word c.args.windows.now in
     let who = subst (Executes c.args.core.now) c.in-Some.is c.requires.who in
     c.execute.ensures.events
-    ∙ ap (λ (r : KeptRecorded). c.args.record_of_tick.now ++ r.events) (sym (execute_phase-some c.args.system.now w c.args.core.now (executing c.args.core.now c.in-Some.owner) who))
+    ∙ ap (λ (r : KeptRecorded). r.events) (sym (execute_phase-some c.args.system.now w c.args.core.now (executing c.args.core.now c.in-Some.owner) who))
 
 pub returns-in-Some-clause-stamps : goal.returns-in-Some-clause-stamps
 returns-in-Some-clause-stamps g c = λ on.

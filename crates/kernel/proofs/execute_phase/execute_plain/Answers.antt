@@ -9,15 +9,15 @@ use Rattle.machine.specs.Windows.{word}
 use Rattle.machine.specs.Packed.{instr_of, plain_of}
 use Rattle.kernel.specs.Run.{executing}
 
-pub exec_packed-executed-requires-clause-next : goal.exec_packed-executed-requires-clause-next
-exec_packed-executed-requires-clause-next g c =
+pub exec_packed-requires-clause-next : goal.exec_packed-requires-clause-next
+exec_packed-requires-clause-next g c =
     let S = c.args._system.now in
     let e = executing c.args.core.now c.args.owner.now in
     let k : KnownPlace S e.owner e.cpu.place = placed_known S e.owner e.cpu c.requires.proper c.requires.placed in
     has_next S e.owner e.cpu k (plain_of (instr_of c.args.packed)) c.requires.instruction
 
-pub exec_packed-executed-requires-clause-placed : goal.exec_packed-executed-requires-clause-placed
-exec_packed-executed-requires-clause-placed g c =
+pub exec_packed-requires-clause-placed : goal.exec_packed-requires-clause-placed
+exec_packed-requires-clause-placed g c =
     let S = c.args._system.now in
     let e = executing c.args.core.now c.args.owner.now in
     let k : KnownPlace S e.owner e.cpu.place = placed_known S e.owner e.cpu c.requires.proper c.requires.placed in
@@ -27,6 +27,6 @@ exec_packed-executed-requires-clause-placed g c =
 pub returns-clause-kept : goal.returns-clause-kept
 returns-clause-kept g c =
     let e = executing c.args.core.now c.args.owner.now in
-    plain_goes c.args._system.now e (plain_of (instr_of c.args.packed)) c.args.windows.now c.exec_packed-executed.new.windows
-    c.args.core.now c.exec_packed-executed.new.self (plain (plain_of (instr_of c.args.packed)) e.cpu (word c.args.windows.now e.owner)).context c.exec_packed-executed.result.effect
-    c.exec_packed-executed.ensures.effect refl c.exec_packed-executed.ensures.words c.exec_packed-executed.ensures.kept
+    plain_goes c.args._system.now e (plain_of (instr_of c.args.packed)) c.args.windows.now c.exec_packed.new.windows
+    c.args.core.now c.exec_packed.new.self (plain (plain_of (instr_of c.args.packed)) e.cpu (word c.args.windows.now e.owner)).context c.exec_packed.result
+    c.exec_packed.ensures.effect refl c.exec_packed.ensures.words c.exec_packed.ensures.kept

@@ -1,4 +1,4 @@
-use Rattle.std.proofs.Common.{◌++◌, ◌∷◌, [], ℕ, ◌+◌, ◌<◌, refl, sym, ◌∙◌, ap, subst}
+use Rattle.std.proofs.Common.{◌++◌, ◌∷◌, ℕ, ◌+◌, ◌<◌, refl, sym, ◌∙◌, ap, subst}
 use Rattle.osek_base.specs.declared.instr.Instr.{Instr}
 use Rattle.osek_base.specs.declared.trace_event.TraceEvent.{TraceEvent}
 use Rattle.osek_base.specs.declared.trace_event.Outcome.{Outcome}
@@ -13,7 +13,8 @@ use Rattle.services.proofs.CallerLemmas.{answered_still, context_still}
 use Rattle.kernel.proofs.PlaceLemmas.{service_known, service_short, service_stays, placed_known}
 use Rattle.kernel.proofs.ExecutionLemmas.{may_go_on, may_still, service_goes, service_told}
 use Rattle.kernel.proofs.service_call.execute_service.Goals as goal
-use Rattle.osek_base.specs.Tick.{answered, at_values}
+use Rattle.osek_base.specs.declared.trace_event.Source.{Source}
+use Rattle.osek_base.specs.Tick.{answered, at_values, error_record}
 use Rattle.kernel.specs.Run.{executing}
 
 pub serve-answer-requires-clause-known : goal.serve-answer-requires-clause-known
@@ -74,9 +75,9 @@ returns-clause-events g c = λ w.
     let o : Objects = c.args.core.now in
     let call : Call = Call.Service (at_values e.cpu c.args.service.now) in
     let by = ap (λ T. call_in T (kept_in o) call) c.requires.system in
-    service_told S e c.args.service.now w o c.in-Some.status c.serve-answer.result.results
+    ap (λ (n : ℕ). TraceEvent.Executed e.owner n (Instr.Service c.args.service.now) (Outcome.Answer c.in-Some.status c.serve-answer.result.results) ∷ c.record_error.new.record_of_tick) c.requires.place
+    ∙ service_told S e c.args.service.now w o c.in-Some.status c.serve-answer.result.results
     c.requires.who (sym c.in-Some.is ∙ c.serve-answer.ensures.status ∙ ap (λ (r : CallReply). r.status) by)
     (c.serve-answer.ensures.results ∙ ap (λ (r : CallReply). r.results) by)
-    c.args.record_of_tick.now c.push.new.self c.record_error.new.record_of_tick
-    (c.push.ensures ∙ ap (λ (n : ℕ). c.args.record_of_tick.now ++ TraceEvent.Executed e.owner n (Instr.Service c.args.service.now) (Outcome.Answer c.in-Some.status c.serve-answer.result.results) ∷ []) c.requires.place)
-    c.record_error.ensures.events
+    c.record_error.new.record_of_tick
+    (c.record_error.ensures.events ∙ ap (λ v. v ++ error_record S (Source.Owner e.owner) (Instr.Service c.args.service.now) c.in-Some.status) c.requires.none)

@@ -28,7 +28,7 @@ executed_since-requires-clause-task g c =
     let e = executing c.args.core.now c.args.owner in
     let o : Objects = c.args.core.now in
     let k : KnownPlace S e.owner e.cpu.place = placed_known S e.owner e.cpu c.requires.proper c.requires.placed in
-    subst (λ (T : System). IfSome c.seen_if-before.result (λ b. b.task < length T.tasks)) (sym (c.execute_service.ensures.system ∙ c.requires.system))
+    subst (λ (T : System). IfSome c.seen_if-before.result (λ b. b.task < length T.tasks)) (sym (c.execute_service-outcome.ensures.system ∙ c.requires.system))
     (subst (λ (r : Option Look). IfSome r (λ b. b.task < length S.tasks)) (sym (c.seen_if-before.ensures ∙ ap (seen_if (kept_in o)) c.acting_task.ensures))
     (seen_known (kept_in o) (length S.tasks) (named_by (Instr.Service c.args.service.now))
     (named_known S e.owner e.cpu k (Instr.Service c.args.service.now) c.requires.instruction)))

@@ -1,4 +1,4 @@
-use Rattle.std.proofs.Common.{◌≡◌, ℕ, suc, ◌+◌, ◌<◌, add-one, List, [], ◌∷◌, ◌++◌, length, take, drop, get_or, Option, refl, sym, ap, subst, ◌∙◌, append_assoc, append-nil}
+use Rattle.std.proofs.Common.{◌≡◌, ℕ, suc, ◌+◌, ◌<◌, add-one, List, [], ◌∷◌, ◌++◌, length, take, drop, get_or, Option, sym, ap, subst, ◌∙◌, append_assoc, append-nil}
 use Rattle.std.proofs.Math.Seq.{drop-cons, take-suc}
 use Rattle.std.proofs.lemmas.List.{take-append-drop}
 use Rattle.std.specs.List.{flat_map}
@@ -8,12 +8,9 @@ use Rattle.trace_lines.specs.Lines.{record_text, tick_text}
 use Rattle.trace_lines.specs.Programs.{IsOfProgram}
 use Rattle.trace_lines.specs.Sinks.{AppendsSome, Passes}
 use Rattle.trace_lines.proofs.EachLemmas.{all_at}
+use Rattle.trace_lines.proofs.TickTexts.{texts_append}
 use Rattle.trace_lines.proofs.SinkLemmas.{begins_longer, passes_more, stops_later, on_err}
 use Rattle.trace_lines.proofs.written_records.write_records.Goals as goal
-
-texts_append : (f : TraceEvent → List ℕ) (xs ys : List TraceEvent) → flat_map f (xs ++ ys) ≡ flat_map f xs ++ flat_map f ys
-texts_append f [] ys = refl
-texts_append f (x ∷ xs) ys = ap (λ t. f x ++ t) (texts_append f xs ys) ∙ sym (append_assoc (f x) (flat_map f xs) (flat_map f ys))
 
 -- a tick's text up to a record, that of the record, and the rest
 texts_at : (f : TraceEvent → List ℕ) (xs : List TraceEvent) (i : ℕ) (x : TraceEvent) → i < length xs → x ≡ get_or xs i x

@@ -1,21 +1,20 @@
-use Rattle.std.proofs.Common.{◌≡◌, ◌+◌, ◌++◌, true, List, [], length, sym, ◌∙◌, ap, subst, arith}
-use Rattle.osek_base.specs.declared.arrivals.Arrival.{Arrival}
+use Rattle.std.proofs.Common.{◌≡◌, ◌++◌, true, List, [], ◌∷◌, length, sym, ◌∙◌, ap, arith}
 use Rattle.osek_base.specs.declared.trace_event.TraceEvent.{TraceEvent}
 use Rattle.osek_base.specs.Trace.{arriving, run}
 use Rattle.machine.specs.Windows.{word}
 use Rattle.kept_state.specs.Kept.{Kept}
 use Rattle.kept_state.specs.KeptTick.{before_execution_in, execute_phase_in, last_phase_in}
 use Rattle.services.specs.Objects.{Objects, kept_of}
-use Rattle.kernel.specs.Run.{Run, AreKnown, AreLeft, at_tick, is_over}
-use Rattle.blocking_laws.specs.Looks.{before_looked}
+use Rattle.kernel.specs.Run.{Run, at_tick, is_over}
 use Rattle.blocking_laws.specs.Steps.{record_at}
 use Rattle.blocking_laws.specs.Stamps.{stamps_of}
 use Rattle.kernel.specs.Looking.{number_since}
+use Rattle.osek_base.specs.Executed.{idle_or_executed}
 use Rattle.kernel.proofs.KeepingLemmas.{after_told, begun_listed, counted_of, counted_spent, levels_told, number_told}
 use Rattle.kernel.proofs.LawLemmas.{lawful}
 use Rattle.kernel.proofs.RunLemmas.{IsGoing, going, unwritten_more}
 use Rattle.kernel.proofs.TickLemmas.{ready, size, serves, few_all, few_os, number, kept_more, records_more}
-use Rattle.kernel.proofs.kernel.Kernel.tick_into.Goals as goal
+use Rattle.kernel.proofs.kernel.Kernel.tick_parts.Goals as goal
 
 pub before_execution-requires-clause-known : goal.before_execution-requires-clause-known
 before_execution-requires-clause-known g c =
@@ -45,8 +44,8 @@ before_execution-requires-clause-ready g c =
     let v = c.self.invariant in
     ready k.system.now v.proper k.mode k.arrivals k.ticks (word k.windows) k.core v.kept
 
-pub execute_phase-requires-clause-serves : goal.execute_phase-requires-clause-serves
-execute_phase-requires-clause-serves g c =
+pub execute_phase-executed-requires-clause-serves : goal.execute_phase-executed-requires-clause-serves
+execute_phase-executed-requires-clause-serves g c =
     let k = c.self.inside in
     let v = c.self.invariant in
     let S = k.system.now in
@@ -57,8 +56,8 @@ execute_phase-requires-clause-serves g c =
     c.before_execution.ensures.kept w in
     serves S v.proper k.mode k.arrivals k.ticks w o v.kept st before
 
-pub execute_phase-requires-clause-all : goal.execute_phase-requires-clause-all
-execute_phase-requires-clause-all g c =
+pub execute_phase-executed-requires-clause-all : goal.execute_phase-executed-requires-clause-all
+execute_phase-executed-requires-clause-all g c =
     let k = c.self.inside in
     let v = c.self.invariant in
     let S = k.system.now in
@@ -71,8 +70,8 @@ execute_phase-requires-clause-all g c =
     let few = few_all S v.proper k.mode k.arrivals k.ticks w o v.kept st before in
     omega (arith, few, on.limit)
 
-pub execute_phase-requires-clause-os : goal.execute_phase-requires-clause-os
-execute_phase-requires-clause-os g c =
+pub execute_phase-executed-requires-clause-os : goal.execute_phase-executed-requires-clause-os
+execute_phase-executed-requires-clause-os g c =
     let k = c.self.inside in
     let v = c.self.invariant in
     let S = k.system.now in
@@ -85,8 +84,8 @@ execute_phase-requires-clause-os g c =
     let few = few_os S v.proper k.mode k.arrivals k.ticks w o v.kept st before in
     omega (arith, few, on.limit)
 
-pub execute_phase-requires-clause-counted : goal.execute_phase-requires-clause-counted
-execute_phase-requires-clause-counted g c = λ counting.
+pub execute_phase-executed-requires-clause-counted : goal.execute_phase-executed-requires-clause-counted
+execute_phase-executed-requires-clause-counted g c = λ counting.
     let k = c.self.inside in
     let v = c.self.invariant in
     let S = k.system.now in
@@ -113,13 +112,13 @@ invariant_of-self g c =
     let before : kept_of w st ≡ (before_execution_in S (arriving k.arrivals k.ticks) (kept_of w (at_tick o k.ticks))).state =
     c.before_execution.ensures.kept w in
     let on : IsGoing S k.mode k.arrivals k.ticks = going S k.mode k.arrivals k.ticks (ap is_over c.self.view_is ∙ c.requires) in
-    let ex : Objects = c.execute_phase.new.core in
-    let system_ex : ex.system ≡ S = c.execute_phase.ensures.system ∙ c.before_execution.ensures.system ∙ v.system in
+    let ex : Objects = c.execute_phase-executed.new.core in
+    let system_ex : ex.system ≡ S = c.execute_phase-executed.ensures.system ∙ c.before_execution.ensures.system ∙ v.system in
     let la : Objects = c.last_phase.new.core in
-    let new = word c.execute_phase.new.windows in
+    let new = word c.execute_phase-executed.new.windows in
     let done : kept_of new la ≡ (last_phase_in S (execute_phase_in S (kept_of w st)).state).state =
     c.last_phase.ensures.kept new ∙ ap (λ T. (last_phase_in T (kept_of new ex)).state) system_ex
-    ∙ ap (λ (x : Kept). (last_phase_in S x).state) c.execute_phase.ensures.kept in
+    ∙ ap (λ (x : Kept). (last_phase_in S x).state) c.execute_phase-executed.ensures.kept in
     let at : la.tick ≡ k.ticks = number S v.proper k.mode k.arrivals k.ticks w o v.kept st before on.on new la done in
     let none : c.put_first.new.opening ≡ [] = c.put_first.ensures.after in
     let size : length c.put_first.new.opening ≡ 0 = ap (λ (r : List TraceEvent). length r) none in
@@ -141,11 +140,11 @@ invariant_of-self g c =
       unwritten = none ∙ sym (unwritten_more S k.mode k.arrivals k.ticks on.on);
       few = omega (arith, size);
       none_later = λ later. omega (arith, size);
-      sized = c.last_phase.ensures.sized ∙ c.execute_phase.ensures.sized ∙ c.begin.ensures.sized ∙ c.before_execution.ensures.sized ∙ v.sized;
-      stamped = λ counting. after_told S v.proper k.mode k.arrivals k.ticks w o v.kept on.on st before ys (listed counting) new ex c.begin.new.self c.execute_phase.new.stamps c.last_phase.new.stamps system_ex
-          c.execute_phase.ensures.kept (c.begin.ensures.stamps counting) (c.execute_phase.ensures.stamps counting) (c.last_phase.ensures.stamps counting);
-      levels = λ counting. levels_told S v.proper k.mode k.arrivals k.ticks w o v.kept on.on st before ys (listed counting) k.behind c.begin.new.behind (v.levels counting) (c.begin.ensures.behind counting);
-      numbered = λ counting later. number_told S v.proper k.mode k.arrivals k.ticks w o v.kept on.on st before ys (listed counting) k.behind (number_since c.begin.new.behind c.begin.new.begun) (v.levels counting) (c.begin.ensures.value counting);
+      sized = c.last_phase.ensures.sized ∙ c.execute_phase-executed.ensures.sized ∙ c.begin.ensures.sized ∙ c.before_execution.ensures.sized ∙ v.sized;
+      stamped = λ counting. after_told S v.proper k.mode k.arrivals k.ticks w o v.kept on.on st before ys (listed counting) new ex c.begin.new.self c.execute_phase-executed.new.stamps c.last_phase.new.stamps system_ex
+          c.execute_phase-executed.ensures.kept (c.begin.ensures.stamps counting) (c.execute_phase-executed.ensures.stamps counting) (c.last_phase.ensures.stamps counting);
+      levels = λ counting. levels_told S v.proper k.mode k.arrivals k.ticks w o v.kept on.on st before ys (listed counting) k.last_ticks c.begin.new.behind (v.levels counting) (c.begin.ensures.behind counting);
+      numbered = λ counting later. number_told S v.proper k.mode k.arrivals k.ticks w o v.kept on.on st before ys (listed counting) k.last_ticks (number_since c.begin.new.behind c.begin.new.begun) (v.levels counting) (c.begin.ensures.value counting);
       low = c.begin.ensures.low;
     }
 
@@ -160,14 +159,15 @@ returns-clause-records g c =
     let before : kept_of w st ≡ (before_execution_in S (arriving k.arrivals k.ticks) (kept_of w (at_tick o k.ticks))).state =
     c.before_execution.ensures.kept w in
     let on : IsGoing S k.mode k.arrivals k.ticks = going S k.mode k.arrivals k.ticks (ap is_over c.self.view_is ∙ c.requires) in
-    let ex : Objects = c.execute_phase.new.core in
-    let system_ex : ex.system ≡ S = c.execute_phase.ensures.system ∙ c.before_execution.ensures.system ∙ v.system in
-    let new = word c.execute_phase.new.windows in
+    let ex : Objects = c.execute_phase-executed.new.core in
+    let system_ex : ex.system ≡ S = c.execute_phase-executed.ensures.system ∙ c.before_execution.ensures.system ∙ v.system in
+    let new = word c.execute_phase-executed.new.windows in
     let some = c.before_execution.ensures.events w in
-    records_more S v.proper k.mode k.arrivals k.ticks w o v.kept st before on.on (kept_of new ex) c.put_first.new.record_of_tick
-    c.before_execution.new.record_of_tick c.execute_phase.new.record_of_tick c.last_phase.new.record_of_tick
-    c.execute_phase.ensures.kept (c.put_first.ensures.value ∙ v.unwritten) some c.execute_phase.ensures.events
-    (c.last_phase.ensures.events new ∙ ap (λ T. c.execute_phase.new.record_of_tick ++ (last_phase_in T (kept_of new ex)).events) system_ex)
+    sym (ap (λ (r : Run). c.before_execution.new.record_of_tick ++ idle_or_executed r.system c.execute_phase-executed.result ∷ c.last_phase.new.record_of_tick) c.self.view_is)
+    ∙ records_more S v.proper k.mode k.arrivals k.ticks w o v.kept st before on.on (kept_of new ex) c.put_first.new.record_of_tick
+    c.before_execution.new.record_of_tick c.execute_phase-executed.new.behind c.last_phase.new.record_of_tick (idle_or_executed S c.execute_phase-executed.result)
+    c.execute_phase-executed.ensures.kept (c.put_first.ensures.value ∙ v.unwritten) some c.execute_phase-executed.ensures.events
+    (c.last_phase.ensures.events new ∙ ap (λ T. c.execute_phase-executed.new.behind ++ (last_phase_in T (kept_of new ex)).events) system_ex)
     ∙ ap (λ (r : Run). record_at r.system r.mode r.arrivals r.ticks) c.self.view_is
 
 pub returns-clause-lawful : goal.returns-clause-lawful
