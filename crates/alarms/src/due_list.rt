@@ -2,25 +2,22 @@
 
 ghost use Rattle.std.specs.Prelude.{◌≡◌, ◌<◌, ◌≤◌, ◌∷◌, ◌++◌, [], length, slice_index_or};
 
+use arrayvec::ArrayVec;
 use osek_base::{AlarmId, MAX_ALARMS};
 use std::marker::Model;
 
 /// The alarms that are due, at most [`MAX_ALARMS`]. Contracts see the list of their numbers.
 #[derive(Drop)]
 pub struct DueList {
-    alarms: [AlarmId; MAX_ALARMS],
-    len: usize,
+    alarms: ArrayVec<AlarmId, MAX_ALARMS>,
 }
 
 impl Model for DueList {
-    ghost use Rattle.std.specs.Prelude.{◌≡◌, ◌≤◌, ℕ, List, length, take};
-    ghost use Rattle.osek_base.specs.declared.limits.TheConstants.{MAX_ALARMS};
+    ghost use Rattle.std.specs.Prelude.{ℕ, List};
 
     ghost Value = { List ℕ };
 
-    ghost view = { λ d. take d.len d.alarms };
-
-    ghost invariant = { λ d. (d.len ≤ MAX_ALARMS) × (length d.alarms ≡ MAX_ALARMS) };
+    ghost view = { λ d. d.alarms.items };
 }
 
 impl DueList {
@@ -29,17 +26,18 @@ impl DueList {
         ensures { result ≡ [] }
     {
         DueList {
-            alarms: [AlarmId::new(0); MAX_ALARMS],
-            len: 0,
+            alarms: ArrayVec::new(),
         }
     }
 
-    /// Takes all alarms out.
+    /// Takes all alarms out. In most ticks there are none, and then nothing is done.
     #[inline(always)]
     pub fn clear(&mut self)
         ensures { self.new ≡ [] }
     {
-        self.len = 0;
+        if !self.alarms.is_empty() {
+            self.alarms.clear();
+        }
     }
 
     /// How many alarms there are.
@@ -48,7 +46,7 @@ impl DueList {
         ensures value { result ≡ length self.now }
         ensures few { result ≤ MAX_ALARMS }
     {
-        self.len
+        self.alarms.len()
     }
 
     /// Adds an alarm behind the others.
@@ -57,8 +55,7 @@ impl DueList {
         requires { length self.old < MAX_ALARMS }
         ensures { self.new ≡ self.old ++ alarm ∷ [] }
     {
-        self.alarms[self.len] = alarm;
-        self.len += 1;
+        self.alarms.push(alarm);
     }
 
     /// The alarm at a place of the list.
@@ -67,6 +64,6 @@ impl DueList {
         requires { place < length self.now }
         ensures { result ≡ slice_index_or self.now place 0 }
     {
-        self.alarms[..self.len][place]
+        self.alarms.as_slice()[place]
     }
 }
