@@ -19,11 +19,10 @@ ghost use Rattle.observed_runs.specs.Observed.{
 };
 
 use crate::before::Before;
+use crate::observed_run::ObservedKernel;
 use arrayvec::ArrayVec;
-use kernel::Kernel;
 use observations::AlarmSeen;
 use osek_base::{Action, AlarmId, MAX_ALARMS, MAX_TASKS, System, TaskId};
-use ready_queues::LevelQueues;
 
 /// Whether the counter of an alarm counts in a tick.
 fn counts(system: &System, tick: u32, alarm: AlarmId) -> bool
@@ -35,7 +34,7 @@ fn counts(system: &System, tick: u32, alarm: AlarmId) -> bool
 }
 
 /// Whether an alarm expires in the tick that a kernel does next: its counter counts, and one count is left.
-fn expires(kernel: &Kernel<'_, LevelQueues>, system: &System, tick: u32, alarm: AlarmId) -> bool
+fn expires(kernel: &ObservedKernel<'_>, system: &System, tick: u32, alarm: AlarmId) -> bool
     requires system { kernel.now.system ≡ system.now }
     requires alarm { alarm < length system.now.alarms }
     requires proper { IsProper system.now }
@@ -56,7 +55,7 @@ fn is_last_count(left: Option<u32>) -> bool
 /// Leaves which alarms expire in the tick that a kernel does next.
 #[tactic(auto, using(crate::proofs::SeenSteps::seen_more, crate::proofs::SeenSteps::seen_count))]
 pub(crate) fn see_expiring(
-    kernel: &Kernel<'_, LevelQueues>,
+    kernel: &ObservedKernel<'_>,
     system: &System,
     tick: u32,
     expiring: &mut ArrayVec<bool, MAX_ALARMS>,
@@ -179,7 +178,7 @@ pub(crate) fn refused_activations(
 /// Leaves what is seen of the alarms, where a kernel has done a tick.
 #[tactic(auto, using(crate::proofs::SeenSteps::seen_more, crate::proofs::SeenSteps::seen_count))]
 pub(crate) fn see_alarms(
-    kernel: &Kernel<'_, LevelQueues>,
+    kernel: &ObservedKernel<'_>,
     system: &System,
     before: &Before,
     alarms: &mut ArrayVec<AlarmSeen, MAX_ALARMS>,

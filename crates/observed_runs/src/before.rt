@@ -5,12 +5,11 @@ ghost use Rattle.kernel.specs.Run.{run_of};
 ghost use Rattle.observed_runs.specs.Observed.{active_routine, expiring, jobs_before, pending_flags, refused_in};
 
 use crate::alarms_seen::{see_expiring, see_refused};
+use crate::observed_run::ObservedKernel;
 use crate::routines_seen::see_pending;
 use crate::tasks_seen::see_jobs;
 use arrayvec::ArrayVec;
-use kernel::Kernel;
 use osek_base::{IsrId, MAX_ALARMS, MAX_ROUTINES, MAX_TASKS, System};
-use ready_queues::LevelQueues;
 
 /// What is known before a tick, of each object by number.
 #[derive(Debug, Drop)]
@@ -40,7 +39,7 @@ impl Before {
     }
 
     /// Notes what is known before the tick of that number, which a kernel does next.
-    pub(crate) fn note(&mut self, kernel: &Kernel<'_, LevelQueues>, system: &System, tick: u32)
+    pub(crate) fn note(&mut self, kernel: &ObservedKernel<'_>, system: &System, tick: u32)
         requires { kernel.now.system ≡ system.now }
         ensures jobs { self.new.jobs.items ≡ jobs_before system.now tick (run_of kernel.now).state }
         ensures expiring { self.new.expiring.items ≡ expiring system.now tick (run_of kernel.now).state }
@@ -59,7 +58,7 @@ impl Before {
 
 /// Leaves how many jobs each task has; nothing before the first tick, so that the jobs of boot are made in it.
 fn see_jobs_before(
-    kernel: &Kernel<'_, LevelQueues>,
+    kernel: &ObservedKernel<'_>,
     system: &System,
     tick: u32,
     jobs: &mut ArrayVec<u8, MAX_TASKS>,

@@ -4,16 +4,15 @@ ghost use Rattle.std.specs.Prelude.{◌≡◌};
 ghost use Rattle.kernel.specs.Run.{run_of};
 ghost use Rattle.observed_runs.specs.Observed.{holders_seen};
 
+use crate::observed_run::ObservedKernel;
 use arrayvec::ArrayVec;
-use kernel::Kernel;
 use observations::{Holder, MAX_HELD};
 use osek_base::{ResId, ResourceNumber, System};
-use ready_queues::LevelQueues;
 
 /// Leaves who holds each declared resource, and behind them RES_SCHEDULER where the system has it.
 #[tactic(auto, using(crate::proofs::SeenSteps::seen_more, crate::proofs::SeenSteps::seen_count))]
 pub(crate) fn see_holders(
-    kernel: &Kernel<'_, LevelQueues>,
+    kernel: &ObservedKernel<'_>,
     system: &System,
     holders: &mut ArrayVec<Holder, MAX_HELD>,
 )

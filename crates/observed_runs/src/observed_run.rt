@@ -25,18 +25,21 @@ use crate::execution::{execution_of, executor};
 use crate::holders_seen::see_holders;
 use crate::routines_seen::{arrivals_end, see_routines};
 use crate::tasks_seen::see_tasks;
-use kernel::{BootFault, Kernel};
+use kernel::{BootFault, Kernel, NotCounted};
 use observations::Observation;
 use osek_base::{Arrival, Arrivals, MAX_ARRIVALS, System, TickRecord};
 use ready_queues::LevelQueues;
 use std::alloc::{AllocError, Global};
 use std::marker::Model;
 
+/// The kernel of a run that is observed. Nobody asks it for numbers of blockers.
+pub(crate) type ObservedKernel<'s> = Kernel<'s, LevelQueues, NotCounted>;
+
 /// A run of a system, tick by tick, beside what is seen of the tick that was done last.
 #[derive(Drop)]
 pub struct ObservedRun<'s> {
     system: &'s System,
-    kernel: Kernel<'s, LevelQueues>,
+    kernel: ObservedKernel<'s>,
     arrivals: Vec<Arrival>,
     arrived: usize,
     ticks: u32,
@@ -61,7 +64,7 @@ impl<'s> Model for ObservedRun<'s> {
 /// Leaves what is seen of the tick that a kernel did last: of its records, of what was known before it, and of the arrivals
 /// of that tick, which begin at a place of the list.
 fn see(
-    kernel: &Kernel<'_, LevelQueues>,
+    kernel: &ObservedKernel<'_>,
     system: &System,
     records: &TickRecord,
     before: &Before,

@@ -8,16 +8,15 @@ ghost use Rattle.observed_runs.specs.Observed.{is_number, lost_of, pending_flags
 
 use crate::before::Before;
 use crate::execution::{Execution, is_by};
+use crate::observed_run::ObservedKernel;
 use arrayvec::ArrayVec;
-use kernel::Kernel;
 use observations::RoutineSeen;
 use osek_base::{Arrival, IsrId, MAX_ARRIVALS, MAX_ROUTINES, Owner, System};
-use ready_queues::LevelQueues;
 
 /// Leaves which routines are pending.
 #[tactic(auto, using(crate::proofs::SeenSteps::seen_more, crate::proofs::SeenSteps::seen_count))]
 pub(crate) fn see_pending(
-    kernel: &Kernel<'_, LevelQueues>,
+    kernel: &ObservedKernel<'_>,
     system: &System,
     pending: &mut ArrayVec<bool, MAX_ROUTINES>,
 )
@@ -69,7 +68,7 @@ fn lost_of(was_pending: bool, arrived: u32) -> u32
 
 /// What is seen of a routine, where a kernel has done a tick in which that many of its interrupts arrived.
 fn routine_seen(
-    kernel: &Kernel<'_, LevelQueues>,
+    kernel: &ObservedKernel<'_>,
     execution: &Option<Execution>,
     before: &Before,
     arrived: u32,
@@ -93,7 +92,7 @@ fn routine_seen(
 /// Leaves what is seen of the routines, where a kernel has done a tick.
 #[tactic(auto, using(crate::proofs::SeenSteps::seen_more, crate::proofs::SeenSteps::seen_count))]
 pub(crate) fn see_routines(
-    kernel: &Kernel<'_, LevelQueues>,
+    kernel: &ObservedKernel<'_>,
     system: &System,
     execution: &Option<Execution>,
     before: &Before,

@@ -9,16 +9,15 @@ ghost use Rattle.observed_runs.specs.Observed.{job_counts, one_if, state_seen, t
 use crate::alarms_seen::refused_activations;
 use crate::before::Before;
 use crate::execution::{Execution, ends, is_by, is_refused};
+use crate::observed_run::ObservedKernel;
 use arrayvec::ArrayVec;
-use kernel::Kernel;
 use observations::TaskSeen;
 use osek_base::{MAX_ACTIVATION, MAX_TASKS, Owner, System, TaskId, TaskState};
-use ready_queues::LevelQueues;
 
 /// Leaves how many jobs each task has.
 #[tactic(auto, using(crate::proofs::SeenSteps::seen_more, crate::proofs::SeenSteps::seen_count))]
 pub(crate) fn see_jobs(
-    kernel: &Kernel<'_, LevelQueues>,
+    kernel: &ObservedKernel<'_>,
     system: &System,
     jobs: &mut ArrayVec<u8, MAX_TASKS>,
 )
@@ -51,7 +50,7 @@ fn count_at(jobs: &ArrayVec<u8, MAX_TASKS>, task: TaskId) -> u8
 }
 
 /// How many jobs a kernel's task has, at most MAX_ACTIVATION.
-fn few_jobs(kernel: &Kernel<'_, LevelQueues>, system: &System, task: TaskId) -> u8
+fn few_jobs(kernel: &ObservedKernel<'_>, system: &System, task: TaskId) -> u8
     requires system { kernel.now.system ≡ system.now }
     requires task { task < length system.now.tasks }
     ensures value { result ≡ length (jobs_of task (run_of kernel.now).state.jobs) }
@@ -72,7 +71,7 @@ fn made(jobs: u8, ended: bool, before: u8) -> u8
 
 /// What is seen of a task, where a kernel has done a tick.
 fn task_seen(
-    kernel: &Kernel<'_, LevelQueues>,
+    kernel: &ObservedKernel<'_>,
     system: &System,
     execution: &Option<Execution>,
     before: &Before,
@@ -99,7 +98,7 @@ fn task_seen(
 /// Leaves what is seen of the tasks, where a kernel has done a tick.
 #[tactic(auto, using(crate::proofs::SeenSteps::seen_more, crate::proofs::SeenSteps::seen_count))]
 pub(crate) fn see_tasks(
-    kernel: &Kernel<'_, LevelQueues>,
+    kernel: &ObservedKernel<'_>,
     system: &System,
     execution: &Option<Execution>,
     before: &Before,
