@@ -1,0 +1,4 @@
+pub mod Need
+pub mod Same
+pub mod Laws
+pub mod Meaning
