@@ -4,27 +4,25 @@ ghost use Rattle.std.specs.Prelude.{◌≡◌, ◌≤◌, ◌-◌, IsTrue, IfOk,
 ghost use Rattle.osek_base.specs.Names.{is_named, are_distinct_names};
 ghost use Rattle.name_tables.specs.Numbers.{number};
 
+use crate::keyed_by_names::KeyedByNames;
+use indexmap::IndexSet;
 use osek_base::Name;
 use std::alloc::{AllocError, Global};
-use std::collections::BTreeMap;
 use std::marker::Model;
 
 /// The names of one kind of object, none twice. The place of a name is the number of its object.
 #[derive(Drop)]
 pub struct NameTable<'a> {
-    names: &'a [Name],
-    numbers: BTreeMap<&'a str, usize>,
+    names: IndexSet<&'a str, KeyedByNames>,
 }
 
 impl<'a> Model for NameTable<'a> {
-    ghost use Rattle.std.specs.Prelude.{List, ℕ};
-    ghost use Rattle.name_tables.specs.Numbers.{AreNumbers};
+    ghost use Rattle.std.specs.Prelude.{List, ℕ, map};
+    ghost use Rattle.std.specs.Map.Iter.{deref};
 
     ghost Value = { List (List ℕ) };
 
-    ghost view = { λ t. t.names.now };
-
-    ghost invariant = { λ t. AreNumbers t.numbers t.names.now };
+    ghost view = { λ t. map deref t.names.keys };
 }
 
 impl<'a> NameTable<'a> {
@@ -33,21 +31,19 @@ impl<'a> NameTable<'a> {
         requires { IsTrue (are_distinct_names names.now) }
         ensures { IfOk result (λ table. table ≡ names.now) }
     {
-        let mut numbers = BTreeMap::new(alloc);
-        let mut number = 0;
-        'names: while number < names.len() {
-            let name = &names[number];
-            numbers.insert(name.as_str(), number)?;
-            number += 1;
+        let hashers = KeyedByNames::new(names);
+        let mut set = IndexSet::with_capacity_and_hasher(alloc, names.len(), hashers)?;
+        for name in names {
+            set.insert(name.as_str())?;
         }
-        Ok(NameTable { names, numbers })
+        Ok(NameTable { names: set })
     }
 
     /// Whether there is an object of that name.
     pub fn has(&self, name: &Name) -> bool
         ensures { result ≡ is_named name.now self.now }
     {
-        self.numbers.contains_key(name.as_str())
+        self.names.contains(name.as_str())
     }
 
     /// The number of the object of that name, 0 where there is none.
@@ -55,8 +51,8 @@ impl<'a> NameTable<'a> {
         ensures value { result ≡ number self.now name.now }
         ensures low { result ≤ length self.now - 1 }
     {
-        match self.numbers.get(name.as_str()) {
-            Some(number) => *number,
+        match self.names.get_index_of(name.as_str()) {
+            Some(number) => number,
             None => 0,
         }
     }
