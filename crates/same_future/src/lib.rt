@@ -9,6 +9,6 @@ mod laws;
 
 pub use laws::{
     alike_futures, alike_is_equivalence, alike_ticks, all_sets_are_tried, always_ahead,
-    finds_longest, jobs_are_numbered, no_longer, none_is_older, paths_are_runs, responses_are_told,
-    same_is_alike, table_covers, worked_longest, worked_states,
+    finds_response, jobs_are_numbered, no_job_older, no_longer, none_older, paths_are_runs,
+    responses_are_told, same_is_alike, table_covers, worked_longest, worked_states,
 };

@@ -1,0 +1,5 @@
+use Rattle.same_future.proofs.Covered.{none_older}
+use Rattle.same_future.proofs.laws.none_older.Goals as goal
+
+pub returns : goal.returns
+returns c = none_older

@@ -1,0 +1,64 @@
+-- OSEK/VDX OS: task management. The jobs of a task, counted in the order in which they are made and end.
+use Rattle.std.specs.Prelude.{ℕ, suc, ◌-◌, ◌+◌, ◌≡◌, ◌<◌, ◌≤◌, Bool, true, false, ◌==◌, List, [], ◌∷◌, length, slice_index}
+use Rattle.std.specs.List.{list_any}
+use Rattle.osek_base.specs.declared.arrivals.Arrival.{Arrival}
+use Rattle.osek_base.specs.declared.ids.Owner.{Owner}
+use Rattle.osek_base.specs.declared.instr.Service.{Service}
+use Rattle.osek_base.specs.declared.instr.Instr.{Instr}
+use Rattle.osek_base.specs.declared.status.Status.{Status}
+use Rattle.osek_base.specs.declared.trace_event.Outcome.{Outcome}
+use Rattle.osek_base.specs.declared.trace_event.TraceEvent.{TraceEvent}
+use Rattle.osek_base.specs.System.{System}
+use Rattle.osek_base.specs.State.{Job, jobs_of}
+use Rattle.osek_base.specs.Trace.{run}
+use Rattle.osek_base.specs.Proper.{IsProper}
+
+-- whether a record tells that a job of a task ends
+abbrev pub is_end_of : ℕ → TraceEvent → Bool
+is_end_of t (TraceEvent.Executed (Owner.Task u) place (Instr.Service Service.TerminateTask) (Outcome.Answer Status.Ok found)) = u == t
+is_end_of t (TraceEvent.Executed (Owner.Task u) place (Instr.Service (Service.ChainTask next)) (Outcome.Answer Status.Ok found)) = u == t
+is_end_of t _ = false
+
+abbrev pub ends : ℕ → List TraceEvent → Bool
+ends t events = list_any (is_end_of t) events
+
+abbrev pub one_if : Bool → ℕ
+one_if true = 1
+one_if false = 0
+
+-- how many jobs of a task were made before tick n, at boot too, and how many of them ended
+abbrev pub made_by : System → ℕ → ℕ → List Arrival → ℕ → ℕ
+made_by S mode t arrivals n = slice_index (run S mode arrivals n).state.made t
+
+abbrev pub ended_by : System → ℕ → ℕ → List Arrival → ℕ → ℕ
+ended_by S mode t arrivals n = made_by S mode t arrivals n - length (jobs_of t (run S mode arrivals n).state.jobs)
+
+-- these jobs have the numbers from one up to another, in order
+abbrev pub AreNumbered : ℕ → ℕ → List Job → Type 0
+AreNumbered k m [] = k ≡ m
+AreNumbered k m (j ∷ jobs) = (j.id.serial ≡ k) × AreNumbered (suc k) m jobs
+
+-- jobs of a task are counted from 0 in the order in which they are made, and end in that order. Job k is made in tick u;
+-- those that boot makes, in tick 0
+pub record IsMadeIn (S : System) (mode t : ℕ) (arrivals : List Arrival) (k u : ℕ) : Type 0 where
+  pub made : k < made_by S mode t arrivals (suc u)
+  pub not_before : 0 < u → made_by S mode t arrivals u ≤ k
+
+-- and ends in tick v
+pub record EndsIn (S : System) (mode t : ℕ) (arrivals : List Arrival) (k v : ℕ) : Type 0 where
+  pub ended : k < ended_by S mode t arrivals (suc v)
+  pub not_before : ended_by S mode t arrivals v ≤ k
+
+-- a response: some job ends in tick n, so many ticks from that in which it was made on, both counted
+pub record EndsAfter (S : System) (mode t : ℕ) (arrivals : List Arrival) (n r : ℕ) : Type 0 where
+  pub job : ℕ
+  pub made_in : ℕ
+  pub is_made : IsMadeIn S mode t arrivals job made_in
+  pub ends : EndsIn S mode t arrivals job n
+  pub long : r + made_in ≡ suc n
+
+-- of a task the jobs that are left are those behind the ended ones, in the order in which they were made
+abbrev pub JobsAreNumbered : Type 0
+JobsAreNumbered =
+    (S : System) (mode t : ℕ) (arrivals : List Arrival) (n : ℕ) → IsProper S → t < length S.tasks
+    → AreNumbered (ended_by S mode t arrivals n) (made_by S mode t arrivals n) (jobs_of t (run S mode arrivals n).state.jobs)
