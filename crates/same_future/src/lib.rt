@@ -8,7 +8,8 @@
 mod laws;
 
 pub use laws::{
-    alike_futures, alike_is_equivalence, alike_ticks, all_sets_are_tried, always_ahead,
-    finds_response, jobs_are_numbered, no_job_older, no_longer, none_older, paths_are_runs,
-    responses_are_told, same_is_alike, table_covers, worked_longest, worked_states,
+    alike_futures, alike_is_equivalence, alike_ticks, all_sets_are_tried, always_ahead, finds_hold,
+    finds_latency, finds_response, holds_are_told, jobs_are_numbered, latencies_are_told,
+    no_job_older, no_longer, none_older, paths_are_runs, responses_are_told, same_is_alike,
+    table_covers, worked_longest, worked_states,
 };
