@@ -36,6 +36,22 @@ impl Cpu {
         }
     }
 
+    /// The registers and the place, to be kept.
+    #[inline(always)]
+    pub fn save(&self) -> Cpu
+        ensures { result ≡ self.now }
+    {
+        *self
+    }
+
+    /// The registers and the place become those that `save` took.
+    #[inline(always)]
+    pub fn load(&mut self, saved: &Cpu)
+        ensures { self.new ≡ saved.now }
+    {
+        *self = *saved;
+    }
+
     /// The place of the next instruction, counted from 0.
     #[inline(always)]
     pub fn place(&self) -> Place

@@ -41,7 +41,7 @@ impl Active {
     pub fn cpu(&self) -> Cpu
         ensures { result ≡ self.now.context }
     {
-        self.cpu
+        self.cpu.save()
     }
 
     /// A plain instruction of the routine, on its registers, its place and its owner's window.
@@ -73,7 +73,7 @@ impl Active {
     pub fn go_on(&mut self, cpu: Cpu)
         ensures { self.new ≡ moved cpu self.old }
     {
-        self.cpu = cpu;
+        self.cpu.load(&cpu);
     }
 }
 

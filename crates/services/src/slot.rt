@@ -93,7 +93,7 @@ impl Slot {
         self.held.clear();
         self.taken = false;
         self.waits_for = None;
-        self.cpu = Cpu::new();
+        self.cpu.load(&Cpu::new());
     }
 
     /// Whether the oldest job waits for an event.
@@ -198,7 +198,7 @@ impl Slot {
     pub fn cpu(&self) -> Cpu
         ensures { result ≡ self.now.context }
     {
-        self.cpu
+        self.cpu.save()
     }
 
     /// The oldest job gets other registers and another place.
@@ -206,7 +206,7 @@ impl Slot {
     pub fn go_on(&mut self, cpu: Cpu)
         ensures { self.new ≡ slot_moved cpu self.old }
     {
-        self.cpu = cpu;
+        self.cpu.load(&cpu);
     }
 
     /// A plain instruction of the oldest job, on its registers, its place and its owner's window.
