@@ -6,3 +6,4 @@ pub mod CallerLemmas
 pub mod AlarmLemmas
 pub mod DispatchedLemmas
 pub mod RescheduledLemmas
+pub mod AsDefinedLemmas

@@ -27,6 +27,7 @@ use Rattle.kept_state.proofs.Standing.{still_stands, started_stands, activate_st
 use Rattle.kept_state.proofs.Words.{with_words, unmasked_words, service_words, control_words, context_words, start_phase_words, rescheduled_words}
 use Rattle.services.specs.declared.calls.Call.{Call}
 use Rattle.services.specs.Objects.{Objects, StandsFor, Stands, AreFit, by_task, kept_in, kept_of}
+use Rattle.services.specs.AsDefined.{called}
 use Rattle.services.specs.Dispatched.{IsCore}
 use Rattle.services.proofs.BoundLemmas.{activation_few}
 use Rattle.services.specs.Calls.{IsKnown, IsKnownCall, IsThere, MayGoOn, IsRoutineOrNone, caller_as, call_in}
@@ -36,18 +37,20 @@ abbrev pub IsWordless : (Kept → Kept) → Type 0
 IsWordless f = (w : Words) (k : Kept) → f (with_words w k) ≡ with_words w (f k)
 
 -- a step of the definitions is one of what is kept
-pub stands_after : (o n : Objects) (s e : State) (f : Kept → Kept) → StandsFor o s → n.system ≡ o.system → IsWordless f → kept_in n ≡ f (kept_in o)
-    → IsStanding o.system e × (kept o.system e ≡ f (kept o.system s)) → Stands n
-stands_after o n s e f stands system wordless new law =
+stands_for : (o n : Objects) (s e : State) (f : Kept → Kept) → StandsFor o s → n.system ≡ o.system → IsWordless f → kept_in n ≡ f (kept_in o)
+    → IsStanding o.system e × (kept o.system e ≡ f (kept o.system s)) → StandsFor n e
+stands_for o n s e f stands system wordless new law =
     let all : kept o.system e ≡ with_words s.words (kept_in n) =
     law.1 ∙ ap f (sym stands.same) ∙ wordless s.words (kept_in o) ∙ ap (with_words s.words) (sym new) in
-    let words : e.words ≡ s.words = ap (λ (k : Kept). k.words) all in (
-      e,
-      record {
-        standing = subst (λ S. IsStanding S e) (sym system) law.0;
-        same = ap (λ w. kept_of w n) words ∙ sym all ∙ ap (λ S. kept S e) (sym system);
-      },
-    )
+    let words : e.words ≡ s.words = ap (λ (k : Kept). k.words) all in
+    record {
+      standing = subst (λ S. IsStanding S e) (sym system) law.0;
+      same = ap (λ w. kept_of w n) words ∙ sym all ∙ ap (λ S. kept S e) (sym system);
+    }
+
+pub stands_after : (o n : Objects) (s e : State) (f : Kept → Kept) → StandsFor o s → n.system ≡ o.system → IsWordless f → kept_in n ≡ f (kept_in o)
+    → IsStanding o.system e × (kept o.system e ≡ f (kept o.system s)) → Stands n
+stands_after o n s e f stands system wordless new law = (e, stands_for o n s e f stands system wordless new law)
 
 placed_in : (S : System) (o : Objects) (w : Words) (r : Option ℕ) → IfSome r (IsRunnerPlaced S (kept_of w o)) → IfSome r (IsRunnerPlaced S (kept_in o))
 placed_in S o w None h = tt
@@ -111,7 +114,7 @@ overtaken_in : (S : System) (o : Objects) (w : Words) (r : Option ℕ) → is_ov
 overtaken_in S o w None = refl
 overtaken_in S o w (Some t) = refl
 
-activates : (S : System) (call : ServiceCall) → IsKnown S call → ActivatesKnown S call
+pub activates : (S : System) (call : ServiceCall) → IsKnown S call → ActivatesKnown S call
 activates S (Service.ActivateTask (Some t)) known = known
 activates S (Service.ActivateTask None) known = tt
 activates S (Service.ChainTask (Some t)) known = known
@@ -119,23 +122,33 @@ activates S (Service.ChainTask None) known = tt
 activates S call known = tt
 
 module _ (o n : Objects) (system : n.system ≡ o.system) where
-  pub stands_activated : (t : ℕ) → Stands o → t < length o.system.tasks
-      → kept_in n ≡ (unmasked_in o.system ByNobody (kept_in o) (Service.ActivateTask (Some t))).state → Stands n
-  stands_activated t (s, stands) inside new =
+  pub stands_for_activated : (s : State) (t : ℕ) → StandsFor o s → t < length o.system.tasks
+      → kept_in n ≡ (unmasked_in o.system ByNobody (kept_in o) (Service.ActivateTask (Some t))).state
+      → StandsFor n (unmasked_service o.system NobodyCalls s (Service.ActivateTask (Some t))).state
+  stands_for_activated s t stands inside new =
       let law = activate_stands o.system s t stands.standing inside in
-      stands_after o n s (unmasked_service o.system NobodyCalls s (Service.ActivateTask (Some t))).state
+      stands_for o n s (unmasked_service o.system NobodyCalls s (Service.ActivateTask (Some t))).state
       (λ k. (unmasked_in o.system ByNobody k (Service.ActivateTask (Some t))).state) stands system
       (λ w k. ap (λ (r : KeptReply). r.state) (unmasked_words o.system w ByNobody k (Service.ActivateTask (Some t)))) new
       (law.0, ap (λ (r : KeptReply). r.state) law.1)
 
-  pub stands_set : (t m : ℕ) → Stands o → t < length o.system.tasks → runner_waits (kept_in o) ≡ false
-      → kept_in n ≡ (unmasked_in o.system ByNobody (kept_in o) (Service.SetEvent (Some t) m)).state → Stands n
-  stands_set t m (s, stands) inside ready new =
+  pub stands_activated : (t : ℕ) → Stands o → t < length o.system.tasks
+      → kept_in n ≡ (unmasked_in o.system ByNobody (kept_in o) (Service.ActivateTask (Some t))).state → Stands n
+  stands_activated t (s, stands) inside new = (_, stands_for_activated s t stands inside new)
+
+  pub stands_for_set : (s : State) (t m : ℕ) → StandsFor o s → t < length o.system.tasks → runner_waits (kept_in o) ≡ false
+      → kept_in n ≡ (unmasked_in o.system ByNobody (kept_in o) (Service.SetEvent (Some t) m)).state
+      → StandsFor n (unmasked_service o.system NobodyCalls s (Service.SetEvent (Some t) m)).state
+  stands_for_set s t m stands inside ready new =
       let law = set_event_stands o.system s t m stands.standing inside (ap runner_waits (sym stands.same) ∙ ready) in
-      stands_after o n s (unmasked_service o.system NobodyCalls s (Service.SetEvent (Some t) m)).state
+      stands_for o n s (unmasked_service o.system NobodyCalls s (Service.SetEvent (Some t) m)).state
       (λ k. (unmasked_in o.system ByNobody k (Service.SetEvent (Some t) m)).state) stands system
       (λ w k. ap (λ (r : KeptReply). r.state) (unmasked_words o.system w ByNobody k (Service.SetEvent (Some t) m))) new
       (law.0, ap (λ (r : KeptReply). r.state) law.1)
+
+  pub stands_set : (t m : ℕ) → Stands o → t < length o.system.tasks → runner_waits (kept_in o) ≡ false
+      → kept_in n ≡ (unmasked_in o.system ByNobody (kept_in o) (Service.SetEvent (Some t) m)).state → Stands n
+  stands_set t m (s, stands) inside ready new = (_, stands_for_set s t m stands inside ready new)
 
   pub stands_rescheduled : Stands o → kept_in n ≡ (rescheduled o.system (kept_in o)).state → Stands n
   stands_rescheduled (s, stands) new =
@@ -150,21 +163,25 @@ module _ (o n : Objects) (system : n.system ≡ o.system) where
       stands_after o n s (start_phase o.system s) (start_phase_in o.system) stands system (λ w k. start_phase_words o.system w k) new law
 
   -- a call
-  serves_for : (s : State) → StandsFor o s → MayServe o.system (kept_in o) → MayServe o.system (kept o.system s)
+  pub serves_for : (s : State) → StandsFor o s → MayServe o.system (kept_in o) → MayServe o.system (kept o.system s)
   serves_for s stands may =
       let here : MayServe o.system (kept_of s.words o) = record { ready = may.ready; chosen = λ h. overtaken_in o.system o s.words (contender (kept_in o)) ∙ may.chosen h } in
       subst (MayServe o.system) stands.same here
 
-  pub stands_called : (call : Call) → Stands o → IsKnownCall o.system call → MayServe o.system (kept_in o)
-      → kept_in n ≡ (call_in o.system (kept_in o) call).state → Stands n
-  stands_called (Call.Service call) (s, stands) known may new =
+  pub stands_for_called : (s : State) (call : Call) → StandsFor o s → IsKnownCall o.system call → MayServe o.system (kept_in o)
+      → kept_in n ≡ (call_in o.system (kept_in o) call).state → StandsFor n (called o.system s call).state
+  stands_for_called s (Call.Service call) stands known may new =
       let law = service_stands o.system s call stands.standing (serves_for s stands may) (activates o.system call known) in
-      stands_after o n s (service o.system (executor s) s call).state (λ k. (service_in o.system (caller_in k) k call).state) stands system
+      stands_for o n s (service o.system (executor s) s call).state (λ k. (service_in o.system (caller_in k) k call).state) stands system
       (λ w k. ap (λ (r : KeptReply). r.state) (service_words o.system w (caller_in k) k call)) new
       (law.0, ap (λ (r : KeptReply). r.state) law.1)
-  stands_called (Call.Control control) (s, stands) known may new =
-      stands_after o n s (controlled control s) (controlled_in control) stands system (λ w k. control_words o.system w k control) new
+  stands_for_called s (Call.Control control) stands known may new =
+      stands_for o n s (controlled control s) (controlled_in control) stands system (λ w k. control_words o.system w k control) new
       (control_stands o.system s control stands.standing)
+
+  pub stands_called : (call : Call) → Stands o → IsKnownCall o.system call → MayServe o.system (kept_in o)
+      → kept_in n ≡ (call_in o.system (kept_in o) call).state → Stands n
+  stands_called call (s, stands) known may new = (_, stands_for_called s call stands known may new)
 
   -- who executed goes on
   pub stands_gone_on : (owner : Owner) (x : Context) → Stands o → MayGoOn o owner → IsPlaced o.system owner x

@@ -1,4 +1,5 @@
 pub mod Objects
 pub mod Calls
+pub mod AsDefined
 pub mod Dispatched
 pub mod Seen

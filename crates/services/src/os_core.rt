@@ -4,7 +4,7 @@ ghost use Rattle.std.specs.Prelude.{◌≡◌, ◌<◌, ◌≤◌, ◌+◌, ◌+
 ghost use Rattle.osek_base.specs.declared.instr.Service.{Service};
 ghost use Rattle.osek_base.specs.declared.ids.Owner.{Owner};
 ghost use Rattle.osek_base.specs.Instruction.{plain};
-ghost use Rattle.osek_base.specs.State.{Words, shared_window, words_after};
+ghost use Rattle.osek_base.specs.State.{Words, shared_window, still, words_after};
 ghost use Rattle.machine.specs.Windows.{word};
 ghost use Rattle.osek_base.specs.Tick.{answered, at_values};
 ghost use Rattle.machine.specs.Execution.{HasNext};
@@ -18,7 +18,8 @@ ghost use Rattle.kept_state.specs.Moves.{contender, rescheduled};
 ghost use Rattle.kept_state.specs.Standing.{MayServe, runner_waits};
 ghost use Rattle.services.specs.Dispatched.{is_refusal};
 ghost use Rattle.ready_queues.specs.LevelLists.{level_lists};
-ghost use Rattle.services.specs.Objects.{kept_in, kept_of};
+ghost use Rattle.services.specs.Objects.{StandsFor, kept_in, kept_of};
+ghost use Rattle.services.specs.AsDefined.{ActsAsDefined, CallsAsDefined};
 ghost use Rattle.services.specs.declared.calls.Call.{Call as CallOf};
 ghost use Rattle.services.specs.Calls.{IsExecuting, IsKnown, IsKnownCall, IsThere, MayGoOn, IsSameCaller, call_in, caller_as, calling_task, context_in};
 
@@ -36,8 +37,10 @@ use std::alloc::{AllocError, Global};
 use std::marker::Model;
 
 /// The tasks, interrupts, alarms, events and shared words of a running system, over ready queues of any kind. It stands for
-/// a good state of the definitions: one that has the same list of ready tasks by level, and the same in all else that is
-/// kept. Contracts see what is kept but the words of tasks and routines.
+/// a state of the definitions, with the same list of ready tasks by level, and the same in all else that is kept. That state
+/// is a standing one, as each state of a run is, within a tick too. It needn't be good, as those between ticks are: its
+/// running job may wait until the next reschedule. Contracts see what is kept but the words of tasks and routines, and in
+/// the clauses `defined` the definitions' states.
 #[derive(Drop)]
 pub struct Core<'s, Q: ReadyQueues> {
     pub(crate) objects: Objects<'s, Q>,
@@ -80,6 +83,7 @@ impl<'s, Q: ReadyQueues> Core<'s, Q> {
     pub fn new(alloc: Global, system: &'s System) -> Result<Self, AllocError>
         ensures system { IfOk result (λ c. c.system ≡ system.now) }
         ensures kept { IfOk result (λ c. kept_in c ≡ still_in system.now) }
+        ensures defined { IfOk result (λ c. StandsFor c (still system.now)) }
     {
         Ok(Core {
             objects: Objects::new(alloc, system)?,
@@ -172,6 +176,7 @@ impl<'s, Q: ReadyQueues> Core<'s, Q> {
         ensures system { self.new.system ≡ self.old.system }
         ensures status { result ≡ (unmasked_in self.old.system ByNobody (kept_in self.old) (Service.ActivateTask (Some task))).status }
         ensures kept { kept_in self.new ≡ (unmasked_in self.old.system ByNobody (kept_in self.old) (Service.ActivateTask (Some task))).state }
+        ensures defined { ActsAsDefined self.old self.new (Service.ActivateTask (Some task)) result }
     {
         self.is_dispatched = false;
         self.objects.activate(task)
@@ -185,6 +190,7 @@ impl<'s, Q: ReadyQueues> Core<'s, Q> {
         ensures system { self.new.system ≡ self.old.system }
         ensures status { result ≡ (unmasked_in self.old.system ByNobody (kept_in self.old) (Service.SetEvent (Some task) mask)).status }
         ensures kept { kept_in self.new ≡ (unmasked_in self.old.system ByNobody (kept_in self.old) (Service.SetEvent (Some task) mask)).state }
+        ensures defined { ActsAsDefined self.old self.new (Service.SetEvent (Some task) mask) result }
     {
         self.is_dispatched = false;
         self.objects.set_event(task, mask)
@@ -203,6 +209,7 @@ impl<'s, Q: ReadyQueues> Core<'s, Q> {
         ensures status { result.status ≡ (call_in self.old.system (kept_in self.old) call.now).status }
         ensures results { result.results ≡ (call_in self.old.system (kept_in self.old) call.now).results }
         ensures kept { kept_in self.new ≡ (call_in self.old.system (kept_in self.old) call.now).state }
+        ensures defined { CallsAsDefined self.old self.new call.now result.status result.results }
     {
         let answer = self.objects.call(call);
         self.is_dispatched = stays_known(self.is_dispatched, &answer);
@@ -221,6 +228,7 @@ impl<'s, Q: ReadyQueues> Core<'s, Q> {
         ensures status { result.status ≡ (call_in self.old.system (kept_in self.old) (CallOf.Service (at_values (context_in (kept_in self.old) owner) service.now))).status }
         ensures results { result.results ≡ (call_in self.old.system (kept_in self.old) (CallOf.Service (at_values (context_in (kept_in self.old) owner) service.now))).results }
         ensures kept { kept_in self.new ≡ (call_in self.old.system (kept_in self.old) (CallOf.Service (at_values (context_in (kept_in self.old) owner) service.now))).state }
+        ensures defined { CallsAsDefined self.old self.new (CallOf.Service (at_values (context_in (kept_in self.old) owner) service.now)) result.status result.results }
     {
         let answer = self.objects.serve_program(owner, service);
         self.is_dispatched = stays_known(self.is_dispatched, &answer);

@@ -1,3 +1,5 @@
+use Rattle.services.specs.AsDefined.{CallsAsDefined}
+use Rattle.services.proofs.AsDefinedLemmas.{called_as_defined}
 use Rattle.services.proofs.StandsLemmas.{fit_where_stands, stands_called}
 use Rattle.services.proofs.os_core.Core.call.Goals as goal
 use Rattle.std.proofs.Common.{sym, ◌∙◌, subst}
@@ -27,3 +29,13 @@ pub returns-clause-caller : goal.returns-clause-caller
 returns-clause-caller g c =
     subst (λ (k : Objects). IsSameCaller k c.call-answer.new.self) c.self.view_is
     (same_caller c.self.inside.objects c.call-answer.new.self c.args.call.now c.call-answer.ensures.kept)
+
+pub returns-clause-defined : goal.returns-clause-defined
+returns-clause-defined g c =
+    let n : Objects = c.call-answer.new.self in
+    let answer = c.call-answer.result in
+    subst (λ (k : Objects). CallsAsDefined k n c.args.call.now answer.status answer.results) c.self.view_is
+    (called_as_defined c.self.inside.objects n c.call-answer.ensures.system c.args.call.now answer.status answer.results
+    (subst (λ (k : Objects). IsKnownCall k.system c.args.call.now) (sym c.self.view_is) c.requires.known)
+    (subst (λ (k : Objects). MayServe k.system (kept_in k)) (sym c.self.view_is) c.requires.serves)
+    c.call-answer.ensures.status c.call-answer.ensures.results c.call-answer.ensures.kept)

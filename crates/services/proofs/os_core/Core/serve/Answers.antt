@@ -1,3 +1,5 @@
+use Rattle.services.specs.AsDefined.{CallsAsDefined}
+use Rattle.services.proofs.AsDefinedLemmas.{called_as_defined}
 use Rattle.std.proofs.Common.{sym, ◌∙◌, subst}
 use Rattle.osek_base.specs.Tick.{at_values}
 use Rattle.kept_state.specs.Standing.{MayServe}
@@ -42,3 +44,17 @@ returns-clause-caller g c =
     let call : Call = Call.Service (at_values (context_in (kept_in o) c.args.owner) c.args.service.now) in
     subst (λ (k : Objects). IsSameCaller k c.serve_program-answer.new.self) c.self.view_is
     (same_caller o c.serve_program-answer.new.self call c.serve_program-answer.ensures.kept)
+
+pub returns-clause-defined : goal.returns-clause-defined
+returns-clause-defined g c =
+    let o : Objects = c.self.inside.objects in
+    let n : Objects = c.serve_program-answer.new.self in
+    let call : Call = Call.Service (at_values (context_in (kept_in o) c.args.owner) c.args.service.now) in
+    let answer = c.serve_program-answer.result in
+    subst
+    (λ (k : Objects). CallsAsDefined k n (Call.Service (at_values (context_in (kept_in k) c.args.owner) c.args.service.now)) answer.status answer.results)
+    c.self.view_is
+    (called_as_defined o n c.serve_program-answer.ensures.system call answer.status answer.results
+    (subst (λ (k : Objects). IsKnown k.system (at_values (context_in (kept_in k) c.args.owner) c.args.service.now)) (sym c.self.view_is) c.requires.known)
+    (subst (λ (k : Objects). MayServe k.system (kept_in k)) (sym c.self.view_is) c.requires.serves)
+    c.serve_program-answer.ensures.status c.serve_program-answer.ensures.results c.serve_program-answer.ensures.kept)

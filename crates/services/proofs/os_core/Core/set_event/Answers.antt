@@ -1,3 +1,7 @@
+use Rattle.osek_base.specs.declared.instr.Service.{Service}
+use Rattle.std.proofs.Common.{Some}
+use Rattle.services.specs.AsDefined.{ActsAsDefined}
+use Rattle.services.proofs.AsDefinedLemmas.{set_as_defined}
 use Rattle.services.proofs.StandsLemmas.{fit_where_stands, stands_set}
 use Rattle.services.proofs.os_core.Core.set_event.Goals as goal
 use Rattle.std.proofs.Common.{◌≡◌, ◌<◌, length, sym, subst, false}
@@ -16,3 +20,12 @@ invariant_of-self g c =
     (subst (λ (k : Objects). c.args.task < length k.system.tasks) (sym c.self.view_is) c.requires.task)
     (subst (λ (k : Objects). runner_waits (kept_in k) ≡ false) (sym c.self.view_is) c.requires.ready)
     (c.set_event.ensures.kept ByNobody))
+
+pub returns-clause-defined : goal.returns-clause-defined
+returns-clause-defined g c =
+    let n : Objects = c.set_event.new.self in
+    subst (λ (k : Objects). ActsAsDefined k n (Service.SetEvent (Some c.args.task) c.args.mask) c.set_event.result) c.self.view_is
+    (set_as_defined c.self.inside.objects n c.set_event.ensures.system c.args.task c.args.mask c.set_event.result
+    (subst (λ (k : Objects). c.args.task < length k.system.tasks) (sym c.self.view_is) c.requires.task)
+    (subst (λ (k : Objects). runner_waits (kept_in k) ≡ false) (sym c.self.view_is) c.requires.ready)
+    (c.set_event.ensures.status ByNobody) (c.set_event.ensures.kept ByNobody))

@@ -1,0 +1,85 @@
+-- What calls do over what is kept is what the definitions say of every state that the objects stand for.
+use Rattle.std.proofs.Common.{◌≡◌, ℕ, ◌<◌, false, length, sym, ◌∙◌, ap}
+use Rattle.std.specs.Prelude.{Option, Some}
+use Rattle.osek_base.specs.declared.instr.Service.{Service}
+use Rattle.osek_base.specs.Types.{ServiceCall}
+use Rattle.osek_base.specs.declared.status.Status.{Status}
+use Rattle.osek_base.specs.declared.trace_event.Results.{Results}
+use Rattle.osek_base.specs.State.{State}
+use Rattle.osek_base.specs.Service.{NobodyCalls, service, unmasked_service}
+use Rattle.osek_base.specs.Tick.{executor}
+use Rattle.kept_state.specs.Kept.{kept}
+use Rattle.kept_state.specs.KeptService.{ByNobody, KeptReply, caller_in, kept_reply, unmasked_in, service_in}
+use Rattle.kept_state.specs.Standing.{MayServe, runner_waits}
+use Rattle.kept_state.proofs.Standing.{activate_stands, set_event_stands, service_stands}
+use Rattle.kept_state.proofs.Words.{reply_with, unmasked_words, service_words}
+use Rattle.services.specs.declared.calls.Call.{Call}
+use Rattle.services.specs.Objects.{Objects, StandsFor, kept_in}
+use Rattle.services.specs.Calls.{IsKnownCall, call_in}
+use Rattle.services.specs.AsDefined.{CallsAsDefined, ActsAsDefined}
+use Rattle.services.proofs.StandsLemmas.{activates, serves_for, stands_for_activated, stands_for_set, stands_for_called}
+
+module _ (o n : Objects) (system : n.system ≡ o.system) where
+  -- what nobody calls is answered as it is over what is kept
+  unmasked_reply : (s : State) (call : ServiceCall) → StandsFor o s
+      → kept_reply o.system (unmasked_service o.system NobodyCalls s call) ≡ unmasked_in o.system ByNobody (kept o.system s) call
+      → kept_reply o.system (unmasked_service o.system NobodyCalls s call)
+      ≡ reply_with s.words (unmasked_in o.system ByNobody (kept_in o) call)
+  unmasked_reply s call stands law =
+      law ∙ ap (λ k. unmasked_in o.system ByNobody k call) (sym stands.same)
+      ∙ unmasked_words o.system s.words ByNobody (kept_in o) call
+
+  pub activated_as_defined : (t : ℕ) (answer : Status) → t < length o.system.tasks
+      → answer ≡ (unmasked_in o.system ByNobody (kept_in o) (Service.ActivateTask (Some t))).status
+      → kept_in n ≡ (unmasked_in o.system ByNobody (kept_in o) (Service.ActivateTask (Some t))).state
+      → ActsAsDefined o n (Service.ActivateTask (Some t)) answer
+  unfolding ActsAsDefined
+  activated_as_defined t answer inside told new = λ s stands.
+      let law = activate_stands o.system s t stands.standing inside in
+      let reply = unmasked_reply s (Service.ActivateTask (Some t)) stands law.1 in
+      record {
+        answered = told ∙ ap (λ (r : KeptReply). r.status) (sym reply);
+        stands = stands_for_activated o n system s t stands inside new;
+      }
+
+  pub set_as_defined : (t m : ℕ) (answer : Status) → t < length o.system.tasks → runner_waits (kept_in o) ≡ false
+      → answer ≡ (unmasked_in o.system ByNobody (kept_in o) (Service.SetEvent (Some t) m)).status
+      → kept_in n ≡ (unmasked_in o.system ByNobody (kept_in o) (Service.SetEvent (Some t) m)).state
+      → ActsAsDefined o n (Service.SetEvent (Some t) m) answer
+  unfolding ActsAsDefined
+  set_as_defined t m answer inside ready told new = λ s stands.
+      let law = set_event_stands o.system s t m stands.standing inside (ap runner_waits (sym stands.same) ∙ ready) in
+      let reply = unmasked_reply s (Service.SetEvent (Some t) m) stands law.1 in
+      record {
+        answered = told ∙ ap (λ (r : KeptReply). r.status) (sym reply);
+        stands = stands_for_set o n system s t m stands inside ready new;
+      }
+
+  -- a call
+  service_reply : (s : State) (call : ServiceCall) → StandsFor o s → MayServe o.system (kept_in o)
+      → IsKnownCall o.system (Call.Service call)
+      → kept_reply o.system (service o.system (executor s) s call)
+      ≡ reply_with s.words (service_in o.system (caller_in (kept_in o)) (kept_in o) call)
+  service_reply s call stands may known =
+      let law = service_stands o.system s call stands.standing (serves_for o n system s stands may) (activates o.system call known) in
+      law.1 ∙ ap (λ k. service_in o.system (caller_in k) k call) (sym stands.same)
+      ∙ service_words o.system s.words (caller_in (kept_in o)) (kept_in o) call
+
+  pub called_as_defined : (call : Call) (status : Option Status) (results : Results) → IsKnownCall o.system call
+      → MayServe o.system (kept_in o) → status ≡ (call_in o.system (kept_in o) call).status
+      → results ≡ (call_in o.system (kept_in o) call).results → kept_in n ≡ (call_in o.system (kept_in o) call).state
+      → CallsAsDefined o n call status results
+  unfolding CallsAsDefined
+  called_as_defined (Call.Service call) status results known may told given new = λ s stands.
+      let reply = service_reply s call stands may known in
+      record {
+        answered = told ∙ ap (λ (r : KeptReply). Some r.status) (sym reply);
+        given = given ∙ ap (λ (r : KeptReply). r.results) (sym reply);
+        stands = stands_for_called o n system s (Call.Service call) stands known may new;
+      }
+  called_as_defined (Call.Control control) status results known may told given new = λ s stands.
+      record {
+        answered = told;
+        given = given;
+        stands = stands_for_called o n system s (Call.Control control) stands known may new;
+      }
