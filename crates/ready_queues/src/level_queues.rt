@@ -7,8 +7,8 @@ use osek_base::TaskId;
 use std::alloc::{AllocError, Global};
 use std::marker::Model;
 
-/// A ring for each level, each with room for all entries, a slot before each ring for a task that
-/// was put oldest, and a word whose bit k is set exactly where level k has a task.
+/// A ring for each level, each with room for all entries, a slot before each ring for a task put
+/// oldest or put alone, and a word whose bit k is set exactly where level k has a task.
 ///
 /// `top` reads the word alone. A put or a take makes at most one ring operation, but for
 /// `put_oldest` where the slot of its level is occupied: that moves each task of the ring once.
