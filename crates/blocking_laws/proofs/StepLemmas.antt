@@ -4,24 +4,13 @@ use Rattle.std.proofs.Math.Numerals.{add-one}
 use Rattle.std.proofs.lemmas.Bool.{true≢false}
 use Rattle.osek_base.specs.declared.arrivals.Arrival.{Arrival}
 use Rattle.osek_base.specs.System.{System}
-use Rattle.osek_base.specs.State.{State, still}
-use Rattle.osek_base.specs.Activation.{activated}
+use Rattle.osek_base.specs.State.{State}
 use Rattle.osek_base.specs.Tick.{tick}
-use Rattle.osek_base.specs.Trace.{Run, arriving, run, one_more, step_added, boot, starting_tasks, starting_alarms, all_activated}
-use Rattle.osek_base.proofs.FrameLemmas.{tick_tick, tick_reschedule}
+use Rattle.osek_base.specs.Trace.{Run, arriving, run, step_added}
+use Rattle.osek_base.proofs.FrameLemmas.{tick_tick}
+use Rattle.run_laws.proofs.RunSteps.{run_suc, one_more-going, one_more-over}
+pub use Rattle.run_laws.proofs.RunSteps.{tick_zero}
 use Rattle.blocking_laws.specs.Steps.{step_at}
-
--- one tick more of a run that isn't over
-one_more-going : (S : System) (arrivals : List Arrival) (r : Run) → r.state.over ≡ false
-    → one_more S arrivals r ≡ step_added r (tick S (arriving arrivals r.state.tick) r.state)
-one_more-going S arrivals r going = rw going refl
-
-one_more-over : (S : System) (arrivals : List Arrival) (r : Run) → r.state.over ≡ true → one_more S arrivals r ≡ r
-one_more-over S arrivals r over = rw over refl
-
-run_suc : (S : System) (mode : ℕ) (arrivals : List Arrival) (n : ℕ) → run S mode arrivals (suc n) ≡ one_more S arrivals (run S mode arrivals n)
-unfolding run
-run_suc S mode arrivals n = refl
 
 -- a run that isn't over has one step more after one tick more
 pub run_more : (S : System) (mode : ℕ) (arrivals : List Arrival) (n : ℕ) → (run S mode arrivals n).state.over ≡ false
@@ -52,23 +41,6 @@ run_stays S mode arrivals n (suc more) over =
     ∙ run_over S mode arrivals (n + more) (ap (λ (r : Run). r.state.over) same ∙ over) ∙ same
 
 -- ---- the numbers of steps
-
-tick_activated : (S : System) (t : ℕ) (s : State) → (activated S t s).tick ≡ s.tick
-unfolding activated
-tick_activated S t s = refl
-
-tick_all_activated : (S : System) (ts : List ℕ) (s : State) → (all_activated S ts s).tick ≡ s.tick
-tick_all_activated S [] s = refl
-tick_all_activated S (t ∷ ts) s = tick_all_activated S ts (activated S t s) ∙ tick_activated S t s
-
-tick_boot : (S : System) (mode : ℕ) → (boot S mode).state.tick ≡ 0
-unfolding boot
-tick_boot S mode =
-    tick_reschedule S _ ∙ tick_all_activated S (starting_tasks S mode) (record (still S) { alarms = starting_alarms S mode })
-
-pub tick_zero : (S : System) (mode : ℕ) (arrivals : List Arrival) → (run S mode arrivals 0).state.tick ≡ 0
-unfolding run
-tick_zero S mode arrivals = tick_boot S mode
 
 going_before : (S : System) (mode : ℕ) (arrivals : List Arrival) (n : ℕ) (over : Bool) → (run S mode arrivals n).state.over ≡ over
     → (run S mode arrivals (n + 1)).state.over ≡ false → over ≡ false

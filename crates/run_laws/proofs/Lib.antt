@@ -27,3 +27,6 @@ pub mod Blocking
 pub mod Stamps
 pub mod Counting
 pub mod Between
+pub mod RunSteps
+pub mod JobChanges
+pub mod JobBalance

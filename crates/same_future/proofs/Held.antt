@@ -11,12 +11,12 @@ use Rattle.osek_base.specs.Proper.{IsProper}
 use Rattle.run_laws.proofs.Lists.{some_inside, none_some}
 use Rattle.kept_state.specs.Kept.{kept}
 use Rattle.same_future.specs.Alike.{kept_after}
-use Rattle.same_future.specs.Jobs.{one_if}
+use Rattle.run_laws.specs.Jobs.{one_if}
 use Rattle.same_future.specs.Spans.{Holds, holder_in, is_let_go, Seen, Age, Ticks, Above, ages_next, IsAtMost}
 use Rattle.same_future.specs.Covering.{ages_after}
 use Rattle.same_future.specs.Paths.{arrivals_on}
 use Rattle.same_future.specs.Holds.{IsHeldFor, HoldsAreTold, FindsHold}
-use Rattle.same_future.proofs.Futures.{state_more, going_before}
+use Rattle.run_laws.proofs.RunSteps.{state_more, going_before}
 use Rattle.same_future.proofs.Covered.{none_older}
 use Rattle.same_future.proofs.Attained.{IsOn, on_path, paths_are_runs}
 use Rattle.same_future.proofs.Holders.{none_held}

@@ -9,12 +9,12 @@ use Rattle.osek_base.specs.Tick.{is_pending}
 use Rattle.osek_base.specs.Trace.{arriving, run}
 use Rattle.osek_base.specs.Proper.{IsProper}
 use Rattle.run_laws.proofs.FormedTick.{run_form}
-use Rattle.same_future.specs.Jobs.{one_if}
+use Rattle.run_laws.specs.Jobs.{one_if}
 use Rattle.same_future.specs.Spans.{Pending, Seen, Age, Ticks, Above, ages_next, ending_age, IsAtMost}
 use Rattle.same_future.specs.Covering.{arrives, seen_at, ages_after, ending_age_at}
 use Rattle.same_future.specs.Paths.{arrivals_on, IsRun}
 use Rattle.same_future.specs.Latencies.{pends_after, StartsAfter, LatenciesAreTold, FindsLatency}
-use Rattle.same_future.proofs.Futures.{state_more, going_before}
+use Rattle.run_laws.proofs.RunSteps.{state_more, going_before}
 use Rattle.same_future.proofs.Covered.{no_longer}
 use Rattle.same_future.proofs.Attained.{paths_are_runs}
 use Rattle.same_future.proofs.Flags.{only_flagged, none_flagged}

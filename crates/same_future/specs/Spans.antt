@@ -13,7 +13,7 @@ use Rattle.osek_base.specs.System.{System}
 use Rattle.kept_state.specs.Kept.{Kept}
 use Rattle.kept_state.specs.KeptService.{holds_in}
 use Rattle.kept_state.specs.KeptTick.{KeptStep}
-use Rattle.same_future.specs.Jobs.{one_if, ends}
+use Rattle.run_laws.specs.Jobs.{one_if, ends}
 
 -- a span begins in a tick and ends in it or in a later one. Of a task: a job, from its making to its end; its readiness,
 -- from its making or release to its end or next wait. Of a routine: a pending interrupt, from its arrival to the

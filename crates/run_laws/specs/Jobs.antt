@@ -1,5 +1,5 @@
 -- OSEK/VDX OS: task management. The jobs of a task, counted in the order in which they are made and end.
-use Rattle.std.specs.Prelude.{ℕ, suc, ◌-◌, ◌+◌, ◌≡◌, ◌<◌, ◌≤◌, Bool, true, false, ◌==◌, List, [], ◌∷◌, length, slice_index}
+use Rattle.std.specs.Prelude.{ℕ, suc, ◌-◌, ◌+◌, ◌≡◌, ◌<◌, ◌≤◌, Bool, true, false, ◌==◌, List, length, slice_index}
 use Rattle.std.specs.List.{list_any}
 use Rattle.osek_base.specs.declared.arrivals.Arrival.{Arrival}
 use Rattle.osek_base.specs.declared.ids.Owner.{Owner}
@@ -9,8 +9,9 @@ use Rattle.osek_base.specs.declared.status.Status.{Status}
 use Rattle.osek_base.specs.declared.trace_event.Outcome.{Outcome}
 use Rattle.osek_base.specs.declared.trace_event.TraceEvent.{TraceEvent}
 use Rattle.osek_base.specs.System.{System}
-use Rattle.osek_base.specs.State.{Job, jobs_of}
-use Rattle.osek_base.specs.Trace.{run}
+use Rattle.osek_base.specs.State.{jobs_of}
+use Rattle.osek_base.specs.Tick.{tick}
+use Rattle.osek_base.specs.Trace.{arriving, run}
 use Rattle.osek_base.specs.Proper.{IsProper}
 
 -- whether a record tells that a job of a task ends
@@ -26,17 +27,15 @@ abbrev pub one_if : Bool → ℕ
 one_if true = 1
 one_if false = 0
 
--- how many jobs of a task were made before tick n, at boot too, and how many of them ended
+-- how many jobs of a task were made before tick n, at boot too; how many of them are left; and how many ended
 abbrev pub made_by : System → ℕ → ℕ → List Arrival → ℕ → ℕ
 made_by S mode t arrivals n = slice_index (run S mode arrivals n).state.made t
 
-abbrev pub ended_by : System → ℕ → ℕ → List Arrival → ℕ → ℕ
-ended_by S mode t arrivals n = made_by S mode t arrivals n - length (jobs_of t (run S mode arrivals n).state.jobs)
+abbrev pub left_after : System → ℕ → ℕ → List Arrival → ℕ → ℕ
+left_after S mode t arrivals n = length (jobs_of t (run S mode arrivals n).state.jobs)
 
--- these jobs have the numbers from one up to another, in order
-abbrev pub AreNumbered : ℕ → ℕ → List Job → Type 0
-AreNumbered k m [] = k ≡ m
-AreNumbered k m (j ∷ jobs) = (j.id.serial ≡ k) × AreNumbered (suc k) m jobs
+abbrev pub ended_by : System → ℕ → ℕ → List Arrival → ℕ → ℕ
+ended_by S mode t arrivals n = made_by S mode t arrivals n - left_after S mode t arrivals n
 
 -- jobs of a task are counted from 0 in the order in which they are made, and end in that order. Job k is made in tick u;
 -- those that boot makes, in tick 0
@@ -57,8 +56,16 @@ pub record EndsAfter (S : System) (mode t : ℕ) (arrivals : List Arrival) (n r 
   pub ends : EndsIn S mode t arrivals job n
   pub long : r + made_in ≡ suc n
 
--- of a task the jobs that are left are those behind the ended ones, in the order in which they were made
-abbrev pub JobsAreNumbered : Type 0
-JobsAreNumbered =
+-- ---- the law
+
+-- in a tick as many jobs of a task are made as are left more behind it, and one more where one ends
+pub record IsBalanced (S : System) (mode t : ℕ) (arrivals : List Arrival) (n : ℕ) : Type 0 where
+  pub more : made_by S mode t arrivals n ≤ made_by S mode t arrivals (suc n)
+  pub even : made_by S mode t arrivals (suc n) + left_after S mode t arrivals n
+      ≡ made_by S mode t arrivals n + left_after S mode t arrivals (suc n)
+      + one_if (ends t (tick S (arriving arrivals n) (run S mode arrivals n).state).events)
+
+abbrev pub AlwaysBalanced : Type 0
+AlwaysBalanced =
     (S : System) (mode t : ℕ) (arrivals : List Arrival) (n : ℕ) → IsProper S → t < length S.tasks
-    → AreNumbered (ended_by S mode t arrivals n) (made_by S mode t arrivals n) (jobs_of t (run S mode arrivals n).state.jobs)
+    → (run S mode arrivals n).state.over ≡ false → IsBalanced S mode t arrivals n
