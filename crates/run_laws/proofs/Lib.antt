@@ -30,3 +30,5 @@ pub mod Between
 pub mod RunSteps
 pub mod JobChanges
 pub mod JobBalance
+pub mod Further
+pub mod Arriving

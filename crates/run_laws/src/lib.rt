@@ -7,4 +7,7 @@ mod jobs;
 mod runs;
 
 pub use jobs::always_balanced;
-pub use runs::{blocks_once, excludes, protects, starts_singly, stays_good};
+pub use runs::{
+    blocks_once, depends_on_the_past, excludes, goes_on_by_any, protects, starts_singly,
+    stays_good, takes_any_arrivals,
+};

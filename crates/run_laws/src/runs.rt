@@ -1,7 +1,7 @@
 //! The laws, one function each.
 
 ghost use Rattle.osek_base.specs.Laws.{StaysGood};
-ghost use Rattle.run_laws.specs.Runs.{AlwaysBlocksOnce, AlwaysExcludes, AlwaysProtects, AlwaysStartsSingly};
+ghost use Rattle.run_laws.specs.Runs.{AlwaysBlocksOnce, AlwaysExcludes, AlwaysProtects, AlwaysStartsSingly, DependsOnThePast, GoesOnByAny, TakesAnyArrivals};
 
 /// Of one task no job but the oldest is begun, in every state of every run of a proper system.
 pub fn starts_singly()
@@ -28,4 +28,19 @@ pub fn blocks_once()
 /// resource change only by that job's own `StoreShared`, in every run of a proper system.
 pub fn protects()
     ensures { AlwaysProtects }
+{}
+
+/// A run depends on the interrupts alone that arrive in its ticks.
+pub fn depends_on_the_past()
+    ensures { DependsOnThePast }
+{}
+
+/// Whatever arrives in the next tick, the run goes on by it.
+pub fn goes_on_by_any()
+    ensures { GoesOnByAny }
+{}
+
+/// Any routines of the system may arrive in a tick, behind the arrivals before it.
+pub fn takes_any_arrivals()
+    ensures { TakesAnyArrivals }
 {}
