@@ -1,11 +1,10 @@
 -- Due alarms act in turn; at the first tick none is due.
-use Rattle.std.proofs.Common.{◌≡◌, ℕ, zero, suc, ◌+◌, ◌/◌, ◌<◌, ◌≤◌, Bool, true, false, not, ◌&&◌, cond, List, [], ◌∷◌, ◌++◌, map, take, drop, get_or, length, refl, sym, ◌∙◌, ap, ap₂, arith, append_assoc}
+use Rattle.std.proofs.Common.{◌≡◌, ℕ, zero, suc, ◌/◌, ◌≤◌, Bool, true, false, not, ◌&&◌, cond, List, [], ◌∷◌, ◌++◌, map, take, length, refl, sym, ◌∙◌, ap, ap₂, arith}
 use Rattle.std.specs.Prelude.{Option, None, slice_index_or}
 use Rattle.std.specs.List.{filter}
-use Rattle.std.proofs.Math.Seq.{drop-cons, take-length}
+use Rattle.std.proofs.Math.Seq.{take-length}
 use Rattle.std.proofs.lemmas.Bool.{false≢true}
-use Rattle.std.proofs.lemmas.List.{map-append, append-nil, take_more}
-use Rattle.std.proofs.Math.ListN.{drop_of_length-le}
+use Rattle.std.proofs.lemmas.List.{map-append, take_more}
 use Rattle.std.proofs.lemmas.List.Elements.{filter-append}
 use Rattle.std.proofs.Math.Numerals.{add-one}
 use Rattle.std.proofs.Math.Nat.{zero-div}
@@ -25,7 +24,7 @@ use Rattle.kept_state.specs.KeptService.{ByNobody, bare, unmasked_in}
 use Rattle.kept_state.specs.KeptTick.{alarm_reply_in, alarm_acts_in, alarms_act_in, alarm_phase_in, silent_in}
 use Rattle.kept_state.proofs.Words.{with_words, reply_with, unmasked_words}
 use Rattle.services.specs.Objects.{Objects, kept_of, kept_in}
-use Rattle.kernel.specs.Run.{AreAhead}
+use Rattle.kernel.specs.Processor.{AreAhead}
 
 -- an alarm acts by the service of its action
 module _ (S : System) (a : ℕ) (w : Words) (o : Objects) (action : Action) (is : (alarm S a).action ≡ action) where
@@ -47,59 +46,6 @@ module _ (S : System) (a : ℕ) (w : Words) (o : Objects) (action : Action) (is 
       ∙ ap (λ s. earlier ++ error_record S (Source.Alarm a) (Instr.Service (action_call action)) s) answered
       ∙ ap (λ v. earlier ++ error_record S (Source.Alarm a) (Instr.Service (action_call v)) (unmasked_in S ByNobody (kept_in o) (action_call action)).status) (sym is)
       ∙ sym (ap (λ (r : KeptRecorded). earlier ++ r.events) acts_by)
-
--- the alarms from the i-th on complete what all are to do
-pub record AreActing (S : System) (due : List ℕ) (i : ℕ) (before now : Objects) (earlier records : List TraceEvent) : Type 0 where
-  pub state : (w : Words) → (alarms_act_in S (drop i due) (kept_of w now)).state ≡ (alarms_act_in S due (kept_of w before)).state
-  pub events : (w : Words) → records ++ (alarms_act_in S (drop i due) (kept_of w now)).events ≡ earlier ++ (alarms_act_in S due (kept_of w before)).events
-
-pub acting_more : (S : System) (due : List ℕ) (i a : ℕ) (before old new : Objects) (earlier records after : List TraceEvent)
-    → AreActing S due i before old earlier records → i < length due → get_or due i 0 ≡ a
-    → ((w : Words) → kept_of w new ≡ (alarm_acts_in S a (kept_of w old)).state)
-    → ((w : Words) → after ≡ records ++ (alarm_acts_in S a (kept_of w old)).events)
-    → AreActing S due (i + 1) before new earlier after
-acting_more S due i a before old new earlier records after acting low found state events =
-    let rest : List ℕ = drop (i + 1) due in
-    let here : drop i due ≡ a ∷ rest =
-    drop-cons due i 0 low ∙ ap (λ v. v ∷ drop (suc i) due) found ∙ ap (λ k. a ∷ drop k due) (sym (add-one i)) in
-    record {
-      state = λ w.
-          ap (λ s. (alarms_act_in S rest s).state) (state w)
-          ∙ ap (λ v. (alarms_act_in S v (kept_of w old)).state) (sym here) ∙ acting.state w;
-      events = λ w.
-          ap (λ s. after ++ (alarms_act_in S rest s).events) (state w)
-          ∙ ap (λ v. v ++ (alarms_act_in S rest (alarm_acts_in S a (kept_of w old)).state).events) (events w)
-          ∙ append_assoc records _ _
-          ∙ ap (λ v. records ++ (alarms_act_in S v (kept_of w old)).events) (sym here) ∙ acting.events w;
-    }
-
--- all alarms of the phase have acted
-pub record IsDone (S : System) (before now : Objects) (earlier records : List TraceEvent) : Type 0 where
-  pub state : (w : Words) → kept_of w now ≡ (alarm_phase_in S (kept_of w before)).state
-  pub events : (w : Words) → records ≡ earlier ++ (alarm_phase_in S (kept_of w before)).events
-
--- the phase: those that are due act, once they have expired
-phase_is : (S : System) (w : Words) (o : Objects)
-    → alarm_phase_in S (kept_of w o)
-    ≡ alarms_act_in S (due_alarms S (bare (kept_in o))) (kept_of w (record o { alarms = alarms_advanced S (bare (kept_in o)) }))
-unfolding alarm_phase_in
-phase_is S w o = refl
-
-pub acted_phase : (S : System) (due : List ℕ) (i : ℕ) (before advanced now : Objects) (earlier records : List TraceEvent)
-    → AreActing S due i advanced now earlier records → length due ≤ i
-    → due ≡ due_alarms S (bare (kept_in before))
-    → advanced ≡ record before { alarms = alarms_advanced S (bare (kept_in before)) }
-    → IsDone S before now earlier records
-acted_phase S due i before advanced now earlier records acting end due_is advanced_is =
-    let none : drop i due ≡ [] = drop_of_length-le due end in
-    let same : (w : Words) → alarms_act_in S due (kept_of w advanced) ≡ alarm_phase_in S (kept_of w before) = λ w.
-    ap₂ (λ (v : List ℕ) (o : Objects). alarms_act_in S v (kept_of w o)) due_is advanced_is ∙ sym (phase_is S w before) in
-    record {
-      state = λ w. ap (λ v. (alarms_act_in S v (kept_of w now)).state) (sym none) ∙ acting.state w ∙ ap (λ (r : KeptRecorded). r.state) (same w);
-      events = λ w.
-          sym (append-nil records) ∙ ap (λ v. records ++ (alarms_act_in S v (kept_of w now)).events) (sym none)
-          ∙ acting.events w ∙ ap (λ (r : KeptRecorded). earlier ++ r.events) (same w);
-    }
 
 -- ---- the first tick
 

@@ -1,16 +1,19 @@
 -- Arrivals in order: those of one tick stand together, from the cursor on.
-use Rattle.std.proofs.Common.{◌≡◌, ℕ, suc, ◌+◌, ◌<◌, ◌≤◌, Bool, true, false, List, [], ◌∷◌, drop, get_or, length, refl, sym, ◌∙◌, ap, subst, arith}
-use Rattle.std.specs.Prelude.{◌==◌, nat_le, nat_lt, slice_set}
+use Rattle.std.proofs.Common.{◌≡◌, ℕ, zero, suc, ◌+◌, ◌-◌, ◌<◌, ◌≤◌, true, false, List, [], ◌∷◌, ◌++◌, drop, get_or, take, map, length, refl, sym, ◌∙◌, ap, ap₂, subst, append_assoc, arith}
+use Rattle.std.specs.Prelude.{◌==◌, nat_le, nat_lt, slice_range}
+use Rattle.std.specs.List.{All, AllByRecursion, filter}
 use Rattle.std.proofs.Math.Seq.{drop-cons}
 use Rattle.std.proofs.Math.ListN.{drop_of_length-le}
 use Rattle.std.proofs.Math.Numerals.{add-one}
 use Rattle.std.proofs.lemmas.Bool.{leb-true}
+use Rattle.std.proofs.lemmas.List.{append-nil, drop-map, map-append, take-map, take_more}
+use Rattle.std.proofs.lemmas.List.Elements.{All-from_recursion, recursion_from_All}
 use Rattle.osek_base.specs.declared.limits.TheConstants.{MAX_TICKS}
 use Rattle.osek_base.specs.declared.arrivals.Arrival.{Arrival}
 use Rattle.osek_base.specs.ArrivalList.{are_in_order, is_arrival_list}
-use Rattle.osek_base.specs.Tick.{flagged}
 use Rattle.osek_base.specs.Trace.{arriving}
 use Rattle.osek_base.proofs.PlaceLemmas.{and_split}
+use Rattle.run_laws.proofs.Lists.{all_kept}
 use Rattle.kernel.specs.Run.{AreLeft}
 
 -- a list in order: its first tick, and its rest
@@ -49,52 +52,81 @@ none_before least t (a ∷ rest) h low =
     let other : (a.tick == t) ≡ false = grind (arith, later) in
     arriving_other a rest t other ∙ none_before a.tick t rest o.others later
 
--- of a list, the arrivals at a tick before the cursor have set their flags, and those behind it complete the whole
-pub record AreFlagged (list : List Arrival) (tick next : ℕ) (before now : List Bool) : Type 0 where
+-- ---- those of a tick are taken one by one
+
+range_more : {X : Type 0} (xs : List X) (a n : ℕ) (d : X) → a ≤ n → n < length xs → slice_range xs a (n + 1) ≡ slice_range xs a n ++ get_or xs n d ∷ []
+range_more xs zero n d low inside =
+    let more : n + 1 - 0 ≡ n + 1 = omega arith in
+    let same : n - 0 ≡ n = omega arith in
+    ap (λ k. take k xs) more ∙ take_more xs n d inside ∙ ap (λ k. take k xs ++ get_or xs n d ∷ []) (sym same)
+range_more [] (suc a) n d low inside = absurd (omega arith)
+range_more (x ∷ xs) (suc a) zero d low inside = absurd (omega arith)
+range_more (x ∷ xs) (suc a) (suc n) d low inside =
+    let more : suc n + 1 - suc a ≡ n + 1 - a = omega arith in
+    let same : suc n - suc a ≡ n - a = omega arith in
+    ap (λ k. take k (drop a xs)) more ∙ range_more xs a n d (omega arith) (omega arith)
+    ∙ ap (λ k. take k (drop a xs) ++ get_or xs n d ∷ []) (sym same)
+
+abbrev routines_of : List Arrival → List ℕ
+routines_of xs = map (λ (a : Arrival). a.routine) xs
+
+-- of a list, the arrivals from a cursor up to another are of the tick, and those behind complete the whole
+pub record AreTaken (list : List Arrival) (tick first next : ℕ) : Type 0 where
   pub within : next ≤ length list
+  pub forward : first ≤ next
   pub ordered : are_in_order tick (drop next list) ≡ true
   pub same : (t : ℕ) → tick < t → arriving list t ≡ arriving (drop next list) t
-  pub whole : flagged (arriving (drop next list) tick) now ≡ flagged (arriving list tick) before
+  pub whole : arriving list tick ≡ routines_of (slice_range list first next) ++ arriving (drop next list) tick
 
-pub flagged_none : (list : List Arrival) (tick next : ℕ) (flags : List Bool) → AreLeft list next tick
-    → AreFlagged list tick next flags flags
-flagged_none list tick next flags left = record {
-  within = left.within;
-  ordered = left.ordered;
-  same = λ t later. left.same t (omega arith);
-  whole = ap (λ v. flagged v flags) (sym (left.same tick (omega arith)));
-}
+pub taken_none : (list : List Arrival) (tick first : ℕ) → AreLeft list first tick → AreTaken list tick first first
+taken_none list tick first left =
+    let none : first - first ≡ 0 = omega arith in
+    record {
+      within = left.within;
+      forward = omega arith;
+      ordered = left.ordered;
+      same = λ t later. left.same t (omega arith);
+      whole =
+          left.same tick (omega arith)
+          ∙ ap (λ k. routines_of (take k (drop first list)) ++ arriving (drop first list) tick) (sym none);
+    }
 
 -- one more arrival at the tick
-pub flagged_more : (list : List Arrival) (tick next : ℕ) (before now : List Bool) (a : Arrival) → AreFlagged list tick next before now
-    → next < length list → a ≡ get_or list next a → a.tick ≡ tick
-    → AreFlagged list tick (next + 1) before (slice_set now a.routine true)
-flagged_more list tick next before now a f low found at =
+pub taken_more : (list : List Arrival) (tick first next : ℕ) (a : Arrival) → AreTaken list tick first next
+    → next < length list → a ≡ get_or list next a → (get_or list next a).tick ≡ tick → AreTaken list tick first (next + 1)
+taken_more list tick first next a f low found is =
+    let at : a.tick ≡ tick = ap (λ (v : Arrival). v.tick) found ∙ is in
     let rest : List Arrival = drop (suc next) list in
     let here : drop next list ≡ a ∷ rest = drop-cons list next a low ∙ ap (λ v. v ∷ rest) (sym found) in
     let o : IsInOrder tick a rest = order_split tick a rest (ap (are_in_order tick) (sym here) ∙ f.ordered) in
     let now_at : (a.tick == tick) ≡ true = grind (arith, at) in
     let more : drop (next + 1) list ≡ rest = ap (λ k. drop k list) (add-one next) in
+    let taken : routines_of (slice_range list first (next + 1)) ≡ routines_of (slice_range list first next) ++ a.routine ∷ [] =
+    ap routines_of (range_more list first next a f.forward low ∙ ap (λ v. slice_range list first next ++ v ∷ []) (sym found))
+    ∙ map-append (λ (a : Arrival). a.routine) (slice_range list first next) (a ∷ []) in
+    let forward = f.forward in
     record {
       within = omega arith;
+      forward = omega (arith, forward);
       ordered = ap (are_in_order tick) more ∙ subst (λ n. are_in_order n rest ≡ true) at o.others;
       same = λ t later.
           let other : (a.tick == t) ≡ false = grind (arith, at, later) in
           f.same t later ∙ ap (λ v. arriving v t) here ∙ arriving_other a rest t other ∙ ap (λ v. arriving v t) (sym more);
       whole =
-          ap (λ v. flagged (arriving v tick) (slice_set now a.routine true)) more
-          ∙ ap (λ v. flagged v now) (sym (arriving_first a rest tick now_at))
-          ∙ ap (λ v. flagged (arriving v tick) now) (sym here) ∙ f.whole;
+          f.whole
+          ∙ ap (λ v. routines_of (slice_range list first next) ++ v) (ap (λ v. arriving v tick) here ∙ arriving_first a rest tick now_at)
+          ∙ sym (append_assoc (routines_of (slice_range list first next)) (a.routine ∷ []) (arriving rest tick))
+          ∙ ap₂ (λ u v. u ++ arriving v tick) (sym taken) (sym more);
     }
 
 -- no arrival at the tick is left
-pub record AreAllFlagged (list : List Arrival) (tick next : ℕ) (before now : List Bool) : Type 0 where
+pub record HaveArrived (list : List Arrival) (tick first next : ℕ) : Type 0 where
   pub left : AreLeft list next (tick + 1)
-  pub all : now ≡ flagged (arriving list tick) before
+  pub these : arriving list tick ≡ slice_range (map (λ a. a.routine) list) first next
 
-all_flagged : (list rest : List Arrival) (tick next : ℕ) (before now : List Bool) → AreFlagged list tick next before now
-    → drop next list ≡ rest → are_in_order (tick + 1) rest ≡ true → AreAllFlagged list tick next before now
-all_flagged list rest tick next before now f here ordered =
+all_arrived : (list rest : List Arrival) (tick first next : ℕ) → AreTaken list tick first next
+    → drop next list ≡ rest → are_in_order (tick + 1) rest ≡ true → HaveArrived list tick first next
+all_arrived list rest tick first next f here ordered =
     let later : are_in_order (tick + 1) (drop next list) ≡ true = ap (are_in_order (tick + 1)) here ∙ ordered in
     record {
       left = record {
@@ -102,25 +134,29 @@ all_flagged list rest tick next before now f here ordered =
         ordered = later;
         same = λ t low. f.same t (omega arith);
       };
-      all =
-          ap (λ v. flagged v now) (sym (none_before (tick + 1) tick (drop next list) later (omega arith))) ∙ f.whole;
+      these =
+          f.whole
+          ∙ ap (λ v. routines_of (slice_range list first next) ++ v) (none_before (tick + 1) tick (drop next list) later (omega arith))
+          ∙ append-nil (routines_of (slice_range list first next))
+          ∙ sym (take-map (λ (a : Arrival). a.routine) (next - first) (drop first list))
+          ∙ ap (take (next - first)) (sym (drop-map (λ (a : Arrival). a.routine) first list));
     }
 
-pub flagged_at_end : (list : List Arrival) (tick next : ℕ) (before now : List Bool) → AreFlagged list tick next before now
-    → length list ≤ next → AreAllFlagged list tick next before now
-flagged_at_end list tick next before now f end =
-    all_flagged list [] tick next before now f (drop_of_length-le list end) refl
+pub arrived_at_end : (list : List Arrival) (tick first next : ℕ) → AreTaken list tick first next
+    → length list ≤ next → HaveArrived list tick first next
+arrived_at_end list tick first next f end =
+    all_arrived list [] tick first next f (drop_of_length-le list end) refl
 
-pub flagged_until : (list : List Arrival) (tick next : ℕ) (before now : List Bool) (a : Arrival) → AreFlagged list tick next before now
-    → next < length list → a ≡ get_or list next a → ((get_or list next a).tick ≡ tick → ⊥) → AreAllFlagged list tick next before now
-flagged_until list tick next before now a f low found not_at =
+pub arrived_until : (list : List Arrival) (tick first next : ℕ) (a : Arrival) → AreTaken list tick first next
+    → next < length list → a ≡ get_or list next a → ((get_or list next a).tick ≡ tick → ⊥) → HaveArrived list tick first next
+arrived_until list tick first next a f low found not_at =
     let rest : List Arrival = drop (suc next) list in
     let here : drop next list ≡ a ∷ rest = drop-cons list next a low ∙ ap (λ v. v ∷ rest) (sym found) in
     let ordered : are_in_order tick (a ∷ rest) ≡ true = ap (are_in_order tick) (sym here) ∙ f.ordered in
     let o : IsInOrder tick a rest = order_split tick a rest ordered in
     let other : a.tick ≡ tick → ⊥ = λ e. not_at (ap (λ (v : Arrival). v.tick) (sym found) ∙ e) in
     let later : tick + 1 ≤ a.tick = omega (arith, o.first, other) in
-    all_flagged list (a ∷ rest) tick next before now f here (order_later tick (tick + 1) a rest ordered later)
+    all_arrived list (a ∷ rest) tick first next f here (order_later tick (tick + 1) a rest ordered later)
 
 -- before the first tick all are left
 pub all_left : (list : List Arrival) → is_arrival_list list ≡ true → AreLeft list 0 0
@@ -129,3 +165,15 @@ all_left list h = record {
   ordered = (and_split _ _ h).1;
   same = λ t low. refl;
 }
+
+-- ---- they are routines of the system
+
+routines_known : (m : ℕ) (xs : List Arrival) → AllByRecursion (λ (a : Arrival). a.routine < m) xs → AllByRecursion (λ i. i < m) (routines_of xs)
+routines_known m [] all = tt
+routines_known m (a ∷ xs) all = (all.0, routines_known m xs all.1)
+
+pub arriving_known : (m : ℕ) (xs : List Arrival) (t : ℕ) → All (λ (a : Arrival). a.routine < m) xs → All (λ i. i < m) (arriving xs t)
+arriving_known m xs t known =
+    All-from_recursion (λ i. i < m) (arriving xs t)
+    (routines_known m (filter (λ (a : Arrival). a.tick == t) xs)
+    (all_kept (λ (a : Arrival). a.routine < m) (λ (a : Arrival). a.tick == t) xs (recursion_from_All (λ (a : Arrival). a.routine < m) xs known)))

@@ -13,7 +13,6 @@ use Rattle.run_laws.proofs.Foremost.{equal}
 use Rattle.kept_state.specs.Kept.{Kept}
 use Rattle.services.specs.Calls.{IsKnown, IsTaskOperand}
 use Rattle.blocking_laws.specs.Looks.{StampLists, named_by, stamps_at}
-use Rattle.kernel.specs.Looking.{seen_if}
 use Rattle.kernel.proofs.PlaceLemmas.{service_known}
 
 -- ---- the task on which an instruction acts
@@ -34,10 +33,6 @@ pub named_known : (S : System) (owner : Owner) (x : Context) → KnownPlace S ow
 named_known S owner x k (Instr.Plain p) is = tt
 named_known S owner x k (Instr.Service call) is = call_known S x call (service_known S owner x k call is)
 named_known S owner x k (Instr.Control control) is = tt
-
-pub seen_known : (o : Kept) (n : ℕ) (named : Option ℕ) → IfSome named (λ t. t < n) → IfSome (seen_if o named) (λ b. b.task < n)
-seen_known o n None h = tt
-seen_known o n (Some t) h = h
 
 -- ---- boot
 

@@ -17,7 +17,7 @@ use Rattle.kept_state.specs.Kept.{Kept, Slot, kept}
 use Rattle.blocking_laws.specs.Stamps.{listed, stamps_of}
 use Rattle.blocking_laws.specs.Looks.{AreListed, StampLists, stamps_at}
 use Rattle.kernel.specs.Looking.{AreBegun}
-use Rattle.kernel.specs.Keeping.{AreLast}
+use Rattle.kernel.specs.Machine.{AreLast}
 use Rattle.blocking_laws.proofs.AfterStamps.{rescheduled_waits}
 use Rattle.blocking_laws.proofs.OnlyWakes.{wakes_made}
 use Rattle.blocking_laws.proofs.ReadyLemmas.{there_of}

@@ -26,7 +26,8 @@ use Rattle.services.specs.declared.calls.Call.{Call}
 use Rattle.services.specs.Objects.{Objects, kept_of, kept_in}
 use Rattle.services.specs.Calls.{Executes, MayGoOn, IsSameCaller, IsSameActive, IsRoutineOrNone, caller_as, call_in}
 use Rattle.osek_base.proofs.PlaceLemmas.{KnownPlace, is_routine}
-use Rattle.kernel.specs.Run.{Execution, next_of, executed_by, control_context}
+use Rattle.kernel.proofs.Execution.{Execution, next_of, executed_by}
+use Rattle.kernel.specs.Controls.{control_context}
 
 -- ---- who executes
 
@@ -43,6 +44,11 @@ executes_next S o (Owner.Task t) x h =
     ∙ ap (λ (y : Context). executed_in S (Owner.Task t) (ByTask t) y (instruction_at S (Owner.Task t) y.place) o) h.1
 executes_next S o (Owner.Routine i) x h =
     ap (λ d. caller_executes_in S d o) (caller_is o (Owner.Routine i) x h) ∙ ap (λ a. routine_executes S a o) h
+
+pub execute_is : (S : System) (o : Kept) (who : Owner) (x : Context) → Executes o who x
+    → execute_phase_in S o ≡ executed_in S who (caller_as who) x (instruction_at S who x.place) o
+unfolding execute_phase_in
+execute_is S o who x h = executes_next S o who x h
 
 -- who executes does so whatever the words are
 pub executes_with : (w : Words) (o : Objects) (who : Owner) (x : Context) → Executes (kept_in o) who x → Executes (kept_of w o) who x

@@ -27,7 +27,7 @@ use Rattle.blocking_laws.specs.Steps.{step_at}
 use Rattle.blocking_laws.specs.Stamps.{Stamps, blockers_by, count_by, levels_of}
 use Rattle.blocking_laws.specs.Looks.{AreListed, StampLists}
 use Rattle.kernel.specs.Looking.{count_below, noted, number_for}
-use Rattle.kernel.specs.Keeping.{AreLast}
+use Rattle.kernel.specs.Machine.{AreLast}
 
 pub level_low : (S : System) (t : ℕ) → IsProper S → priority_of S t ≤ MAX_TASK_PRIORITY
 level_low S t proper = let low = priority_low S t (bounds_of S proper) in omega (arith, low)

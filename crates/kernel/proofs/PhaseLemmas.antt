@@ -1,31 +1,55 @@
--- What the phases of a tick leave.
-use Rattle.std.proofs.Common.{ℕ, zero, suc, ◌<◌, ◌≤◌, Bool, true, false, List, [], ◌∷◌, ◌++◌, length, cond, arith, slice_index}
-use Rattle.std.specs.List.{filter, AllByRecursion}
-use Rattle.osek_base.specs.Lists.{below}
+-- What comes next, the words of windows aside.
+use Rattle.std.proofs.Common.{◌≡◌, ℕ, List, refl, sym, ◌∙◌, ap, subst}
+use Rattle.osek_base.specs.declared.ids.Owner.{Owner}
+use Rattle.osek_base.specs.declared.instr.Instr.{Instr}
+use Rattle.osek_base.specs.System.{System, instruction_at, instruction_in}
+use Rattle.osek_base.specs.Instruction.{Context}
+use Rattle.osek_base.specs.State.{Words}
+use Rattle.osek_base.proofs.PlaceLemmas.{KnownPlace}
+use Rattle.run_laws.proofs.Formed.{IsPlaced}
+use Rattle.kernel.proofs.PlaceLemmas.{placed_known}
+use Rattle.machine.specs.Windows.{word}
+use Rattle.machine.specs.Code.{Programs, program_in}
+use Rattle.machine.specs.Packed.{instr_of}
+use Rattle.machine.proofs.CodeLemmas.{program_there}
+use Rattle.services.specs.Objects.{Objects, kept_in, kept_of}
+use Rattle.services.specs.Calls.{IsExecuting, context_in}
+use Rattle.kernel.specs.Processor.{Processor, IsNext, IsProcessor, picture, system_of}
+use Rattle.kernel.specs.declared.next.Next.{Next}
+use Rattle.kernel.proofs.DoesLemmas.{processor_of}
 
--- numbers below a limit
-below_all : (n m : ℕ) → n ≤ m → AllByRecursion (λ k. k < m) (below n)
-below_all zero m h = tt
-below_all (suc n) m h = push (below n) n (below_all n m (omega arith)) (omega arith)
-  where
-    push : (xs : List ℕ) (y : ℕ) → AllByRecursion (λ k. k < m) xs → y < m → AllByRecursion (λ k. k < m) (xs ++ y ∷ [])
-    push [] y all here = (here, tt)
-    push (x ∷ xs) y all here = (all.0, push xs y all.1 here)
+-- the words of windows aside
+pub context_with : (w : Words) (o : Objects) (who : Owner) → context_in (kept_in o) who ≡ context_in (kept_of w o) who
+context_with w o (Owner.Task t) = refl
+context_with w o (Owner.Routine i) = refl
 
-filter_more : (test : ℕ → Bool) (m x : ℕ) (xs : List ℕ) (b : Bool) → x < m → AllByRecursion (λ k. k < m) xs
-    → AllByRecursion (λ k. k < m) (cond b (x ∷ xs) xs)
-filter_more test m x xs true here all = (here, all)
-filter_more test m x xs false here all = all
+pub executing_alone : (w : Words) (o : Objects) (who : Owner) → IsExecuting (kept_of w o) who → IsExecuting (kept_in o) who
+executing_alone w o (Owner.Task t) h = h
+executing_alone w o (Owner.Routine i) h = h
 
-filter_all : (test : ℕ → Bool) (m : ℕ) (xs : List ℕ) → AllByRecursion (λ k. k < m) xs → AllByRecursion (λ k. k < m) (filter test xs)
-filter_all test m [] all = tt
-filter_all test m (x ∷ xs) all = filter_more test m x (filter test xs) (test x) all.0 (filter_all test m xs all.1)
-
-at_all : (m : ℕ) (xs : List ℕ) (i : ℕ) → i < length xs → AllByRecursion (λ k. k < m) xs → slice_index xs i < m
-at_all m [] i within all = absurd (omega arith)
-at_all m (x ∷ xs) zero within all = all.0
-at_all m (x ∷ xs) (suc i) within all = at_all m xs i (omega arith) all.1
-
--- one of the numbers below a limit that pass a test
-pub filtered_below : (test : ℕ → Bool) (n i : ℕ) → i < length (filter test (below n)) → slice_index (filter test (below n)) i < n
-filtered_below test n i within = at_all n (filter test (below n)) i within (filter_all test n (below n) (below_all n n (omega arith)))
+-- what is fetched is what comes next
+pub next_is : (m : Processor) (S : System) (o : Objects) (words : List ℕ) (code : Programs) → processor_of o words ≡ m → IsProcessor S o code
+    → (next : Next) (cpu : Context) → IsExecuting (picture m) next.owner
+    → IsPlaced (system_of m) next.owner (context_in (picture m) next.owner)
+    → cpu ≡ context_in (kept_in o) next.owner → next.place ≡ cpu.place
+    → instr_of next.packed ≡ instruction_in (program_in code next.owner) next.place
+    → IsNext m next
+next_is m S o words code is h next cpu who placed cpu_is place_is fetched =
+    let same : cpu ≡ context_in (picture m) next.owner =
+    cpu_is ∙ context_with (word words) o next.owner ∙ ap (λ x. context_in (picture x) next.owner) is in
+    let place : next.place ≡ (context_in (picture m) next.owner).place = place_is ∙ ap (λ (x : Context). x.place) same in
+    let system : system_of m ≡ S = sym (ap system_of is) ∙ h.system in
+    record {
+      who = who;
+      place = place;
+      placed = placed;
+      known =
+          subst (λ (T : System). KnownPlace T next.owner (context_in (picture m) next.owner).place) (sym system)
+          (placed_known S next.owner (context_in (picture m) next.owner) h.proper
+          (subst (λ (T : System). IsPlaced T next.owner (context_in (picture m) next.owner)) system placed));
+      instruction =
+          ap (λ n. instruction_at (system_of m) next.owner n) (sym place)
+          ∙ ap (λ (T : System). instruction_at T next.owner next.place) system
+          ∙ sym (ap (λ (p : List Instr). instruction_in p next.place) (program_there S code next.owner h.programs))
+          ∙ sym fetched;
+    }

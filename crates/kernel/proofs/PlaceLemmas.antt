@@ -24,7 +24,7 @@ use Rattle.osek_base.specs.System.{Task, Routine, no_task, no_routine}
 use Rattle.osek_base.specs.Proper.{IsProper}
 use Rattle.run_laws.proofs.Formed.{IsPlaced}
 use Rattle.run_laws.proofs.FormedTick.{next_placed, plain_placed, answered_placed}
-use Rattle.kernel.specs.Run.{ends_routine}
+use Rattle.kernel.specs.Controls.{ends_routine}
 
 module _ (S : System) (owner : Owner) (x : Context) (k : KnownPlace S owner x.place) where
   -- behind an instruction that is no end there is one more

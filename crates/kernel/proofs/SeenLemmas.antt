@@ -1,5 +1,5 @@
 -- What is seen of what a kernel keeps is what the state of its run has.
-use Rattle.std.proofs.Common.{◌≡◌, ℕ, zero, suc, false, List, [], ◌∷◌, length, refl, sym, ◌∙◌, ap, arith}
+use Rattle.std.proofs.Common.{◌≡◌, ℕ, zero, suc, Bool, false, List, [], ◌∷◌, length, refl, sym, ◌∙◌, ap, arith}
 use Rattle.std.specs.Prelude.{Some, ◌==◌}
 use Rattle.std.specs.Option.{option_map}
 use Rattle.std.specs.List.{find, AllByRecursion}
@@ -11,7 +11,7 @@ use Rattle.osek_base.specs.declared.status.TaskState.{TaskState}
 use Rattle.osek_base.specs.declared.trace_event.Results.{Results}
 use Rattle.osek_base.specs.Lists.{below}
 use Rattle.osek_base.specs.System.{System}
-use Rattle.osek_base.specs.State.{Job, State, Words, jobs_of}
+use Rattle.osek_base.specs.State.{Job, State, jobs_of}
 use Rattle.osek_base.specs.Service.{state_number, task_state}
 use Rattle.osek_base.specs.Priority.{dynamic_priority}
 use Rattle.osek_base.specs.Proper.{IsProper}
@@ -28,7 +28,8 @@ use Rattle.kept_state.proofs.Tests.{results_kept}
 use Rattle.kept_state.proofs.Ticked.{settled_of, known_of}
 use Rattle.services.specs.Objects.{Objects, kept_in, kept_of}
 use Rattle.services.specs.Seen.{holder_in, priority_in}
-use Rattle.kernel.specs.Run.{at_tick}
+use Rattle.machine.specs.Windows.{word}
+use Rattle.kernel.specs.Machine.{HasCome, Machine, next_tick, system_of}
 use Rattle.kernel.specs.Shown.{awaited_by, holder, is_held_by, oldest_job}
 
 -- ---- the slot of some jobs is the oldest one's
@@ -78,37 +79,44 @@ first_result _ = 0
 
 -- ---- what is kept of the state of a run
 
-module _ (S : System) (proper : IsProper S) (mode : ℕ) (arrivals : List Arrival) (n : ℕ) (w : Words) (o : Objects)
-    (system : o.system ≡ S) (same : kept_of w (at_tick o n) ≡ kept S (run S mode arrivals n).state) where
-  pub state_seen : (t : ℕ) → task_state_in (kept_in o) t ≡ task_state (run S mode arrivals n).state t
+module _ (counting : Bool) (S : System) (proper : IsProper S) (mode : ℕ) (arrivals : List Arrival) (m : Machine)
+    (come : HasCome counting S mode arrivals (next_tick m) m)
+    (o : Objects) (here : o.system ≡ system_of m) (objects : record o { tick = next_tick m } ≡ m.processor.objects) where
+  system : o.system ≡ S
+  system = here ∙ come.at.system
+
+  same : kept_of (word m.processor.words) (record o { tick = next_tick m }) ≡ kept S (run S mode arrivals (next_tick m)).state
+  same = ap (kept_of (word m.processor.words)) objects ∙ come.at.same
+
+  pub state_seen : (t : ℕ) → task_state_in (kept_in o) t ≡ task_state (run S mode arrivals (next_tick m)).state t
   state_seen t =
-      let s : State = (run S mode arrivals n).state in
-      let good : IsRunState S s = run_ordered S proper mode arrivals n in
+      let s : State = (run S mode arrivals (next_tick m)).state in
+      let good : IsRunState S s = run_ordered S proper mode arrivals (next_tick m) in
       let number : state_number (task_state s t) ≡ state_number (task_state_in (kept S s) t) =
       ap first_result
-      (results_kept S s (settled_of S s good.single good.ordered.ranked) (known_of S s (run_form S proper mode arrivals n))
+      (results_kept S s (settled_of S s good.single good.ordered.ranked) (known_of S s (run_form S proper mode arrivals (next_tick m)))
       (Service.GetTaskState (Some t))) in
       ap (λ k. task_state_in k t) same
       ∙ sym (by_number (task_state_in (kept S s) t)) ∙ ap state_by (sym number) ∙ by_number (task_state s t)
 
-  pub count_seen : (t : ℕ) → ((kept_in o).slots t).count ≡ length (jobs_of t (run S mode arrivals n).state.jobs)
-  count_seen t = ap (λ (k : Kept). (k.slots t).count) same ∙ counted (jobs_of t (run S mode arrivals n).state.jobs)
+  pub count_seen : (t : ℕ) → ((kept_in o).slots t).count ≡ length (jobs_of t (run S mode arrivals (next_tick m)).state.jobs)
+  count_seen t = ap (λ (k : Kept). (k.slots t).count) same ∙ counted (jobs_of t (run S mode arrivals (next_tick m)).state.jobs)
 
   pub priority_seen : (t : ℕ) → priority_in o.system t ((kept_in o).slots t)
-      ≡ option_map (dynamic_priority S) (oldest_job (run S mode arrivals n).state t)
+      ≡ option_map (dynamic_priority S) (oldest_job (run S mode arrivals (next_tick m)).state t)
   priority_seen t =
-      let jobs = (run S mode arrivals n).state.jobs in
+      let jobs = (run S mode arrivals (next_tick m)).state.jobs in
       ap (λ T. priority_in T t ((kept_in o).slots t)) system ∙ ap (λ (k : Kept). priority_in S t (k.slots t)) same
       ∙ raised S t (jobs_of t jobs) (own t jobs)
 
-  pub wait_seen : (t : ℕ) → ((kept_in o).slots t).waits_for ≡ awaited_by (oldest_job (run S mode arrivals n).state t)
-  wait_seen t = ap (λ (k : Kept). (k.slots t).waits_for) same ∙ waiting (jobs_of t (run S mode arrivals n).state.jobs)
+  pub wait_seen : (t : ℕ) → ((kept_in o).slots t).waits_for ≡ awaited_by (oldest_job (run S mode arrivals (next_tick m)).state t)
+  wait_seen t = ap (λ (k : Kept). (k.slots t).waits_for) same ∙ waiting (jobs_of t (run S mode arrivals (next_tick m)).state.jobs)
 
   pub held_seen : (r : ResId) (t : ℕ) → holds_in r ((kept_in o).slots t)
-      ≡ is_held_by r (oldest_job (run S mode arrivals n).state t)
+      ≡ is_held_by r (oldest_job (run S mode arrivals (next_tick m)).state t)
   held_seen r t =
-      ap (λ (k : Kept). holds_in r (k.slots t)) same ∙ holding r (jobs_of t (run S mode arrivals n).state.jobs)
+      ap (λ (k : Kept). holds_in r (k.slots t)) same ∙ holding r (jobs_of t (run S mode arrivals (next_tick m)).state.jobs)
 
-  pub holder_seen : (r : ResId) → holder_in o.system (kept_in o) r ≡ holder S (run S mode arrivals n).state r
+  pub holder_seen : (r : ResId) → holder_in o.system (kept_in o) r ≡ holder S (run S mode arrivals (next_tick m)).state r
   holder_seen r =
       ap (λ T. holder_in T (kept_in o) r) system ∙ ap (λ p. find p (below (length S.tasks))) (fun_ext (held_seen r))

@@ -1,29 +1,21 @@
 -- The stamps of all tasks' jobs while alarms act: as many as jobs, and what is left to act completes the whole.
-use Rattle.std.proofs.Common.{◌≡◌, ℕ, suc, ◌+◌, ◌<◌, ◌≤◌, Bool, true, false, cond, not, ◌&&◌, List, [], ◌∷◌, drop, get_or, length, length-append, refl, sym, ◌∙◌, ap, ap₂, subst, arith}
+use Rattle.std.proofs.Common.{◌≡◌, ℕ, ◌+◌, ◌<◌, Bool, true, false, cond, not, ◌&&◌, List, [], ◌∷◌, length, length-append, refl, sym, ◌∙◌, ap, subst, arith}
 use Rattle.std.specs.Prelude.{Option, Some, None, ◌==◌, nat_lt, bit_or, slice_index}
-use Rattle.std.proofs.Math.Seq.{drop-cons}
-use Rattle.std.proofs.Math.ListN.{drop_of_length-le}
-use Rattle.std.proofs.Math.Numerals.{add-one}
 use Rattle.std.proofs.lemmas.List.{get_or-set_same, get_or-set_other}
 use Rattle.osek_base.specs.declared.task.Action.{Action}
 use Rattle.osek_base.specs.declared.instr.Service.{Service}
 use Rattle.osek_base.specs.declared.status.Status.{Status}
 use Rattle.osek_base.specs.System.{System, alarm}
-use Rattle.osek_base.specs.Alarm.{due_alarms, alarms_advanced}
 use Rattle.osek_base.specs.Service.{first_refusal, is_met}
 use Rattle.osek_base.specs.Tick.{action_call}
 use Rattle.run_laws.proofs.Foremost.{equal}
 use Rattle.kept_state.specs.Kept.{Kept}
 use Rattle.kept_state.specs.Moves.{activated_in, released_in}
-use Rattle.kept_state.specs.KeptService.{ByNobody, bare, refusals_in, reply_in, unmasked_in, with_mask}
+use Rattle.kept_state.specs.KeptService.{ByNobody, refusals_in, reply_in, unmasked_in, with_mask}
 use Rattle.kept_state.specs.KeptTick.{alarm_acts_in}
 use Rattle.readiness.specs.Stamps.{stamp_oldest}
-use Rattle.services.specs.Objects.{Objects, kept_in}
-use Rattle.kernel.specs.Run.{AreAhead}
-use Rattle.blocking_laws.specs.Looks.{StampLists, acting_task, alarm_looked, alarm_phase_looked, alarms_looked, changed_list, looked, looked_at, stamps_at, task_waits}
-use Rattle.kernel.specs.declared.stamping.Look.{Look}
-use Rattle.kernel.specs.Looking.{AreCounted, acts_on, looked_since, seen}
-use Rattle.kernel.proofs.AlarmLemmas.{nothing_due}
+use Rattle.blocking_laws.specs.Looks.{StampLists, acting_task, alarm_looked, changed_list, looked, looked_at, stamps_at, task_waits}
+use Rattle.kernel.specs.Looking.{AreCounted, acts_on}
 
 -- ---- the number of a task's jobs, and of its stamps
 
@@ -105,42 +97,3 @@ pub acted_counted : (S : System) (u a : ℕ) (o n : Kept) (xs : StampLists) → 
 acted_counted S u a o n xs counted inside is =
     subst (AreCounted (alarm_looked S u a o xs)) (sym is)
     (looked_counted u (acts_on S a) o (alarm_acts_in S a o).state xs (acts_one S o (alarm S a).action) counted inside)
-
--- what is seen before and after is the definitions' look
-pub acted_looked : (S : System) (u a t : ℕ) (o n : Kept) (before : Look) (xs ys : StampLists) → ys ≡ looked_since u before n xs
-    → before ≡ seen o t → t ≡ acts_on S a → n ≡ (alarm_acts_in S a o).state → ys ≡ alarm_looked S u a o xs
-acted_looked S u a t o n before xs ys looks stood task state =
-    looks ∙ ap (λ (b : Look). looked_since u b n xs) (stood ∙ ap (seen o) task)
-    ∙ ap (λ k. looked_at u (acts_on S a) o k xs) state
-
--- ---- the alarms from the i-th on complete what all are to do
-
-abbrev pub AreLooked : System → ℕ → List ℕ → ℕ → Objects → Objects → StampLists → StampLists → Type 0
-AreLooked S u due i before now xs ys = alarms_looked S u (drop i due) (kept_in now) ys ≡ alarms_looked S u due (kept_in before) xs
-
-pub looked_more : (S : System) (u : ℕ) (due : List ℕ) (i a : ℕ) (before old new : Objects) (xs ys zs : StampLists)
-    → AreLooked S u due i before old xs ys → i < length due → get_or due i 0 ≡ a
-    → kept_in new ≡ (alarm_acts_in S a (kept_in old)).state → zs ≡ alarm_looked S u a (kept_in old) ys
-    → AreLooked S u due (i + 1) before new xs zs
-looked_more S u due i a before old new xs ys zs so_far low found state looks =
-    let rest : List ℕ = drop (i + 1) due in
-    let here : drop i due ≡ a ∷ rest =
-    drop-cons due i 0 low ∙ ap (λ v. v ∷ drop (suc i) due) found ∙ ap (λ k. a ∷ drop k due) (sym (add-one i)) in
-    ap₂ (λ (k : Kept) (ws : StampLists). alarms_looked S u rest k ws) state looks
-    ∙ ap (λ v. alarms_looked S u v (kept_in old) ys) (sym here) ∙ so_far
-
-pub looked_phase : (S : System) (u : ℕ) (due : List ℕ) (i : ℕ) (before advanced now : Objects) (xs ys : StampLists)
-    → AreLooked S u due i advanced now xs ys → length due ≤ i
-    → due ≡ due_alarms S (bare (kept_in before))
-    → advanced ≡ record before { alarms = alarms_advanced S (bare (kept_in before)) }
-    → ys ≡ alarm_phase_looked S u (kept_in before) xs
-looked_phase S u due i before advanced now xs ys so_far end due_is advanced_is =
-    let none : drop i due ≡ [] = drop_of_length-le due end in
-    ap (λ v. alarms_looked S u v (kept_in now) ys) (sym none) ∙ so_far
-    ∙ ap₂ (λ (v : List ℕ) (o : Objects). alarms_looked S u v (kept_in o) xs) due_is advanced_is
-
--- at the first tick no alarm acts
-pub first_looked : (S : System) (u : ℕ) (o : Kept) (xs : StampLists) → o.tick ≡ 0 → length o.alarms ≡ length S.alarms
-    → AreAhead o.alarms → alarm_phase_looked S u o xs ≡ xs
-first_looked S u o xs first size ahead =
-    ap (λ v. alarms_looked S u v (record o { alarms = alarms_advanced S (bare o) }) xs) (nothing_due S (bare o) first size ahead)

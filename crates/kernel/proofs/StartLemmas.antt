@@ -24,7 +24,7 @@ use Rattle.ready_queues.specs.Moves.{changed_at}
 use Rattle.kept_state.specs.Moves.{activated_in, rescheduled}
 use Rattle.kept_state.specs.KeptService.{ByNobody, is_full_in, unmasked_in}
 use Rattle.kept_state.specs.KeptTick.{all_activated_in, begun_in, boot_in}
-use Rattle.kernel.specs.Run.{AreAhead}
+use Rattle.kernel.specs.Processor.{AreAhead}
 
 -- ---- alarms
 

@@ -1,91 +1,37 @@
--- A tick as its phases, and boot: what is kept and the records of a run become.
-use Rattle.std.proofs.Common.{◌≡◌, ℕ, ◌+◌, ◌≤◌, false, List, ◌∷◌, ◌++◌, length, refl, sym, ◌∙◌, ap, ap₂, subst, append_assoc, arith}
-use Rattle.std.specs.Prelude.{Option, Some, None}
+-- A machine's tick: what holds before each phase, and the runs that had come to it have come to the next.
+use Rattle.std.proofs.Common.{◌≡◌, ℕ, ◌+◌, ◌<◌, ◌≤◌, Bool, true, false, List, [], ◌∷◌, ◌++◌, length, refl, sym, ◌∙◌, ap, ap₂, subst, append_assoc, arith}
 use Rattle.osek_base.specs.declared.arrivals.Arrival.{Arrival}
+use Rattle.osek_base.specs.declared.limits.TheConstants.{MAX_TICKS}
 use Rattle.osek_base.specs.declared.trace_event.TraceEvent.{TraceEvent}
-use Rattle.osek_base.specs.System.{System}
-use Rattle.osek_base.specs.State.{Words}
-use Rattle.osek_base.specs.Tick.{tick, before_execution}
-use Rattle.osek_base.specs.Trace.{Run, arriving, run, run_begun, boot}
 use Rattle.osek_base.specs.Proper.{IsProper}
-use Rattle.run_laws.proofs.FormedTick.{run_form}
-use Rattle.kept_state.specs.Kept.{Kept, kept}
-use Rattle.kept_state.specs.Moves.{KeptRecorded, contender, rescheduled}
-use Rattle.kept_state.specs.KeptTick.{KeptStep, alarm_phase_in, arrival_phase_in, start_phase_in, before_execution_in, execute_phase_in, last_phase_in, tick_in, boot_in}
-use Rattle.kept_state.specs.Standing.{MayServe, is_overtaken, is_overtaken_by, runner_waits}
-use Rattle.kept_state.proofs.Words.{with_words, rescheduled_words, start_phase_words}
-use Rattle.kept_state.proofs.InRuns.{ready_between_ticks, before_alike, serves_in_runs}
-use Rattle.kept_state.proofs.Nesting.{few_nested}
-use Rattle.kept_state.proofs.Ticked.{ticks, boots}
-use Rattle.services.specs.Objects.{Objects, kept_of, kept_in, no_words}
-use Rattle.kernel.specs.Run.{AreAhead, at_tick}
-use Rattle.blocking_laws.specs.Steps.{record_at}
+use Rattle.osek_base.specs.System.{System}
+use Rattle.osek_base.specs.Tick.{before_execution, tick}
+use Rattle.osek_base.specs.Trace.{Run, arriving, run}
 use Rattle.osek_base.proofs.FrameLemmas.{tick_tick}
-use Rattle.blocking_laws.proofs.StepLemmas.{run_more, run_tick, tick_zero}
+use Rattle.run_laws.proofs.FormedTick.{run_form}
+use Rattle.blocking_laws.specs.Steps.{record_at}
+use Rattle.blocking_laws.specs.Stamps.{stamps_of}
+use Rattle.blocking_laws.proofs.StepLemmas.{run_more, run_tick}
+use Rattle.kept_state.specs.Kept.{Kept, kept}
+use Rattle.kept_state.specs.KeptTick.{KeptStep, before_execution_in, execute_phase_in, last_phase_in, tick_in}
+use Rattle.kept_state.specs.Moves.{KeptRecorded}
+use Rattle.kept_state.specs.KeptService.{caller_in}
+use Rattle.kept_state.specs.Standing.{MayServe, runner_waits}
+use Rattle.kept_state.proofs.InRuns.{before_alike, ready_between_ticks, serves_in_runs}
+use Rattle.kept_state.proofs.Nesting.{few_nested}
+use Rattle.kept_state.proofs.Ticked.{ticks}
+use Rattle.blocking_laws.specs.Looks.{before_looked, last_looked}
+use Rattle.run_laws.specs.Arrived.{AreArrivals, with_arrived}
+use Rattle.run_laws.proofs.Arriving.{earlier, present, takes_any_arrivals}
+use Rattle.std.specs.List.{AllByRecursion}
+use Rattle.kernel.specs.Looking.{AreCounted, Told, executed_looked, noted, number_for, number_told as number_of}
+use Rattle.kernel.specs.Machine.{GoesOn, HasCome, IsAt, IsMachine, Machine, Ticks, between, next_tick}
+use Rattle.kernel.proofs.PastLemmas.{at_past}
+use Rattle.kernel.proofs.RunLemmas.{unwritten_more}
+use Rattle.kernel.specs.Processor.{AreAhead, IsBefore, MayExecute, at_tick, picture, system_of}
+use Rattle.kernel.specs.Watches.{Begins, HasBegun, MayAct, Watched, Watches, early, executing, last, watched_at}
+use Rattle.kernel.proofs.KeepingLemmas.{after_told, begun_listed, counted_of, counted_spent, levels_told, number_told}
 use Rattle.kernel.proofs.StartLemmas.{alarms_begun, starting_ahead}
-
--- ---- with the words of windows
-
-pub rescheduled_with : (S : System) (w : Words) (o n : Objects) → kept_in n ≡ (rescheduled S (kept_in o)).state
-    → kept_of w n ≡ (rescheduled S (kept_of w o)).state
-rescheduled_with S w o n is =
-    ap (with_words w) is ∙ sym (ap (λ (r : KeptRecorded). r.state) (rescheduled_words S w (kept_in o)))
-
-pub events_with : (S : System) (w : Words) (o : Objects) → (rescheduled S (kept_in o)).events ≡ (rescheduled S (kept_of w o)).events
-events_with S w o = sym (ap (λ (r : KeptRecorded). r.events) (rescheduled_words S w (kept_in o)))
-
-pub started_with : (S : System) (w : Words) (o n : Objects) → kept_in n ≡ start_phase_in S (kept_in o) → kept_of w n ≡ start_phase_in S (kept_of w o)
-started_with S w o n is = ap (with_words w) is ∙ sym (start_phase_words S w (kept_in o))
-
-pub last_on : (S : System) (w : Words) (o : Objects) → o.over ≡ false → last_phase_in S (kept_of w o) ≡ rescheduled S (kept_of w o)
-last_on S w o going = rw going refl
-
-overtaken_with : (S : System) (w : Words) (o : Objects) → is_overtaken S (kept_of w o) ≡ is_overtaken S (kept_in o)
-overtaken_with S w o = go (contender (kept_in o))
-  where
-    go : (c : Option ℕ) → is_overtaken_by S c (kept_of w o) ≡ is_overtaken_by S c (kept_in o)
-    go None = refl
-    go (Some t) = refl
-
--- ---- the phases of a tick, joined
-
-pub before_state : (S : System) (arrived : List ℕ) (first second third fourth last : Kept)
-    → second ≡ (alarm_phase_in S first).state → third ≡ arrival_phase_in arrived second → fourth ≡ (rescheduled S third).state
-    → last ≡ start_phase_in S fourth → last ≡ (before_execution_in S arrived first).state
-before_state S arrived first second third fourth last acted flagged dispatched started =
-    started ∙ ap (start_phase_in S)
-    (dispatched ∙ ap (λ s. (rescheduled S s).state) (flagged ∙ ap (arrival_phase_in arrived) acted))
-
--- phases 1 to 4, of which each leaves the objects of the same system
-module _ (S : System) (arrived : List ℕ) (n : ℕ) (w : Words) (o al ar re : Objects) (here : o.system ≡ S) (first : al.system ≡ o.system)
-    (second : ar ≡ record al { pending = ar.pending }) (third : re.system ≡ ar.system) where
-  pub system_arrived : ar.system ≡ S
-  system_arrived = ap (λ (x : Objects). x.system) second ∙ first ∙ here
-
-  pub dispatched_joined : kept_in re ≡ (rescheduled ar.system (kept_in ar)).state → kept_of w re ≡ (rescheduled S (kept_of w ar)).state
-  dispatched_joined is =
-      rescheduled_with ar.system w ar re is ∙ ap (λ T. (rescheduled T (kept_of w ar)).state) system_arrived
-
-  pub events_joined : (rescheduled ar.system (kept_in ar)).events ≡ (rescheduled S (kept_of w ar)).events
-  events_joined = events_with ar.system w ar ∙ ap (λ T. (rescheduled T (kept_of w ar)).events) system_arrived
-
-  pub joined : (st : Objects) → kept_of w al ≡ (alarm_phase_in S (kept_of w (at_tick o n))).state
-      → kept_of w ar ≡ arrival_phase_in arrived (kept_of w al)
-      → kept_in re ≡ (rescheduled ar.system (kept_in ar)).state
-      → kept_in st ≡ start_phase_in re.system (kept_in re)
-      → kept_of w st ≡ (before_execution_in S arrived (kept_of w (at_tick o n))).state
-  joined st acted flagged dispatched started =
-      before_state S arrived (kept_of w (at_tick o n)) (kept_of w al) (kept_of w ar) (kept_of w re) (kept_of w st) acted flagged
-      (dispatched_joined dispatched)
-      (started_with re.system w re st started ∙ ap (λ T. start_phase_in T (kept_of w re)) (third ∙ system_arrived))
-
-pub before_events : (S : System) (arrived : List ℕ) (first second third : Kept) (earlier acted_events events : List TraceEvent)
-    → second ≡ (alarm_phase_in S first).state → third ≡ arrival_phase_in arrived second
-    → acted_events ≡ earlier ++ (alarm_phase_in S first).events → events ≡ acted_events ++ (rescheduled S third).events
-    → events ≡ earlier ++ (before_execution_in S arrived first).events
-before_events S arrived first second third earlier acted_events events acted flagged some more =
-    more ∙ ap₂ (λ (v : List TraceEvent) (s : Kept). v ++ (rescheduled S s).events) some (flagged ∙ ap (arrival_phase_in arrived) acted)
-    ∙ append_assoc earlier _ _
 
 tick_after : (S : System) (arrived : List ℕ) (o : Kept)
     → (tick_in S arrived o).after
@@ -101,117 +47,283 @@ tick_events : (S : System) (arrived : List ℕ) (o : Kept)
 unfolding tick_in
 tick_events S arrived o = refl
 
--- what is known of a run of n ticks that isn't over, and of the objects and words before its next instruction
-module _ (S : System) (proper : IsProper S) (mode : ℕ) (arrivals : List Arrival) (n : ℕ) (w : Words) (o : Objects)
-    (same : kept_of w (at_tick o n) ≡ kept S (run S mode arrivals n).state) where
-  -- the running job doesn't wait
-  pub ready : runner_waits (kept_in o) ≡ false
-  ready = ap runner_waits same ∙ ready_between_ticks S mode arrivals n proper
+-- ---- of any run that has come to a picture
 
-  -- there are as many alarms as the system has
-  pub size : length o.alarms ≡ length S.alarms
-  size = ap (λ (k : Kept). length k.alarms) same ∙ (run_form S proper mode arrivals n).formed.alarms
+module _ (S : System) (proper : IsProper S) (mode : ℕ) (arrivals : List Arrival) (n : ℕ) (k : Kept) (same : k ≡ kept S (run S mode arrivals n).state)
+    (arrived : List ℕ) where
+  there : (b : Kept) → b ≡ (before_execution_in S arrived k).state → b ≡ kept S (before_execution S arrived (run S mode arrivals n).state).state
+  there b before =
+      before ∙ ap (λ k. (before_execution_in S arrived k).state) same
+      ∙ sym (ap (λ (r : KeptRecorded). r.state) (before_alike S mode arrivals n arrived proper))
 
-  pub over : o.over ≡ (run S mode arrivals n).state.over
-  over = ap (λ (k : Kept). k.over) same
+  -- the tick of the run
+  after_run : (tick_in S arrived k).after ≡ kept S (tick S arrived (run S mode arrivals n).state).after
+  after_run =
+      ap (λ k. (tick_in S arrived k).after) same
+      ∙ sym (ap (λ (t : KeptStep). t.after) (ticks S mode arrivals n arrived proper))
 
-  module _ (next : Objects) (before : kept_of w next ≡ (before_execution_in S (arriving arrivals n) (kept_of w (at_tick o n))).state) where
-    pub before_run : kept_of w next ≡ kept S (before_execution S (arriving arrivals n) (run S mode arrivals n).state).state
-    before_run =
-        before ∙ ap (λ k. (before_execution_in S (arriving arrivals n) k).state) same
-        ∙ sym (ap (λ (r : KeptRecorded). r.state) (before_alike S mode arrivals n (arriving arrivals n) proper))
+  number_after : (run S mode arrivals n).state.over ≡ false → (tick_in S arrived k).after.tick ≡ n + 1
+  number_after going =
+      ap (λ (k : Kept). k.tick) after_run ∙ tick_tick S arrived (run S mode arrivals n).state
+      ∙ ap (λ t. t + 1) (run_tick S mode arrivals n going)
 
-    pub serves : MayServe S (kept_in next)
-    serves =
-        let h : MayServe S (kept_of w next) = subst (MayServe S) (sym before_run) (serves_in_runs S mode arrivals n (arriving arrivals n) proper) in
-        record { ready = h.ready; chosen = λ may. sym (overtaken_with S w next) ∙ h.chosen may }
+-- one tick further, where these interrupts arrive
+further : (S : System) (proper : IsProper S) (mode : ℕ) (arrivals : List Arrival) (n : ℕ) (k : Kept) → k ≡ kept S (run S mode arrivals n).state
+    → (run S mode arrivals n).state.over ≡ false
+    → (tick_in S (arriving arrivals n) k).after ≡ kept S (run S mode arrivals (n + 1)).state
+further S proper mode arrivals n k same going =
+    after_run S proper mode arrivals n k same (arriving arrivals n)
+    ∙ ap (λ t. kept S (tick S (arriving arrivals t) (run S mode arrivals n).state).after) (sym (run_tick S mode arrivals n going))
+    ∙ sym (ap (λ (r : Run). kept S r.state) (run_more S mode arrivals n going))
 
-    pub few_all : next.suspended_all ≤ n
-    few_all = subst (λ k. k ≤ n) (sym (ap (λ (k : Kept). k.suspended_all) before_run)) (few_nested S mode arrivals n (arriving arrivals n) proper).0
+-- the records of the tick, where these interrupts arrive
+pub record_told : (counted : Bool) (S : System) (mode : ℕ) (arrivals : List Arrival) (m : Machine) (arrived : List ℕ) → IsProper S
+    → HasCome counted S mode arrivals (next_tick m) m → (run S mode arrivals (next_tick m)).state.over ≡ false → arriving arrivals (next_tick m) ≡ arrived
+    → m.unwritten ++ (tick_in (system_of m.processor) arrived (picture m.processor)).events ≡ record_at S mode arrivals (next_tick m)
+record_told counted S mode arrivals m arrived proper come going arrive =
+    let n : ℕ = next_tick m in
+    let r : Run = run S mode arrivals n in
+    ap₂ (λ (u : List TraceEvent) (T : System). u ++ (tick_in T arrived (picture m.processor)).events) come.at.unwritten come.at.system
+    ∙ ap₂ (λ (v : List ℕ) (o : Kept). r.unwritten ++ (tick_in S v o).events) (sym arrive) come.at.same
+    ∙ ap (λ (v : List TraceEvent). r.unwritten ++ v)
+    (sym (ap (λ (t : KeptStep). t.events) (ticks S mode arrivals n (arriving arrivals n) proper))
+    ∙ ap (λ t. (tick S (arriving arrivals t) r.state).events) (sym (run_tick S mode arrivals n going)))
 
-    pub few_os : next.suspended_os ≤ n
-    few_os = subst (λ k. k ≤ n) (sym (ap (λ (k : Kept). k.suspended_os) before_run)) (few_nested S mode arrivals n (arriving arrivals n) proper).1
+-- ---- what a tick works on, before it
 
-    module _ (going : (run S mode arrivals n).state.over ≡ false) (new : Words) (after : Objects)
-        (done : kept_of new after ≡ (last_phase_in S (execute_phase_in S (kept_of w next)).state).state) where
-      last_is : kept_of new after
-          ≡ (last_phase_in S (execute_phase_in S (before_execution_in S (arriving arrivals n) (kept S (run S mode arrivals n).state)).state).state).state
-      last_is =
-          done
-          ∙ ap (λ k. (last_phase_in S (execute_phase_in S k).state).state)
-          (before ∙ ap (λ k. (before_execution_in S (arriving arrivals n) k).state) same)
+module _ (counted : Bool) (w : Watched) (n : ℕ) (opening : List TraceEvent) (h : IsMachine counted w.processor.objects.tick (between w n opening))
+    (low : n < MAX_TICKS) where
+  abbrev pub here : System
+  here = system_of w.processor
 
-      more_is : kept S (run S mode arrivals (n + 1)).state ≡ record (kept_of new after) { tick = after.tick + 1 }
-      more_is =
-          ap (λ (r : Run). kept S r.state) (run_more S mode arrivals n going)
-          ∙ ap (λ t. kept S (tick S (arriving arrivals t) (run S mode arrivals n).state).after) (run_tick S mode arrivals n going)
-          ∙ ap (λ (t : KeptStep). t.after) (ticks S mode arrivals n (arriving arrivals n) proper)
-          ∙ tick_after S (arriving arrivals n) (kept S (run S mode arrivals n).state)
-          ∙ ap (λ (k : Kept). record k { tick = k.tick + 1 }) (sym last_is)
+  same : picture (at_tick w.processor n) ≡ kept here (run here h.of_run.mode h.of_run.arrivals n).state
+  same = h.of_run.come.at.same
 
-      number_more : (run S mode arrivals (n + 1)).state.tick ≡ n + 1
-      number_more =
-          ap (λ (r : Run). r.state.tick) (run_more S mode arrivals n going)
-          ∙ tick_tick S (arriving arrivals (run S mode arrivals n).state.tick) (run S mode arrivals n).state
-          ∙ ap (λ k. k + 1) (run_tick S mode arrivals n going)
+  alarms_ahead : n ≡ 0 → AreAhead w.processor.objects.alarms
+  alarms_ahead zero_is =
+      subst AreAhead
+      (sym (ap (λ (k : Kept). k.alarms) same ∙ ap (λ t. (run here h.of_run.mode h.of_run.arrivals t).state.alarms) zero_is
+      ∙ alarms_begun here h.of_run.mode h.of_run.arrivals))
+      (starting_ahead here h.of_run.mode h.of_run.proper)
 
-      pub number : after.tick ≡ n
-      number =
-          let one : after.tick + 1 ≡ n + 1 = sym (ap (λ (k : Kept). k.tick) more_is) ∙ number_more in
-          omega arith
+  pub before_tick : IsBefore n w.processor
+  before_tick = record {
+    clock = h.before;
+    limit = low;
+    ready = ap runner_waits same ∙ ready_between_ticks here h.of_run.mode h.of_run.arrivals n h.of_run.proper;
+    alarms = ap (λ (k : Kept). length k.alarms) same ∙ (run_form here h.of_run.proper h.of_run.mode h.of_run.arrivals n).formed.alarms;
+    ahead = alarms_ahead;
+  }
 
-      pub kept_more : kept_of new (at_tick after (n + 1)) ≡ kept S (run S mode arrivals (n + 1)).state
-      kept_more = ap (λ t. kept_of new (at_tick after (t + 1))) (sym number) ∙ sym more_is
+  pub may_act : MayAct counted w
+  may_act = record {
+    ready = before_tick.ready;
+    each = λ on.
+        counted_of here w.blocking.stamps (stamps_of here h.of_run.mode h.of_run.arrivals n) (run here h.of_run.mode h.of_run.arrivals n).state
+        (picture (at_tick w.processor n)) (h.of_run.come.at.stamped on) same;
+  }
 
-    pub records_more : (run S mode arrivals n).state.over ≡ false → (executed : Kept) (opening some behind all : List TraceEvent)
-        → (event : TraceEvent)
-        → executed ≡ (execute_phase_in S (kept_of w next)).state
-        → opening ≡ (run S mode arrivals n).unwritten
-        → some ≡ opening ++ (before_execution_in S (arriving arrivals n) (kept_of w (at_tick o n))).events
-        → event ∷ behind ≡ (execute_phase_in S (kept_of w next)).events
-        → all ≡ behind ++ (last_phase_in S executed).events
-        → some ++ event ∷ all ≡ record_at S mode arrivals n
-    records_more going executed opening some behind all event done first second third fourth =
-        let begun : Kept = kept_of w (at_tick o n) in
-        let early : List TraceEvent = (before_execution_in S (arriving arrivals n) begun).events in
-        let during : List TraceEvent = (execute_phase_in S (kept_of w next)).events in
-        let late : List TraceEvent = (last_phase_in S (execute_phase_in S (kept_of w next)).state).events in
-        ap₂ (λ (u v : List TraceEvent). u ++ event ∷ v) second (fourth ∙ ap (λ k. behind ++ (last_phase_in S k).events) done)
-        ∙ ap (λ v. (opening ++ early) ++ (v ++ late)) third
-        ∙ append_assoc opening early (during ++ late)
-        ∙ ap (λ k. opening ++ (early ++ ((execute_phase_in S k).events ++ (last_phase_in S (execute_phase_in S k).state).events))) before
-        ∙ ap (λ v. opening ++ v) (sym (tick_events S (arriving arrivals n) begun))
-        ∙ ap₂ (λ (v : List TraceEvent) (k : Kept). v ++ (tick_in S (arriving arrivals n) k).events) first same
-        ∙ ap (λ v. (run S mode arrivals n).unwritten ++ v)
-        (sym (ap (λ (t : KeptStep). t.events) (ticks S mode arrivals n (arriving arrivals n) proper))
-        ∙ ap (λ t. (tick S (arriving arrivals t) (run S mode arrivals n).state).events) (sym (run_tick S mode arrivals n going)))
+  module _ (arrived : List ℕ) (st bg : Watched) (first second : List TraceEvent) (on : (picture (at_tick w.processor n)).over ≡ false)
+      (one : Watches counted (early arrived) n (watched_at w n) st first second) (two : Begins counted n st bg) where
+    begun_is : picture bg.processor ≡ kept here (before_execution here arrived (run here h.of_run.mode h.of_run.arrivals n).state).state
+    begun_is =
+        ap picture two.processor
+        ∙ there here h.of_run.proper h.of_run.mode h.of_run.arrivals n (picture (at_tick w.processor n)) same arrived (picture st.processor) one.does.kept
 
--- ---- boot
+    few : (bg.processor.objects.suspended_all ≤ n) × (bg.processor.objects.suspended_os ≤ n)
+    few =
+        let nested = few_nested here h.of_run.mode h.of_run.arrivals n arrived h.of_run.proper in (
+          subst (λ k. k ≤ n) (sym (ap (λ (k : Kept). k.suspended_all) begun_is)) nested.0,
+          subst (λ k. k ≤ n) (sym (ap (λ (k : Kept). k.suspended_os) begun_is)) nested.1,
+        )
 
-run_zero : (S : System) (mode : ℕ) (arrivals : List Arrival) → run S mode arrivals 0 ≡ run_begun (boot S mode)
-unfolding run
-run_zero S mode arrivals = refl
+    may_execute : MayExecute bg.processor
+    may_execute = record {
+      serves = subst (λ T. MayServe T (picture bg.processor)) (sym (ap system_of two.processor ∙ one.does.system))
+          (subst (MayServe here) (sym begun_is) (serves_in_runs here h.of_run.mode h.of_run.arrivals n arrived h.of_run.proper));
+      all = let less = few.0 in omega (arith, less, low);
+      os = let less = few.1 in omega (arith, less, low);
+    }
 
--- what is kept before the first tick
-module _ (S : System) (proper : IsProper S) (mode : ℕ) (arrivals : List Arrival) (w : Words) (o : Objects) (none : w ≡ no_words)
-    (same : kept_in o ≡ (boot_in S mode).state) where
-  pub begun_is : kept_of w o ≡ kept S (run S mode arrivals 0).state
-  begun_is =
-      ap (λ v. kept_of v o) none ∙ same ∙ sym (ap (λ (r : KeptRecorded). r.state) (boots S mode proper))
-      ∙ sym (ap (λ (r : Run). kept S r.state) (run_zero S mode arrivals))
+    -- a run to here, in which these interrupts arrive
+    abbrev with_these : List Arrival
+    with_these = with_arrived n arrived h.of_run.arrivals
 
-  pub number_begun : o.tick ≡ 0
-  number_begun = ap (λ (k : Kept). k.tick) begun_is ∙ tick_zero S mode arrivals
+    at_these : IsAt counted here h.of_run.mode with_these n (between w n opening)
+    at_these =
+        at_past here h.of_run.mode h.of_run.arrivals with_these counted n (between w n opening)
+        (λ t less. sym (earlier n t arrived h.of_run.arrivals less)) h.of_run.come.at
 
-  pub kept_begun : kept_of w (at_tick o 0) ≡ kept S (run S mode arrivals 0).state
-  kept_begun = ap (λ t. kept_of w (at_tick o t)) (sym number_begun) ∙ begun_is
+    going_these : (run here h.of_run.mode with_these n).state.over ≡ false
+    going_these = sym (ap (λ (k : Kept). k.over) at_these.same) ∙ on
 
-  pub alarms_ahead : AreAhead o.alarms
-  alarms_ahead =
-      subst AreAhead (sym (ap (λ (k : Kept). k.alarms) begun_is ∙ alarms_begun S mode arrivals)) (starting_ahead S mode proper)
+    arrive_these : arriving with_these n ≡ arrived
+    arrive_these = present n arrived h.of_run.arrivals
 
-pub opening_begun : (S : System) (mode : ℕ) (arrivals : List Arrival) (opening : List TraceEvent) → IsProper S → opening ≡ (boot_in S mode).events
-    → opening ≡ (run S mode arrivals 0).unwritten
-opening_begun S mode arrivals opening proper is =
-    is ∙ sym (ap (λ (r : KeptRecorded). r.events) (boots S mode proper))
-    ∙ sym (ap (λ (r : Run). r.unwritten) (run_zero S mode arrivals))
+    each_counted : counted ≡ true → AreCounted bg.blocking.stamps (picture bg.processor)
+    each_counted counting =
+        let k = picture (at_tick w.processor n) in
+        let told = one.stamps counting ∙ ap (λ v. before_looked here n v k w.blocking.stamps) (sym arrive_these) in
+        let are = begun_listed here h.of_run.proper h.of_run.mode with_these n k at_these.same going_these w.blocking.stamps st.blocking.stamps told (at_these.stamped counting) in
+        subst (AreCounted bg.blocking.stamps) (sym (ap picture two.processor))
+        (counted_spent here h.of_run.proper h.of_run.mode with_these n k at_these.same going_these (picture st.processor)
+        (one.does.kept ∙ ap (λ v. (before_execution_in here v k).state) (sym arrive_these)) st.blocking.stamps are bg.blocking.stamps (two.stamps counting))
+
+    pub has_begun : HasBegun counted bg
+    has_begun = record { may = may_execute; each = each_counted }
+
+-- ---- what a tick does, by its phases
+
+pub record Phases (counted : Bool) (arrived : List ℕ) (n : ℕ) (old st bg ex la : Watched) (first second during behind : List TraceEvent) (event : TraceEvent) : Type 0 where
+  pub one : Watches counted (early arrived) n old st first second
+  pub two : Begins counted n st bg
+  pub three : Watches counted executing (n + 1) bg ex [] (event ∷ during)
+  pub four : Watches counted last (n + 1) ex la during behind
+
+module _ (counted : Bool) (arrived : List ℕ) (n : ℕ) (w st bg ex la : Watched) (first second during behind : List TraceEvent) (event : TraceEvent)
+    (phases : Phases counted arrived n w st bg ex la first second during behind event) (S : System) (here_is : system_of w.processor ≡ S) where
+  abbrev k : Kept
+  k = picture w.processor
+
+  system_bg : system_of bg.processor ≡ S
+  system_bg = ap system_of phases.two.processor ∙ phases.one.does.system ∙ here_is
+
+  bg_is : picture bg.processor ≡ (before_execution_in S arrived k).state
+  bg_is = ap picture phases.two.processor ∙ phases.one.does.kept ∙ ap (λ T. (before_execution_in T arrived k).state) here_is
+
+  system_ex : system_of ex.processor ≡ S
+  system_ex = phases.three.does.system ∙ system_bg
+
+  ex_is : picture ex.processor ≡ (execute_phase_in S (picture bg.processor)).state
+  ex_is = phases.three.does.kept ∙ ap (λ T. (execute_phase_in T (picture bg.processor)).state) system_bg
+
+  pub system_la : system_of la.processor ≡ S
+  system_la = phases.four.does.system ∙ system_ex
+
+  after_is : record (picture la.processor) { tick = la.processor.objects.tick + 1 } ≡ (tick_in S arrived k).after
+  after_is =
+      ap (λ (o : Kept). record o { tick = o.tick + 1 })
+      (phases.four.does.kept ∙ ap (λ T. (last_phase_in T (picture ex.processor)).state) system_ex
+      ∙ ap (λ o. (last_phase_in S o).state) (ex_is ∙ ap (λ o. (execute_phase_in S o).state) bg_is))
+      ∙ sym (tick_after S arrived k)
+
+  pub events_are : second ++ event ∷ behind ≡ first ++ (tick_in S arrived k).events
+  events_are =
+      let e1 : List TraceEvent = (before_execution_in S arrived k).events in
+      let e2 : List TraceEvent = (execute_phase_in S (before_execution_in S arrived k).state).events in
+      let e3 : List TraceEvent = (last_phase_in S (execute_phase_in S (before_execution_in S arrived k).state).state).events in
+      let before : second ≡ first ++ e1 = phases.one.does.events ∙ ap (λ T. first ++ (before_execution_in T arrived k).events) here_is in
+      let done : event ∷ during ≡ e2 =
+      phases.three.does.events ∙ ap (λ T. (execute_phase_in T (picture bg.processor)).events) system_bg ∙ ap (λ o. (execute_phase_in S o).events) bg_is in
+      let late : behind ≡ during ++ e3 =
+      phases.four.does.events ∙ ap (λ T. during ++ (last_phase_in T (picture ex.processor)).events) system_ex
+      ∙ ap (λ o. during ++ (last_phase_in S o).events) (ex_is ∙ ap (λ o. (execute_phase_in S o).state) bg_is) in
+      ap₂ (λ u v. u ++ event ∷ v) before late
+      ∙ ap (λ v. (first ++ e1) ++ (v ++ e3)) done
+      ∙ append_assoc first e1 (e2 ++ e3)
+      ∙ ap (λ v. first ++ v) (sym (tick_events S arrived k))
+
+  -- a run that had come to the machine before it
+  module _ (proper : IsProper S) (mode : ℕ) (arrivals : List Arrival) (unwritten : List TraceEvent)
+      (at : IsAt counted S mode arrivals n (record { processor = w.processor; blocking = w.blocking; unwritten = unwritten }))
+      (on : k.over ≡ false) (arrive : arriving arrivals n ≡ arrived) where
+    going : (run S mode arrivals n).state.over ≡ false
+    going = sym (ap (λ (o : Kept). o.over) at.same) ∙ on
+
+    pub number : la.processor.objects.tick ≡ n
+    number =
+        let one : la.processor.objects.tick + 1 ≡ n + 1 =
+        ap (λ (o : Kept). o.tick) after_is ∙ number_after S proper mode arrivals n k at.same arrived going in
+        omega arith
+
+    pub after_tick : picture (at_tick la.processor (n + 1)) ≡ (tick_in S arrived k).after
+    after_tick = ap (λ t. picture (at_tick la.processor (t + 1))) (sym number) ∙ after_is
+
+    -- has come to the machine behind it
+    pub comes : (rest : List TraceEvent) → rest ≡ [] → HasCome counted S mode arrivals (n + 1) (between la (n + 1) rest)
+    comes rest none =
+        let before : picture st.processor ≡ (before_execution_in S (arriving arrivals n) k).state =
+        sym (ap picture phases.two.processor) ∙ bg_is ∙ ap (λ v. (before_execution_in S v k).state) (sym arrive) in
+        let looked = λ (counting : counted ≡ true).
+        phases.one.stamps counting ∙ ap₂ (λ T v. before_looked T n v k w.blocking.stamps) here_is (sym arrive) in
+        let are = λ (counting : counted ≡ true).
+        begun_listed S proper mode arrivals n k at.same going w.blocking.stamps st.blocking.stamps (looked counting) (at.stamped counting) in
+        let system_st : system_of st.processor ≡ S = phases.one.does.system ∙ here_is in
+        let last_is = phases.four.told ∙ phases.three.told in
+        record {
+          at = record {
+            system = system_la;
+            same =
+                after_tick ∙ ap (λ v. (tick_in S v k).after) (sym arrive) ∙ further S proper mode arrivals n k at.same going;
+            unwritten = none ∙ sym (unwritten_more S mode arrivals n going);
+            stamped = λ counting.
+                after_told S proper mode arrivals n k at.same going (picture st.processor) before st.blocking.stamps (are counting)
+                (picture ex.processor) bg.blocking.stamps ex.blocking.stamps la.blocking.stamps
+                (ex_is ∙ ap (λ p. (execute_phase_in S (picture p)).state) phases.two.processor) (phases.two.stamps counting)
+                (phases.three.stamps counting ∙ ap₂ (λ T p. executed_looked T (n + 1) (picture p) bg.blocking.stamps) system_bg phases.two.processor)
+                (phases.four.stamps counting ∙ ap (λ T. last_looked T (n + 1) (picture ex.processor) ex.blocking.stamps) system_ex);
+            levels = λ counting.
+                levels_told S proper mode arrivals n k at.same going (picture st.processor) before st.blocking.stamps (are counting)
+                w.blocking.told.last la.blocking.told.last (at.levels counting)
+                (ap (λ (t : Told). t.last) last_is ∙ phases.two.last counting
+                ∙ ap₂ (λ T (t : Told). noted T n (caller_in (picture st.processor)) t.last) system_st phases.one.told);
+          };
+          numbered = λ counting later.
+              number_told S proper mode arrivals n k at.same going (picture st.processor) before st.blocking.stamps (are counting)
+              w.blocking.told.last (number_of la.blocking.told) (at.levels counting)
+              (ap number_of last_is ∙ phases.two.number counting
+              ∙ ap₂ (λ T (t : Told). number_for T (caller_in (picture st.processor)) t.last st.blocking.stamps) system_st phases.one.told);
+        }
+
+-- ---- a machine's tick
+
+pub record IsTicked (counted : Bool) (arrived : List ℕ) (old new : Machine) (clock : ℕ) (records : List TraceEvent) : Type 0 where
+  pub ticks : Ticks arrived old new records
+  pub goes_on : GoesOn counted arrived old new
+  pub keeps : IsMachine counted clock new
+
+pub ticked : (counted : Bool) (arrived : List ℕ) (n : ℕ) (w st bg ex la : Watched) (opening rest first second during behind : List TraceEvent) (event : TraceEvent)
+    → IsMachine counted w.processor.objects.tick (between w n opening) → n < MAX_TICKS → (picture (at_tick w.processor n)).over ≡ false
+    → AllByRecursion (λ i. i < length (system_of w.processor).routines) arrived → first ≡ opening → rest ≡ []
+    → Phases counted arrived n (watched_at w n) st bg ex la first second during behind event
+    → IsTicked counted arrived (between w n opening) (between la (n + 1) rest) la.processor.objects.tick (second ++ event ∷ behind)
+ticked counted arrived n w st bg ex la opening rest first second during behind event h low on known first_is none phases =
+    let S : System = system_of w.processor in
+    let r = h.of_run in
+    let others : List Arrival = with_arrived n arrived r.arrivals in
+    let at : IsAt counted S r.mode others n (between w n opening) =
+    at_past S r.mode r.arrivals others counted n (between w n opening) (λ t less. sym (earlier n t arrived r.arrivals less)) r.come.at in
+    let arrive : arriving others n ≡ arrived = present n arrived r.arrivals in
+    let system : system_of la.processor ≡ S =
+    system_la counted arrived n (watched_at w n) st bg ex la first second during behind event phases S refl in
+    let number_is : la.processor.objects.tick ≡ n =
+    number counted arrived n (watched_at w n) st bg ex la first second during behind event phases S refl r.proper r.mode others opening at on arrive in
+    record {
+      ticks = record {
+        system = system;
+        after = after_tick counted arrived n (watched_at w n) st bg ex la first second during behind event phases S refl r.proper r.mode others opening at on arrive;
+        events =
+            events_are counted arrived n (watched_at w n) st bg ex la first second during behind event phases S refl
+            ∙ ap (λ v. v ++ (tick_in S arrived (picture (at_tick w.processor n))).events) first_is;
+        unwritten = none;
+        next = refl;
+      };
+      goes_on = λ mode arrivals here come.
+          subst (λ T. HasCome counted T mode arrivals (n + 1) (between la (n + 1) rest)) (sym system)
+          (comes counted arrived n (watched_at w n) st bg ex la first second during behind event phases S refl r.proper mode arrivals opening come.at on here rest none);
+      keeps = record {
+        before = omega (arith, number_is);
+        limit = omega (arith, low);
+        few = let size : length rest ≡ 0 = ap (λ (v : List TraceEvent). length v) none in omega (arith, size);
+        none_later = λ later. none;
+        of_run = record {
+          proper = subst IsProper (sym system) r.proper;
+          mode = r.mode;
+          arrivals = others;
+          arrive = subst (λ T. AreArrivals T others) (sym system) (takes_any_arrivals S n arrived r.arrivals low known r.arrive);
+          come =
+              subst (λ T. HasCome counted T r.mode others (n + 1) (between la (n + 1) rest)) (sym system)
+              (comes counted arrived n (watched_at w n) st bg ex la first second during behind event phases S refl r.proper r.mode others opening at on arrive rest none);
+        };
+      };
+    }

@@ -1,23 +1,12 @@
 -- OSEK/VDX OS: system start-up. A run of a system, as far as it has come.
-use Rattle.std.specs.Prelude.{ℕ, ◌≡◌, ◌<◌, ◌≤◌, Bool, true, false, not, ◌||◌, nat_le, if◌then◌else◌, List, drop, Option, length}
-use Rattle.std.specs.List.{All, list_all}
+use Rattle.std.specs.Prelude.{ℕ, ◌≡◌, ◌<◌, ◌≤◌, Bool, true, ◌||◌, nat_le, List, drop, length}
+use Rattle.std.specs.List.{All}
 use Rattle.osek_base.specs.declared.limits.TheConstants.{MAX_TICKS}
 use Rattle.osek_base.specs.declared.arrivals.Arrival.{Arrival}
-use Rattle.osek_base.specs.declared.ids.Owner.{Owner}
-use Rattle.osek_base.specs.declared.trace_event.TraceEvent.{TraceEvent}
-use Rattle.osek_base.specs.declared.instr.Instr.{Instr}
-use Rattle.osek_base.specs.declared.instr.Control.{Control}
-use Rattle.osek_base.specs.System.{System, instruction_at}
-use Rattle.osek_base.specs.Instruction.{Context, next}
-use Rattle.osek_base.specs.State.{Expiry, Words}
-use Rattle.osek_base.specs.Alarm.{is_due_at}
+use Rattle.osek_base.specs.System.{System}
 use Rattle.osek_base.specs.ArrivalList.{are_in_order}
 use Rattle.osek_base.specs.Laws.{StartsSingly, Excludes, BlocksOnce, Protects}
 use Rattle.osek_base.specs.Trace.{Run as RunSoFar, arriving, run}
-use Rattle.kept_state.specs.Moves.{KeptRecorded}
-use Rattle.kept_state.specs.KeptTick.{boot_in, executed_in}
-use Rattle.services.specs.Objects.{Objects, kept_of, kept_in}
-use Rattle.services.specs.Calls.{caller_as, context_in}
 
 -- the system, the mode, all arrivals, and the ticks done
 pub record Run : Type 0 where
@@ -52,45 +41,3 @@ pub record AreLeft (arrivals : List Arrival) (cursor tick : ℕ) : Type 0 where
   pub within : cursor ≤ length arrivals
   pub ordered : are_in_order tick (drop cursor arrivals) ≡ true
   pub same : (t : ℕ) → tick ≤ t → arriving arrivals t ≡ arriving (drop cursor arrivals) t
-
--- no alarm expires at count 0
-abbrev pub AreAhead : List (Option Expiry) → Type 0
-AreAhead alarms = list_all (λ e. not (is_due_at 0 e)) alarms ≡ true
-
--- the objects at a tick: their own number is that of the last one
-abbrev pub at_tick : Objects → ℕ → Objects
-at_tick o t = record o { tick = t }
-
--- who executes, with registers and place
-pub record Execution : Type 0 where
-  pub owner : Owner
-  pub cpu : Context
-
-abbrev pub executing : Objects → Owner → Execution
-executing o who = record { owner = who; cpu = context_in (kept_in o) who }
-
--- the instruction at the place of who executes, and what it comes to
-abbrev pub next_of : System → Execution → Instr
-next_of S e = instruction_at S e.owner e.cpu.place
-
-abbrev pub IsNext : System → Execution → Instr → Type 0
-IsNext S e i = next_of S e ≡ i
-
-abbrev pub executed_by : System → Execution → Instr → Words → Objects → KeptRecorded
-executed_by S e i w o = executed_in S e.owner (caller_as e.owner) e.cpu i (kept_of w o)
-
--- whether a routine ends, so that nothing follows
-abbrev pub ends_routine : Control ℕ → Bool
-ends_routine Control.ReturnFromInterrupt = true
-ends_routine _ = false
-
--- the registers and the place after a service without a status
-abbrev pub control_context : Control ℕ → Context → Context
-control_context control x = if ends_routine control then x else next x
-
--- what boot leaves: what is kept of the state before the first tick, and the records that stand in it
-pub record IsStarted (S : System) (mode : ℕ) (o : Objects) (opening : List TraceEvent) : Type 0 where
-  pub system : o.system ≡ S
-  pub kept : kept_in o ≡ (boot_in S mode).state
-  pub events : opening ≡ (boot_in S mode).events
-  pub few : length opening ≤ 3

@@ -1,94 +1,131 @@
-//! The number of blockers of a job that executes for the first time since it became ready. No part of the standards.
+//! Since which tick each job is ready, and how many blockers it had, in a kernel that counts blockers. No part of the standards.
 
-ghost use Rattle.std.specs.Prelude.{◌≡◌, ◌<◌, ◌≤◌, None, length};
-ghost use Rattle.osek_base.specs.Proper.{IsProper};
-ghost use Rattle.osek_base.specs.System.{priority_of};
+ghost use Rattle.std.specs.Prelude.{◌≡◌, ◌<◌, ◌≤◌, ◌+◌, false, true, None, IfSome, length, replicate};
 ghost use Rattle.kept_state.specs.KeptService.{caller_in};
-ghost use Rattle.services.specs.Objects.{kept_in};
-ghost use Rattle.blocking_laws.specs.Looks.{spent_of};
-ghost use Rattle.kernel.specs.Looking.{noted, number_for, number_since};
+ghost use Rattle.blocking_laws.specs.Looks.{preempted_by, spent_of, stamps_at};
+ghost use Rattle.kernel.specs.Looking.{looked_between, noted, number_for, number_told, stood_between};
+ghost use Rattle.kernel.specs.Processor.{picture, system_of};
 
-use osek_base::{MAX_TASK_PRIORITY, MAX_TICKS, System, TaskId};
+use crate::begun::{Begun, begin, number_since};
+use crate::blockers::Blockers;
+use crate::processor::Processor;
+use crate::stamping::{Look, Stand, executed_since, looked_at, preempted};
+use osek_base::{MAX_ACTIVATION, MAX_TASK_PRIORITY, MAX_TICKS, TaskId};
 use readiness::{JobStamps, LastTicks};
 use ready_queues::ReadyQueues;
-use services::Core;
+use std::marker::{Model, PhantomData};
 
-/// The static priority of a task.
-#[inline(always)]
-fn level_of(system: &System, task: TaskId) -> u8
-    requires proper { IsProper system.now }
-    requires task { task < length system.now.tasks }
-    ensures value { result ≡ priority_of system.now task }
-    ensures low { result ≤ MAX_TASK_PRIORITY }
-{
-    system.priority_of(task)
+/// The stamps of all tasks' jobs, which tell since which tick each is ready; the last tick of each level; and what tells the
+/// number of blockers of who executed last. They are followed where blockers are counted, and else stay as they were at boot.
+#[derive(Drop)]
+pub struct Blocking<B: Blockers> {
+    stamps: JobStamps,
+    last: LastTicks,
+    begun: Begun,
+    blockers: PhantomData<B>,
 }
 
-/// What tells the number of blockers of who executes: the level of its task, and the stamp of its job, where it has one.
-#[derive(Clone, Copy)]
-pub struct Begun {
-    pub level: u8,
-    pub stamp: Option<u32>,
+impl<B: Blockers> Model for Blocking<B> {
+    ghost use Rattle.std.specs.Prelude.{◌≤◌};
+    ghost use Rattle.osek_base.specs.declared.limits.TheConstants.{MAX_TASK_PRIORITY};
+    ghost use Rattle.kernel.specs.Watches.{Blocking as Seen};
+
+    ghost Value = { Seen };
+
+    ghost view = { λ b. record { stamps = b.stamps; told = record { last = b.last; begun = b.begun } } };
+
+    ghost invariant = { λ b. b.begun.level ≤ MAX_TASK_PRIORITY };
 }
 
-impl Begun {
-    /// No job begins.
-    #[inline(always)]
-    pub fn nothing() -> Self
-        ensures { result ≡ record { level = 0; stamp = None } }
+impl<B: Blockers> Blocking<B> {
+    /// With the stamps of the jobs with which a system begins. No job has executed.
+    pub fn boot(stamps: JobStamps) -> Self
+        ensures stamps { result.stamps ≡ stamps }
+        ensures last { result.told.last ≡ replicate (MAX_TASK_PRIORITY + 1) 0 }
     {
-        Begun {
-            level: 0,
-            stamp: None,
+        Blocking {
+            stamps,
+            last: LastTicks::new(),
+            begun: Begun::nothing(),
+            blockers: PhantomData,
         }
     }
-}
 
-/// How many blockers a job had, where it had a stamp: 1 where a job of a lower level has executed since, else 0.
-pub fn number_since(behind: &LastTicks, begun: &Begun) -> Option<u32>
-    requires { begun.now.level ≤ MAX_TASK_PRIORITY }
-    ensures { result ≡ number_since behind.now begun.now }
-{
-    match &begun.stamp {
-        None => None,
-        Some(since) => {
-            if behind.is_lower_since(begun.level, *since) {
-                Some(1)
-            } else {
-                Some(0)
-            }
+    /// How many blockers the job had that executed last, where it did so for the first time since it became ready.
+    pub fn number(&self) -> Option<u32>
+        ensures counted { B.are_counted ≡ true → result ≡ number_told self.now.told }
+        ensures uncounted { B.are_counted ≡ false → result ≡ None }
+    {
+        if B::are_counted() {
+            number_since(&self.last, &self.begun)
+        } else {
+            None
         }
     }
-}
 
-/// Where a task executes, the stamp of its job is taken and its level noted. `begun` becomes what tells how many blockers
-/// the job had.
-#[inline(always)]
-pub fn begin<Q: ReadyQueues>(
-    core: &Core<'_, Q>,
-    system: &System,
-    stamps: &mut JobStamps,
-    behind: &mut LastTicks,
-    begun: &mut Begun,
-    tick: u32,
-)
-    requires proper { IsProper system.now }
-    requires system { core.now.system ≡ system.now }
-    requires stamps { length stamps.old ≡ length system.now.tasks }
-    requires tick { tick < MAX_TICKS }
-    requires low { begun.old.level ≤ MAX_TASK_PRIORITY }
-    ensures low { begun.new.level ≤ MAX_TASK_PRIORITY }
-    ensures value { number_since behind.new begun.new ≡ number_for system.now (caller_in (kept_in core.now)) behind.old stamps.old }
-    ensures stamps { stamps.new ≡ spent_of (caller_in (kept_in core.now)) stamps.old }
-    ensures behind { behind.new ≡ noted system.now tick (caller_in (kept_in core.now)) behind.old }
-{
-    match core.executing_task() {
-        None => begun.stamp = None,
-        Some(task) => {
-            let level = level_of(system, task);
-            begun.level = level;
-            begun.stamp = stamps.take(task);
-            behind.note(level, tick);
+    /// A task is looked at behind something that it was looked at before.
+    #[inline(always)]
+    pub fn looked_at(&mut self, before: &Look, after: &Look, tick: u32)
+        requires task { before.now.task < length self.old.stamps }
+        requires counted { B.are_counted ≡ true → length (stamps_at self.old.stamps before.now.task) ≡ before.now.count }
+        requires few { after.now.count ≤ MAX_ACTIVATION }
+        ensures stamps { B.are_counted ≡ true → self.new.stamps ≡ looked_between tick before.now after.now self.old.stamps }
+        ensures told { self.new.told ≡ self.old.told }
+        ensures sized { length self.new.stamps ≡ length self.old.stamps }
+    {
+        if B::are_counted() {
+            looked_at(&mut self.stamps, before, after, tick);
+        }
+    }
+
+    /// A job that ran, and neither ended nor waits, is ready again where its task runs no more.
+    #[inline(always)]
+    pub fn preempted(&mut self, runner: Option<TaskId>, running: &Option<TaskId>, tick: u32)
+        requires { IfSome runner (λ t. t < length self.old.stamps) }
+        ensures stamps { B.are_counted ≡ true → self.new.stamps ≡ preempted_by tick runner running.now self.old.stamps }
+        ensures told { self.new.told ≡ self.old.told }
+        ensures sized { length self.new.stamps ≡ length self.old.stamps }
+    {
+        if B::are_counted() {
+            preempted(&mut self.stamps, runner, running, tick);
+        }
+    }
+
+    /// Behind an instruction: the job of the task that ran may have ended, and the task on which the instruction acts is looked
+    /// at again.
+    #[inline(always)]
+    pub fn executed_since(&mut self, before: &Stand, after: &Stand, tick: u32)
+        requires running { IfSome before.now.running (λ t. t < length self.old.stamps) }
+        requires task { IfSome before.now.named (λ b. b.task < length self.old.stamps) }
+        requires counted { B.are_counted ≡ true → IfSome before.now.named (λ b. length (stamps_at self.old.stamps b.task) ≡ b.count) }
+        requires few { IfSome after.now.named (λ l. l.count ≤ MAX_ACTIVATION) }
+        ensures stamps { B.are_counted ≡ true → self.new.stamps ≡ stood_between tick before.now after.now self.old.stamps }
+        ensures told { self.new.told ≡ self.old.told }
+        ensures sized { length self.new.stamps ≡ length self.old.stamps }
+    {
+        if B::are_counted() {
+            executed_since(&mut self.stamps, before, after, tick);
+        }
+    }
+
+    /// Where a task executes, the stamp of its job is taken and its level noted.
+    #[inline(always)]
+    pub fn begin<Q: ReadyQueues>(&mut self, processor: &Processor<'_, Q>, tick: u32)
+        requires stamps { length self.old.stamps ≡ length (system_of processor.now).tasks }
+        requires tick { tick < MAX_TICKS }
+        ensures stamps { B.are_counted ≡ true → self.new.stamps ≡ spent_of (caller_in (picture processor.now)) self.old.stamps }
+        ensures last { B.are_counted ≡ true → self.new.told.last ≡ noted (system_of processor.now) tick (caller_in (picture processor.now)) self.old.told.last }
+        ensures number { B.are_counted ≡ true → number_told self.new.told ≡ number_for (system_of processor.now) (caller_in (picture processor.now)) self.old.told.last self.old.stamps }
+        ensures sized { length self.new.stamps ≡ length self.old.stamps }
+    {
+        if B::are_counted() {
+            begin(
+                processor,
+                &mut self.stamps,
+                &mut self.last,
+                &mut self.begun,
+                tick,
+            );
         }
     }
 }

@@ -6,10 +6,12 @@ ghost use Rattle.osek_base.specs.Reschedule.{hooked};
 ghost use Rattle.osek_base.specs.Trace.{starting_tasks};
 ghost use Rattle.kept_state.specs.KeptTick.{all_activated_in, begun_in};
 ghost use Rattle.services.specs.Objects.{kept_in};
-ghost use Rattle.kernel.specs.Run.{IsStarted};
+ghost use Rattle.kernel.specs.Processor.{IsStarted, picture, system_of};
 ghost use Rattle.blocking_laws.specs.Looks.{stamps_at};
 ghost use Rattle.kernel.specs.Looking.{AreBegun};
 
+use crate::processor::Processor;
+use machine::{Code, Windows};
 use osek_base::{MAX_ACTIVATION, ModeId, System, TaskId, TickRecord, TraceEvent};
 use readiness::JobStamps;
 use ready_queues::ReadyQueues;
@@ -38,22 +40,36 @@ impl From<AllocError> for BootFault {
     }
 }
 
-/// The core of a system that is booted in a mode: its tasks of the mode are activated by number, its alarms of the mode are
-/// set, and the task that is to run was dispatched, which `opening` tells.
-pub fn booted<'s, Q: ReadyQueues>(
-    alloc: Global,
-    system: &'s System,
-    mode: ModeId,
-    opening: &mut TickRecord,
-) -> Result<Core<'s, Q>, AllocError>
-    requires proper { IsProper system.now }
-    requires opening { opening.old ≡ [] }
-    ensures core { IfOk result (λ c. IsStarted system.now mode c opening.new) }
-{
-    let mut core = started(alloc, system, mode)?;
-    record_startup(system, opening);
-    core.reschedule(opening);
-    Ok(core)
+impl<'s, Q: ReadyQueues> Processor<'s, Q> {
+    /// Boots a system in a mode: its tasks of the mode are activated by number, its alarms of the mode are set, and the task
+    /// that is to run was dispatched, which `opening` tells. Its programs are packed here, once.
+    pub fn boot(
+        alloc: Global,
+        system: &'s System,
+        mode: ModeId,
+        opening: &mut TickRecord,
+    ) -> Result<Self, AllocError>
+        requires { opening.old ≡ [] }
+        ensures { IfOk result (λ p. IsStarted system.now mode p opening.new) }
+    {
+        system.names();
+        let mut core = started(alloc, system, mode)?;
+        record_startup(system, opening);
+        let _runner = core.reschedule(opening);
+        Ok(Processor {
+            system,
+            core,
+            windows: Windows::new(),
+            code: Code::of(alloc, system)?,
+        })
+    }
+
+    /// The stamps of the jobs with which a system begins: all of them are ready from tick 0 on.
+    pub fn begun_stamps(&self) -> JobStamps
+        ensures { AreBegun (length (system_of self.now).tasks) (picture self.now) result }
+    {
+        begun_stamps(&self.core, self.system)
+    }
 }
 
 /// The core of a system whose tasks of a mode are activated by number, and its alarms of the mode set.
@@ -78,7 +94,7 @@ fn started<'s, Q: ReadyQueues>(
 }
 
 /// The stamps of the jobs with which a system begins: all of them are ready from tick 0 on.
-pub fn begun_stamps<Q: ReadyQueues>(core: &Core<'_, Q>, system: &System) -> JobStamps
+fn begun_stamps<Q: ReadyQueues>(core: &Core<'_, Q>, system: &System) -> JobStamps
     requires { core.now.system ≡ system.now }
     ensures { AreBegun (length system.now.tasks) (kept_in core.now) result }
 {

@@ -1,222 +1,131 @@
-//! OSEK/VDX OS: system services; the modelled processor. The fifth phase of a tick: one instruction of who executes.
+//! OSEK/VDX OS: system services; the modelled processor. One instruction of who executes, by its kind.
 
-ghost use Rattle.std.specs.Prelude.{◌≡◌, ◌<◌, ◌≤◌, ◌+◌, ◌∷◌, ◌++◌, [], IfSome, MatchOption, false, true, length};
-ghost use Rattle.osek_base.specs.declared.instr.Instr.{Instr};
+ghost use Rattle.std.specs.Prelude.{◌≡◌, ◌<◌, ◌≤◌, ◌+◌, ◌∷◌, ◌++◌, [], IfSome, true, false, length};
 ghost use Rattle.osek_base.specs.declared.trace_event.Outcome.{Outcome};
 ghost use Rattle.osek_base.specs.declared.trace_event.TraceEvent.{TraceEvent};
-ghost use Rattle.osek_base.specs.Proper.{IsProper};
-ghost use Rattle.osek_base.specs.State.{Words};
+ghost use Rattle.osek_base.specs.declared.instr.Instr.{Instr};
 ghost use Rattle.osek_base.specs.Tick.{shutdown_record};
-ghost use Rattle.run_laws.proofs.Formed.{IsPlaced};
-ghost use Rattle.machine.specs.Windows.{word};
-ghost use Rattle.machine.specs.Code.{programs_of};
-ghost use Rattle.machine.specs.Packed.{instr_of, is_control, is_plain, plain_of, service_of};
-ghost use Rattle.kept_state.specs.KeptService.{ByNobody, caller_in};
+ghost use Rattle.machine.specs.Packed.{instr_of, is_control, is_plain};
 ghost use Rattle.kept_state.specs.KeptTick.{execute_phase_in};
-ghost use Rattle.kept_state.specs.Standing.{MayServe};
-ghost use Rattle.services.specs.Objects.{kept_in, kept_of};
+ghost use Rattle.run_laws.proofs.Formed.{IsPlaced};
+ghost use Rattle.blocking_laws.specs.Looks.{named_by};
 ghost use Rattle.services.specs.Calls.{IsExecuting, context_in};
-ghost use Rattle.kernel.specs.Run.{IsNext, executed_by, executing, next_of, ends_routine, control_context};
-ghost use Rattle.kernel.specs.Looking.{AreCounted, executed_by_looked, executed_looked};
-ghost use Rattle.osek_base.specs.Executed.{StandsIn, idle_or_executed, executed_record};
+ghost use Rattle.kernel.specs.Processor.{IsNext, MayExecute, picture, system_of};
+ghost use Rattle.kernel.specs.Does.{Does};
+ghost use Rattle.kernel.specs.Controls.{control_context, ends_routine};
 
-use crate::blockers::Blockers;
-use crate::ready_since::ReadySince;
-use crate::service_call::serve_packed;
-use machine::{Code, Cpu, PackedInstr, Windows};
+use crate::alarm_phase::record_error;
+use crate::next::Next;
+use crate::processor::Processor;
+use machine::Cpu;
 use osek_base::{
-    Control, Executed, MAX_INSTRUCTIONS, MAX_RECORDS, MAX_TICKS, Outcome, Owner, Place, System,
-    TickRecord, TraceEvent,
+    Control, Instr, MAX_INSTRUCTIONS, MAX_RECORDS, Outcome, Owner, Register, Service, Source,
+    System, TaskId, TickRecord, TraceEvent,
 };
 use ready_queues::ReadyQueues;
-use services::{Call, Core};
+use services::Call;
 
-/// Who executes, the active routine or else the running task, executes one instruction; where there is neither, nobody does.
-/// `behind` gets the records behind that of the instruction.
-#[tactic(auto, unfolding(kept_state::specs::KeptTick::execute_phase_in))]
-#[inline(always)]
-pub fn execute_phase<Q: ReadyQueues, B: Blockers>(
-    core: &mut Core<'_, Q>,
-    windows: &mut Windows,
-    code: &Code,
-    system: &System,
-    owner: Option<Owner>,
-    stamps: &mut ReadySince<B>,
-    tick: u32,
-    behind: &mut TickRecord,
-) -> Option<Executed>
-    requires proper { IsProper system.now }
-    requires code { code.now ≡ programs_of system.now }
-    requires system { core.old.system ≡ system.now }
-    requires serves { MayServe system.now (kept_in core.old) }
-    requires all { core.old.suspended_all < MAX_TICKS }
-    requires os { core.old.suspended_os < MAX_TICKS }
-    requires who { MatchOption owner (caller_in (kept_in core.old) ≡ ByNobody) (IsExecuting (kept_in core.old)) }
-    requires placed { IfSome owner (λ w. IsPlaced system.now w (context_in (kept_in core.old) w)) }
-    requires stamps { length stamps.old ≡ length system.now.tasks }
-    requires counted { B.are_counted ≡ true → AreCounted stamps.old (kept_in core.old) }
-    requires none { behind.old ≡ [] }
-    ensures system { core.new.system ≡ core.old.system }
-    ensures kept { kept_of (word windows.new) core.new ≡ (execute_phase_in system.now (kept_of (word windows.old) core.old)).state }
-    ensures events { idle_or_executed system.now result ∷ behind.new ≡ (execute_phase_in system.now (kept_of (word windows.old) core.old)).events }
-    ensures there { IfSome result (StandsIn system.now) }
-    ensures few { length behind.new ≤ 1 }
-    ensures stamps { B.are_counted ≡ true → stamps.new ≡ executed_looked system.now tick (kept_of (word windows.old) core.old) stamps.old }
-    ensures sized { length stamps.new ≡ length stamps.old }
-{
-    match owner {
-        None => None,
-        Some(owner) => Some(execute(core, windows, code, system, owner, stamps, tick, behind)),
+impl<'s, Q: ReadyQueues> Processor<'s, Q> {
+    /// The instruction that who executes comes to.
+    #[inline(always)]
+    pub fn next_of(&self, owner: &Owner) -> Next
+        requires who { IsExecuting (picture self.now) owner.now }
+        requires placed { IsPlaced (system_of self.now) owner.now (context_in (picture self.now) owner.now) }
+        ensures { IsNext self.now result }
+    {
+        let cpu = self.core.cpu_of(*owner);
+        let place = cpu.place();
+        Next {
+            owner: *owner,
+            place,
+            packed: self.code.fetch(*owner, place),
+        }
+    }
+
+    /// The task on which a service acts that comes next.
+    #[inline(always)]
+    pub fn acted_on_by(&self, _next: &Next, service: &Service<Register>) -> Option<TaskId>
+        requires next { IsNext self.now _next.now }
+        requires service { instr_of _next.now.packed ≡ Instr.Service service.now }
+        ensures value { result ≡ named_by (Instr.Service service.now) }
+        ensures known { IfSome result (λ t. t < length (system_of self.now).tasks) }
+    {
+        acting_task(service)
+    }
+
+    /// A plain instruction.
+    #[inline(always)]
+    pub fn execute_plain(&mut self, next: &Next) -> Outcome
+        requires next { IsNext self.old next.now }
+        requires plain { is_plain (instr_of next.now.packed) ≡ true }
+        ensures { Does execute_phase_in self.old self.new [] (TraceEvent.Executed next.now.owner next.now.place (instr_of next.now.packed) result ∷ []) }
+    {
+        Outcome::Plain(
+            self.core
+                .exec_packed(&mut self.windows, next.owner, next.packed),
+        )
+    }
+
+    /// A service without a status.
+    #[inline(never)]
+    pub fn execute_control(&mut self, next: &Next, behind: &mut TickRecord)
+        requires next { IsNext self.old next.now }
+        requires may { MayExecute self.old }
+        requires control { is_control (instr_of next.now.packed) ≡ true }
+        requires none { behind.old ≡ [] }
+        ensures does { Does execute_phase_in self.old self.new [] (TraceEvent.Executed next.now.owner next.now.place (instr_of next.now.packed) Outcome.Control ∷ behind.new) }
+        ensures few { length behind.new ≤ 1 }
+    {
+        let control = next.packed.control();
+        let cpu = self.core.cpu_of(next.owner);
+        let _answer = self.core.call(&Call::Control(control));
+        self.core.go_on(next.owner, following(&control, cpu));
+        record_shutdown(self.system, &control, behind);
+    }
+
+    /// A service with a status, which goes to r0, with its results behind it.
+    #[inline(always)]
+    pub fn execute_service(
+        &mut self,
+        next: &Next,
+        service: &Service<Register>,
+        behind: &mut TickRecord,
+    ) -> Outcome
+        requires next { IsNext self.old next.now }
+        requires may { MayExecute self.old }
+        requires service { instr_of next.now.packed ≡ Instr.Service service.now }
+        requires none { behind.old ≡ [] }
+        ensures does { Does execute_phase_in self.old self.new [] (TraceEvent.Executed next.now.owner next.now.place (instr_of next.now.packed) result ∷ behind.new) }
+        ensures few { length behind.new ≤ 1 }
+    {
+        let answer = self.core.serve(next.owner, service);
+        let Some(status) = answer.status else {
+            unreachable!()
+        };
+        self.core.answer(next.owner, status, answer.results);
+        let source = Source::Owner(next.owner);
+        record_error(
+            self.system,
+            source,
+            Instr::Service(*service),
+            status,
+            behind,
+        );
+        Outcome::Answer(status, answer.results)
     }
 }
 
-/// The next instruction of who executes.
+/// The task on which a service acts.
 #[inline(always)]
-fn execute<Q: ReadyQueues, B: Blockers>(
-    core: &mut Core<'_, Q>,
-    windows: &mut Windows,
-    code: &Code,
-    system: &System,
-    owner: Owner,
-    stamps: &mut ReadySince<B>,
-    tick: u32,
-    behind: &mut TickRecord,
-) -> Executed
-    requires proper { IsProper system.now }
-    requires code { code.now ≡ programs_of system.now }
-    requires system { core.old.system ≡ system.now }
-    requires serves { MayServe system.now (kept_in core.old) }
-    requires all { core.old.suspended_all < MAX_TICKS }
-    requires os { core.old.suspended_os < MAX_TICKS }
-    requires who { IsExecuting (kept_in core.old) owner }
-    requires placed { IsPlaced system.now owner (context_in (kept_in core.old) owner) }
-    requires stamps { length stamps.old ≡ length system.now.tasks }
-    requires counted { B.are_counted ≡ true → AreCounted stamps.old (kept_in core.old) }
-    requires none { behind.old ≡ [] }
-    ensures system { core.new.system ≡ core.old.system }
-    ensures kept { kept_of (word windows.new) core.new ≡ (executed_by system.now (executing core.old owner) (next_of system.now (executing core.old owner)) (word windows.old) core.old).state }
-    ensures events { executed_record system.now result ∷ behind.new ≡ (executed_by system.now (executing core.old owner) (next_of system.now (executing core.old owner)) (word windows.old) core.old).events }
-    ensures there { StandsIn system.now result }
-    ensures few { length behind.new ≤ 1 }
-    ensures stamps { B.are_counted ≡ true → stamps.new ≡ executed_by_looked tick (next_of system.now (executing core.old owner)) (kept_in core.old) (kept_in core.new) stamps.old }
-    ensures sized { length stamps.new ≡ length stamps.old }
+fn acting_task(service: &Service<Register>) -> Option<TaskId>
+    ensures { result ≡ named_by (Instr.Service service.now) }
 {
-    let cpu = core.cpu_of(owner);
-    let packed = next_instruction(code, system, &owner, &cpu);
-    let place = cpu.place();
-    let outcome = execute_instr(
-        core, windows, system, owner, place, packed, stamps, tick, behind,
-    );
-    Executed {
-        owner,
-        place,
-        outcome,
+    match service {
+        Service::ActivateTask(task) => *task,
+        Service::ChainTask(task) => *task,
+        Service::SetEvent(task, _) => *task,
+        _ => None,
     }
-}
-
-/// An instruction of who executes. Services with a status alone make, release or end jobs.
-#[inline(always)]
-fn execute_instr<Q: ReadyQueues, B: Blockers>(
-    core: &mut Core<'_, Q>,
-    windows: &mut Windows,
-    system: &System,
-    owner: Owner,
-    place: Place,
-    packed: PackedInstr,
-    stamps: &mut ReadySince<B>,
-    tick: u32,
-    behind: &mut TickRecord,
-) -> Outcome
-    requires proper { IsProper system.now }
-    requires system { core.old.system ≡ system.now }
-    requires serves { MayServe system.now (kept_in core.old) }
-    requires all { core.old.suspended_all < MAX_TICKS }
-    requires os { core.old.suspended_os < MAX_TICKS }
-    requires who { IsExecuting (kept_in core.old) owner }
-    requires placed { IsPlaced system.now owner (context_in (kept_in core.old) owner) }
-    requires place { place ≡ (context_in (kept_in core.old) owner).place }
-    requires instruction { IsNext system.now (executing core.old owner) (instr_of packed) }
-    requires stamps { length stamps.old ≡ length system.now.tasks }
-    requires counted { B.are_counted ≡ true → AreCounted stamps.old (kept_in core.old) }
-    requires none { behind.old ≡ [] }
-    ensures system { core.new.system ≡ core.old.system }
-    ensures kept { kept_of (word windows.new) core.new ≡ (executed_by system.now (executing core.old owner) (instr_of packed) (word windows.old) core.old).state }
-    ensures events { TraceEvent.Executed owner place (instr_of packed) result ∷ behind.new ≡ (executed_by system.now (executing core.old owner) (instr_of packed) (word windows.old) core.old).events }
-    ensures few { length behind.new ≤ 1 }
-    ensures stamps { B.are_counted ≡ true → stamps.new ≡ executed_by_looked tick (instr_of packed) (kept_in core.old) (kept_in core.new) stamps.old }
-    ensures sized { length stamps.new ≡ length stamps.old }
-{
-    if packed.is_plain() {
-        execute_plain(core, windows, system, &owner, place, packed)
-    } else if packed.is_control() {
-        execute_control(core, system, &owner, &packed.control(), behind);
-        Outcome::Control
-    } else {
-        serve_packed(core, system, owner, place, packed, stamps, tick, behind)
-    }
-}
-
-/// The instruction that who executes comes to, as its word.
-#[inline(always)]
-fn next_instruction(code: &Code, _system: &System, owner: &Owner, cpu: &Cpu) -> PackedInstr
-    requires code { code.now ≡ programs_of _system.now }
-    requires placed { IsPlaced _system.now owner.now cpu.now }
-    ensures { IsNext _system.now (record { owner = owner.now; cpu = cpu.now }) (instr_of result) }
-{
-    code.fetch(*owner, cpu.place())
-}
-
-/// A plain instruction.
-#[inline(always)]
-fn execute_plain<Q: ReadyQueues>(
-    core: &mut Core<'_, Q>,
-    windows: &mut Windows,
-    _system: &System,
-    owner: &Owner,
-    place: Place,
-    packed: PackedInstr,
-) -> Outcome
-    requires proper { IsProper _system.now }
-    requires system { core.old.system ≡ _system.now }
-    requires who { IsExecuting (kept_in core.old) owner.now }
-    requires placed { IsPlaced _system.now owner.now (context_in (kept_in core.old) owner.now) }
-    requires place { place ≡ (context_in (kept_in core.old) owner.now).place }
-    requires plain { is_plain (instr_of packed) ≡ true }
-    requires instruction { IsNext _system.now (executing core.old owner.now) (Instr.Plain (plain_of (instr_of packed))) }
-    ensures system { core.new.system ≡ core.old.system }
-    ensures kept { kept_of (word windows.new) core.new ≡ (executed_by _system.now (executing core.old owner.now) (Instr.Plain (plain_of (instr_of packed))) (word windows.old) core.old).state }
-    ensures events { TraceEvent.Executed owner.now place (Instr.Plain (plain_of (instr_of packed))) result ∷ [] ≡ (executed_by _system.now (executing core.old owner.now) (Instr.Plain (plain_of (instr_of packed))) (word windows.old) core.old).events }
-{
-    Outcome::Plain(core.exec_packed(windows, *owner, packed))
-}
-
-/// A service without a status.
-#[inline(never)]
-fn execute_control<Q: ReadyQueues>(
-    core: &mut Core<'_, Q>,
-    system: &System,
-    owner: &Owner,
-    control: &Control,
-    behind: &mut TickRecord,
-)
-    requires proper { IsProper system.now }
-    requires system { core.old.system ≡ system.now }
-    requires serves { MayServe system.now (kept_in core.old) }
-    requires all { core.old.suspended_all < MAX_TICKS }
-    requires os { core.old.suspended_os < MAX_TICKS }
-    requires who { IsExecuting (kept_in core.old) owner.now }
-    requires placed { IsPlaced system.now owner.now (context_in (kept_in core.old) owner.now) }
-    requires instruction { IsNext system.now (executing core.old owner.now) (Instr.Control control.now) }
-    requires none { behind.old ≡ [] }
-    ensures system { core.new.system ≡ core.old.system }
-    ensures kept { (w : Words) → kept_of w core.new ≡ (executed_by system.now (executing core.old owner.now) (Instr.Control control.now) w core.old).state }
-    ensures events { (w : Words) → TraceEvent.Executed owner.now (context_in (kept_in core.old) owner.now).place (Instr.Control control.now) Outcome.Control ∷ behind.new ≡ (executed_by system.now (executing core.old owner.now) (Instr.Control control.now) w core.old).events }
-    ensures few { length behind.new ≤ 1 }
-{
-    let cpu = core.cpu_of(*owner);
-    let _answer = core.call(&Call::Control(*control));
-    core.go_on(*owner, following(control, cpu));
-    record_shutdown(system, control, behind);
 }
 
 /// Where who executes a service without a status goes on: behind it, but not at the end of a routine.
@@ -235,14 +144,14 @@ fn following(control: &Control, cpu: Cpu) -> Cpu
 
 /// Records a ShutdownOS, where ShutdownHook is on.
 #[inline(always)]
-fn record_shutdown(system: &System, control: &Control, record_of_tick: &mut TickRecord)
-    requires { length record_of_tick.old < MAX_RECORDS }
-    ensures events { record_of_tick.new ≡ record_of_tick.old ++ shutdown_record system.now control.now }
-    ensures few { length record_of_tick.new ≤ length record_of_tick.old + 1 }
+fn record_shutdown(system: &System, control: &Control, records: &mut TickRecord)
+    requires { length records.old < MAX_RECORDS }
+    ensures events { records.new ≡ records.old ++ shutdown_record system.now control.now }
+    ensures few { length records.new ≤ length records.old + 1 }
 {
     if let Control::ShutdownOs(number) = control
         && system.hooks().shutdown
     {
-        record_of_tick.push(TraceEvent::Shutdown(*number));
+        records.push(TraceEvent::Shutdown(*number));
     }
 }

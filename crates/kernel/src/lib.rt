@@ -1,20 +1,24 @@
-//! OSEK/VDX OS: a kernel over ready queues by level. It is booted in an application mode, and then runs tick by tick.
+//! OSEK/VDX OS: a kernel over ready queues by level. It is booted in an application mode, and then runs tick by tick: with a
+//! list of all interrupts that arrive (`Kernel`), or with those of each tick as it comes (`Machine`).
 #![tactic(auto)]
 
 mod alarm_phase;
-mod arrival_phase;
+mod begun;
 mod blockers;
 mod blocking;
 mod boot;
-mod early_phases;
 mod execute_phase;
+mod executing;
 mod kernel;
-mod ready_since;
-mod rescheduling;
+mod looking;
+mod next;
+mod processor;
 mod seen;
-mod service_call;
 mod stamping;
+mod ticking;
+mod watched;
 
 pub use blockers::{Blockers, Counted, NotCounted};
 pub use boot::BootFault;
 pub use kernel::Kernel;
+pub use ticking::Machine;

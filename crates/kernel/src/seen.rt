@@ -22,7 +22,7 @@ impl<'s, Q: ReadyQueues, B: Blockers> Kernel<'s, Q, B> {
         requires { task < length self.now.system.tasks }
         ensures { result ≡ task_state (run_of self.now).state task }
     {
-        self.core.task_state(task)
+        self.machine.core().task_state(task)
     }
 
     /// How many jobs a task has: those that were activated and have not ended (task management, activating a task).
@@ -30,7 +30,7 @@ impl<'s, Q: ReadyQueues, B: Blockers> Kernel<'s, Q, B> {
         requires { task < length self.now.system.tasks }
         ensures { result ≡ length (jobs_of task (run_of self.now).state.jobs) }
     {
-        self.core.job_count(task)
+        self.machine.core().job_count(task)
     }
 
     /// The dynamic priority of a task's oldest job, 0 the lowest; None where the task has no job (resource management,
@@ -39,7 +39,7 @@ impl<'s, Q: ReadyQueues, B: Blockers> Kernel<'s, Q, B> {
         requires { task < length self.now.system.tasks }
         ensures { result ≡ option_map (dynamic_priority self.now.system) (oldest_job (run_of self.now).state task) }
     {
-        self.core.dynamic_priority(task)
+        self.machine.core().dynamic_priority(task)
     }
 
     /// The events of which a task's oldest job waits for one, a bit each; None where it doesn't wait, or the task has no
@@ -48,7 +48,7 @@ impl<'s, Q: ReadyQueues, B: Blockers> Kernel<'s, Q, B> {
         requires { task < length self.now.system.tasks }
         ensures { result ≡ awaited_by (oldest_job (run_of self.now).state task) }
     {
-        self.core.awaited(task)
+        self.machine.core().awaited(task)
     }
 
     /// Whether a task's oldest job got a resource that it has not released (resource management, GetResource).
@@ -56,7 +56,7 @@ impl<'s, Q: ReadyQueues, B: Blockers> Kernel<'s, Q, B> {
         requires { task < length self.now.system.tasks }
         ensures { result ≡ is_held_by resource.now (oldest_job (run_of self.now).state task) }
     {
-        self.core.holds(task, resource)
+        self.machine.core().holds(task, resource)
     }
 
     /// The first task whose oldest job holds a resource (resource management, GetResource). All tasks are asked, so that it
@@ -65,7 +65,7 @@ impl<'s, Q: ReadyQueues, B: Blockers> Kernel<'s, Q, B> {
         ensures value { result ≡ holder self.now.system (run_of self.now).state resource.now }
         ensures known { IfSome result (λ t. t < length self.now.system.tasks) }
     {
-        self.core.holder(resource)
+        self.machine.core().holder(resource)
     }
 
     /// Whether an interrupt of a routine has arrived and not started it yet (interrupt processing).
@@ -73,14 +73,14 @@ impl<'s, Q: ReadyQueues, B: Blockers> Kernel<'s, Q, B> {
         requires { routine < length self.now.system.routines }
         ensures { result ≡ slice_index_or (run_of self.now).state.pending routine false }
     {
-        self.core.is_pending(routine)
+        self.machine.core().is_pending(routine)
     }
 
     /// The interrupt routine that is active (interrupt processing).
     pub fn active_routine(&self) -> Option<IsrId>
         ensures { result ≡ option_map routine_of (run_of self.now).state.active }
     {
-        self.core.active_routine()
+        self.machine.core().active_routine()
     }
 
     /// The task of the running job (task management, task state model; GetTaskID).
@@ -88,14 +88,14 @@ impl<'s, Q: ReadyQueues, B: Blockers> Kernel<'s, Q, B> {
         ensures value { result ≡ option_map task_in (run_of self.now).state.running }
         ensures known { IfSome result (λ t. t < length self.now.system.tasks) }
     {
-        self.core.running()
+        self.machine.core().running()
     }
 
     /// Whether interrupts are off: the switch is set, or a nesting count is above 0 (interrupt processing).
     pub fn are_interrupts_off(&self) -> bool
         ensures { result ≡ interrupts_off (run_of self.now).state }
     {
-        self.core.are_interrupts_off()
+        self.machine.core().are_interrupts_off()
     }
 
     /// How many counts of its counter an alarm has before it expires, as GetAlarm would answer at the end of the tick that was
@@ -104,6 +104,6 @@ impl<'s, Q: ReadyQueues, B: Blockers> Kernel<'s, Q, B> {
         requires { alarm < length self.now.system.alarms }
         ensures { result ≡ counts_left self.now.system (at_last_tick (run_of self.now).state) alarm }
     {
-        self.core.counts_left(alarm)
+        self.machine.core().counts_left(alarm)
     }
 }

@@ -1,14 +1,11 @@
-//! Since which tick each job is ready: how the stamps of jobs follow what a kernel does. No part of the standards.
+//! Since which tick each job is ready: how the stamps of jobs follow what is seen of tasks. No part of the standards.
 
-ghost use Rattle.std.specs.Prelude.{◌≡◌, ◌<◌, ◌≤◌, ◌+◌, ◌++◌, ◌&&◌, not, IfSome, length};
-ghost use Rattle.services.specs.Objects.{kept_in};
+ghost use Rattle.std.specs.Prelude.{◌≡◌, ◌<◌, ◌≤◌, IfSome, length};
 ghost use Rattle.blocking_laws.specs.Looks.{ended_of, is_task, preempted_by, stamps_at};
-ghost use Rattle.kernel.specs.Looking.{ended_since, looked_since, looked_since_if, seen, seen_if};
+ghost use Rattle.kernel.specs.Looking.{ended_since, looked_between, stood_between};
 
-use osek_base::TaskId;
+use osek_base::{MAX_ACTIVATION, TaskId};
 use readiness::JobStamps;
-use ready_queues::ReadyQueues;
-use services::Core;
 
 /// How a task stands: how many jobs it has, and whether the oldest of them waits.
 #[derive(Clone, Copy)]
@@ -18,112 +15,66 @@ pub struct Look {
     pub waits: bool,
 }
 
-/// What is seen of a task before something.
-#[inline(always)]
-pub fn seen<Q: ReadyQueues>(core: &Core<'_, Q>, task: TaskId) -> Look
-    requires { task < length core.now.system.tasks }
-    ensures { result ≡ seen (kept_in core.now) task }
-{
-    Look {
-        task,
-        count: core.job_count(task),
-        waits: core.waits(task),
-    }
+/// How a task stands, where there is one, beside the running task.
+#[derive(Clone, Copy)]
+pub struct Stand {
+    pub named: Option<Look>,
+    pub running: Option<TaskId>,
+    /// The job of the running task has ended.
+    pub gone: bool,
 }
 
-/// A task that was looked at before something: where it has a job more, the new one is ready; where its oldest job waited and
-/// doesn't any more, that one is.
+/// Where a task has a job more, the new one is ready; where its oldest job waited and doesn't any more, that one is.
 #[inline(always)]
-pub fn looked_at<Q: ReadyQueues>(
-    core: &Core<'_, Q>,
-    stamps: &mut JobStamps,
-    before: &Look,
-    tick: u32,
-)
-    requires task { before.now.task < length core.now.system.tasks }
-    requires size { length stamps.old ≡ length core.now.system.tasks }
+pub fn looked_at(stamps: &mut JobStamps, before: &Look, after: &Look, tick: u32)
+    requires task { before.now.task < length stamps.old }
     requires counted { length (stamps_at stamps.old before.now.task) ≡ before.now.count }
-    ensures { stamps.new ≡ looked_since tick before.now (kept_in core.now) stamps.old }
+    requires few { after.now.count ≤ MAX_ACTIVATION }
+    ensures value { stamps.new ≡ looked_between tick before.now after.now stamps.old }
+    ensures sized { length stamps.new ≡ length stamps.old }
 {
-    if before.count < core.job_count(before.task) {
+    if before.count < after.count {
         stamps.add(before.task, tick);
-    } else if before.waits && !core.waits(before.task) {
+    } else if before.waits && !after.waits {
         stamps.stamp(before.task, tick);
-    }
-}
-
-/// What is seen of a task before something, where there is one.
-#[inline(always)]
-pub fn seen_if<Q: ReadyQueues>(core: &Core<'_, Q>, task: Option<TaskId>) -> Option<Look>
-    requires { IfSome task (λ t. t < length core.now.system.tasks) }
-    ensures { result ≡ seen_if (kept_in core.now) task }
-{
-    match task {
-        None => None,
-        Some(task) => Some(seen(core, task)),
-    }
-}
-
-/// Whether a task is the running one.
-#[inline(always)]
-fn is_running<Q: ReadyQueues>(core: &Core<'_, Q>, task: TaskId) -> bool
-    ensures { result ≡ is_task task core.now.running }
-{
-    is_that(&core.running(), task)
-}
-
-/// Whether a task is that one, where there is one.
-#[inline(always)]
-fn is_that(running: &Option<TaskId>, task: TaskId) -> bool
-    ensures { result ≡ is_task task running.now }
-{
-    match running {
-        None => false,
-        Some(running) => running.number() == task.number(),
     }
 }
 
 /// A job that ran, and neither ended nor waits, is ready again where its task runs no more.
 #[inline(always)]
-pub fn preempted<Q: ReadyQueues>(
-    core: &Core<'_, Q>,
+pub fn preempted(
     stamps: &mut JobStamps,
     runner: Option<TaskId>,
+    running: &Option<TaskId>,
     tick: u32,
 )
     requires { IfSome runner (λ t. t < length stamps.old) }
-    ensures { stamps.new ≡ preempted_by tick runner core.now.running stamps.old }
+    ensures value { stamps.new ≡ preempted_by tick runner running.now stamps.old }
+    ensures sized { length stamps.new ≡ length stamps.old }
 {
     if let Some(task) = runner {
-        if !is_running(core, task) {
+        if !is_that(running, task) {
             stamps.stamp(task, tick);
         }
     }
 }
 
-/// After an instruction: the job of the task that ran may have ended, and the task on which the instruction acts, which was
-/// looked at before, is looked at again.
+/// Behind an instruction: the job of the task that ran may have ended, and the task on which the instruction acts is looked at
+/// again.
 #[inline(always)]
-pub fn executed_since<Q: ReadyQueues>(
-    core: &Core<'_, Q>,
-    stamps: &mut JobStamps,
-    before: &Option<Look>,
-    running: &Option<TaskId>,
-    gone: bool,
-    tick: u32,
-)
-    requires size { length stamps.old ≡ length core.now.system.tasks }
-    requires running { IfSome running.now (λ t. t < length core.now.system.tasks) }
-    requires task { IfSome before.now (λ b. b.task < length core.now.system.tasks) }
-    requires counted { IfSome before.now (λ b. length (stamps_at stamps.old b.task) ≡ b.count) }
-    ensures stamps { stamps.new ≡ looked_since_if tick before.now (kept_in core.now) (ended_of running.now (not gone && core.now.gone) stamps.old) }
+pub fn executed_since(stamps: &mut JobStamps, before: &Stand, after: &Stand, tick: u32)
+    requires running { IfSome before.now.running (λ t. t < length stamps.old) }
+    requires task { IfSome before.now.named (λ b. b.task < length stamps.old) }
+    requires counted { IfSome before.now.named (λ b. length (stamps_at stamps.old b.task) ≡ b.count) }
+    requires few { IfSome after.now.named (λ l. l.count ≤ MAX_ACTIVATION) }
+    ensures value { stamps.new ≡ stood_between tick before.now after.now stamps.old }
     ensures sized { length stamps.new ≡ length stamps.old }
 {
-    let has_ended = !gone && core.is_gone();
-    ended(stamps, running, has_ended);
-    if let Some(before) = before {
-        let stood = without_ended(before, running, has_ended);
-        looked_at(core, stamps, &stood, tick);
+    let has_ended = !before.gone && after.gone;
+    ended(stamps, &before.running, has_ended);
+    if let (Some(earlier), Some(later)) = (&before.named, &after.named) {
+        let stood = without_ended(earlier, &before.running, has_ended);
+        looked_at(stamps, &stood, later, tick);
     }
 }
 
@@ -154,5 +105,16 @@ fn without_ended(before: &Look, running: &Option<TaskId>, has_ended: bool) -> Lo
             before.count
         },
         waits: before.waits,
+    }
+}
+
+/// Whether a task is that one, where there is one.
+#[inline(always)]
+fn is_that(running: &Option<TaskId>, task: TaskId) -> bool
+    ensures { result ≡ is_task task running.now }
+{
+    match running {
+        None => false,
+        Some(running) => running.number() == task.number(),
     }
 }

@@ -1,5 +1,4 @@
 use Rattle.std.proofs.Common.{◌∙◌, ap}
-use Rattle.machine.specs.Windows.{word}
 use Rattle.kernel.specs.Run.{Run, run_of}
 use Rattle.kernel.specs.Shown.{awaited_by, oldest_job}
 use Rattle.kernel.proofs.SeenLemmas.{wait_seen}
@@ -10,5 +9,6 @@ returns g c =
     let k = c.self.inside in
     let v = c.self.invariant in
     c.awaited.ensures
-    ∙ wait_seen k.system.now v.proper k.mode k.arrivals k.ticks (word k.windows) k.core v.system v.kept c.args.task
+    ∙ wait_seen g.B.Blockers.are_counted k.system.now v.proper k.mode k.arrivals k.machine v.come c.core.result.now c.core.ensures.system
+    c.core.ensures.objects c.args.task
     ∙ ap (λ (r : Run). awaited_by (oldest_job (run_of r).state c.args.task)) c.self.view_is

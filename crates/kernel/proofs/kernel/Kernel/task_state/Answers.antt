@@ -1,6 +1,5 @@
 use Rattle.std.proofs.Common.{◌∙◌, ap}
 use Rattle.osek_base.specs.Service.{task_state}
-use Rattle.machine.specs.Windows.{word}
 use Rattle.kernel.specs.Run.{Run, run_of}
 use Rattle.kernel.proofs.SeenLemmas.{state_seen}
 use Rattle.kernel.proofs.kernel.Kernel.task_state.Goals as goal
@@ -10,5 +9,6 @@ returns g c =
     let k = c.self.inside in
     let v = c.self.invariant in
     c.task_state.ensures
-    ∙ state_seen k.system.now v.proper k.mode k.arrivals k.ticks (word k.windows) k.core v.system v.kept c.args.task
+    ∙ state_seen g.B.Blockers.are_counted k.system.now v.proper k.mode k.arrivals k.machine v.come c.core.result.now c.core.ensures.system
+    c.core.ensures.objects c.args.task
     ∙ ap (λ (r : Run). task_state (run_of r).state c.args.task) c.self.view_is

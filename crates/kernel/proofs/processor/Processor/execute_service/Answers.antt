@@ -1,0 +1,69 @@
+use Rattle.std.proofs.Common.{◌++◌, ◌+◌, ◌<◌, refl, sym, ◌∙◌, ap, subst}
+use Rattle.osek_base.specs.declared.instr.Instr.{Instr}
+use Rattle.osek_base.specs.declared.trace_event.Outcome.{Outcome}
+use Rattle.osek_base.specs.declared.trace_event.Source.{Source}
+use Rattle.osek_base.specs.Instruction.{Context}
+use Rattle.osek_base.specs.Tick.{answered, error_record}
+use Rattle.run_laws.proofs.Formed.{IsPlaced}
+use Rattle.machine.specs.Windows.{word}
+use Rattle.services.specs.Calls.{context_in}
+use Rattle.services.specs.Objects.{kept_in}
+use Rattle.services.proofs.CallerLemmas.{answered_still, context_still}
+use Rattle.kernel.proofs.Execution.{executing}
+use Rattle.kernel.proofs.ExecutionLemmas.{service_goes, service_told}
+use Rattle.kernel.proofs.NextLemmas.{executed_does, fetched}
+use Rattle.kernel.proofs.PlaceLemmas.{service_known, service_short, service_stays}
+use Rattle.kernel.proofs.processor.Processor.execute_service.Goals as goal
+
+pub serve-answer-requires-clause-known : goal.serve-answer-requires-clause-known
+serve-answer-requires-clause-known g c =
+    let k = c.self.inside in
+    let next = c.args.next.now in
+    let f = fetched c.args.self.now k.system.now k.core k.windows k.code next c.self.view_is c.self.invariant c.requires.next in
+    let e = executing k.core next.owner in
+    let is = c.requires.service in
+    service_known k.core.system e.owner e.cpu f.known c.args.service.now (f.instruction ∙ is)
+
+pub answer-requires-clause-room : goal.answer-requires-clause-room
+answer-requires-clause-room g c = λ there.
+    let k = c.self.inside in
+    let next = c.args.next.now in
+    let f = fetched c.args.self.now k.system.now k.core k.windows k.code next c.self.view_is c.self.invariant c.requires.next in
+    let e = executing k.core next.owner in
+    let is = c.requires.service in
+    subst (λ (x : Context). x.place + 1 < 1024)
+    (sym (context_still k.core c.serve-answer.new.self e.owner c.serve-answer.ensures.caller there))
+    (service_short k.core.system e.owner e.cpu f.known c.args.service.now (f.instruction ∙ is))
+
+pub answer-requires-clause-placed : goal.answer-requires-clause-placed
+answer-requires-clause-placed g c = λ there.
+    let k = c.self.inside in
+    let next = c.args.next.now in
+    let f = fetched c.args.self.now k.system.now k.core k.windows k.code next c.self.view_is c.self.invariant c.requires.next in
+    let e = executing k.core next.owner in
+    let r = c.serve-answer in
+    let is = c.requires.service in
+    subst (λ T. IsPlaced T e.owner (answered c.in-Some.status r.result.results (context_in (kept_in r.new.self) e.owner))) (sym r.ensures.system)
+    (subst (λ (x : Context). IsPlaced k.core.system e.owner (answered c.in-Some.status r.result.results x))
+    (sym (context_still k.core r.new.self e.owner r.ensures.caller there))
+    (service_stays k.core.system e.owner e.cpu f.known f.proper c.args.service.now _ _ (f.instruction ∙ is) f.placed))
+
+pub returns-clause-does : goal.returns-clause-does
+returns-clause-does g c =
+    let k = c.self.inside in
+    let next = c.args.next.now in
+    let f = fetched c.args.self.now k.system.now k.core k.windows k.code next c.self.view_is c.self.invariant c.requires.next in
+    let e = executing k.core next.owner in
+    let r = c.serve-answer in
+    let call = c.args.service.now in
+    let status = sym c.in-Some.is ∙ r.ensures.status in
+    let is = c.requires.service in
+    executed_does c.args.self.now k.core c.answer.new.self k.windows k.windows next c.self.view_is f (Instr.Service call) is
+    (Outcome.Answer c.in-Some.status r.result.results) c.record_error.new.records (c.answer.ensures.system ∙ r.ensures.system)
+    (service_goes k.core.system e call (word k.windows) k.core r.new.self c.answer.new.self (answered c.in-Some.status r.result.results e.cpu)
+    c.in-Some.status r.result.results f.who status r.ensures.results r.ensures.kept refl
+    (c.answer.ensures.kept ∙ answered_still k.core r.new.self e.owner c.in-Some.status r.result.results r.ensures.caller))
+    (service_told k.core.system e call (word k.windows) k.core c.in-Some.status r.result.results f.who status r.ensures.results
+    c.record_error.new.records
+    (c.record_error.ensures.events ∙ ap (λ v. v ++ error_record k.system.now (Source.Owner e.owner) (Instr.Service call) c.in-Some.status) c.requires.none
+    ∙ ap (λ T. error_record T (Source.Owner e.owner) (Instr.Service call) c.in-Some.status) (sym c.self.invariant.system)))

@@ -1,0 +1,11 @@
+use Rattle.std.proofs.Common.{[], ◌≤◌, take, length}
+use Rattle.kernel.specs.Watches.{MayAct, Watches, all_acting}
+use Rattle.kernel.proofs.watched.Watched.alarms_act.Given as goal
+
+-- the alarms so far have acted, with one record each at most
+abbrev pub invariant-loop-number : goal.invariant-loop-number
+invariant-loop-number g l = record {
+  does : Watches g.B.Blockers.are_counted (all_acting (take l.number l.due)) l.tick l.fn.self l.self [] l.records;
+  may : MayAct g.B.Blockers.are_counted l.self;
+  few : length l.records ≤ l.number;
+}

@@ -1,0 +1,31 @@
+use Rattle.std.proofs.Common.{[], ◌∷◌, sym, ◌∙◌, subst}
+use Rattle.osek_base.specs.declared.trace_event.Outcome.{Outcome}
+use Rattle.osek_base.specs.declared.trace_event.TraceEvent.{TraceEvent}
+use Rattle.machine.specs.Packed.{instr_of}
+use Rattle.kernel.specs.Processor.{IsNext}
+use Rattle.kernel.specs.Watches.{Watched, Watches, executing}
+use Rattle.kernel.proofs.ExecutedStamps.{control_watched, plain_watched}
+use Rattle.kernel.proofs.WatchLemmas.{watched_of}
+use Rattle.kernel.proofs.watched.Watched.execute.Goals as goal
+
+pub returns-then-is_plain-clause-does : goal.returns-then-is_plain-clause-does
+returns-then-is_plain-clause-does g c =
+    let k = c.self.inside in
+    let counted = g.B.Blockers.are_counted in
+    let next = c.args.next.now in
+    let event = TraceEvent.Executed next.owner next.place (instr_of next.packed) c.execute_plain.result in
+    subst (λ (x : Watched). Watches counted executing c.args.tick x (watched_of c.execute_plain.new.self k.blocking) [] (event ∷ c.args.behind.now)) c.self.view_is
+    (plain_watched counted c.args.tick (watched_of k.processor k.blocking) c.execute_plain.new.self next event c.args.behind.now
+    (subst (λ (x : Watched). IsNext x.processor next) (sym c.self.view_is) c.requires.next) (sym c.is_plain.ensures ∙ c.if-is_plain.true) c.requires.none
+    c.execute_plain.ensures)
+
+pub returns-then-is_control-clause-does : goal.returns-then-is_control-clause-does
+returns-then-is_control-clause-does g c =
+    let k = c.self-then-is_control.inside in
+    let counted = g.B.Blockers.are_counted in
+    let next = c.args.next.now in
+    let events = TraceEvent.Executed next.owner next.place (instr_of next.packed) Outcome.Control ∷ c.execute_control.new.behind in
+    subst (λ (x : Watched). Watches counted executing c.args.tick x (watched_of c.execute_control.new.self k.blocking) [] events) c.self-then-is_control.view_is
+    (control_watched counted c.args.tick (watched_of k.processor k.blocking) c.execute_control.new.self next [] events
+    (subst (λ (x : Watched). IsNext x.processor next) (sym c.self-then-is_control.view_is) c.requires.next) (sym c.is_control.ensures ∙ c.if-is_control.true)
+    c.execute_control.ensures.does)

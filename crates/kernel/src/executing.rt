@@ -1,0 +1,88 @@
+//! OSEK/VDX OS: system services; the modelled processor. The fifth phase of a tick: one instruction of who executes.
+
+ghost use Rattle.std.specs.Prelude.{◌≡◌, ◌<◌, ◌≤◌, ◌∷◌, [], IfSome, true, false, length};
+ghost use Rattle.osek_base.specs.declared.trace_event.TraceEvent.{TraceEvent};
+ghost use Rattle.osek_base.specs.Executed.{StandsIn, idle_or_executed};
+ghost use Rattle.machine.specs.Packed.{instr_of, is_control, is_plain};
+ghost use Rattle.kernel.specs.Processor.{IsNext, system_of};
+ghost use Rattle.kernel.specs.Watches.{Begins, HasBegun, Watches, executing};
+
+use crate::blockers::Blockers;
+use crate::next::Next;
+use crate::watched::Watched;
+use osek_base::{Executed, MAX_TICKS, Outcome, TickRecord};
+use ready_queues::ReadyQueues;
+
+impl<'s, Q: ReadyQueues, B: Blockers> Watched<'s, Q, B> {
+    /// Where a task is to execute, the stamp of its job is taken and its level noted.
+    #[inline(always)]
+    pub fn begin(&mut self, tick: u32)
+        requires { tick < MAX_TICKS }
+        ensures { Begins B.are_counted tick self.old self.new }
+    {
+        self.blocking.begin(&self.processor, tick);
+    }
+
+    /// Who executes, the active routine or else the running task, executes one instruction; where there is neither, nobody
+    /// does. `behind` gets the records behind that of the instruction.
+    #[inline(always)]
+    pub fn execute_phase(&mut self, tick: u32, behind: &mut TickRecord) -> Option<Executed>
+        requires begun { HasBegun B.are_counted self.old }
+        requires none { behind.old ≡ [] }
+        ensures does { Watches B.are_counted executing tick self.old self.new [] (idle_or_executed (system_of self.old.processor) result ∷ behind.new) }
+        ensures there { IfSome result (StandsIn (system_of self.old.processor)) }
+        ensures few { length behind.new ≤ 1 }
+    {
+        match self.processor.executor() {
+            None => None,
+            Some(owner) => {
+                let next = self.processor.next_of(&owner);
+                let outcome = self.execute(&next, tick, behind);
+                Some(Executed {
+                    owner: next.owner,
+                    place: next.place,
+                    outcome,
+                })
+            }
+        }
+    }
+
+    /// Who executes does its next instruction. Services with a status alone make, release or end jobs.
+    #[inline(always)]
+    fn execute(&mut self, next: &Next, tick: u32, behind: &mut TickRecord) -> Outcome
+        requires next { IsNext self.old.processor next.now }
+        requires begun { HasBegun B.are_counted self.old }
+        requires none { behind.old ≡ [] }
+        ensures does { Watches B.are_counted executing tick self.old self.new [] (TraceEvent.Executed next.now.owner next.now.place (instr_of next.now.packed) result ∷ behind.new) }
+        ensures few { length behind.new ≤ 1 }
+    {
+        if next.packed.is_plain() {
+            self.processor.execute_plain(next)
+        } else if next.packed.is_control() {
+            self.processor.execute_control(next, behind);
+            Outcome::Control
+        } else {
+            self.serve(next, tick, behind)
+        }
+    }
+
+    /// A service with a status. The task on which it acts is looked at before and after.
+    #[inline(never)]
+    fn serve(&mut self, next: &Next, tick: u32, behind: &mut TickRecord) -> Outcome
+        requires next { IsNext self.old.processor next.now }
+        requires begun { HasBegun B.are_counted self.old }
+        requires plain { is_plain (instr_of next.now.packed) ≡ false }
+        requires control { is_control (instr_of next.now.packed) ≡ false }
+        requires none { behind.old ≡ [] }
+        ensures does { Watches B.are_counted executing tick self.old self.new [] (TraceEvent.Executed next.now.owner next.now.place (instr_of next.now.packed) result ∷ behind.new) }
+        ensures few { length behind.new ≤ 1 }
+    {
+        let service = next.packed.service();
+        let named = self.processor.acted_on_by(next, &service);
+        let before = self.processor.stand(&named);
+        let outcome = self.processor.execute_service(next, &service, behind);
+        let after = self.processor.stand(&named);
+        self.blocking.executed_since(&before, &after, tick);
+        outcome
+    }
+}

@@ -1,0 +1,117 @@
+//! What is seen of a system in the midst of a tick: who executes, and how tasks stand.
+
+ghost use Rattle.std.specs.Prelude.{◌≡◌, ◌<◌, ◌≤◌, true, IfSome, MatchOption, length};
+ghost use Rattle.osek_base.specs.System.{priority_of};
+ghost use Rattle.run_laws.proofs.Formed.{IsPlaced};
+ghost use Rattle.kept_state.specs.KeptService.{ByNobody, caller_in};
+ghost use Rattle.kept_state.specs.KeptTick.{silent_in};
+ghost use Rattle.kept_state.specs.Moves.{rescheduled};
+ghost use Rattle.services.specs.Calls.{IsExecuting, calling_task, context_in};
+ghost use Rattle.kernel.specs.Looking.{acts_on, seen, stand};
+ghost use Rattle.kernel.specs.Processor.{picture, system_of};
+
+use crate::processor::Processor;
+use crate::stamping::{Look, Stand};
+use osek_base::{Action, AlarmId, MAX_ACTIVATION, MAX_TASK_PRIORITY, Owner, TaskId};
+use ready_queues::ReadyQueues;
+
+impl<'s, Q: ReadyQueues> Processor<'s, Q> {
+    /// The task on which an alarm acts.
+    #[inline(always)]
+    pub fn acted_on(&self, alarm: AlarmId) -> TaskId
+        requires { alarm < length (system_of self.now).alarms }
+        ensures value { result ≡ acts_on (system_of self.now) alarm }
+        ensures known { result < length (system_of self.now).tasks }
+    {
+        match self.system.action_of(alarm) {
+            Action::ActivateTask(task) => task,
+            Action::SetEvent(task, _) => task,
+        }
+    }
+
+    /// How a task stands.
+    #[inline(always)]
+    pub fn look(&self, task: TaskId) -> Look
+        requires { task < length (system_of self.now).tasks }
+        ensures value { result ≡ seen (picture self.now) task }
+        ensures few { result.count ≤ MAX_ACTIVATION }
+    {
+        Look {
+            task,
+            count: self.core.job_count(task),
+            waits: self.core.waits(task),
+        }
+    }
+
+    /// How a task stands, where there is one, beside the running task.
+    #[inline(always)]
+    pub fn stand(&self, task: &Option<TaskId>) -> Stand
+        requires { IfSome task.now (λ t. t < length (system_of self.now).tasks) }
+        ensures value { result ≡ stand (picture self.now) task.now }
+        ensures few { IfSome result.named (λ l. l.count ≤ MAX_ACTIVATION) }
+        ensures known { IfSome result.running (λ t. t < length (system_of self.now).tasks) }
+    {
+        let named = match task {
+            None => None,
+            Some(task) => Some(self.look(*task)),
+        };
+        Stand {
+            named,
+            running: self.core.running(),
+            gone: self.core.is_gone(),
+        }
+    }
+
+    /// The running task, also where its job has ended.
+    #[inline(always)]
+    pub fn running(&self) -> Option<TaskId>
+        ensures value { result ≡ (picture self.now).running }
+        ensures known { IfSome result (λ t. t < length (system_of self.now).tasks) }
+    {
+        self.core.running()
+    }
+
+    /// The static priority of a task.
+    #[inline(always)]
+    pub fn level_of(&self, task: TaskId) -> u8
+        requires { task < length (system_of self.now).tasks }
+        ensures value { result ≡ priority_of (system_of self.now) task }
+        ensures low { result ≤ MAX_TASK_PRIORITY }
+    {
+        self.system.priority_of(task)
+    }
+
+    /// Who executes: the active routine, else the running task.
+    #[inline(always)]
+    pub fn executor(&self) -> Option<Owner>
+        ensures value { MatchOption result (caller_in (picture self.now) ≡ ByNobody) (IsExecuting (picture self.now)) }
+        ensures placed { IfSome result (λ w. IsPlaced (system_of self.now) w (context_in (picture self.now) w)) }
+    {
+        self.core.executor()
+    }
+
+    /// The task that executes, if no routine does.
+    #[inline(always)]
+    pub fn executing_task(&self) -> Option<TaskId>
+        ensures value { result ≡ calling_task (caller_in (picture self.now)) }
+        ensures known { IfSome result (λ t. t < length (system_of self.now).tasks) }
+    {
+        self.core.executing_task()
+    }
+
+    /// Whether a reschedule is known to change nothing.
+    #[inline(always)]
+    pub fn is_dispatched(&self) -> bool
+        ensures { result ≡ true → rescheduled (system_of self.now) (picture self.now) ≡ silent_in (picture self.now) }
+    {
+        self.core.is_dispatched()
+    }
+
+    /// Whether a ShutdownOS ended the run.
+    #[inline(always)]
+    pub fn is_over(&self) -> bool
+        ensures { result ≡ (picture self.now).over }
+    {
+        self.core.is_over()
+    }
+}

@@ -1,0 +1,172 @@
+//! OSEK/VDX OS: system start-up; application modes. A booted system that does tick by tick, each with the interrupts that arrive
+//! in it.
+
+ghost use Rattle.std.specs.Prelude.{◌≡◌, ◌<◌, ◌≤◌, ◌+◌, ◌-◌, ◌∷◌, ◌++◌, [], IfOk, IfSome, None, false, true, slice_index, length};
+ghost use Rattle.std.specs.List.{All};
+ghost use Rattle.osek_base.specs.Executed.{StandsIn, idle_or_executed};
+ghost use Rattle.osek_base.specs.State.{shared_window};
+ghost use Rattle.ready_queues.specs.LevelLists.{level_lists, by_level};
+ghost use Rattle.kernel.specs.Looking.{number_told};
+ghost use Rattle.kernel.specs.Machine.{GoesOn, IsBooted, IsOfRun, Ticks, next_tick, picture, system_of};
+
+use crate::blockers::{Blockers, Counted};
+use crate::blocking::Blocking;
+use crate::processor::Processor;
+use crate::watched::Watched;
+use alarms::DueList;
+use osek_base::{
+    Executed, IsrId, MAX_RECORDS, MAX_TICKS, ModeId, Owner, ResourceNumber, SHARED_WORDS, System,
+    TickRecord, WINDOW_WORDS,
+};
+use ready_queues::ReadyQueues;
+use services::Core;
+use std::alloc::{AllocError, Global};
+use std::marker::Model;
+use std::mem;
+
+/// A booted system after some ticks, over ready queues of any kind: which interrupts arrive in a tick is told when it is done.
+/// Contracts see what is kept of its state, which is that of a state of a run, with the number of the next tick. It counts the
+/// blockers of jobs, if it isn't told not to.
+#[derive(Drop)]
+pub struct Machine<'s, Q: ReadyQueues, B: Blockers = Counted> {
+    watched: Watched<'s, Q, B>,
+    ticks: u32,
+    /// The records of boot, until the first tick.
+    opening: TickRecord,
+    /// Room for the alarms that are due in a tick.
+    due: DueList,
+}
+
+impl<'s, Q: ReadyQueues, B: Blockers> Model for Machine<'s, Q, B> {
+    ghost use Rattle.kernel.specs.Machine.{IsMachine, Machine as Seen, between};
+
+    ghost Value = { Seen };
+
+    ghost view = { λ m. between m.watched m.ticks m.opening };
+
+    ghost invariant = { λ m. IsMachine B.are_counted m.watched.processor.objects.tick (between m.watched m.ticks m.opening) };
+}
+
+impl<'s, Q: ReadyQueues, B: Blockers> Machine<'s, Q, B> {
+    /// Boots a system in a mode. Its programs are packed here, once. Err is a growth that was refused.
+    pub fn boot(alloc: Global, system: &'s System, mode: ModeId) -> Result<Self, AllocError>
+        ensures booted { IfOk result (IsBooted B.are_counted system.now mode) }
+        ensures of_run { IfOk result (IsOfRun B.are_counted) }
+    {
+        let mut opening = TickRecord::new();
+        let processor = Processor::boot(alloc, system, mode, &mut opening)?;
+        let blocking = Blocking::boot(processor.begun_stamps());
+        Ok(Machine {
+            watched: Watched {
+                processor,
+                blocking,
+            },
+            ticks: 0,
+            opening,
+            due: DueList::new(),
+        })
+    }
+
+    /// The number of the next tick: how many ticks are done.
+    #[inline(always)]
+    pub fn next_tick(&self) -> u32
+        ensures value { result ≡ next_tick self.now }
+        ensures limit { result ≤ MAX_TICKS }
+    {
+        self.ticks
+    }
+
+    /// Whether a ShutdownOS ended the run.
+    #[inline(always)]
+    pub fn is_shut_down(&self) -> bool
+        ensures { result ≡ (picture self.now).over }
+    {
+        self.watched.processor.is_over()
+    }
+
+    /// The word of a task's or routine's window.
+    pub fn word(&self, owner: Owner, index: u32) -> u32
+        requires { index < WINDOW_WORDS }
+        ensures { result ≡ (picture self.now).words owner index }
+    {
+        self.watched.processor.windows.word(owner, index as u8)
+    }
+
+    /// The word of a standard resource's window.
+    pub fn shared_word(&self, resource: ResourceNumber, index: u32) -> u32
+        requires resource { resource < length (system_of self.now).resources }
+        requires index { index < SHARED_WORDS }
+        ensures { result ≡ slice_index (shared_window (picture self.now).shared resource) index }
+    {
+        self.core().shared_word(resource, index)
+    }
+
+    /// The ready queues: for each level the tasks that are ready and don't run, oldest first.
+    pub fn queues(&self) -> &Q
+        ensures { by_level (level_lists (Q.queues result.now)) ≡ (picture self.now).queues }
+    {
+        self.core().queues()
+    }
+
+    /// The number of blockers of the job that executed in the last tick, where that was its first instruction since it became
+    /// ready. None where blockers aren't counted.
+    pub fn blockers(&self) -> Option<u32>
+        ensures counted { B.are_counted ≡ true → result ≡ number_told self.now.blocking.told }
+        ensures uncounted { B.are_counted ≡ false → result ≡ None }
+    {
+        self.watched.blocking.number()
+    }
+
+    /// The objects of the services, whose clock shows the tick that was done last.
+    #[inline(always)]
+    pub(crate) fn core(&self) -> &Core<'s, Q>
+        ensures system { result.now.system ≡ system_of self.now }
+        ensures objects { record result.now { tick = next_tick self.now } ≡ self.now.processor.objects }
+        ensures clock { result.now.tick ≡ next_tick self.now - 1 }
+    {
+        &self.watched.processor.core
+    }
+
+    /// Does one tick in which the interrupts of some routines arrive, and answers what it executed. The records before and
+    /// behind that of the instruction are left in two lists, in place of those of earlier ticks; those of boot stand in front of
+    /// the first tick's. It takes no memory and never fails.
+    #[inline(always)]
+    pub fn tick(
+        &mut self,
+        arrived: &[IsrId],
+        before: &mut TickRecord,
+        behind: &mut TickRecord,
+    ) -> Option<Executed>
+        requires on { (picture self.old).over ≡ false }
+        requires limit { next_tick self.old < MAX_TICKS }
+        requires known { All (λ i. i < length (system_of self.old).routines) arrived.now }
+        ensures ticks { Ticks arrived.now self.old self.new (before.new ++ idle_or_executed (system_of self.old) result ∷ behind.new) }
+        ensures goes_on { GoesOn B.are_counted arrived.now self.old self.new }
+        ensures of_run { IsOfRun B.are_counted self.new }
+        ensures there { IfSome result (StandsIn (system_of self.old)) }
+        ensures few { length before.new + length behind.new < MAX_RECORDS }
+    {
+        put_first(&mut self.opening, self.ticks, before);
+        behind.clear();
+        self.watched
+            .early_phases(self.ticks, arrived, &mut self.due, before);
+        self.watched.begin(self.ticks);
+        self.ticks += 1;
+        let executed = self.watched.execute_phase(self.ticks, behind);
+        self.watched.last_phase(self.ticks, behind);
+        executed
+    }
+}
+
+/// Puts in the records that stand before a tick's own: those of boot in tick 0, else none.
+#[inline(always)]
+fn put_first(opening: &mut TickRecord, tick: u32, records: &mut TickRecord)
+    requires { 1 ≤ tick → opening.old ≡ [] }
+    ensures value { records.new ≡ opening.old }
+    ensures after { opening.new ≡ [] }
+{
+    records.clear();
+    if tick == 0 {
+        mem::swap(records, opening);
+    }
+}
