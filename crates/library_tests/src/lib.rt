@@ -1,5 +1,6 @@
 //! Tests of what the program doesn't show: printed OIL, both kinds of ready lists and the runs over
-//! them, a run over ready lists of another make, and instructions as words.
+//! them, a run over ready lists of another make, instructions as words, and upper parts by
+//! themselves.
 #![tactic(auto)]
 
 #[cfg(test)]
@@ -16,3 +17,5 @@ mod queue_runs;
 mod ready_lists;
 #[cfg(test)]
 mod three_tasks;
+#[cfg(test)]
+mod upper_parts;
