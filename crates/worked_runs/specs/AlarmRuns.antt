@@ -9,6 +9,18 @@ dispatch_at_end_of_tick =
     (of_tasks (codes "V" ∷ codes "A" ∷ codes "U" ∷ [])
     (task 5 (term ∷ []) ∷ autostarted (task 3 (act (Some 2) ∷ term ∷ [])) ∷ non (task 1 (nop ∷ term ∷ [])) ∷ []))
 
+-- the alarm declared first activates the task that is numbered last
+abbrev pub two_alarms_due : System
+two_alarms_due =
+    let S =
+    with_alarm (activating_from 2 0 1)
+    (of_tasks (codes "A" ∷ codes "B" ∷ []) (task 1 (term ∷ []) ∷ task 1 (term ∷ []) ∷ []))
+    in
+    record S {
+      names = record S.names { alarms = codes "AL" ∷ codes "BL" ∷ [] };
+      alarms = activating_from 2 0 1 ∷ activating_from 2 0 0 ∷ [];
+    }
+
 abbrev pub absolute_start_now : System
 absolute_start_now =
     with_alarm (activating 1)
@@ -39,6 +51,15 @@ pub record AlarmRuns : Type 0 where
       ∷ codes "2 U 0 NOP"
       ∷ codes "3 U 1 TERM = 0"
       ∷ codes "4 V 0 TERM = 0"
+      ∷ [])
+  -- two alarms that are due in one tick act in declaration order
+  pub run_two_alarms_due :
+      IsWorkedRun two_alarms_due [] 5
+      (codes "0 idle"
+      ∷ codes "1 idle"
+      ∷ codes "2 B 0 TERM = 0"
+      ∷ codes "3 A 0 TERM = 0"
+      ∷ codes "4 idle"
       ∷ [])
   -- an absolute start equal to the present value waits a whole round
   pub run_absolute_start_now :

@@ -5,7 +5,7 @@ use Rattle.osek_base.specs.declared.ids.ResId.TheVariants.{Scheduler}
 use Rattle.osek_base.specs.System.{System}
 use Rattle.osek_base.specs.declared.instr.Instr.{Instr}
 use Rattle.osek_base.specs.State.{JobId}
-use Rattle.worked_runs.specs.Worked.{task, autostarted, listing_resources, declared, of_tasks, with_resource, IsWorkedRun, TellsBlockers, HasBlockers, nop, li, act, term, sched, getr, relr, ldr, str, sai}
+use Rattle.worked_runs.specs.Worked.{task, autostarted, listing_resources, declared, of_tasks, with_resource, IsWorkedRun, TellsBlockers, HasBlockers, nop, li, act, term, chain, sched, getr, relr, ldr, str, sai}
 
 abbrev pub nested_resources : System
 nested_resources =
@@ -31,6 +31,16 @@ abbrev pub lister_alone : List Instr → System
 lister_alone program =
     with_resource Property.Standard
     (of_tasks (codes "A" ∷ []) (listing_resources (0 ∷ []) (autostarted (task 1 program)) ∷ []))
+
+-- B has as many jobs as it may while A holds R
+abbrev pub checks_in_order : System
+checks_in_order =
+    with_resource Property.Standard
+    (of_tasks (codes "A" ∷ codes "B" ∷ [])
+    (listing_resources (0 ∷ []) (autostarted (task 1 (act (Some 1) ∷ getr (declared 0) ∷ chain None ∷ chain (Some 1)
+    ∷ relr (declared 0) ∷ chain (Some 1) ∷ term ∷ [])))
+    ∷ task 1 (term ∷ [])
+    ∷ []))
 
 -- A and C have one internal resource, and D has a priority between theirs
 abbrev pub schedule : System
@@ -98,6 +108,18 @@ pub record ResourceRuns : Type 0 where
       ∷ codes "1 A 1 TERM = 6"
       ∷ codes "2 A 2 RELR R = 0"
       ∷ codes "3 A 3 TERM = 0"
+      ∷ [])
+  -- a call that two checks would refuse is answered by the first: E_OS_ID, then E_OS_RESOURCE, then E_OS_LIMIT
+  pub run_checks_in_order :
+      IsWorkedRun checks_in_order [] 8
+      (codes "0 A 0 ACT B = 0"
+      ∷ codes "1 A 1 GETR R = 0"
+      ∷ codes "2 A 2 CHAIN INVALID = 3"
+      ∷ codes "3 A 3 CHAIN B = 6"
+      ∷ codes "4 A 4 RELR R = 0"
+      ∷ codes "5 A 5 CHAIN B = 4"
+      ∷ codes "6 A 6 TERM = 0"
+      ∷ codes "7 B 0 TERM = 0"
       ∷ [])
   -- an internal resource is given up by Schedule alone, and only for a task of higher priority
   pub run_schedule :

@@ -14,6 +14,7 @@ unfolding digits reschedule activated released service unmasked_service alarm_ph
 returns c =
     record {
       run_dispatch_at_end_of_tick = worked refl refl;
+      run_two_alarms_due = worked refl refl;
       run_absolute_start_now = worked refl refl;
       run_refused_alarms = worked refl refl;
       run_refused_action = worked refl refl;

@@ -21,6 +21,7 @@ returns c =
       blockers_nested_resources_at6 = record { ready = refl; blocked = refl };
       blockers_nested_resources_at8 = record { ready = refl; blocked = refl };
       run_no_end_while_holding = worked refl refl;
+      run_checks_in_order = worked refl refl;
       run_schedule = worked refl refl;
       run_res_scheduler = worked refl refl;
       run_shared_words = worked refl refl;
