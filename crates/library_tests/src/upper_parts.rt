@@ -28,7 +28,9 @@ CPU c {
 ";
 
 const UPPER: &str = ".task U\nLI r1, 9\nTERM\nz: JMP z\n";
+
 const ENDING: &str = ".task L\nTERM\nz: JMP z\n";
+
 const GOING_ROUND: &str = ".task L\nl: ACT L\nJMP l\nz: JMP z\n";
 
 /// The alarm activates U at tick 2 and each 3 ticks after that.
