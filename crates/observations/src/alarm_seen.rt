@@ -7,6 +7,4 @@ pub struct AlarmSeen {
     pub has_expired: bool,
     /// Whether it expires and its action is refused.
     pub is_refused: bool,
-    /// How many counts of its counter it has, where the tick leaves it, before it expires; None while it is off.
-    pub left: Option<u32>,
 }

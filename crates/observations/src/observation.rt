@@ -5,22 +5,27 @@ use crate::holder::Holder;
 use crate::routine_seen::RoutineSeen;
 use crate::task_seen::TaskSeen;
 use arrayvec::ArrayVec;
-use osek_base::{MAX_ALARMS, MAX_RESOURCES, MAX_ROUTINES, MAX_TASKS, Owner};
+use osek_base::{MAX_ALARMS, MAX_RESOURCES, MAX_ROUTINES, MAX_TASKS, Owner, Status};
 
 /// How many resources can be held: those that are declared, and RES_SCHEDULER.
 pub const MAX_HELD: usize = MAX_RESOURCES + 1;
 
-/// What is seen of one tick: of each task, routine, resource and alarm by number, behind the declared resources
-/// RES_SCHEDULER, where the system has it.
+/// What is seen of one tick, at its instruction: of each task, routine, resource and alarm by number, behind the declared
+/// resources RES_SCHEDULER, where the system has it.
 #[derive(Debug, Drop)]
 pub struct Observation {
     /// The number of the tick, from 0.
     pub tick: u32,
     /// Who executes the tick's instruction; None in an idle tick.
     pub executor: Option<Owner>,
+    /// What the instruction is answered, if it is a service with a status.
+    pub answered: Option<Status>,
+    /// The number of blockers of the job that executes, where this is its first instruction since it became ready; None
+    /// also where blockers aren't counted.
+    pub blockers: Option<u32>,
     pub tasks: ArrayVec<TaskSeen, MAX_TASKS>,
     pub routines: ArrayVec<RoutineSeen, MAX_ROUTINES>,
-    /// Who holds each resource, as the tick leaves it.
+    /// Who holds each resource when the instruction is executed.
     pub holders: ArrayVec<Holder, MAX_HELD>,
     pub alarms: ArrayVec<AlarmSeen, MAX_ALARMS>,
 }
@@ -31,6 +36,8 @@ impl Observation {
         Observation {
             tick: 0,
             executor: None,
+            answered: None,
+            blockers: None,
             tasks: ArrayVec::new(),
             routines: ArrayVec::new(),
             holders: ArrayVec::new(),

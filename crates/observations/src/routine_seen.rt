@@ -3,12 +3,10 @@
 /// What is seen of an interrupt routine in a tick.
 #[derive(Clone, Copy, Debug, Default, PartialEq, Eq)]
 pub struct RoutineSeen {
-    /// Whether the routine executes the tick's instruction.
+    /// Whether the routine executes the tick's instruction. One that is active executes in each tick until it ends.
     pub executes: bool,
-    /// Whether the tick leaves it pending: an interrupt has arrived and not started it yet.
+    /// Whether it is pending then: an interrupt has arrived and not started it yet.
     pub is_pending: bool,
-    /// Whether the tick leaves it active.
-    pub is_active: bool,
     /// Whether it is started in the tick.
     pub is_started: bool,
     /// How many interrupts arrive in the tick.

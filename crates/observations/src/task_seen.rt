@@ -2,25 +2,27 @@
 
 use osek_base::TaskState;
 
-/// What is seen of a task in a tick.
+/// What is seen of a task in a tick: what it is when the tick's instruction is executed, and what comes to it in the tick.
 #[derive(Clone, Copy, Debug, PartialEq, Eq)]
 pub struct TaskSeen {
-    /// RUNNING where the task executes the tick's instruction; else the state in which the tick leaves it, READY for
-    /// RUNNING: a task that the tick's end dispatches, or that a routine interrupts, doesn't execute.
+    /// RUNNING where the task executes the tick's instruction; else the state that it has then, READY for RUNNING: a task
+    /// that a routine interrupts doesn't execute.
     pub state: TaskState,
-    /// The dynamic priority, 0 the lowest, of the oldest job that the tick leaves; None where there is no job.
+    /// The dynamic priority, 0 the lowest, that its oldest job has then; None where it has no job.
     pub priority: Option<u8>,
-    /// How many jobs the tick leaves.
+    /// How many jobs it has then.
     pub jobs: u8,
-    /// How many jobs were made in the tick; in tick 0 those of boot too.
+    /// How many jobs are made in the tick, by the instruction too; in tick 0 those of boot too.
     pub made: u8,
-    /// How many activations were refused in the tick, those by alarms too.
+    /// How many activations are refused in the tick, those by alarms too.
     pub refused: u8,
-    /// Whether a job ended in the tick: at most one does.
+    /// Whether the instruction ends a job of the task: at most one.
     pub ended: bool,
+    /// Whether the instruction is the task's own WaitEvent, and it waits.
+    pub waits: bool,
 }
 
-/// A task without a job, in a tick in which nothing came to it.
+/// A task without a job, in a tick in which nothing comes to it.
 impl Default for TaskSeen {
     fn default() -> Self {
         TaskSeen {
@@ -30,6 +32,7 @@ impl Default for TaskSeen {
             made: 0,
             refused: 0,
             ended: false,
+            waits: false,
         }
     }
 }
