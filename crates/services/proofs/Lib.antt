@@ -7,3 +7,4 @@ pub mod AlarmLemmas
 pub mod DispatchedLemmas
 pub mod RescheduledLemmas
 pub mod AsDefinedLemmas
+pub mod StepLemmas

@@ -1,5 +1,6 @@
 pub mod Objects
 pub mod Calls
+pub mod Steps
 pub mod AsDefined
 pub mod Dispatched
 pub mod Seen

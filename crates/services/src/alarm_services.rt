@@ -7,8 +7,9 @@ ghost use Rattle.osek_base.specs.declared.trace_event.Results.{Results};
 ghost use Rattle.osek_base.specs.System.{counter_of};
 ghost use Rattle.osek_base.specs.Alarm.{due_alarms, alarms_advanced};
 ghost use Rattle.kept_state.specs.KeptService.{bare};
-ghost use Rattle.services.specs.Objects.{kept_in, AreFit};
+ghost use Rattle.services.specs.Objects.{kept_in};
 ghost use Rattle.services.specs.Calls.{unmasked};
+ghost use Rattle.services.specs.Steps.{Serves};
 
 use crate::calls::Answer;
 use crate::objects::Objects;
@@ -22,9 +23,7 @@ impl<'s, Q: ReadyQueues> Objects<'s, Q> {
     #[tactic(auto, unfolding(kept_state::specs::KeptService::unmasked_in))]
     pub fn set_rel_alarm(&mut self, alarm: AlarmId, increment: u32, cycle: u32) -> Status
         requires alarm { alarm < length self.old.system.alarms }
-        ensures system { self.new.system ≡ self.old.system }
-        ensures status { result ≡ (unmasked self.old (Service.SetRelAlarm (Some alarm) increment cycle)).status }
-        ensures kept { kept_in self.new ≡ (unmasked self.old (Service.SetRelAlarm (Some alarm) increment cycle)).state }
+        ensures { Serves (Service.SetRelAlarm (Some alarm) increment cycle) self.old self.new result }
     {
         self.alarms.set_rel(self.system, alarm, increment, cycle)
     }
@@ -34,9 +33,7 @@ impl<'s, Q: ReadyQueues> Objects<'s, Q> {
     #[tactic(auto, unfolding(kept_state::specs::KeptService::unmasked_in))]
     pub fn set_abs_alarm(&mut self, alarm: AlarmId, start: u32, cycle: u32) -> Status
         requires alarm { alarm < length self.old.system.alarms }
-        ensures system { self.new.system ≡ self.old.system }
-        ensures status { result ≡ (unmasked self.old (Service.SetAbsAlarm (Some alarm) start cycle)).status }
-        ensures kept { kept_in self.new ≡ (unmasked self.old (Service.SetAbsAlarm (Some alarm) start cycle)).state }
+        ensures { Serves (Service.SetAbsAlarm (Some alarm) start cycle) self.old self.new result }
     {
         self.alarms.set_abs(self.system, alarm, start, cycle)
     }
@@ -45,9 +42,7 @@ impl<'s, Q: ReadyQueues> Objects<'s, Q> {
     #[tactic(auto, unfolding(kept_state::specs::KeptService::unmasked_in))]
     pub fn cancel_alarm(&mut self, alarm: AlarmId) -> Status
         requires alarm { alarm < length self.old.system.alarms }
-        ensures system { self.new.system ≡ self.old.system }
-        ensures status { result ≡ (unmasked self.old (Service.CancelAlarm (Some alarm))).status }
-        ensures kept { kept_in self.new ≡ (unmasked self.old (Service.CancelAlarm (Some alarm))).state }
+        ensures { Serves (Service.CancelAlarm (Some alarm)) self.old self.new result }
     {
         self.alarms.cancel(alarm)
     }

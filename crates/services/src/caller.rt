@@ -13,6 +13,7 @@ ghost use Rattle.osek_base.specs.Tick.{answered, at_values};
 ghost use Rattle.machine.specs.Windows.{word};
 ghost use Rattle.machine.specs.Execution.{HasNext};
 ghost use Rattle.machine.specs.Packed.{instr_of, is_plain, plain_of};
+ghost use Rattle.services.specs.Steps.{Becomes};
 
 use crate::objects::Objects;
 use machine::{Cpu, PackedInstr, Windows};
@@ -166,8 +167,7 @@ impl<'s, Q: ReadyQueues> Objects<'s, Q> {
     #[inline(always)]
     pub fn end_caller(&mut self)
         requires { AreFit self.old }
-        ensures system { self.new.system ≡ self.old.system }
-        ensures kept { kept_in self.new ≡ caller_ended_in (caller_in (kept_in self.old)) (kept_in self.old) }
+        ensures { Becomes (λ _S o. caller_ended_in (caller_in o) o) self.old self.new }
     {
         if let Some(task) = self.calling_task() {
             let slot = &mut self.slots[task.number() as usize];
@@ -179,8 +179,7 @@ impl<'s, Q: ReadyQueues> Objects<'s, Q> {
     /// The calling job gives up its internal resource.
     pub fn give_up(&mut self)
         requires { AreFit self.old }
-        ensures system { self.new.system ≡ self.old.system }
-        ensures kept { kept_in self.new ≡ with_caller_in (caller_in (kept_in self.old)) slot_given_up (kept_in self.old) }
+        ensures { Becomes (λ _S o. with_caller_in (caller_in o) slot_given_up o) self.old self.new }
     {
         if let Some(task) = self.calling_task() {
             let slot = &mut self.slots[task.number() as usize];
@@ -276,8 +275,7 @@ impl<'s, Q: ReadyQueues> Objects<'s, Q> {
     pub fn go_on(&mut self, owner: Owner, cpu: Cpu)
         requires fit { AreFit self.old }
         requires who { MayGoOn self.old owner }
-        ensures system { self.new.system ≡ self.old.system }
-        ensures kept { kept_in self.new ≡ with_context_in (caller_as owner) cpu (kept_in self.old) }
+        ensures { Becomes (λ _S. with_context_in (caller_as owner) cpu) self.old self.new }
     {
         match owner {
             Owner::Task(task) => {
@@ -299,8 +297,7 @@ impl<'s, Q: ReadyQueues> Objects<'s, Q> {
         requires fit { AreFit self.old }
         requires who { MayGoOn self.old owner }
         requires room { IsThere self.old owner → (context_in (kept_in self.old) owner).place + 1 < MAX_INSTRUCTIONS }
-        ensures system { self.new.system ≡ self.old.system }
-        ensures kept { kept_in self.new ≡ with_context_in (caller_as owner) (answered status results (context_in (kept_in self.old) owner)) (kept_in self.old) }
+        ensures { Becomes (λ _S o. with_context_in (caller_as owner) (answered status results (context_in o owner)) o) self.old self.new }
     {
         match owner {
             Owner::Task(task) => {

@@ -1,13 +1,14 @@
 //! OSEK/VDX OS: specification of operating system services. The service table, row by row.
 
-ghost use Rattle.std.specs.Prelude.{◌≡◌, ◌<◌, ◌+◌, ◌^◌, Some, None, length};
+ghost use Rattle.std.specs.Prelude.{◌≡◌, ◌<◌, ◌+◌, ◌^◌, Some, None};
 ghost use Rattle.osek_base.specs.declared.status.Status.{Status};
 ghost use Rattle.osek_base.specs.declared.trace_event.Results.{Results};
 ghost use Rattle.osek_base.specs.Tick.{at_values};
 ghost use Rattle.services.specs.Dispatched.{is_refusal};
 ghost use Rattle.services.specs.Objects.{kept_in, AreFit};
 ghost use Rattle.services.specs.declared.calls.Call.{Call as CallOf};
-ghost use Rattle.services.specs.Calls.{call_in, context_in, unmasked, IsKnown, IsKnownCall, IsOnAlarm, IsThere};
+ghost use Rattle.services.specs.Calls.{call_in, context_in, IsKnown, IsKnownCall, IsOnAlarm, IsThere};
+ghost use Rattle.services.specs.Steps.{Replies};
 
 use crate::objects::Objects;
 use osek_base::{Control, Owner, Register, Results, Service, Status};
@@ -139,10 +140,7 @@ impl<'s, Q: ReadyQueues> Objects<'s, Q> {
     fn serve(&mut self, service: &Service<u32>) -> Answer
         requires fit { AreFit self.old }
         requires known { IsKnown self.old.system service.now }
-        ensures system { self.new.system ≡ self.old.system }
-        ensures status { result.status ≡ Some (unmasked self.old service.now).status }
-        ensures results { result.results ≡ (unmasked self.old service.now).results }
-        ensures kept { kept_in self.new ≡ (unmasked self.old service.now).state }
+        ensures { Replies service.now self.old self.new result }
     {
         match *service {
             Service::ActivateTask(task) => match task {
@@ -193,10 +191,7 @@ impl<'s, Q: ReadyQueues> Objects<'s, Q> {
     fn serve_alarm(&mut self, service: &Service<u32>) -> Answer
         requires known { IsKnown self.old.system service.now }
         requires alarm { IsOnAlarm service.now }
-        ensures system { self.new.system ≡ self.old.system }
-        ensures status { result.status ≡ Some (unmasked self.old service.now).status }
-        ensures results { result.results ≡ (unmasked self.old service.now).results }
-        ensures kept { kept_in self.new ≡ (unmasked self.old service.now).state }
+        ensures { Replies service.now self.old self.new result }
     {
         match *service {
             Service::SetRelAlarm(alarm, increment, cycle) => match alarm {

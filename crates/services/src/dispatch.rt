@@ -9,6 +9,7 @@ ghost use Rattle.kept_state.specs.Moves.{activated_in, released_in, contender, d
 ghost use Rattle.kept_state.specs.Standing.{room_for};
 ghost use Rattle.ready_queues.specs.LevelLists.{by_level};
 ghost use Rattle.services.specs.Objects.{by_task, kept_in, AreFit};
+ghost use Rattle.services.specs.Steps.{Becomes, Does};
 
 use crate::objects::Objects;
 use osek_base::{MAX_RECORDS, System, TaskId, TickRecord, TraceEvent};
@@ -21,8 +22,7 @@ impl<'s, Q: ReadyQueues> Objects<'s, Q> {
         requires task { task < length self.old.system.tasks }
         requires count { (by_task self.old.slots task).count ≤ activation_of self.old.system task }
         requires room { total (by_level self.old.queues) < room_for self.old.system }
-        ensures system { self.new.system ≡ self.old.system }
-        ensures kept { kept_in self.new ≡ activated_in self.old.system task (kept_in self.old) }
+        ensures { Becomes (λ S. activated_in S task) self.old self.new }
     {
         if self.system.is_extended(task) && self.is_suspended(task) {
             self.put_events(task, 0);
@@ -37,8 +37,7 @@ impl<'s, Q: ReadyQueues> Objects<'s, Q> {
     pub fn release(&mut self, task: TaskId)
         requires task { task < length self.old.system.tasks }
         requires room { total (by_level self.old.queues) < room_for self.old.system }
-        ensures system { self.new.system ≡ self.old.system }
-        ensures kept { kept_in self.new ≡ released_in self.old.system task (kept_in self.old) }
+        ensures { Becomes (λ S. released_in S task) self.old self.new }
     {
         let priority = self.level_of(task);
         self.ready.put_last(priority, task);
@@ -97,9 +96,7 @@ impl<'s, Q: ReadyQueues> Objects<'s, Q> {
     #[inline(never)]
     fn stop(&mut self, record_of_tick: &mut TickRecord)
         requires { length record_of_tick.old < MAX_RECORDS }
-        ensures system { self.new.system ≡ self.old.system }
-        ensures kept { kept_in self.new ≡ (nobody self.old.system (kept_in self.old)).state }
-        ensures events { record_of_tick.new ≡ record_of_tick.old ++ (nobody self.old.system (kept_in self.old)).events }
+        ensures does { Does nobody self.old self.new record_of_tick.old record_of_tick.new }
         ensures few { length record_of_tick.new ≤ length record_of_tick.old + 1 }
     {
         record_left(self.system, &self.running, record_of_tick);
@@ -111,8 +108,7 @@ impl<'s, Q: ReadyQueues> Objects<'s, Q> {
     #[inline(always)]
     fn stay(&mut self, task: TaskId)
         requires { task < length self.old.system.tasks }
-        ensures system { self.new.system ≡ self.old.system }
-        ensures kept { kept_in self.new ≡ (stays self.old.system task (kept_in self.old)).state }
+        ensures { Becomes (λ S o. (stays S task o).state) self.old self.new }
     {
         let system = self.system;
         let slot = &mut self.slots[task.number() as usize];
@@ -145,9 +141,7 @@ impl<'s, Q: ReadyQueues> Objects<'s, Q> {
         requires none { (l : ℕ) → level < l → by_level self.old.queues l ≡ [] }
         requires known { first (by_level self.old.queues level) < length self.old.system.tasks }
         requires room { length record_of_tick.old + 2 ≤ MAX_RECORDS }
-        ensures system { self.new.system ≡ self.old.system }
-        ensures kept { kept_in self.new ≡ (dispatched self.old.system level (by_level self.old.queues) (kept_in self.old)).state }
-        ensures events { record_of_tick.new ≡ record_of_tick.old ++ (dispatched self.old.system level (by_level self.old.queues) (kept_in self.old)).events }
+        ensures does { Does (λ S o. dispatched S level o.queues o) self.old self.new record_of_tick.old record_of_tick.new }
         ensures few { length record_of_tick.new ≤ length record_of_tick.old + 2 }
     {
         record_left(self.system, &self.running, record_of_tick);
@@ -166,9 +160,7 @@ impl<'s, Q: ReadyQueues> Objects<'s, Q> {
         requires none { (l : ℕ) → level < l → by_level self.old.queues l ≡ [] }
         requires known { first (by_level self.old.queues level) < length self.old.system.tasks }
         requires room { length record_of_tick.old + 2 ≤ MAX_RECORDS }
-        ensures system { self.new.system ≡ self.old.system }
-        ensures kept { kept_in self.new ≡ (dispatched self.old.system level (put_first (by_level self.old.queues) own task) (kept_in self.old)).state }
-        ensures events { record_of_tick.new ≡ record_of_tick.old ++ (dispatched self.old.system level (put_first (by_level self.old.queues) own task) (kept_in self.old)).events }
+        ensures does { Does (λ S o. dispatched S level (put_first o.queues own task) o) self.old self.new record_of_tick.old record_of_tick.new }
         ensures few { length record_of_tick.new ≤ length record_of_tick.old + 2 }
     {
         self.put_back(own, task);
@@ -197,9 +189,7 @@ impl<'s, Q: ReadyQueues> Objects<'s, Q> {
         requires runner { runner.now ≡ contender (kept_in self.old) }
         requires room { length record_of_tick.old + 2 ≤ MAX_RECORDS }
         ensures could { result ≡ may_dispatch_in (kept_in self.old) }
-        ensures system { self.new.system ≡ self.old.system }
-        ensures kept { kept_in self.new ≡ (rescheduled self.old.system (kept_in self.old)).state }
-        ensures events { record_of_tick.new ≡ record_of_tick.old ++ (rescheduled self.old.system (kept_in self.old)).events }
+        ensures does { Does rescheduled self.old self.new record_of_tick.old record_of_tick.new }
         ensures few { length record_of_tick.new ≤ length record_of_tick.old + 2 }
     {
         if !self.may_dispatch() {

@@ -2,9 +2,10 @@
 
 ghost use Rattle.std.specs.Prelude.{◌≡◌, ◌<◌, Some, length};
 ghost use Rattle.osek_base.specs.declared.instr.Service.{Service};
-ghost use Rattle.kept_state.specs.KeptService.{KeptCaller, caller_in, unmasked_in, event_awaited_in};
-ghost use Rattle.services.specs.Objects.{kept_in, AreFit};
+ghost use Rattle.kept_state.specs.KeptService.{caller_in, unmasked_in, event_awaited_in};
+ghost use Rattle.services.specs.Objects.{AreFit};
 ghost use Rattle.services.specs.Calls.{unmasked};
+ghost use Rattle.services.specs.Steps.{Acts, Becomes, Serves};
 
 use crate::calls::Answer;
 use crate::objects::Objects;
@@ -18,9 +19,7 @@ impl<'s, Q: ReadyQueues> Objects<'s, Q> {
     pub fn set_event(&mut self, task: TaskId, mask: u32) -> Status
         requires fit { AreFit self.old }
         requires task { task < length self.old.system.tasks }
-        ensures system { self.new.system ≡ self.old.system }
-        ensures status { (d : KeptCaller) → result ≡ (unmasked_in self.old.system d (kept_in self.old) (Service.SetEvent (Some task) mask)).status }
-        ensures kept { (d : KeptCaller) → kept_in self.new ≡ (unmasked_in self.old.system d (kept_in self.old) (Service.SetEvent (Some task) mask)).state }
+        ensures { Acts (Service.SetEvent (Some task) mask) self.old self.new result }
     {
         if !self.system.is_extended(task) {
             return Status::Access;
@@ -42,9 +41,7 @@ impl<'s, Q: ReadyQueues> Objects<'s, Q> {
     #[tactic(auto, unfolding(kept_state::specs::KeptService::unmasked_in))]
     pub fn clear_event(&mut self, mask: u32) -> Status
         requires { AreFit self.old }
-        ensures system { self.new.system ≡ self.old.system }
-        ensures status { result ≡ (unmasked self.old (Service.ClearEvent mask)).status }
-        ensures kept { kept_in self.new ≡ (unmasked self.old (Service.ClearEvent mask)).state }
+        ensures { Serves (Service.ClearEvent mask) self.old self.new result }
     {
         if self.by_routine() {
             return Status::CallLevel;
@@ -82,9 +79,7 @@ impl<'s, Q: ReadyQueues> Objects<'s, Q> {
     #[tactic(auto, unfolding(kept_state::specs::KeptService::unmasked_in))]
     pub fn wait_event(&mut self, mask: u32) -> Status
         requires { AreFit self.old }
-        ensures system { self.new.system ≡ self.old.system }
-        ensures status { result ≡ (unmasked self.old (Service.WaitEvent mask)).status }
-        ensures kept { kept_in self.new ≡ (unmasked self.old (Service.WaitEvent mask)).state }
+        ensures { Serves (Service.WaitEvent mask) self.old self.new result }
     {
         if self.by_routine() {
             return Status::CallLevel;
@@ -102,8 +97,7 @@ impl<'s, Q: ReadyQueues> Objects<'s, Q> {
     /// Where none of the events of a mask is set, the caller waits for them and gives up its internal resource.
     fn wait_caller(&mut self, mask: u32)
         requires { AreFit self.old }
-        ensures system { self.new.system ≡ self.old.system }
-        ensures kept { kept_in self.new ≡ event_awaited_in (caller_in (kept_in self.old)) mask (kept_in self.old) }
+        ensures { Becomes (λ _S o. event_awaited_in (caller_in o) mask o) self.old self.new }
     {
         if let Some(task) = self.calling_task()
             && mask & self.events_of(task) == 0

@@ -14,6 +14,7 @@ ghost use Rattle.kept_state.specs.KeptService.{bare};
 ghost use Rattle.kept_state.specs.KeptTick.{controlled_in, routine_started_in, start_phase_in};
 ghost use Rattle.kept_state.specs.Moves.{may_dispatch_in};
 ghost use Rattle.services.specs.Objects.{kept_in};
+ghost use Rattle.services.specs.Steps.{Becomes};
 
 use crate::objects::Objects;
 use machine::{Cpu, PackedInstr, Windows, exec_packed};
@@ -96,8 +97,7 @@ impl<'s, Q: ReadyQueues> Objects<'s, Q> {
     pub fn control(&mut self, control: &Control)
         requires all { self.old.suspended_all + 1 < 2 ^ 32 }
         requires os { self.old.suspended_os + 1 < 2 ^ 32 }
-        ensures system { self.new.system ≡ self.old.system }
-        ensures kept { kept_in self.new ≡ controlled_in control.now (kept_in self.old) }
+        ensures { Becomes (λ _S. controlled_in control.now) self.old self.new }
     {
         match control {
             Control::DisableAllInterrupts => self.disabled = true,
@@ -131,8 +131,7 @@ impl<'s, Q: ReadyQueues> Objects<'s, Q> {
     #[tactic(auto, unfolding(kept_state::specs::KeptTick::start_phase_in))]
     #[inline(always)]
     pub fn start_routine(&mut self)
-        ensures system { self.new.system ≡ self.old.system }
-        ensures kept { kept_in self.new ≡ start_phase_in self.old.system (kept_in self.old) }
+        ensures { Becomes start_phase_in self.old self.new }
     {
         if let Some(routine) = self.pending_routine()
             && self.may_dispatch()
@@ -154,8 +153,7 @@ impl<'s, Q: ReadyQueues> Objects<'s, Q> {
     #[inline(never)]
     fn start(&mut self, routine: IsrId)
         requires { routine < length self.old.system.routines }
-        ensures system { self.new.system ≡ self.old.system }
-        ensures kept { kept_in self.new ≡ routine_started_in (Some routine) (kept_in self.old) }
+        ensures { Becomes (λ _S. routine_started_in (Some routine)) self.old self.new }
     {
         self.active = Some(Active {
             routine,

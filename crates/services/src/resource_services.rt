@@ -6,7 +6,8 @@ ghost use Rattle.osek_base.specs.declared.instr.Service.{Service};
 ghost use Rattle.osek_base.specs.declared.status.Status.{Status};
 ghost use Rattle.kept_state.specs.KeptService.{caller_in, got_last_in, holds_in, is_held_in, slot_gets, slot_releases, with_caller_in};
 ghost use Rattle.services.specs.Objects.{kept_in, AreFit};
-ghost use Rattle.services.specs.Calls.{unmasked};
+
+ghost use Rattle.services.specs.Steps.{Becomes, Serves};
 
 use crate::objects::Objects;
 use crate::slot::Slot;
@@ -19,9 +20,7 @@ impl<'s, Q: ReadyQueues> Objects<'s, Q> {
     #[tactic(auto, unfolding(kept_state::specs::KeptService::unmasked_in))]
     pub fn get_resource(&mut self, resource: &ResId) -> Status
         requires { AreFit self.old }
-        ensures system { self.new.system ≡ self.old.system }
-        ensures status { result ≡ (unmasked self.old (Service.GetResource (Some resource.now))).status }
-        ensures kept { kept_in self.new ≡ (unmasked self.old (Service.GetResource (Some resource.now))).state }
+        ensures { Serves (Service.GetResource (Some resource.now)) self.old self.new result }
     {
         if self.by_routine() {
             return Status::Access;
@@ -41,9 +40,7 @@ impl<'s, Q: ReadyQueues> Objects<'s, Q> {
     #[tactic(auto, unfolding(kept_state::specs::KeptService::unmasked_in))]
     pub fn release_resource(&mut self, resource: &ResId) -> Status
         requires { AreFit self.old }
-        ensures system { self.new.system ≡ self.old.system }
-        ensures status { result ≡ (unmasked self.old (Service.ReleaseResource (Some resource.now))).status }
-        ensures kept { kept_in self.new ≡ (unmasked self.old (Service.ReleaseResource (Some resource.now))).state }
+        ensures { Serves (Service.ReleaseResource (Some resource.now)) self.old self.new result }
     {
         if self.by_routine() {
             return Status::Access;
@@ -65,8 +62,7 @@ impl<'s, Q: ReadyQueues> Objects<'s, Q> {
     fn get_held(&mut self, resource: &ResId)
         requires fit { AreFit self.old }
         requires free { is_held_in self.old.system (kept_in self.old) resource.now ≡ false }
-        ensures system { self.new.system ≡ self.old.system }
-        ensures kept { kept_in self.new ≡ with_caller_in (caller_in (kept_in self.old)) (slot_gets resource.now) (kept_in self.old) }
+        ensures { Becomes (λ _S o. with_caller_in (caller_in o) (slot_gets resource.now) o) self.old self.new }
     {
         if let Some(task) = self.calling_task() {
             let slot = &mut self.slots[task.number() as usize];

@@ -6,8 +6,9 @@ ghost use Rattle.osek_base.specs.declared.ids.ResId.{ResId};
 ghost use Rattle.osek_base.specs.Lists.{same_resource};
 ghost use Rattle.osek_base.specs.State.{shared_word, with_shared};
 ghost use Rattle.osek_base.specs.Service.{word_of, word_stored};
-ghost use Rattle.services.specs.Objects.{kept_in, AreFit};
+ghost use Rattle.services.specs.Objects.{AreFit};
 ghost use Rattle.services.specs.Calls.{unmasked, IsSharedOperand};
+ghost use Rattle.services.specs.Steps.{Serves};
 
 use crate::calls::Answer;
 use crate::objects::Objects;
@@ -43,9 +44,7 @@ impl<'s, Q: ReadyQueues> Objects<'s, Q> {
     pub fn store_shared(&mut self, resource: &ResId, index: u32, new: u32) -> Status
         requires fit { AreFit self.old }
         requires known { IsSharedOperand self.old.system (Some resource.now) }
-        ensures system { self.new.system ≡ self.old.system }
-        ensures status { result ≡ (unmasked self.old (Service.StoreShared (Some resource.now) index new)).status }
-        ensures kept { kept_in self.new ≡ (unmasked self.old (Service.StoreShared (Some resource.now) index new)).state }
+        ensures { Serves (Service.StoreShared (Some resource.now) index new) self.old self.new result }
     {
         if self.by_routine() {
             return Status::Access;

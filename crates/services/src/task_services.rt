@@ -3,9 +3,10 @@
 ghost use Rattle.std.specs.Prelude.{◌≡◌, ◌<◌, ◌&&◌, not, Some, length};
 ghost use Rattle.osek_base.specs.declared.instr.Service.{Service};
 ghost use Rattle.osek_base.specs.Service.{state_number};
-ghost use Rattle.kept_state.specs.KeptService.{KeptCaller, caller_in, unmasked_in, is_own_in, is_full_in, task_state_in};
+ghost use Rattle.kept_state.specs.KeptService.{caller_in, unmasked_in, is_own_in, is_full_in, task_state_in};
 ghost use Rattle.services.specs.Objects.{kept_in, AreFit};
-ghost use Rattle.services.specs.Calls.{IsTaskOperand, unmasked};
+ghost use Rattle.services.specs.Calls.{IsTaskOperand};
+ghost use Rattle.services.specs.Steps.{Acts, Serves};
 
 use crate::objects::Objects;
 use osek_base::{Status, TaskId, TaskState};
@@ -18,9 +19,7 @@ impl<'s, Q: ReadyQueues> Objects<'s, Q> {
     pub fn activate(&mut self, task: TaskId) -> Status
         requires fit { AreFit self.old }
         requires task { task < length self.old.system.tasks }
-        ensures system { self.new.system ≡ self.old.system }
-        ensures status { (d : KeptCaller) → result ≡ (unmasked_in self.old.system d (kept_in self.old) (Service.ActivateTask (Some task))).status }
-        ensures kept { (d : KeptCaller) → kept_in self.new ≡ (unmasked_in self.old.system d (kept_in self.old) (Service.ActivateTask (Some task))).state }
+        ensures { Acts (Service.ActivateTask (Some task)) self.old self.new result }
     {
         if self.is_full(task) {
             return Status::Limit;
@@ -34,9 +33,7 @@ impl<'s, Q: ReadyQueues> Objects<'s, Q> {
     #[inline(always)]
     pub fn terminate(&mut self) -> Status
         requires { AreFit self.old }
-        ensures system { self.new.system ≡ self.old.system }
-        ensures status { result ≡ (unmasked self.old Service.TerminateTask).status }
-        ensures kept { kept_in self.new ≡ (unmasked self.old Service.TerminateTask).state }
+        ensures { Serves Service.TerminateTask self.old self.new result }
     {
         if self.by_routine() {
             return Status::CallLevel;
@@ -56,9 +53,7 @@ impl<'s, Q: ReadyQueues> Objects<'s, Q> {
     pub fn chain(&mut self, task: Option<TaskId>) -> Status
         requires fit { AreFit self.old }
         requires known { IsTaskOperand self.old.system task }
-        ensures system { self.new.system ≡ self.old.system }
-        ensures status { result ≡ (unmasked self.old (Service.ChainTask task)).status }
-        ensures kept { kept_in self.new ≡ (unmasked self.old (Service.ChainTask task)).state }
+        ensures { Serves (Service.ChainTask task) self.old self.new result }
     {
         if self.by_routine() {
             return Status::CallLevel;
@@ -93,9 +88,7 @@ impl<'s, Q: ReadyQueues> Objects<'s, Q> {
     #[inline(never)]
     pub fn schedule(&mut self) -> Status
         requires { AreFit self.old }
-        ensures system { self.new.system ≡ self.old.system }
-        ensures status { result ≡ (unmasked self.old Service.Schedule).status }
-        ensures kept { kept_in self.new ≡ (unmasked self.old Service.Schedule).state }
+        ensures { Serves Service.Schedule self.old self.new result }
     {
         if self.by_routine() {
             return Status::CallLevel;

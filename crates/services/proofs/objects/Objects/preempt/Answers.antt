@@ -34,18 +34,16 @@ dispatch-requires-clause-known g c =
     subst (λ (S : System). first (by_level n.queues c.args.level) < length S.tasks) (sym (ap (λ (x : Objects). x.system) c.put_back.ensures.others))
     (subst (λ (ts : List ℕ). first ts < length o.system.tasks) (sym at) c.requires.known)
 
-pub returns-clause-kept : goal.returns-clause-kept
-returns-clause-kept g c =
+pub returns-clause-does : goal.returns-clause-does
+returns-clause-does g c =
     let o : Objects = c.args.self.now in
     let n : Objects = c.put_back.new.self in
-    c.dispatch.ensures.kept
-    ∙ ap (λ (x : Objects). (dispatched x.system c.args.level (by_level n.queues) (kept_in x)).state) c.put_back.ensures.others
-    ∙ ap (λ (q : ℕ → List ℕ). (dispatched o.system c.args.level q (kept_in o)).state) c.put_back.ensures.queues
-
-pub returns-clause-events : goal.returns-clause-events
-returns-clause-events g c =
-    let o : Objects = c.args.self.now in
-    let n : Objects = c.put_back.new.self in
-    c.dispatch.ensures.events
-    ∙ ap (λ (x : Objects). c.args.record_of_tick.now ++ (dispatched x.system c.args.level (by_level n.queues) (kept_in x)).events) c.put_back.ensures.others
-    ∙ ap (λ (q : ℕ → List ℕ). c.args.record_of_tick.now ++ (dispatched o.system c.args.level q (kept_in o)).events) c.put_back.ensures.queues
+    record {
+      system = c.dispatch.ensures.does.system ∙ ap (λ (x : Objects). x.system) c.put_back.ensures.others;
+      kept = c.dispatch.ensures.does.kept
+          ∙ ap (λ (x : Objects). (dispatched x.system c.args.level (by_level n.queues) (kept_in x)).state) c.put_back.ensures.others
+          ∙ ap (λ (q : ℕ → List ℕ). (dispatched o.system c.args.level q (kept_in o)).state) c.put_back.ensures.queues;
+      events = c.dispatch.ensures.does.events
+          ∙ ap (λ (x : Objects). c.args.record_of_tick.now ++ (dispatched x.system c.args.level (by_level n.queues) (kept_in x)).events) c.put_back.ensures.others
+          ∙ ap (λ (q : ℕ → List ℕ). c.args.record_of_tick.now ++ (dispatched o.system c.args.level q (kept_in o)).events) c.put_back.ensures.queues;
+    }

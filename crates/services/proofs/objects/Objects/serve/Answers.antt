@@ -1,18 +1,19 @@
-use Rattle.std.proofs.Common.{◌∙◌, ℕ, Option, Some, ap, sym}
+use Rattle.std.proofs.Common.{◌∙◌, ℕ, Option, ap, sym, subst}
 use Rattle.osek_base.specs.declared.instr.Service.{Service}
 use Rattle.osek_base.specs.Types.{ServiceCall}
-use Rattle.kept_state.specs.KeptService.{caller_in}
-use Rattle.services.specs.declared.calls.Answer.{Answer}
-use Rattle.services.specs.Objects.{kept_in}
-use Rattle.services.specs.Calls.{unmasked}
+use Rattle.services.specs.Steps.{Replies}
+use Rattle.services.proofs.StepLemmas.{activation_replied, setting_replied}
 use Rattle.services.proofs.objects.Objects.serve.Goals as goal
 
-pub returns-in-Some-clause-status : goal.returns-in-Some-clause-status
-returns-in-Some-clause-status g c =
-    ap (λ (a : Answer). a.status) c.plain-in-Some.ensures ∙ ap (λ s. Some s) (c.activate.ensures.status (caller_in (kept_in c.args.self.now)))
-    ∙ ap (λ (call : ServiceCall). Some (unmasked c.args.self.now call).status) (sym (c.in-ActivateTask.is ∙ ap (λ (t : Option ℕ). Service.ActivateTask t) c.in-Some.is))
+pub returns-in-Some : goal.returns-in-Some
+returns-in-Some g c =
+    subst (λ (call : ServiceCall). Replies call c.args.self.now c.activate.new.self c.plain-in-Some.result)
+    (sym (c.in-ActivateTask.is ∙ ap (λ (t : Option ℕ). Service.ActivateTask t) c.in-Some.is))
+    (activation_replied c.args.self.now c.activate.new.self c.in-Some.task c.activate.result c.plain-in-Some.result c.activate.ensures c.plain-in-Some.ensures)
 
-pub returns-in-Some-task-2-clause-status : goal.returns-in-Some-task-2-clause-status
-returns-in-Some-task-2-clause-status g c =
-    ap (λ (a : Answer). a.status) c.plain-in-Some-task-2.ensures ∙ ap (λ s. Some s) (c.set_event.ensures.status (caller_in (kept_in c.args.self.now)))
-    ∙ ap (λ (call : ServiceCall). Some (unmasked c.args.self.now call).status) (sym (c.in-SetEvent.is ∙ ap (λ (t : Option ℕ). Service.SetEvent t c.in-SetEvent.mask) c.in-Some-task-2.is))
+pub returns-in-Some-task-2 : goal.returns-in-Some-task-2
+returns-in-Some-task-2 g c =
+    subst (λ (call : ServiceCall). Replies call c.args.self.now c.set_event.new.self c.plain-in-Some-task-2.result)
+    (sym (c.in-SetEvent.is ∙ ap (λ (t : Option ℕ). Service.SetEvent t c.in-SetEvent.mask) c.in-Some-task-2.is))
+    (setting_replied c.args.self.now c.set_event.new.self c.in-Some-task-2.task c.in-SetEvent.mask c.set_event.result c.plain-in-Some-task-2.result c.set_event.ensures
+    c.plain-in-Some-task-2.ensures)
