@@ -5,7 +5,7 @@ use Rattle.osek_base.specs.declared.status.Status.{Status}
 use Rattle.osek_base.specs.declared.trace_event.TraceEvent.{TraceEvent}
 use Rattle.osek_base.specs.System.{System}
 use Rattle.kept_state.specs.Kept.{Kept}
-use Rattle.kept_state.specs.KeptService.{KeptCaller, caller_in, unmasked_in}
+use Rattle.kept_state.specs.KeptService.{KeptCaller, unmasked_in}
 use Rattle.kept_state.specs.Moves.{KeptRecorded}
 use Rattle.services.specs.declared.calls.Answer.{Answer}
 use Rattle.services.specs.Objects.{Objects, kept_in}

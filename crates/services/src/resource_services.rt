@@ -6,7 +6,6 @@ ghost use Rattle.osek_base.specs.declared.instr.Service.{Service};
 ghost use Rattle.osek_base.specs.declared.status.Status.{Status};
 ghost use Rattle.kept_state.specs.KeptService.{caller_in, got_last_in, holds_in, is_held_in, slot_gets, slot_releases, with_caller_in};
 ghost use Rattle.services.specs.Objects.{kept_in, AreFit};
-
 ghost use Rattle.services.specs.Steps.{Becomes, Serves};
 
 use crate::objects::Objects;

@@ -12,11 +12,11 @@ returns g c = record {
   system = ap (λ (k : Objects). k.system) c.self.view_is;
   status = search rules;
   kept =
-          let a = c.args in
-          let n = c.set_rel.new.self in
-          let before = c.self.inside.alarms.counters in
-          ap (λ (k : Objects). kept_in (record k { alarms = n.expiries; tick = n.tick })) c.self.view_is
-          ∙ set_kept before a.self.now a.alarm a.increment a.cycle n
-          (subst (λ (k : Objects). n ≡ after_call k.system (table before k) (Service.SetRelAlarm (Some a.alarm) a.increment a.cycle))
-          c.self.view_is c.set_rel.ensures.alarms);
+      let a = c.args in
+      let n = c.set_rel.new.self in
+      let before = c.self.inside.alarms.counters in
+      ap (λ (k : Objects). kept_in (record k { alarms = n.expiries; tick = n.tick })) c.self.view_is
+      ∙ set_kept before a.self.now a.alarm a.increment a.cycle n
+      (subst (λ (k : Objects). n ≡ after_call k.system (table before k) (Service.SetRelAlarm (Some a.alarm) a.increment a.cycle))
+      c.self.view_is c.set_rel.ensures.alarms);
 }
