@@ -20,11 +20,12 @@ use Rattle.osek_base.specs.Alarm.{count, expiry, is_due, is_due_at, due_alarms, 
 use Rattle.osek_base.specs.Tick.{action_call, error_record}
 use Rattle.kept_state.specs.Kept.{Kept}
 use Rattle.kept_state.specs.Moves.{KeptRecorded}
-use Rattle.kept_state.specs.KeptService.{ByNobody, bare, unmasked_in}
+use Rattle.kept_state.specs.KeptService.{ByNobody, KeptReply, bare, unmasked_in}
 use Rattle.kept_state.specs.KeptTick.{alarm_reply_in, alarm_acts_in, alarms_act_in, alarm_phase_in, silent_in}
 use Rattle.kept_state.proofs.Words.{with_words, reply_with, unmasked_words}
 use Rattle.services.specs.Objects.{Objects, kept_of, kept_in}
 use Rattle.kernel.specs.Processor.{AreAhead}
+use Rattle.kernel.specs.Told.{acting_in}
 
 -- an alarm acts by the service of its action
 module _ (S : System) (a : ℕ) (w : Words) (o : Objects) (action : Action) (is : (alarm S a).action ≡ action) where
@@ -36,6 +37,12 @@ module _ (S : System) (a : ℕ) (w : Words) (o : Objects) (action : Action) (is 
   pub state_by : (n : Objects) → kept_in n ≡ (unmasked_in S ByNobody (kept_in o) (action_call action)).state
       → kept_of w n ≡ (alarm_acts_in S a (kept_of w o)).state
   state_by n after = ap (with_words w) after ∙ sym (ap (λ (r : KeptRecorded). r.state) acts_by)
+
+  pub status_by : (status : Status) → status ≡ (unmasked_in S ByNobody (kept_in o) (action_call action)).status
+      → status ≡ (acting_in S a (kept_of w o)).status
+  status_by status answered =
+      answered ∙ sym (ap (λ (r : KeptReply). r.status) (unmasked_words S w ByNobody (kept_in o) (action_call action)))
+      ∙ sym (ap (λ v. (unmasked_in S ByNobody (kept_of w o) (action_call v)).status) is)
 
   pub events_by : (status : Status) (earlier records : List TraceEvent)
       → status ≡ (unmasked_in S ByNobody (kept_in o) (action_call action)).status

@@ -16,6 +16,7 @@ use Rattle.osek_base.specs.declared.limits.TheConstants.{MAX_TASK_PRIORITY}
 use Rattle.osek_base.specs.Trace.{Run, boot, run, run_begun}
 use Rattle.kept_state.specs.Kept.{Kept, kept}
 use Rattle.blocking_laws.proofs.StepLemmas.{tick_zero}
+use Rattle.kernel.specs.declared.acted.Acted.{Acted}
 use Rattle.kernel.specs.Looking.{AreBegun}
 use Rattle.kernel.specs.Machine.{HasCome, IsBooted, IsMachine, between}
 use Rattle.kernel.specs.Processor.{IsStarted, Processor, at_tick, picture, system_of}
@@ -57,7 +58,7 @@ run_zero : (S : System) (mode : ℕ) (arrivals : List Arrival) → run S mode ar
 unfolding run
 run_zero S mode arrivals = refl
 
-module _ (counted : Bool) (S : System) (mode : ℕ) (p : Processor) (b : Blocking) (opening : List TraceEvent) (s : IsStarted S mode p opening)
+module _ (counted : Bool) (S : System) (mode : ℕ) (p : Processor) (b : Blocking) (opening : List TraceEvent) (acted : Acted) (s : IsStarted S mode p opening)
     (begun : AreBegun (length (system_of p).tasks) (picture p) b.stamps) (none : b.told.last ≡ replicate (MAX_TASK_PRIORITY + 1) 0) where
   of_zero : (arrivals : List Arrival) → picture p ≡ kept S (run S mode arrivals 0).state
   of_zero arrivals = s.kept ∙ sym (ap (λ (r : Run). kept S r.state) (run_zero S mode arrivals))
@@ -68,7 +69,7 @@ module _ (counted : Bool) (S : System) (mode : ℕ) (p : Processor) (b : Blockin
   same_zero : picture (at_tick p 0) ≡ picture p
   same_zero = ap (λ t. picture (at_tick p t)) (sym clock_zero)
 
-  come_zero : (arrivals : List Arrival) → HasCome counted S mode arrivals 0 (between (watched_of p b) 0 opening)
+  come_zero : (arrivals : List Arrival) → HasCome counted S mode arrivals 0 (between (watched_of p b) 0 opening acted)
   come_zero arrivals = record {
     at = record {
       system = s.system;
@@ -80,9 +81,10 @@ module _ (counted : Bool) (S : System) (mode : ℕ) (p : Processor) (b : Blockin
       levels = λ on. boot_last S mode arrivals b.told.last none;
     };
     numbered = λ on later. absurd (omega (arith, later));
+    acted = λ later. absurd (omega (arith, later));
   }
 
-  pub machine_begun : IsMachine counted p.objects.tick (between (watched_of p b) 0 opening)
+  pub machine_begun : IsMachine counted p.objects.tick (between (watched_of p b) 0 opening acted)
   machine_begun = record {
     before = let zero_is = clock_zero in omega (arith, zero_is);
     limit = omega arith;
@@ -93,14 +95,14 @@ module _ (counted : Bool) (S : System) (mode : ℕ) (p : Processor) (b : Blockin
       mode = mode;
       arrivals = [];
       arrive = record { known = tt; ordered = refl };
-      come = subst (λ T. HasCome counted T mode [] 0 (between (watched_of p b) 0 opening)) (sym s.system) (come_zero []);
+      come = subst (λ T. HasCome counted T mode [] 0 (between (watched_of p b) 0 opening acted)) (sym s.system) (come_zero []);
     };
   }
 
-  pub machine_booted : IsBooted counted S mode (between (watched_of p b) 0 opening)
+  pub machine_booted : IsBooted counted S mode (between (watched_of p b) 0 opening acted)
   machine_booted = record {
     system = s.system;
     proper = s.proper;
     first = refl;
-    begins = λ arrivals. subst (λ T. HasCome counted T mode arrivals 0 (between (watched_of p b) 0 opening)) (sym s.system) (come_zero arrivals);
+    begins = λ arrivals. subst (λ T. HasCome counted T mode arrivals 0 (between (watched_of p b) 0 opening acted)) (sym s.system) (come_zero arrivals);
   }

@@ -79,7 +79,7 @@ module _ (S : System) (proper : IsProper S) (mode : ℕ) (arrivals : List Arriva
   abbrev pub e : State
   e = (before_execution S (arriving arrivals n) (run S mode arrivals n).state).state
 
-  step_is : e ≡ (step_at S mode arrivals n).executing
+  pub step_is : e ≡ (step_at S mode arrivals n).executing
   step_is =
       executing_is S (arriving arrivals n) (run S mode arrivals n).state
       ∙ ap (λ t. (tick S (arriving arrivals t) (run S mode arrivals n).state).executing) (sym (run_tick S mode arrivals n going))

@@ -16,9 +16,10 @@ pub mod WatchLemmas
 pub mod ExecutedStamps
 pub mod NumberLemmas
 pub mod KeepingLemmas
+pub mod SeenLemmas
+pub mod ToldLemmas
 pub mod PastLemmas
 pub mod TickLemmas
 pub mod BootStamps
 pub mod BootLemmas
 pub mod LawLemmas
-pub mod SeenLemmas

@@ -24,6 +24,7 @@ use Rattle.run_laws.proofs.FormedTick.{run_form}
 use Rattle.kept_state.specs.Kept.{Kept, kept, slot_of, slot_with}
 use Rattle.kept_state.specs.Moves.{dynamic_in}
 use Rattle.kept_state.specs.KeptService.{holds_in, task_state_in}
+use Rattle.kept_state.proofs.Settled.{AreKnown, IsSettled}
 use Rattle.kept_state.proofs.Tests.{results_kept}
 use Rattle.kept_state.proofs.Ticked.{settled_of, known_of}
 use Rattle.services.specs.Objects.{Objects, kept_in, kept_of}
@@ -34,7 +35,7 @@ use Rattle.kernel.specs.Shown.{awaited_by, holder, is_held_by, oldest_job}
 
 -- ---- the slot of some jobs is the oldest one's
 
-counted : (js : List Job) → (slot_of js).count ≡ length js
+pub counted : (js : List Job) → (slot_of js).count ≡ length js
 counted [] = refl
 counted (j ∷ js) = refl
 
@@ -46,7 +47,7 @@ holding : (r : ResId) (js : List Job) → holds_in r (slot_of js) ≡ is_held_by
 holding r [] = refl
 holding r (j ∷ js) = refl
 
-raised : (S : System) (t : ℕ) (js : List Job) → AllByRecursion (λ j. j.id.task ≡ t) js
+pub raised : (S : System) (t : ℕ) (js : List Job) → AllByRecursion (λ j. j.id.task ≡ t) js
     → priority_in S t (slot_of js) ≡ option_map (dynamic_priority S) (first_of_list js)
 raised S t [] all = refl
 raised S t (j ∷ js) all =
@@ -54,7 +55,7 @@ raised S t (j ∷ js) all =
     rw some (ap (λ u. Some (dynamic_in S u (slot_with (length (j ∷ js)) j))) (sym all.0))
 
 -- the jobs of a task are of it
-own : (t : ℕ) (jobs : List Job) → AllByRecursion (λ j. j.id.task ≡ t) (jobs_of t jobs)
+pub own : (t : ℕ) (jobs : List Job) → AllByRecursion (λ j. j.id.task ≡ t) (jobs_of t jobs)
 own t jobs =
     all_weaker _ (λ (j : Job). j.id.task ≡ t) (jobs_of t jobs) (λ j h. equal j.id.task t h.1)
     (all_filter (λ j. Unit {0}) (λ (j : Job). j.id.task == t) jobs (all_any (λ j. Unit {0}) jobs (λ j. tt)))
@@ -77,6 +78,13 @@ abbrev first_result : Results → ℕ
 first_result (Results.One n) = n
 first_result _ = 0
 
+-- and so by what is kept of a settled state
+pub state_is : (S : System) (s : State) → IsSettled S s → AreKnown S s → (t : ℕ) → task_state_in (kept S s) t ≡ task_state s t
+state_is S s settled known t =
+    let number : state_number (task_state s t) ≡ state_number (task_state_in (kept S s) t) =
+    ap first_result (results_kept S s settled known (Service.GetTaskState (Some t))) in
+    sym (by_number (task_state_in (kept S s) t)) ∙ ap state_by (sym number) ∙ by_number (task_state s t)
+
 -- ---- what is kept of the state of a run
 
 module _ (counting : Bool) (S : System) (proper : IsProper S) (mode : ℕ) (arrivals : List Arrival) (m : Machine)
@@ -92,12 +100,8 @@ module _ (counting : Bool) (S : System) (proper : IsProper S) (mode : ℕ) (arri
   state_seen t =
       let s : State = (run S mode arrivals (next_tick m)).state in
       let good : IsRunState S s = run_ordered S proper mode arrivals (next_tick m) in
-      let number : state_number (task_state s t) ≡ state_number (task_state_in (kept S s) t) =
-      ap first_result
-      (results_kept S s (settled_of S s good.single good.ordered.ranked) (known_of S s (run_form S proper mode arrivals (next_tick m)))
-      (Service.GetTaskState (Some t))) in
       ap (λ k. task_state_in k t) same
-      ∙ sym (by_number (task_state_in (kept S s) t)) ∙ ap state_by (sym number) ∙ by_number (task_state s t)
+      ∙ state_is S s (settled_of S s good.single good.ordered.ranked) (known_of S s (run_form S proper mode arrivals (next_tick m))) t
 
   pub count_seen : (t : ℕ) → ((kept_in o).slots t).count ≡ length (jobs_of t (run S mode arrivals (next_tick m)).state.jobs)
   count_seen t = ap (λ (k : Kept). (k.slots t).count) same ∙ counted (jobs_of t (run S mode arrivals (next_tick m)).state.jobs)

@@ -1,5 +1,5 @@
 -- A machine's tick: what holds before each phase, and the runs that had come to it have come to the next.
-use Rattle.std.proofs.Common.{◌≡◌, ℕ, ◌+◌, ◌<◌, ◌≤◌, Bool, true, false, List, [], ◌∷◌, ◌++◌, length, refl, sym, ◌∙◌, ap, ap₂, subst, append_assoc, arith}
+use Rattle.std.proofs.Common.{◌≡◌, ℕ, ◌+◌, ◌-◌, ◌<◌, ◌≤◌, Bool, true, false, List, [], ◌∷◌, ◌++◌, length, refl, sym, ◌∙◌, ap, ap₂, subst, append_assoc, arith}
 use Rattle.osek_base.specs.declared.arrivals.Arrival.{Arrival}
 use Rattle.osek_base.specs.declared.limits.TheConstants.{MAX_TICKS}
 use Rattle.osek_base.specs.declared.trace_event.TraceEvent.{TraceEvent}
@@ -9,7 +9,7 @@ use Rattle.osek_base.specs.Tick.{before_execution, tick}
 use Rattle.osek_base.specs.Trace.{Run, arriving, run}
 use Rattle.osek_base.proofs.FrameLemmas.{tick_tick}
 use Rattle.run_laws.proofs.FormedTick.{run_form}
-use Rattle.blocking_laws.specs.Steps.{record_at}
+use Rattle.blocking_laws.specs.Steps.{record_at, step_at}
 use Rattle.blocking_laws.specs.Stamps.{stamps_of}
 use Rattle.blocking_laws.proofs.StepLemmas.{run_more, run_tick}
 use Rattle.kept_state.specs.Kept.{Kept, kept}
@@ -25,12 +25,15 @@ use Rattle.run_laws.specs.Arrived.{AreArrivals, with_arrived}
 use Rattle.run_laws.proofs.Arriving.{earlier, present, takes_any_arrivals}
 use Rattle.std.specs.List.{AllByRecursion}
 use Rattle.kernel.specs.Looking.{AreCounted, Told, executed_looked, noted, number_for, number_told as number_of}
+use Rattle.kernel.specs.declared.acted.Acted.{Acted}
+use Rattle.kernel.specs.Told.{acted_at, acted_in}
+use Rattle.kernel.proofs.ToldLemmas.{acted_told}
 use Rattle.kernel.specs.Machine.{GoesOn, HasCome, IsAt, IsMachine, Machine, Ticks, between, next_tick}
 use Rattle.kernel.proofs.PastLemmas.{at_past}
 use Rattle.kernel.proofs.RunLemmas.{unwritten_more}
 use Rattle.kernel.specs.Processor.{AreAhead, IsBefore, MayExecute, at_tick, picture, system_of}
 use Rattle.kernel.specs.Watches.{Begins, HasBegun, MayAct, Watched, Watches, early, executing, last, watched_at}
-use Rattle.kernel.proofs.KeepingLemmas.{after_told, begun_listed, counted_of, counted_spent, levels_told, number_told}
+use Rattle.kernel.proofs.KeepingLemmas.{after_told, begun_listed, counted_of, counted_spent, levels_told, number_told, step_is}
 use Rattle.kernel.proofs.StartLemmas.{alarms_begun, starting_ahead}
 
 tick_after : (S : System) (arrived : List ℕ) (o : Kept)
@@ -89,9 +92,20 @@ record_told counted S mode arrivals m arrived proper come going arrive =
     (sym (ap (λ (t : KeptStep). t.events) (ticks S mode arrivals n (arriving arrivals n) proper))
     ∙ ap (λ t. (tick S (arriving arrivals t) r.state).events) (sym (run_tick S mode arrivals n going)))
 
+-- and the state in which its instruction is executed
+pub executing_told : (counted : Bool) (S : System) (mode : ℕ) (arrivals : List Arrival) (m : Machine) (arrived : List ℕ) → IsProper S
+    → HasCome counted S mode arrivals (next_tick m) m → (run S mode arrivals (next_tick m)).state.over ≡ false → arriving arrivals (next_tick m) ≡ arrived
+    → (before_execution_in (system_of m.processor) arrived (picture m.processor)).state ≡ kept S (step_at S mode arrivals (next_tick m)).executing
+executing_told counted S mode arrivals m arrived proper come going arrive =
+    let n : ℕ = next_tick m in
+    ap₂ (λ (T : System) v. (before_execution_in T v (picture m.processor)).state) come.at.system (sym arrive)
+    ∙ there S proper mode arrivals n (picture m.processor) come.at.same (arriving arrivals n) _ refl
+    ∙ ap (kept S) (step_is S proper mode arrivals n (picture m.processor) come.at.same going)
+
 -- ---- what a tick works on, before it
 
-module _ (counted : Bool) (w : Watched) (n : ℕ) (opening : List TraceEvent) (h : IsMachine counted w.processor.objects.tick (between w n opening))
+module _ (counted : Bool) (w : Watched) (n : ℕ) (opening : List TraceEvent) (acted : Acted)
+    (h : IsMachine counted w.processor.objects.tick (between w n opening acted))
     (low : n < MAX_TICKS) where
   abbrev pub here : System
   here = system_of w.processor
@@ -149,9 +163,9 @@ module _ (counted : Bool) (w : Watched) (n : ℕ) (opening : List TraceEvent) (h
     abbrev with_these : List Arrival
     with_these = with_arrived n arrived h.of_run.arrivals
 
-    at_these : IsAt counted here h.of_run.mode with_these n (between w n opening)
+    at_these : IsAt counted here h.of_run.mode with_these n (between w n opening acted)
     at_these =
-        at_past here h.of_run.mode h.of_run.arrivals with_these counted n (between w n opening)
+        at_past here h.of_run.mode h.of_run.arrivals with_these counted n (between w n opening acted)
         (λ t less. sym (earlier n t arrived h.of_run.arrivals less)) h.of_run.come.at
 
     going_these : (run here h.of_run.mode with_these n).state.over ≡ false
@@ -224,8 +238,8 @@ module _ (counted : Bool) (arrived : List ℕ) (n : ℕ) (w st bg ex la : Watche
       ∙ ap (λ v. first ++ v) (sym (tick_events S arrived k))
 
   -- a run that had come to the machine before it
-  module _ (proper : IsProper S) (mode : ℕ) (arrivals : List Arrival) (unwritten : List TraceEvent)
-      (at : IsAt counted S mode arrivals n (record { processor = w.processor; blocking = w.blocking; unwritten = unwritten }))
+  module _ (proper : IsProper S) (mode : ℕ) (arrivals : List Arrival) (unwritten : List TraceEvent) (acted : Acted)
+      (at : IsAt counted S mode arrivals n (record { processor = w.processor; blocking = w.blocking; unwritten = unwritten; acted = acted }))
       (on : k.over ≡ false) (arrive : arriving arrivals n ≡ arrived) where
     going : (run S mode arrivals n).state.over ≡ false
     going = sym (ap (λ (o : Kept). o.over) at.same) ∙ on
@@ -240,8 +254,9 @@ module _ (counted : Bool) (arrived : List ℕ) (n : ℕ) (w st bg ex la : Watche
     after_tick = ap (λ t. picture (at_tick la.processor (t + 1))) (sym number) ∙ after_is
 
     -- has come to the machine behind it
-    pub comes : (rest : List TraceEvent) → rest ≡ [] → HasCome counted S mode arrivals (n + 1) (between la (n + 1) rest)
-    comes rest none =
+    pub comes : (rest : List TraceEvent) (now : Acted) → rest ≡ [] → now ≡ acted_in S k
+        → HasCome counted S mode arrivals (n + 1) (between la (n + 1) rest now)
+    comes rest now none now_is =
         let before : picture st.processor ≡ (before_execution_in S (arriving arrivals n) k).state =
         sym (ap picture phases.two.processor) ∙ bg_is ∙ ap (λ v. (before_execution_in S v k).state) (sym arrive) in
         let looked = λ (counting : counted ≡ true).
@@ -273,6 +288,9 @@ module _ (counted : Bool) (arrived : List ℕ) (n : ℕ) (w st bg ex la : Watche
               w.blocking.told.last (number_of la.blocking.told) (at.levels counting)
               (ap number_of last_is ∙ phases.two.number counting
               ∙ ap₂ (λ T (t : Told). number_for T (caller_in (picture st.processor)) t.last st.blocking.stamps) system_st phases.one.told);
+          acted = λ later.
+              let one : n + 1 - 1 ≡ n = omega arith in
+              now_is ∙ ap (acted_in S) at.same ∙ acted_told S proper mode arrivals n ∙ ap (acted_at S mode arrivals) (sym one);
         }
 
 -- ---- a machine's tick
@@ -282,26 +300,27 @@ pub record IsTicked (counted : Bool) (arrived : List ℕ) (old new : Machine) (c
   pub goes_on : GoesOn counted arrived old new
   pub keeps : IsMachine counted clock new
 
-pub ticked : (counted : Bool) (arrived : List ℕ) (n : ℕ) (w st bg ex la : Watched) (opening rest first second during behind : List TraceEvent) (event : TraceEvent)
-    → IsMachine counted w.processor.objects.tick (between w n opening) → n < MAX_TICKS → (picture (at_tick w.processor n)).over ≡ false
+pub ticked : (counted : Bool) (arrived : List ℕ) (n : ℕ) (w st bg ex la : Watched) (opening rest first second during behind : List TraceEvent) (acted now : Acted)
+    (event : TraceEvent) → IsMachine counted w.processor.objects.tick (between w n opening acted) → n < MAX_TICKS → (picture (at_tick w.processor n)).over ≡ false
     → AllByRecursion (λ i. i < length (system_of w.processor).routines) arrived → first ≡ opening → rest ≡ []
+    → now ≡ acted_in (system_of w.processor) (picture (at_tick w.processor n))
     → Phases counted arrived n (watched_at w n) st bg ex la first second during behind event
-    → IsTicked counted arrived (between w n opening) (between la (n + 1) rest) la.processor.objects.tick (second ++ event ∷ behind)
-ticked counted arrived n w st bg ex la opening rest first second during behind event h low on known first_is none phases =
+    → IsTicked counted arrived (between w n opening acted) (between la (n + 1) rest now) la.processor.objects.tick (second ++ event ∷ behind)
+ticked counted arrived n w st bg ex la opening rest first second during behind acted now event h low on known first_is none now_is phases =
     let S : System = system_of w.processor in
     let r = h.of_run in
     let others : List Arrival = with_arrived n arrived r.arrivals in
-    let at : IsAt counted S r.mode others n (between w n opening) =
-    at_past S r.mode r.arrivals others counted n (between w n opening) (λ t less. sym (earlier n t arrived r.arrivals less)) r.come.at in
+    let at : IsAt counted S r.mode others n (between w n opening acted) =
+    at_past S r.mode r.arrivals others counted n (between w n opening acted) (λ t less. sym (earlier n t arrived r.arrivals less)) r.come.at in
     let arrive : arriving others n ≡ arrived = present n arrived r.arrivals in
     let system : system_of la.processor ≡ S =
     system_la counted arrived n (watched_at w n) st bg ex la first second during behind event phases S refl in
     let number_is : la.processor.objects.tick ≡ n =
-    number counted arrived n (watched_at w n) st bg ex la first second during behind event phases S refl r.proper r.mode others opening at on arrive in
+    number counted arrived n (watched_at w n) st bg ex la first second during behind event phases S refl r.proper r.mode others opening acted at on arrive in
     record {
       ticks = record {
         system = system;
-        after = after_tick counted arrived n (watched_at w n) st bg ex la first second during behind event phases S refl r.proper r.mode others opening at on arrive;
+        after = after_tick counted arrived n (watched_at w n) st bg ex la first second during behind event phases S refl r.proper r.mode others opening acted at on arrive;
         events =
             events_are counted arrived n (watched_at w n) st bg ex la first second during behind event phases S refl
             ∙ ap (λ v. v ++ (tick_in S arrived (picture (at_tick w.processor n))).events) first_is;
@@ -309,8 +328,8 @@ ticked counted arrived n w st bg ex la opening rest first second during behind e
         next = refl;
       };
       goes_on = λ mode arrivals here come.
-          subst (λ T. HasCome counted T mode arrivals (n + 1) (between la (n + 1) rest)) (sym system)
-          (comes counted arrived n (watched_at w n) st bg ex la first second during behind event phases S refl r.proper mode arrivals opening come.at on here rest none);
+          subst (λ T. HasCome counted T mode arrivals (n + 1) (between la (n + 1) rest now)) (sym system)
+          (comes counted arrived n (watched_at w n) st bg ex la first second during behind event phases S refl r.proper mode arrivals opening acted come.at on here rest now none now_is);
       keeps = record {
         before = omega (arith, number_is);
         limit = omega (arith, low);
@@ -322,8 +341,8 @@ ticked counted arrived n w st bg ex la opening rest first second during behind e
           arrivals = others;
           arrive = subst (λ T. AreArrivals T others) (sym system) (takes_any_arrivals S n arrived r.arrivals low known r.arrive);
           come =
-              subst (λ T. HasCome counted T r.mode others (n + 1) (between la (n + 1) rest)) (sym system)
-              (comes counted arrived n (watched_at w n) st bg ex la first second during behind event phases S refl r.proper r.mode others opening at on arrive rest none);
+              subst (λ T. HasCome counted T r.mode others (n + 1) (between la (n + 1) rest now)) (sym system)
+              (comes counted arrived n (watched_at w n) st bg ex la first second during behind event phases S refl r.proper r.mode others opening acted at on arrive rest now none now_is);
         };
       };
     }

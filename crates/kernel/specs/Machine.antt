@@ -13,15 +13,18 @@ use Rattle.kept_state.specs.KeptTick.{tick_in}
 use Rattle.blocking_laws.specs.Stamps.{levels_of, stamps_of}
 use Rattle.blocking_laws.specs.Looks.{AreListed}
 use Rattle.kernel.specs.Processor.{Processor, at_tick, picture as picture_of, system_of as system_in}
+use Rattle.kernel.specs.declared.acted.Acted.{Acted}
 use Rattle.kernel.specs.Looking.{number_told}
+use Rattle.kernel.specs.Told.{acted_at}
 use Rattle.kernel.specs.Watches.{Blocking, Watched}
 
--- the objects of the services and the words of windows at the tick that comes next, what tells the number of blockers, and the
--- records of boot until a tick has them
+-- the objects of the services and the words of windows at the tick that comes next, what tells the number of blockers, the
+-- records of boot until a tick has them, and the alarms that acted in the tick done last
 pub record Machine : Type 0 where
   pub processor : Processor
   pub blocking : Blocking
   pub unwritten : List TraceEvent
+  pub acted : Acted
 
 abbrev pub system_of : Machine → System
 system_of m = system_in m.processor
@@ -48,10 +51,11 @@ pub record IsAt (counted : Bool) (S : System) (mode : ℕ) (arrivals : List Arri
   pub stamped : counted ≡ true → AreListed S m.blocking.stamps (stamps_of S mode arrivals n) (run S mode arrivals n).state
   pub levels : counted ≡ true → AreLast S mode arrivals n m.blocking.told.last
 
--- and to the number of blockers of the tick done last
+-- and to the number of blockers and the alarms of the tick done last
 pub record HasCome (counted : Bool) (S : System) (mode : ℕ) (arrivals : List Arrival) (n : ℕ) (m : Machine) : Type 0 where
   pub at : IsAt counted S mode arrivals n m
   pub numbered : counted ≡ true → 1 ≤ n → number_told m.blocking.told ≡ blockers_at S mode arrivals (n - 1)
+  pub acted : 1 ≤ n → m.acted ≡ acted_at S mode arrivals (n - 1)
 
 -- the run of the system in a mode, under some arrivals, has come to it
 abbrev pub IsRun : Bool → ℕ → List Arrival → Machine → Type 0
@@ -74,8 +78,8 @@ pub record IsMachine (counted : Bool) (clock : ℕ) (m : Machine) : Type 0 where
   pub of_run : IsOfRun counted m
 
 -- a machine between ticks, by what a tick works on
-abbrev pub between : Watched → ℕ → List TraceEvent → Machine
-between w n opening = record { processor = at_tick w.processor n; blocking = w.blocking; unwritten = opening }
+abbrev pub between : Watched → ℕ → List TraceEvent → Acted → Machine
+between w n opening acted = record { processor = at_tick w.processor n; blocking = w.blocking; unwritten = opening; acted = acted }
 
 -- a tick in which the interrupts of some routines arrive: the system stays, the picture and the records become those of the
 -- definitions' tick, and the records of boot stand in front where this is the first

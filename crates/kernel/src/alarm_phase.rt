@@ -8,6 +8,7 @@ ghost use Rattle.kept_state.specs.KeptTick.{alarm_acts_in};
 ghost use Rattle.kept_state.specs.Standing.{runner_waits};
 ghost use Rattle.kernel.specs.Processor.{clocked, picture, system_of};
 ghost use Rattle.kernel.specs.Does.{Becomes, Does, advanced_in};
+ghost use Rattle.kernel.specs.Told.{acting_in};
 
 use crate::processor::Processor;
 use alarms::DueList;
@@ -30,12 +31,14 @@ impl<'s, Q: ReadyQueues> Processor<'s, Q> {
     }
 
     /// An alarm acts: it activates a task, or sets events. A refusal is an error record of the alarm, and changes nothing.
+    /// Answers the status of its action.
     #[inline(never)]
-    pub fn alarm_acts(&mut self, alarm: AlarmId, records: &mut TickRecord)
+    pub fn alarm_acts(&mut self, alarm: AlarmId, records: &mut TickRecord) -> Status
         requires alarm { alarm < length (system_of self.old).alarms }
         requires ready { runner_waits (picture self.old) ≡ false }
         requires room { length records.old < MAX_RECORDS }
         ensures does { Does (λ S. alarm_acts_in S alarm) self.old self.new records.old records.new }
+        ensures status { result ≡ (acting_in (system_of self.old) alarm (picture self.old)).status }
         ensures few { length records.new ≤ length records.old + 1 }
     {
         let source = Source::Alarm(alarm);
@@ -44,11 +47,13 @@ impl<'s, Q: ReadyQueues> Processor<'s, Q> {
                 let status = self.core.activate(task);
                 let instr = Instr::Service(Service::ActivateTask(Some(task)));
                 record_error(self.system, source, instr, status, records);
+                status
             }
             Action::SetEvent(task, mask) => {
                 let status = self.core.set_event(task, mask);
                 let instr = Instr::Service(Service::SetEvent(Some(task), mask));
                 record_error(self.system, source, instr, status, records);
+                status
             }
         }
     }

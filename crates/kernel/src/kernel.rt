@@ -11,10 +11,14 @@ ghost use Rattle.kept_state.specs.Kept.{kept};
 ghost use Rattle.kernel.specs.declared.boot.BootFault.{BootFault};
 ghost use Rattle.kernel.specs.Run.{AreKnown, AreLeft, IsLawful, is_over, run_of};
 ghost use Rattle.osek_base.specs.Executed.{StandsIn, idle_or_executed};
-ghost use Rattle.blocking_laws.specs.Steps.{record_at};
+ghost use Rattle.blocking_laws.specs.Steps.{record_at, step_at};
+ghost use Rattle.kernel.specs.Told.{task_at};
+ghost use Rattle.osek_base.specs.Lists.{below};
 
+use crate::at_instruction::AtInstruction;
 use crate::blockers::{Blockers, Counted};
 use crate::boot::BootFault;
+use crate::looker::{Looker, Unseen};
 use crate::ticking::Machine;
 use osek_base::{
     Arrival, Arrivals, Executed, IsrId, MAX_RECORDS, MAX_TICKS, ModeId, Owner, ResourceNumber,
@@ -32,8 +36,10 @@ pub struct Kernel<'s, Q: ReadyQueues, B: Blockers = Counted> {
     mode: ModeId,
     arrivals: Arrivals,
     /// The routines of the arrivals, so that those of a tick can be lent.
-    routines: Vec<IsrId>,
-    arrived: usize,
+    pub(crate) routines: Vec<IsrId>,
+    /// How many had arrived before the last tick.
+    pub(crate) earlier: usize,
+    pub(crate) arrived: usize,
     pub(crate) machine: Machine<'s, Q, B>,
 }
 
@@ -51,7 +57,7 @@ impl<'s, Q: ReadyQueues, B: Blockers> Model for Kernel<'s, Q, B> {
       ticks = next_tick k.machine;
     } };
 
-    ghost invariant = { λ k. IsKept B.are_counted k.system.now k.mode k.arrivals k.routines.items k.arrived k.machine };
+    ghost invariant = { λ k. IsKept B.are_counted k.system.now k.mode k.arrivals k.routines.items k.earlier k.arrived k.machine };
 }
 
 /// The application mode of a name.
@@ -96,6 +102,7 @@ impl<'s, Q: ReadyQueues, B: Blockers> Kernel<'s, Q, B> {
             mode,
             arrivals,
             routines,
+            earlier: 0,
             arrived: 0,
             machine,
         })
@@ -203,10 +210,50 @@ impl<'s, Q: ReadyQueues, B: Blockers> Kernel<'s, Q, B> {
         ensures next { self.new ≡ record self.old { ticks = self.old.ticks + 1 } }
         ensures lawful { IsLawful self.new }
     {
+        self.tick_with(&mut Unseen, before, behind)
+    }
+
+    /// As [`tick_parts`](Kernel::tick_parts), and leaves what the tasks are when the instruction is executed: that is behind
+    /// phases 1 to 4 of the tick, in which alarms act, interrupts arrive, a task is dispatched and a routine starts.
+    pub fn tick_seen(
+        &mut self,
+        before: &mut TickRecord,
+        behind: &mut TickRecord,
+        at: &mut AtInstruction,
+    ) -> Option<Executed>
+        requires { is_over self.old ≡ false }
+        ensures records { before.new ++ idle_or_executed self.old.system result ∷ behind.new ≡ record_at self.old.system self.old.mode self.old.arrivals self.old.ticks }
+        ensures there { IfSome result (StandsIn self.old.system) }
+        ensures few { length before.new + length behind.new < MAX_RECORDS }
+        ensures next { self.new ≡ record self.old { ticks = self.old.ticks + 1 } }
+        ensures lawful { IsLawful self.new }
+        ensures seen { at.new.tasks.items ≡ map (task_at self.old.system (step_at self.old.system self.old.mode self.old.arrivals self.old.ticks).executing) (below (length self.old.system.tasks)) }
+    {
+        self.tick_with(at, before, behind)
+    }
+
+    /// Does one tick, with a look at the system when its instruction is executed.
+    #[inline(always)]
+    fn tick_with<L: Looker>(
+        &mut self,
+        looker: &mut L,
+        before: &mut TickRecord,
+        behind: &mut TickRecord,
+    ) -> Option<Executed>
+        requires { is_over self.old ≡ false }
+        ensures records { before.new ++ idle_or_executed self.old.system result ∷ behind.new ≡ record_at self.old.system self.old.mode self.old.arrivals self.old.ticks }
+        ensures there { IfSome result (StandsIn self.old.system) }
+        ensures few { length before.new + length behind.new < MAX_RECORDS }
+        ensures next { self.new ≡ record self.old { ticks = self.old.ticks + 1 } }
+        ensures lawful { IsLawful self.new }
+        ensures proper { IsProper self.old.system }
+        ensures seen { L.HasSeen looker.new self.old.system (kept self.old.system (step_at self.old.system self.old.mode self.old.arrivals self.old.ticks).executing) }
+    {
         let tick = self.machine.next_tick();
         let end = arrived_by(self.arrivals.list(), self.arrived, tick);
         let arrived = &self.routines.as_slice()[self.arrived..end];
-        let executed = self.machine.tick(arrived, before, behind);
+        let executed = self.machine.tick_with(arrived, looker, before, behind);
+        self.earlier = self.arrived;
         self.arrived = end;
         executed
     }

@@ -2,7 +2,9 @@
 //! list of all interrupts that arrive (`Kernel`), or with those of each tick as it comes (`Machine`).
 #![tactic(auto)]
 
+mod acted;
 mod alarm_phase;
+mod at_instruction;
 mod begun;
 mod blockers;
 mod blocking;
@@ -10,15 +12,20 @@ mod boot;
 mod execute_phase;
 mod executing;
 mod kernel;
+mod last_tick;
+mod looker;
 mod looking;
 mod next;
 mod processor;
 mod seen;
 mod stamping;
+mod task_at;
 mod ticking;
 mod watched;
 
+pub use at_instruction::AtInstruction;
 pub use blockers::{Blockers, Counted, NotCounted};
 pub use boot::BootFault;
 pub use kernel::Kernel;
+pub use task_at::TaskAt;
 pub use ticking::Machine;

@@ -9,10 +9,12 @@ ghost use Rattle.kept_state.specs.Moves.{rescheduled};
 ghost use Rattle.services.specs.Calls.{IsExecuting, calling_task, context_in};
 ghost use Rattle.kernel.specs.Looking.{acts_on, seen, stand};
 ghost use Rattle.kernel.specs.Processor.{picture, system_of};
+ghost use Rattle.kernel.specs.Told.{task_at_in};
 
 use crate::processor::Processor;
 use crate::stamping::{Look, Stand};
-use osek_base::{Action, AlarmId, MAX_ACTIVATION, MAX_TASK_PRIORITY, Owner, TaskId};
+use crate::task_at::TaskAt;
+use osek_base::{Action, AlarmId, MAX_ACTIVATION, MAX_TASK_PRIORITY, MAX_TASKS, Owner, TaskId};
 use ready_queues::ReadyQueues;
 
 impl<'s, Q: ReadyQueues> Processor<'s, Q> {
@@ -26,6 +28,26 @@ impl<'s, Q: ReadyQueues> Processor<'s, Q> {
         match self.system.action_of(alarm) {
             Action::ActivateTask(task) => task,
             Action::SetEvent(task, _) => task,
+        }
+    }
+
+    /// How many tasks there are.
+    pub fn task_count(&self) -> usize
+        ensures value { result ≡ length (system_of self.now).tasks }
+        ensures few { result ≤ MAX_TASKS }
+    {
+        self.system.task_count()
+    }
+
+    /// What a task is: its state, the dynamic priority of its oldest job, and how many jobs it has.
+    pub fn task_at(&self, task: TaskId) -> TaskAt
+        requires { task < length (system_of self.now).tasks }
+        ensures { result ≡ task_at_in (system_of self.now) (picture self.now) task }
+    {
+        TaskAt {
+            state: self.core.task_state(task),
+            priority: self.core.dynamic_priority(task),
+            jobs: self.core.job_count(task),
         }
     }
 

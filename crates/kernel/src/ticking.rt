@@ -5,12 +5,15 @@ ghost use Rattle.std.specs.Prelude.{◌≡◌, ◌<◌, ◌≤◌, ◌+◌, ◌-
 ghost use Rattle.std.specs.List.{All};
 ghost use Rattle.osek_base.specs.Executed.{StandsIn, idle_or_executed};
 ghost use Rattle.osek_base.specs.State.{shared_window};
+ghost use Rattle.kept_state.specs.KeptTick.{before_execution_in};
 ghost use Rattle.ready_queues.specs.LevelLists.{level_lists, by_level};
 ghost use Rattle.kernel.specs.Looking.{number_told};
 ghost use Rattle.kernel.specs.Machine.{GoesOn, IsBooted, IsOfRun, Ticks, next_tick, picture, system_of};
 
+use crate::acted::Acted;
 use crate::blockers::{Blockers, Counted};
 use crate::blocking::Blocking;
+use crate::looker::{Looker, Unseen};
 use crate::processor::Processor;
 use crate::watched::Watched;
 use alarms::DueList;
@@ -33,8 +36,8 @@ pub struct Machine<'s, Q: ReadyQueues, B: Blockers = Counted> {
     ticks: u32,
     /// The records of boot, until the first tick.
     opening: TickRecord,
-    /// Room for the alarms that are due in a tick.
-    due: DueList,
+    /// The alarms that were due in the last tick.
+    acted: Acted,
 }
 
 impl<'s, Q: ReadyQueues, B: Blockers> Model for Machine<'s, Q, B> {
@@ -42,9 +45,9 @@ impl<'s, Q: ReadyQueues, B: Blockers> Model for Machine<'s, Q, B> {
 
     ghost Value = { Seen };
 
-    ghost view = { λ m. between m.watched m.ticks m.opening };
+    ghost view = { λ m. between m.watched m.ticks m.opening m.acted };
 
-    ghost invariant = { λ m. IsMachine B.are_counted m.watched.processor.objects.tick (between m.watched m.ticks m.opening) };
+    ghost invariant = { λ m. IsMachine B.are_counted m.watched.processor.objects.tick (between m.watched m.ticks m.opening m.acted) };
 }
 
 impl<'s, Q: ReadyQueues, B: Blockers> Machine<'s, Q, B> {
@@ -63,7 +66,7 @@ impl<'s, Q: ReadyQueues, B: Blockers> Machine<'s, Q, B> {
             },
             ticks: 0,
             opening,
-            due: DueList::new(),
+            acted: Acted::nothing(),
         })
     }
 
@@ -117,6 +120,20 @@ impl<'s, Q: ReadyQueues, B: Blockers> Machine<'s, Q, B> {
         self.watched.blocking.number()
     }
 
+    /// The alarms that were due in the last tick, in declaration order; none before the first.
+    pub(crate) fn last_due(&self) -> &DueList
+        ensures { result.now ≡ self.now.acted.due }
+    {
+        &self.acted.due
+    }
+
+    /// Those of them whose action was refused.
+    pub(crate) fn last_refused(&self) -> &DueList
+        ensures { result.now ≡ self.now.acted.refused }
+    {
+        &self.acted.refused
+    }
+
     /// The objects of the services, whose clock shows the tick that was done last.
     #[inline(always)]
     pub(crate) fn core(&self) -> &Core<'s, Q>
@@ -146,10 +163,32 @@ impl<'s, Q: ReadyQueues, B: Blockers> Machine<'s, Q, B> {
         ensures there { IfSome result (StandsIn (system_of self.old)) }
         ensures few { length before.new + length behind.new < MAX_RECORDS }
     {
+        self.tick_with(arrived, &mut Unseen, before, behind)
+    }
+
+    /// As `tick`, with a look at the system when the instruction is executed.
+    #[inline(always)]
+    pub(crate) fn tick_with<L: Looker>(
+        &mut self,
+        arrived: &[IsrId],
+        looker: &mut L,
+        before: &mut TickRecord,
+        behind: &mut TickRecord,
+    ) -> Option<Executed>
+        requires on { (picture self.old).over ≡ false }
+        requires limit { next_tick self.old < MAX_TICKS }
+        requires known { All (λ i. i < length (system_of self.old).routines) arrived.now }
+        ensures ticks { Ticks arrived.now self.old self.new (before.new ++ idle_or_executed (system_of self.old) result ∷ behind.new) }
+        ensures goes_on { GoesOn B.are_counted arrived.now self.old self.new }
+        ensures of_run { IsOfRun B.are_counted self.new }
+        ensures seen { L.HasSeen looker.new (system_of self.old) (before_execution_in (system_of self.old) arrived.now (picture self.old)).state }
+        ensures parts { IfSome result (StandsIn (system_of self.old)) × (length before.new + length behind.new < MAX_RECORDS) }
+    {
         put_first(&mut self.opening, self.ticks, before);
         behind.clear();
         self.watched
-            .early_phases(self.ticks, arrived, &mut self.due, before);
+            .early_phases(self.ticks, arrived, &mut self.acted, before);
+        self.watched.show(looker);
         self.watched.begin(self.ticks);
         self.ticks += 1;
         let executed = self.watched.execute_phase(self.ticks, behind);

@@ -1,4 +1,4 @@
-use Rattle.std.proofs.Common.{sym, ◌∙◌, ap, subst, map, List}
+use Rattle.std.proofs.Common.{◌≡◌, sym, ◌∙◌, ap, arith, subst, map, List}
 use Rattle.osek_base.specs.declared.arrivals.Arrival.{Arrival}
 use Rattle.osek_base.specs.ArrivalList.{is_arrival_list}
 use Rattle.osek_base.specs.System.{System}
@@ -19,6 +19,8 @@ invariant_of-result g c =
       left =
           subst (λ n. AreLeft c.args.arrivals 0 n) (sym b.first)
           (all_left c.args.arrivals (sym (ap is_arrival_list c.arrivals.view_is) ∙ c.arrivals.invariant));
+      last = λ later. let none : next_tick m ≡ 0 = b.first in absurd (omega (arith, later, none));
+      forward = omega arith;
       come = subst (λ (T : System). HasCome g.B.Blockers.are_counted T c.in-Some.mode c.args.arrivals (next_tick m) m) b.system (b.begins c.args.arrivals);
     }
 

@@ -7,11 +7,11 @@ pub returns-clause-may : goal.returns-clause-may
 returns-clause-may g c =
     let counted = g.B.Blockers.are_counted in
     let old : Watched = watched_of c.self.inside.processor c.self.inside.blocking in
-    let new : Watched = watched_of c.alarm_acts.new.self c.looked_at.new.self in
+    let new : Watched = watched_of c.alarm_acts-status.new.self c.looked_at.new.self in
     let task = c.acted_on-task in
-    may_act_more counted c.args.alarm c.args.tick old new c.args.records.now c.alarm_acts.new.records
-    (acts_watched counted c.args.alarm task.result c.args.tick old c.alarm_acts.new.self c.look-before.result c.look.result c.looked_at.new.self
-    c.args.records.now c.alarm_acts.new.records c.alarm_acts.ensures.does task.ensures.value c.look-before.ensures.value c.look.ensures.value
+    may_act_more counted c.args.alarm c.args.tick old new c.args.records.now c.alarm_acts-status.new.records
+    (acts_watched counted c.args.alarm task.result c.args.tick old c.alarm_acts-status.new.self c.look-before.result c.look.result c.looked_at.new.self
+    c.args.records.now c.alarm_acts-status.new.records c.alarm_acts-status.ensures.does task.ensures.value c.look-before.ensures.value c.look.ensures.value
     c.looked_at.ensures.stamps c.looked_at.ensures.told)
     (subst (λ n. n < length c.self.inside.blocking.stamps) task.ensures.value (subst (λ n. task.result < n) (sym c.self.invariant) task.ensures.known))
     (subst (λ w. MayAct counted w) (sym c.self.view_is) c.requires.may)

@@ -7,7 +7,7 @@ use Rattle.osek_base.specs.Trace.{arriving}
 use Rattle.kernel.specs.Machine.{IsRun, Machine, Ticks, between, next_tick, picture, system_of}
 use Rattle.kernel.specs.Processor.{system_of as system_in}
 use Rattle.kernel.proofs.TickLemmas.{before_tick, has_begun, may_act, ticked}
-use Rattle.kernel.proofs.ticking.Machine.tick.Goals as goal
+use Rattle.kernel.proofs.ticking.Machine.tick_with.Goals as goal
 
 -- the tick is below the limit
 abbrev Follows : Machine → Type 0
@@ -20,17 +20,17 @@ IsOn m = (picture m).over ≡ false
 pub early_phases-requires-clause-before : goal.early_phases-requires-clause-before
 early_phases-requires-clause-before g c =
     let k = c.self.inside in
-    before_tick g.B.Blockers.are_counted k.watched k.ticks k.opening c.self.invariant (subst Follows (sym c.self.view_is) c.requires.limit)
+    before_tick g.B.Blockers.are_counted k.watched k.ticks k.opening k.acted c.self.invariant (subst Follows (sym c.self.view_is) c.requires.limit)
 
 pub early_phases-requires-clause-may : goal.early_phases-requires-clause-may
 early_phases-requires-clause-may g c =
     let k = c.self.inside in
-    may_act g.B.Blockers.are_counted k.watched k.ticks k.opening c.self.invariant (subst Follows (sym c.self.view_is) c.requires.limit)
+    may_act g.B.Blockers.are_counted k.watched k.ticks k.opening k.acted c.self.invariant (subst Follows (sym c.self.view_is) c.requires.limit)
 
 pub execute_phase-executed-requires-clause-begun : goal.execute_phase-executed-requires-clause-begun
 execute_phase-executed-requires-clause-begun g c =
     let k = c.self.inside in
-    has_begun g.B.Blockers.are_counted k.watched k.ticks k.opening c.self.invariant (subst Follows (sym c.self.view_is) c.requires.limit)
+    has_begun g.B.Blockers.are_counted k.watched k.ticks k.opening k.acted c.self.invariant (subst Follows (sym c.self.view_is) c.requires.limit)
     c.args.arrived.now c.early_phases.new.self c.begin.new.self c.put_first.new.records c.early_phases.new.before
     (subst IsOn (sym c.self.view_is) c.requires.on) c.early_phases.ensures.does c.begin.ensures
 
@@ -40,11 +40,11 @@ invariant_of-self g c =
     let r = c.execute_phase-executed in
     (ticked g.B.Blockers.are_counted c.args.arrived.now k.ticks k.watched c.early_phases.new.self c.begin.new.self r.new.self c.last_phase.new.self
     k.opening c.put_first.new.opening c.put_first.new.records c.early_phases.new.before r.new.behind c.last_phase.new.records
-    (idle_or_executed (system_in c.begin.new.self.processor) r.result) c.self.invariant (subst Follows (sym c.self.view_is) c.requires.limit)
+    k.acted c.early_phases.new.acted (idle_or_executed (system_in c.begin.new.self.processor) r.result) c.self.invariant (subst Follows (sym c.self.view_is) c.requires.limit)
     (subst IsOn (sym c.self.view_is) c.requires.on)
     (recursion_from_All (λ i. i < length (system_in k.watched.processor).routines) c.args.arrived.now
     (subst (λ (x : Machine). All (λ i. i < length (system_of x).routines) c.args.arrived.now) (sym c.self.view_is) c.requires.known))
-    c.put_first.ensures.value c.put_first.ensures.after
+    c.put_first.ensures.value c.put_first.ensures.after c.early_phases.ensures.acted
     (record { one = c.early_phases.ensures.does; two = c.begin.ensures; three = r.ensures.does; four = c.last_phase.ensures.does })).keeps
 
 pub returns-clause-of_run : goal.returns-clause-of_run
@@ -53,11 +53,11 @@ returns-clause-of_run g c =
     let r = c.execute_phase-executed in
     (ticked g.B.Blockers.are_counted c.args.arrived.now k.ticks k.watched c.early_phases.new.self c.begin.new.self r.new.self c.last_phase.new.self
     k.opening c.put_first.new.opening c.put_first.new.records c.early_phases.new.before r.new.behind c.last_phase.new.records
-    (idle_or_executed (system_in c.begin.new.self.processor) r.result) c.self.invariant (subst Follows (sym c.self.view_is) c.requires.limit)
+    k.acted c.early_phases.new.acted (idle_or_executed (system_in c.begin.new.self.processor) r.result) c.self.invariant (subst Follows (sym c.self.view_is) c.requires.limit)
     (subst IsOn (sym c.self.view_is) c.requires.on)
     (recursion_from_All (λ i. i < length (system_in k.watched.processor).routines) c.args.arrived.now
     (subst (λ (x : Machine). All (λ i. i < length (system_of x).routines) c.args.arrived.now) (sym c.self.view_is) c.requires.known))
-    c.put_first.ensures.value c.put_first.ensures.after
+    c.put_first.ensures.value c.put_first.ensures.after c.early_phases.ensures.acted
     (record { one = c.early_phases.ensures.does; two = c.begin.ensures; three = r.ensures.does; four = c.last_phase.ensures.does })).keeps.of_run
 
 pub returns-clause-goes_on : goal.returns-clause-goes_on
@@ -66,11 +66,11 @@ returns-clause-goes_on g c =
     let r = c.execute_phase-executed in
     let all = ticked g.B.Blockers.are_counted c.args.arrived.now k.ticks k.watched c.early_phases.new.self c.begin.new.self r.new.self c.last_phase.new.self
     k.opening c.put_first.new.opening c.put_first.new.records c.early_phases.new.before r.new.behind c.last_phase.new.records
-    (idle_or_executed (system_in c.begin.new.self.processor) r.result) c.self.invariant (subst Follows (sym c.self.view_is) c.requires.limit)
+    k.acted c.early_phases.new.acted (idle_or_executed (system_in c.begin.new.self.processor) r.result) c.self.invariant (subst Follows (sym c.self.view_is) c.requires.limit)
     (subst IsOn (sym c.self.view_is) c.requires.on)
     (recursion_from_All (λ i. i < length (system_in k.watched.processor).routines) c.args.arrived.now
     (subst (λ (x : Machine). All (λ i. i < length (system_of x).routines) c.args.arrived.now) (sym c.self.view_is) c.requires.known))
-    c.put_first.ensures.value c.put_first.ensures.after
+    c.put_first.ensures.value c.put_first.ensures.after c.early_phases.ensures.acted
     (record { one = c.early_phases.ensures.does; two = c.begin.ensures; three = r.ensures.does; four = c.last_phase.ensures.does }) in
     λ mode arrivals arrive come. all.goes_on mode arrivals (ap (λ (x : Machine). arriving arrivals (next_tick x)) c.self.view_is ∙ arrive)
     (subst (IsRun g.B.Blockers.are_counted mode arrivals) (sym c.self.view_is) come)
@@ -81,15 +81,15 @@ returns-clause-ticks g c =
     let r = c.execute_phase-executed in
     let all = ticked g.B.Blockers.are_counted c.args.arrived.now k.ticks k.watched c.early_phases.new.self c.begin.new.self r.new.self c.last_phase.new.self
     k.opening c.put_first.new.opening c.put_first.new.records c.early_phases.new.before r.new.behind c.last_phase.new.records
-    (idle_or_executed (system_in c.begin.new.self.processor) r.result) c.self.invariant (subst Follows (sym c.self.view_is) c.requires.limit)
+    k.acted c.early_phases.new.acted (idle_or_executed (system_in c.begin.new.self.processor) r.result) c.self.invariant (subst Follows (sym c.self.view_is) c.requires.limit)
     (subst IsOn (sym c.self.view_is) c.requires.on)
     (recursion_from_All (λ i. i < length (system_in k.watched.processor).routines) c.args.arrived.now
     (subst (λ (x : Machine). All (λ i. i < length (system_of x).routines) c.args.arrived.now) (sym c.self.view_is) c.requires.known))
-    c.put_first.ensures.value c.put_first.ensures.after
+    c.put_first.ensures.value c.put_first.ensures.after c.early_phases.ensures.acted
     (record { one = c.early_phases.ensures.does; two = c.begin.ensures; three = r.ensures.does; four = c.last_phase.ensures.does }) in
     let system : system_in c.begin.new.self.processor ≡ system_in k.watched.processor =
     ap system_in c.begin.ensures.processor ∙ c.early_phases.ensures.does.does.system in
-    let old = between k.watched k.ticks k.opening in
-    let new = between c.last_phase.new.self (k.ticks + 1) c.put_first.new.opening in
+    let old = between k.watched k.ticks k.opening k.acted in
+    let new = between c.last_phase.new.self (k.ticks + 1) c.put_first.new.opening c.early_phases.new.acted in
     subst (λ (x : Machine). Ticks c.args.arrived.now x new (c.early_phases.new.before ++ idle_or_executed (system_of x) r.result ∷ c.last_phase.new.records)) c.self.view_is
     (subst (λ T. Ticks c.args.arrived.now old new (c.early_phases.new.before ++ idle_or_executed T r.result ∷ c.last_phase.new.records)) system all.ticks)

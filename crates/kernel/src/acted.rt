@@ -1,0 +1,24 @@
+//! OSEK/VDX OS: alarms. The alarms that acted in a tick.
+
+ghost use Rattle.std.specs.Prelude.{◌≡◌, []};
+
+use alarms::DueList;
+
+/// The alarms that were due in a tick, in declaration order, and those of them whose action was refused.
+#[derive(Drop)]
+pub struct Acted {
+    pub due: DueList,
+    pub refused: DueList,
+}
+
+impl Acted {
+    /// No alarm was due.
+    pub fn nothing() -> Self
+        ensures { result ≡ record { due = []; refused = [] } }
+    {
+        Acted {
+            due: DueList::new(),
+            refused: DueList::new(),
+        }
+    }
+}

@@ -1,0 +1,24 @@
+//! OSEK/VDX OS: task management, task state model. All tasks as they are when a tick's instruction is executed.
+
+ghost use Rattle.std.specs.Prelude.{◌≡◌, []};
+
+use crate::task_at::TaskAt;
+use arrayvec::ArrayVec;
+use osek_base::MAX_TASKS;
+
+/// Of each task by number what it is when a tick's instruction is executed.
+#[derive(Drop)]
+pub struct AtInstruction {
+    pub tasks: ArrayVec<TaskAt, MAX_TASKS>,
+}
+
+impl AtInstruction {
+    /// Nothing is seen yet.
+    pub fn new() -> Self
+        ensures { result.tasks.items ≡ [] }
+    {
+        AtInstruction {
+            tasks: ArrayVec::new(),
+        }
+    }
+}
