@@ -20,32 +20,68 @@ activities_equal : (a b : Activity) → same_activity a b ≡ true → a ≡ b
 activities_equal Activity.Nothing Activity.Nothing h = refl
 activities_equal Activity.Nothing Activity.Executing h = absurd (false≢true h)
 activities_equal Activity.Nothing Activity.Ready h = absurd (false≢true h)
+activities_equal Activity.Nothing Activity.Preempted h = absurd (false≢true h)
+activities_equal Activity.Nothing Activity.Interrupted h = absurd (false≢true h)
+activities_equal Activity.Nothing Activity.Blocked h = absurd (false≢true h)
 activities_equal Activity.Nothing Activity.Waiting h = absurd (false≢true h)
 activities_equal Activity.Executing Activity.Nothing h = absurd (false≢true h)
 activities_equal Activity.Executing Activity.Executing h = refl
 activities_equal Activity.Executing Activity.Ready h = absurd (false≢true h)
+activities_equal Activity.Executing Activity.Preempted h = absurd (false≢true h)
+activities_equal Activity.Executing Activity.Interrupted h = absurd (false≢true h)
+activities_equal Activity.Executing Activity.Blocked h = absurd (false≢true h)
 activities_equal Activity.Executing Activity.Waiting h = absurd (false≢true h)
 activities_equal Activity.Ready Activity.Nothing h = absurd (false≢true h)
 activities_equal Activity.Ready Activity.Executing h = absurd (false≢true h)
 activities_equal Activity.Ready Activity.Ready h = refl
+activities_equal Activity.Ready Activity.Preempted h = absurd (false≢true h)
+activities_equal Activity.Ready Activity.Interrupted h = absurd (false≢true h)
+activities_equal Activity.Ready Activity.Blocked h = absurd (false≢true h)
 activities_equal Activity.Ready Activity.Waiting h = absurd (false≢true h)
+activities_equal Activity.Preempted Activity.Nothing h = absurd (false≢true h)
+activities_equal Activity.Preempted Activity.Executing h = absurd (false≢true h)
+activities_equal Activity.Preempted Activity.Ready h = absurd (false≢true h)
+activities_equal Activity.Preempted Activity.Preempted h = refl
+activities_equal Activity.Preempted Activity.Interrupted h = absurd (false≢true h)
+activities_equal Activity.Preempted Activity.Blocked h = absurd (false≢true h)
+activities_equal Activity.Preempted Activity.Waiting h = absurd (false≢true h)
+activities_equal Activity.Interrupted Activity.Nothing h = absurd (false≢true h)
+activities_equal Activity.Interrupted Activity.Executing h = absurd (false≢true h)
+activities_equal Activity.Interrupted Activity.Ready h = absurd (false≢true h)
+activities_equal Activity.Interrupted Activity.Preempted h = absurd (false≢true h)
+activities_equal Activity.Interrupted Activity.Interrupted h = refl
+activities_equal Activity.Interrupted Activity.Blocked h = absurd (false≢true h)
+activities_equal Activity.Interrupted Activity.Waiting h = absurd (false≢true h)
+activities_equal Activity.Blocked Activity.Nothing h = absurd (false≢true h)
+activities_equal Activity.Blocked Activity.Executing h = absurd (false≢true h)
+activities_equal Activity.Blocked Activity.Ready h = absurd (false≢true h)
+activities_equal Activity.Blocked Activity.Preempted h = absurd (false≢true h)
+activities_equal Activity.Blocked Activity.Interrupted h = absurd (false≢true h)
+activities_equal Activity.Blocked Activity.Blocked h = refl
+activities_equal Activity.Blocked Activity.Waiting h = absurd (false≢true h)
 activities_equal Activity.Waiting Activity.Nothing h = absurd (false≢true h)
 activities_equal Activity.Waiting Activity.Executing h = absurd (false≢true h)
 activities_equal Activity.Waiting Activity.Ready h = absurd (false≢true h)
+activities_equal Activity.Waiting Activity.Preempted h = absurd (false≢true h)
+activities_equal Activity.Waiting Activity.Interrupted h = absurd (false≢true h)
+activities_equal Activity.Waiting Activity.Blocked h = absurd (false≢true h)
 activities_equal Activity.Waiting Activity.Waiting h = refl
 
-abbrev moment : Activity → ℕ → Moment
-moment x p = record { activity = x; priority = p }
+abbrev moment : Activity → ℕ → ℕ → ℕ → Moment
+moment x p n b = record { activity = x; priority = p; jobs = n; held = record { bits = b } }
 
-from_fields : (x y : Activity) (p q : ℕ) → x ≡ y → p ≡ q → moment x p ≡ moment y q
-from_fields x y p q e f = rw (e, f)
+from_fields : (x y : Activity) (p q n m b c : ℕ) → x ≡ y → p ≡ q → n ≡ m → b ≡ c → moment x p n b ≡ moment y q m c
+from_fields x y p q n m b c e f g h = rw (e, f, g, h)
 
 -- what shows the same is equal
 pub equal_from_same : (a b : Moment) → same a b ≡ true → a ≡ b
 equal_from_same a b h =
-    let parts = both (same_activity a.activity b.activity) (eqb a.priority b.priority) h in
-    from_fields a.activity b.activity a.priority b.priority
-    (activities_equal a.activity b.activity parts.0) (eqb-true a.priority b.priority parts.1)
+    let third = both (same_activity a.activity b.activity && eqb a.priority b.priority && eqb a.jobs b.jobs) (eqb a.held.bits b.held.bits) h in
+    let second = both (same_activity a.activity b.activity && eqb a.priority b.priority) (eqb a.jobs b.jobs) third.0 in
+    let first = both (same_activity a.activity b.activity) (eqb a.priority b.priority) second.0 in
+    from_fields a.activity b.activity a.priority b.priority a.jobs b.jobs a.held.bits b.held.bits
+    (activities_equal a.activity b.activity first.0) (eqb-true a.priority b.priority first.1)
+    (eqb-true a.jobs b.jobs second.1) (eqb-true a.held.bits b.held.bits third.1)
 
 -- behind closed stretches, the last alone decides
 added_last : (t : ℕ) (m : Moment) (front : List Stretch) (s : Stretch)

@@ -14,6 +14,9 @@ same_itself_activity : (a : Activity) → same_activity a a ≡ true
 same_itself_activity Activity.Nothing = refl
 same_itself_activity Activity.Executing = refl
 same_itself_activity Activity.Ready = refl
+same_itself_activity Activity.Preempted = refl
+same_itself_activity Activity.Interrupted = refl
+same_itself_activity Activity.Blocked = refl
 same_itself_activity Activity.Waiting = refl
 
 same_itself : (m : Moment) → same m m ≡ true

@@ -8,12 +8,15 @@ abbrev pub same_activity : Activity → Activity → Bool
 same_activity Activity.Nothing Activity.Nothing = true
 same_activity Activity.Executing Activity.Executing = true
 same_activity Activity.Ready Activity.Ready = true
+same_activity Activity.Preempted Activity.Preempted = true
+same_activity Activity.Interrupted Activity.Interrupted = true
+same_activity Activity.Blocked Activity.Blocked = true
 same_activity Activity.Waiting Activity.Waiting = true
 same_activity _ _ = false
 
--- two ticks show the same: equal activity and equal priority
+-- two ticks show the same: equal activity, equal priority, as many jobs, and the same is held
 abbrev pub same : Moment → Moment → Bool
-same a b = same_activity a.activity b.activity && (a.priority == b.priority)
+same a b = same_activity a.activity b.activity && (a.priority == b.priority) && (a.jobs == b.jobs) && (a.held.bits == b.held.bits)
 
 abbrev pub one_tick : ℕ → Moment → Stretch
 one_tick t m = record { moment = m; first = t; last = t }

@@ -3,12 +3,19 @@
 /// What a task or a routine does in a tick.
 #[derive(Clone, Copy, Debug, PartialEq, Eq)]
 pub enum Activity {
-    /// The task is SUSPENDED, or nothing is known of the routine.
+    /// The task is SUSPENDED; the routine neither executes nor is pending.
     Nothing,
     /// It executes the tick's instruction.
     Executing,
-    /// The task is READY, or the routine pending.
+    /// The task is READY, and none of the next three; or the routine is pending.
     Ready,
+    /// The task is READY, its oldest job has executed since it became ready, and no task of lower priority executes, nor does
+    /// a routine.
+    Preempted,
+    /// The task is READY, its oldest job has executed since it became ready, and a routine executes.
+    Interrupted,
+    /// The task is READY, and a task of lower static priority executes.
+    Blocked,
     /// The task is WAITING.
     Waiting,
 }

@@ -38,6 +38,9 @@ fn class(activity: Activity) -> &'static str {
         Activity::Nothing => "nothing",
         Activity::Executing => "executing",
         Activity::Ready => "ready",
+        Activity::Preempted => "preempted",
+        Activity::Interrupted => "interrupted",
+        Activity::Blocked => "blocked",
         Activity::Waiting => "waiting",
     }
 }

@@ -2,14 +2,17 @@
 #![tactic(auto)]
 
 mod activity;
+mod begun;
 mod drawn_marks;
 mod drawn_row;
 mod frame;
+mod held;
 mod laws;
 mod layout;
 mod mark;
 mod moment;
 mod pieces;
+mod processor;
 mod row;
 mod stretch;
 mod style;
@@ -18,8 +21,11 @@ mod timeline;
 mod track;
 
 pub use activity::Activity;
+pub use begun::begun_behind;
+pub use held::Held;
 pub use laws::{differ_from_the_next, tile_the_ticks};
 pub use moment::Moment;
+pub use processor::Processor;
 pub use row::Row;
 pub use stretch::Stretch;
 pub use timeline::{MAX_DRAWN, Timeline};

@@ -1,10 +1,15 @@
 //! The ticks of a run that are drawn.
 
+use crate::begun::begun_behind;
+use crate::held::Held;
 use crate::mark::Sign;
 use crate::moment::Moment;
+use crate::processor::Processor;
 use crate::track::{Track, bare_tracks, mark_at};
 use observations::{AlarmSeen, Observation, RoutineSeen, TaskSeen};
-use osek_base::{Action, Instr, Outcome, Owner, Service, Status, System, TickRecord, TraceEvent};
+use osek_base::{
+    Action, Instr, Outcome, Owner, Service, Status, System, TaskId, TickRecord, TraceEvent,
+};
 use std::alloc::{AllocError, Global};
 
 /// How many ticks a picture has at most.
@@ -38,7 +43,8 @@ impl Timeline {
         })
     }
 
-    /// Keeps what is seen of a tick and its records, if it is drawn. Ticks come in order. An error is want of memory.
+    /// Keeps what is seen of a tick and its records, if it is drawn. Ticks come in order, from the first of the run on, as
+    /// what a ready task shows depends on what it did before. An error is want of memory.
     pub fn observe(
         &mut self,
         system: &System,
@@ -46,16 +52,22 @@ impl Timeline {
         records: &TickRecord,
     ) -> Result<(), AllocError> {
         let tick = observation.tick;
-        if tick < self.from || self.to <= tick {
-            return Ok(());
+        if self.from <= tick && tick < self.to {
+            self.end = tick + 1;
+            self.observe_drawn(system, observation, records)?;
         }
-        self.end = tick + 1;
-        observe_tasks(
-            system,
-            tick,
-            observation.tasks.as_slice(),
-            self.tasks.as_mut_slice(),
-        )?;
+        keep_begun(observation.tasks.as_slice(), self.tasks.as_mut_slice());
+        Ok(())
+    }
+
+    fn observe_drawn(
+        &mut self,
+        system: &System,
+        observation: &Observation,
+        records: &TickRecord,
+    ) -> Result<(), AllocError> {
+        let tick = observation.tick;
+        observe_tasks(system, observation, self.tasks.as_mut_slice())?;
         observe_routines(
             system,
             tick,
@@ -122,18 +134,49 @@ impl Timeline {
     }
 }
 
+/// Who has the processor where that task executes.
+fn task_executes(system: &System, task: TaskId) -> Processor {
+    match system.parts().tasks.get(task.number() as usize) {
+        Some(task) => Processor::Task(task.priority),
+        None => Processor::Idle,
+    }
+}
+
+/// Who has the processor where that one executes.
+fn processor(system: &System, executor: &Option<Owner>) -> Processor {
+    let Some(owner) = executor else {
+        return Processor::Idle;
+    };
+    match owner {
+        Owner::Task(task) => task_executes(system, *task),
+        Owner::Routine(_) => Processor::Routine,
+    }
+}
+
 fn observe_tasks(
     system: &System,
-    tick: u32,
-    seen: &[TaskSeen],
+    observation: &Observation,
     tracks: &mut [Track],
 ) -> Result<(), AllocError> {
+    let tick = observation.tick;
+    let processor = processor(system, &observation.executor);
+    let holders = observation.holders.as_slice();
+    let seen = observation.tasks.as_slice();
     let tasks = system.parts().tasks.as_slice();
-    for ((track, seen), task) in tracks.iter_mut().zip(seen).zip(tasks) {
-        track.row.add(tick, Moment::of_task(*seen, task.priority))?;
+    for (number, ((track, seen), task)) in tracks.iter_mut().zip(seen).zip(tasks).enumerate() {
+        let held = Held::of_task(holders, number);
+        let moment = Moment::of_task(*seen, processor, task.priority, track.has_begun, held);
+        track.row.add(tick, moment)?;
         track.mark_if(seen.made > 0, tick, Sign::Activated(seen.made))?;
     }
     Ok(())
+}
+
+/// Keeps of each task whether its oldest job has executed since it became ready.
+fn keep_begun(seen: &[TaskSeen], tracks: &mut [Track]) {
+    for (track, seen) in tracks.iter_mut().zip(seen) {
+        track.has_begun = begun_behind(track.has_begun, *seen);
+    }
 }
 
 fn observe_routine(

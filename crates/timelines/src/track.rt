@@ -10,6 +10,8 @@ use std::alloc::{AllocError, Global};
 pub(crate) struct Track {
     pub(crate) row: Row,
     pub(crate) marks: Vec<Mark>,
+    /// Whether a task's oldest job has executed since it became ready; of a routine no.
+    pub(crate) has_begun: bool,
 }
 
 impl Track {
@@ -17,6 +19,7 @@ impl Track {
         Track {
             row: Row::new(alloc),
             marks: Vec::new(alloc),
+            has_begun: false,
         }
     }
 

@@ -25,8 +25,7 @@ impl RoutineValues {
         if let Some(is_pending) = self.pending.change_to(seen.is_pending) {
             changes.write(Variable::Pending(routine), Change::Wire(is_pending))?;
         }
-        let is_active = seen.executes || seen.is_active;
-        if let Some(is_active) = self.active.change_to(is_active) {
+        if let Some(is_active) = self.active.change_to(seen.executes) {
             changes.write(Variable::Active(routine), Change::Wire(is_active))?;
         }
         Ok(())

@@ -36,7 +36,7 @@ pub enum Variable {
     Jobs(TaskId),
     /// Whether a routine is pending.
     Pending(IsrId),
-    /// Whether a routine executes or is active.
+    /// Whether a routine is active: it executes.
     Active(IsrId),
     /// The event that an interrupt of a routine is lost.
     Lost(IsrId),
