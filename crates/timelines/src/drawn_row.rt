@@ -1,49 +1,12 @@
 //! A row of a picture as SVG.
 
-use crate::activity::Activity;
+use crate::drawn_stretch::write_stretch;
+use crate::kind::Kind;
 use crate::layout::Layout;
 use crate::pieces::{Piece, write_pieces};
-use crate::stretch::Stretch;
 use crate::track::Track;
+use osek_base::System;
 use std::io::{self, Write};
-
-/// Whose row it is.
-#[derive(Clone, Copy, PartialEq, Eq)]
-pub(crate) enum Kind {
-    Task,
-    Routine,
-}
-
-impl Kind {
-    fn name(self) -> &'static str {
-        match self {
-            Kind::Task => "task",
-            Kind::Routine => "routine",
-        }
-    }
-
-    /// The word for what is done.
-    fn does(self, activity: Activity) -> &'static str {
-        match (self, activity) {
-            (Kind::Task, Activity::Executing) => "running",
-            (Kind::Routine, Activity::Ready) => "pending",
-            _ => class(activity),
-        }
-    }
-}
-
-/// The class of what is done.
-fn class(activity: Activity) -> &'static str {
-    match activity {
-        Activity::Nothing => "nothing",
-        Activity::Executing => "executing",
-        Activity::Ready => "ready",
-        Activity::Preempted => "preempted",
-        Activity::Interrupted => "interrupted",
-        Activity::Blocked => "blocked",
-        Activity::Waiting => "waiting",
-    }
-}
 
 /// A row: whose it is, by its name and static priority, and at which place it stands, from 0 on.
 #[derive(Clone, Copy)]
@@ -77,82 +40,40 @@ impl<'a> DrawnRow<'a> {
         )
     }
 
-    /// Writes a stretch, if something is done in it. An error is a failed write.
-    fn write_stretch<W: Write>(
-        self,
-        stretch: &Stretch,
-        layout: Layout,
-        out: &mut W,
-    ) -> io::Result<()> {
-        let activity = stretch.moment.activity;
-        if activity == Activity::Nothing {
-            return Ok(());
+    /// Writes the name again, so often that in a wide picture one is in sight. An error is a failed write.
+    fn repeat_name<W: Write>(self, layout: Layout, out: &mut W) -> io::Result<()> {
+        for time in 0..layout.repeated_names() {
+            write_pieces(
+                &[
+                    Piece::Text("<text class=\"again\" x=\""),
+                    Piece::Number(layout.repeated_name(time)),
+                    Piece::Text("\" y=\"58\">"),
+                    Piece::Name(self.name),
+                    Piece::Text("</text>\n"),
+                ],
+                out,
+            )?;
         }
-        let x = layout.x(stretch.first);
-        let width = layout.span(stretch.first, stretch.last);
-        let is_raised = self.priority < stretch.moment.priority;
-        write_pieces(
-            &[
-                Piece::Text("<g><title>"),
-                Piece::Name(self.name),
-                Piece::Text(": "),
-                Piece::Text(self.kind.does(activity)),
-                Piece::Text(", ticks "),
-                Piece::Number(stretch.first),
-                Piece::Text(" to "),
-                Piece::Number(stretch.last),
-                Piece::Text(", priority "),
-                Piece::Number(u32::from(stretch.moment.priority)),
-                Piece::Text(if is_raised {
-                    ", raised</title>"
-                } else {
-                    "</title>"
-                }),
-                Piece::Text("<rect class=\""),
-                Piece::Text(class(activity)),
-                Piece::Text("\" x=\""),
-                Piece::Number(x),
-                Piece::Text("\" y=\"22\" width=\""),
-                Piece::Number(width),
-                Piece::Text("\" height=\"16\"/>"),
-            ],
-            out,
-        )?;
-        if is_raised {
-            write_edge(x, width, out)?;
-        }
-        out.write_all(b"</g>\n")
+        Ok(())
     }
 
     /// Writes the row. An error is a failed write.
     pub(crate) fn write<W: Write>(
         self,
+        system: &System,
         track: &Track,
         layout: Layout,
         out: &mut W,
     ) -> io::Result<()> {
         self.write_label(layout, out)?;
+        self.repeat_name(layout, out)?;
         let (closed, last) = track.row.stretches();
         for stretch in closed {
-            self.write_stretch(stretch, layout, out)?;
+            write_stretch(system, self, stretch, layout, out)?;
         }
         if let Some(last) = last {
-            self.write_stretch(&last, layout, out)?;
+            write_stretch(system, self, &last, layout, out)?;
         }
         Ok(())
     }
-}
-
-/// Writes the upper edge of a stretch of raised priority. An error is a failed write.
-fn write_edge<W: Write>(x: u32, width: u32, out: &mut W) -> io::Result<()> {
-    write_pieces(
-        &[
-            Piece::Text("<rect class=\"raised\" x=\""),
-            Piece::Number(x),
-            Piece::Text("\" y=\"19\" width=\""),
-            Piece::Number(width),
-            Piece::Text("\" height=\"4\"/>"),
-        ],
-        out,
-    )
 }

@@ -51,25 +51,37 @@ pub(crate) fn write_heading<W: Write>(layout: Layout, out: &mut W) -> io::Result
     )
 }
 
-/// Writes the line at which a tick begins, and its number. An error is a failed write.
-fn write_tick<W: Write>(layout: Layout, tick: u32, out: &mut W) -> io::Result<()> {
-    let bottom = layout.bottom();
+/// Writes the number of a tick, at a height. An error is a failed write.
+fn write_number<W: Write>(layout: Layout, tick: u32, y: u32, out: &mut W) -> io::Result<()> {
     write_pieces(
         &[
-            Piece::Text("<path class=\"grid\" d=\"M"),
-            Piece::Number(layout.x(tick)),
-            Piece::Text(" 32V"),
-            Piece::Number(bottom + 4),
-            Piece::Text("\"/><text class=\"number\" x=\""),
+            Piece::Text("<text class=\"number\" x=\""),
             Piece::Number(layout.middle(tick)),
             Piece::Text("\" y=\""),
-            Piece::Number(bottom + 16),
+            Piece::Number(y),
             Piece::Text("\">"),
             Piece::Number(tick),
             Piece::Text("</text>\n"),
         ],
         out,
     )
+}
+
+/// Writes the line at which a tick begins, and its number above and below the rows. An error is a failed write.
+fn write_tick<W: Write>(layout: Layout, tick: u32, out: &mut W) -> io::Result<()> {
+    let bottom = layout.bottom();
+    write_pieces(
+        &[
+            Piece::Text("<path class=\"grid\" d=\"M"),
+            Piece::Number(layout.x(tick)),
+            Piece::Text(" 44V"),
+            Piece::Number(bottom + 4),
+            Piece::Text("\"/>\n"),
+        ],
+        out,
+    )?;
+    write_number(layout, tick, 40, out)?;
+    write_number(layout, tick, bottom + 16, out)
 }
 
 /// Writes the lines and numbers of the ticks, at a step at which numbers keep apart. An error is a failed write.

@@ -9,21 +9,25 @@ use osek_base::{MAX_NAME, MAX_ROUTINES, MAX_TASKS};
 const MAX_ROWS: u32 = MAX_TASKS as u32 + MAX_ROUTINES as u32;
 
 /// What stands above the first row.
-const TOP: u32 = 36;
+const TOP: u32 = 48;
 
-const ROW_HEIGHT: u32 = 52;
+const ROW_HEIGHT: u32 = 60;
 
 const AXIS_HEIGHT: u32 = 32;
 
-const LEGEND_HEIGHT: u32 = 92;
+const LEGEND_HEIGHT: u32 = 140;
 
-const LEGEND_WIDTH: u32 = 920;
+const LEGEND_WIDTH: u32 = 960;
+/// How far the names of the rows stand apart in a wide picture.
+const NAME_STEP: u32 = 800;
 /// What stands to the right of the last tick.
 const MARGIN: u32 = 32;
 /// How wide a letter of a name and a digit of a tick's number are.
 const LETTER: u32 = 8;
 
 const DIGIT: u32 = 7;
+/// How wide a name is at most.
+const LONGEST_NAME: u32 = LETTER * MAX_NAME as u32;
 /// How wide a tick is at least and at most, and how wide all ticks shall be.
 const NARROWEST: u32 = 2;
 
@@ -107,6 +111,19 @@ impl Layout {
         self.bottom() + AXIS_HEIGHT
     }
 
+    /// At how many places a row's name is repeated to the right of its beginning, with room for a longest name.
+    pub(crate) fn repeated_names(self) -> u32
+        ensures { result ≤ 150 }
+    {
+        (self.cell * self.ticks).saturating_sub(LONGEST_NAME) / NAME_STEP
+    }
+
+    /// Where a row's name stands for that time, 0 for the first.
+    pub(crate) fn repeated_name(self, time: u32) -> u32 {
+        self.left
+            .saturating_add(NAME_STEP.saturating_mul(time.saturating_add(1)))
+    }
+
     pub(crate) fn width(self) -> u32 {
         (self.left + self.cell * self.ticks + MARGIN).max(LEGEND_WIDTH)
     }
@@ -117,7 +134,7 @@ impl Layout {
 
     /// From tick number to tick number, so that no number runs into the next.
     pub(crate) fn step(self) -> u32 {
-        let last = self.from.saturating_add(self.ticks);
+        let last = self.from.saturating_add(self.ticks.saturating_sub(1));
         let digits = last.checked_ilog10().unwrap_or(0).min(10) + 1;
         let room = DIGIT * (digits + 1);
         for step in [1, 2, 5, 10, 20, 50, 100, 200, 500] {

@@ -1,8 +1,9 @@
 //! A picture of a run as SVG, no part of the standards.
 
 use crate::drawn_marks::write_marks;
-use crate::drawn_row::{DrawnRow, Kind};
+use crate::drawn_row::DrawnRow;
 use crate::frame::{write_head, write_heading, write_legend, write_ticks};
+use crate::kind::Kind;
 use crate::layout::Layout;
 use crate::timeline::Timeline;
 use crate::track::Track;
@@ -39,7 +40,7 @@ fn write_track<W: Write>(
     layout: Layout,
     out: &mut W,
 ) -> io::Result<()> {
-    row.write(track, layout, out)?;
+    row.write(system, track, layout, out)?;
     write_marks(system, track.marks.as_slice(), layout, out)
 }
 
