@@ -15,6 +15,8 @@ pub(crate) enum Change<'a> {
     Unknown,
     /// A string variable has that text, which has no space.
     String(&'a str),
+    /// A string variable has the name of a routine, behind `ISR.`, which no name begins with.
+    Routine(&'a str),
     /// An event fires.
     Event,
 }
@@ -27,6 +29,7 @@ impl fmt::Display for Change<'_> {
             Change::Vector(number) => write!(f, "b{number:b} "),
             Change::Unknown => f.write_str("bx "),
             Change::String(text) => write!(f, "s{text} "),
+            Change::Routine(name) => write!(f, "sISR.{name} "),
             Change::Event => f.write_str("1"),
         }
     }

@@ -100,8 +100,8 @@ impl<'s> ValueChanges<'s> {
         changes: &mut TickChanges<'_, W>,
     ) -> io::Result<()> {
         if let Some(executor) = self.executor.change_to(seen.executor) {
-            let name = executor_name(self.system.names(), executor);
-            changes.write(Variable::Executor, Change::String(name))?;
+            let name = executor_name(self.system.names(), &executor);
+            changes.write(Variable::Executor, name)?;
         }
         write_tasks(&mut self.tasks, &seen.tasks, changes)?;
         write_routines(&mut self.routines, &seen.routines, changes)?;

@@ -26,7 +26,7 @@ const ALARMS: u16 = RESOURCES + MAX_HELD as u16;
 /// A variable of a dump. It is written as its identifier code, one or two printable characters.
 #[derive(Clone, Copy, Debug, PartialEq, Eq)]
 pub enum Variable {
-    /// The name of the task or routine that executes.
+    /// Who executes: the name of the task, or that of the routine behind `ISR.`.
     Executor,
     /// The state of a task.
     State(TaskId),
