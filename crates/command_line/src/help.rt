@@ -20,14 +20,14 @@ pub(crate) const ALONE: &str = "Runs the upper part by itself; what is printed i
 pub(crate) const BLOCKING: &str =
     "Prints ` ! N` behind a job's first instruction since it became ready: N jobs of lower priority executed meanwhile";
 
-pub(crate) const FROM: &str = "The first tick that is drawn, 0 to 1000000; 0 unless it is said";
+pub(crate) const FROM: &str = "The first tick that is shown, 0 to 1000000; 0 unless it is said";
 
 pub(crate) const TO: &str =
-    "The tick behind the last that is drawn, 0 to 1000000; the run's end unless it is said";
+    "The tick behind the last that is shown, 0 to 1000000; the run's end unless it is said";
 
 pub(crate) const CSV: &str = "Prints comma-separated values, a line a figure";
 
-pub(crate) const NO_TICK_DRAWN: &str = "no tick is drawn: --from lies behind TICKS or --to";
+pub(crate) const NO_TICK_SHOWN: &str = "no tick is shown: --from lies behind TICKS or --to";
 
 pub(crate) const TOO_MANY_DRAWN: &str =
     "a picture has at most 5000 ticks: --from and --to choose them";

@@ -62,10 +62,10 @@ fn vcd_line<'a>(alloc: Global) -> Result<Command<'a>, AllocError> {
     let line = Command::new(alloc, "vcd")
         .about("Prints a run as a value change dump, for waveform viewers")
         .after_help(help::VCD_EXAMPLE);
-    of_run(alloc, of_system(alloc, line)?)
+    of_part(alloc, of_run(alloc, of_system(alloc, line)?)?)
 }
 
-/// A tick that bounds a picture.
+/// A tick that bounds what is shown.
 fn bound<'a>(alloc: Global, name: &'a str, meaning: &'a str) -> Arg<'a> {
     Arg::new(alloc, name)
         .long(name)
@@ -74,13 +74,17 @@ fn bound<'a>(alloc: Global, name: &'a str, meaning: &'a str) -> Arg<'a> {
         .value_parser(value_parser!(u32).range(0..=MAX_TICKS as i64))
 }
 
+/// Which ticks of a run are shown.
+fn of_part<'a>(alloc: Global, line: Command<'a>) -> Result<Command<'a>, AllocError> {
+    line.arg(bound(alloc, "from", help::FROM))?
+        .arg(bound(alloc, "to", help::TO))
+}
+
 fn timeline_line<'a>(alloc: Global) -> Result<Command<'a>, AllocError> {
     let line = Command::new(alloc, "timeline")
         .about("Prints a picture of a run, as SVG")
         .after_help(help::TIMELINE_EXAMPLE);
-    of_run(alloc, of_system(alloc, line)?)?
-        .arg(bound(alloc, "from", help::FROM))?
-        .arg(bound(alloc, "to", help::TO))
+    of_part(alloc, of_run(alloc, of_system(alloc, line)?)?)
 }
 
 fn stats_line<'a>(alloc: Global) -> Result<Command<'a>, AllocError> {

@@ -29,8 +29,8 @@ pub enum Lines {
 /// What is shown of a run besides its trace.
 #[derive(Clone, Copy, Debug)]
 pub enum View {
-    /// The value change dump.
-    Vcd,
+    /// The value change dump of the ticks from that one on.
+    Vcd { from: u32 },
     /// The picture of the ticks from that one on.
     Timeline { from: u32 },
     /// The figures.
@@ -89,14 +89,27 @@ fn priority(matches: &ArgMatches<'_>) -> u8 {
     matches.get_one::<u8>("P").unwrap_or(0)
 }
 
-/// The picture of the ticks from one on and before another, at most those of the run.
-fn timeline<'a>(matches: &ArgMatches<'a>) -> Question<'a> {
+/// The run as far as it is shown, and the first tick that is shown.
+fn shown_part<'a>(matches: &ArgMatches<'a>) -> (RunLine<'a>, u32) {
     let line = run_line(matches);
     let to = matches.get_one::<u32>("to").unwrap_or(line.ticks);
     let ticks = line.ticks.min(to);
     let from = matches.get_one::<u32>("from").unwrap_or(0);
+    (RunLine { ticks, ..line }, from)
+}
+
+fn vcd<'a>(matches: &ArgMatches<'a>) -> Question<'a> {
+    let (line, from) = shown_part(matches);
     Question::View {
-        line: RunLine { ticks, ..line },
+        line,
+        view: View::Vcd { from },
+    }
+}
+
+fn timeline<'a>(matches: &ArgMatches<'a>) -> Question<'a> {
+    let (line, from) = shown_part(matches);
+    Question::View {
+        line,
         view: View::Timeline { from },
     }
 }
@@ -113,17 +126,18 @@ fn stats<'a>(matches: &ArgMatches<'a>) -> Question<'a> {
     }
 }
 
-/// Why a picture isn't drawn, where its first tick lies behind its last, or it has too many.
-fn picture_fault(question: &Question<'_>) -> Option<&'static str> {
-    match question {
-        Question::View {
-            line,
-            view: View::Timeline { from },
-        } => match line.ticks.checked_sub(*from) {
-            None => Some(help::NO_TICK_DRAWN),
+/// Why nothing is shown, where the first tick lies behind the last, or a picture has too many.
+fn shown_fault(question: &Question<'_>) -> Option<&'static str> {
+    let Question::View { line, view } = question else {
+        return None;
+    };
+    match view {
+        View::Timeline { from } => match line.ticks.checked_sub(*from) {
+            None => Some(help::NO_TICK_SHOWN),
             Some(drawn) => (drawn > MAX_DRAWN).then_some(help::TOO_MANY_DRAWN),
         },
-        _ => None,
+        View::Vcd { from } => (*from > line.ticks).then_some(help::NO_TICK_SHOWN),
+        View::Stats(_) => None,
     }
 }
 
@@ -146,10 +160,7 @@ fn asked<'a>(subcommand: &str, matches: &ArgMatches<'a>) -> Question<'a> {
                 alone: matches.get_flag("alone"),
             },
         },
-        "vcd" => Question::View {
-            line: run_line(matches),
-            view: View::Vcd,
-        },
+        "vcd" => vcd(matches),
         "timeline" => timeline(matches),
         "stats" => stats(matches),
         "check" => Question::Check {
@@ -173,7 +184,7 @@ pub fn read_line<'a, S: AsStr>(alloc: Global, words: &'a [S]) -> Result<Request<
         return Err(line.error(ErrorKind::MissingSubcommand, "a subcommand is wanted")?);
     };
     let question = asked(name, found);
-    if let Some(fault) = picture_fault(&question) {
+    if let Some(fault) = shown_fault(&question) {
         return Err(line.error(ErrorKind::ValueValidation, fault)?);
     }
     Ok(Request {

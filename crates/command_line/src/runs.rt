@@ -53,7 +53,7 @@ pub(crate) fn write_view<O: Write, E: Write>(
         ticks: line.ticks,
     };
     match view {
-        View::Vcd => write_vcd(alloc, &system, input, progress, out)?,
+        View::Vcd { from } => write_vcd(alloc, &system, input, from, progress, out)?,
         View::Timeline { from } => write_timeline(alloc, &system, input, from, progress, out)?,
         View::Stats(form) => write_stats(alloc, &system, input, form, progress, out)?,
     }

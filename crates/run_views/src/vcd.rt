@@ -8,17 +8,18 @@ use std::io::Write;
 use tracer::RunFault;
 use value_changes::ValueChanges;
 
-/// Runs a system and writes the value change dump of the run. A refusal comes before the first byte; a write that fails ends
-/// the run.
+/// Runs a system and writes the value change dump of its ticks from `from` on. A refusal comes before the first byte; a write
+/// that fails ends the run.
 pub fn write_vcd<O: Write, E: Write>(
     alloc: Global,
     system: &System,
     input: RunInput<'_>,
+    from: u32,
     progress: &mut Progress<'_, E>,
     out: &mut O,
 ) -> Result<(), RunFault> {
     let mut run = begin(alloc, system, input.irqs, input.mode)?;
-    let mut dump = ValueChanges::new(system);
+    let mut dump = ValueChanges::new(system, from);
     dump.begin(out)?;
     for _tick in 0..input.ticks {
         if !run.advance() {

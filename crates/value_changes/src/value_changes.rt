@@ -72,20 +72,26 @@ pub struct ValueChanges<'s> {
     tasks: [TaskValues; MAX_TASKS],
     routines: [RoutineValues; MAX_ROUTINES],
     holders: [LastValue<Holder>; MAX_HELD],
-    /// The number of the tick behind the last one that was seen; 0 where none was.
+    /// The first tick that is written.
+    from: u32,
+    /// Whether it was seen.
+    is_begun: bool,
+    /// The number of the tick behind the last one that was seen; at first `from`.
     ticks: u64,
 }
 
 impl<'s> ValueChanges<'s> {
-    /// The dump of a run of that system, of which nothing is written yet.
-    pub fn new(system: &'s System) -> Self {
+    /// The dump of the ticks from `from` on of a run of that system, of which nothing is written yet.
+    pub fn new(system: &'s System, from: u32) -> Self {
         ValueChanges {
             system,
             executor: LastValue::default(),
             tasks: [TaskValues::default(); MAX_TASKS],
             routines: [RoutineValues::default(); MAX_ROUTINES],
             holders: [LastValue::default(); MAX_HELD],
-            ticks: 0,
+            from,
+            is_begun: false,
+            ticks: u64::from(from),
         }
     }
 
@@ -108,23 +114,26 @@ impl<'s> ValueChanges<'s> {
         write_holders(&mut self.holders, self.system, &seen.holders, changes)
     }
 
-    /// Writes what changes in the next tick that is seen, of the first tick all values. The tick's
-    /// records, which each view of a run is given, aren't looked at. An error is a failed write, and
-    /// ends the dump.
+    /// Writes what changes in the next tick that is seen, of the first tick that is written all values. The tick's records,
+    /// which each view of a run is given, aren't looked at. An error is a failed write, and ends the dump.
     pub fn observe<W: Write>(
         &mut self,
         seen: &Observation,
         _records: &TickRecord,
         out: &mut W,
     ) -> io::Result<()> {
+        if seen.tick < self.from {
+            return Ok(());
+        }
         let mut changes = TickChanges::new(seen.tick, out);
-        if self.ticks == 0 {
+        if self.is_begun {
+            self.write_values(seen, &mut changes)?;
+        } else {
             changes.begin_initial_values()?;
             self.write_values(seen, &mut changes)?;
             changes.end_initial_values()?;
-        } else {
-            self.write_values(seen, &mut changes)?;
         }
+        self.is_begun = true;
         self.ticks = u64::from(seen.tick) + 1;
         write_losses(&seen.routines, &mut changes)?;
         write_expiries(&seen.alarms, &mut changes)
