@@ -1,0 +1,6 @@
+.task A
+NOP
+TERM
+z: JMP z
+.isr A
+RETI
