@@ -17,13 +17,13 @@ use system_gen::class_of;
 use tracer::RunFault;
 
 /// Writes the answer to a question.
-fn write_answer<O: Write, E: Write>(
+fn write_answer<'q, O: Write, E: Write>(
     alloc: Global,
     texts: &Texts,
-    question: Question<'_>,
+    question: Question<'q>,
     progress: &mut Progress<'_, E>,
     out: &mut O,
-) -> Result<Verdict, RunFault> {
+) -> Result<Verdict<'q>, RunFault> {
     match question {
         Question::Lines { line, lines } => write_lines(alloc, texts, line, lines, progress, out),
         Question::View { line, view } => write_view(alloc, texts, line, view, progress, out),
@@ -51,6 +51,9 @@ fn answer_texts<O: Write, E: Write>(
     progress.end();
     let verdict = outcome?;
     out.flush()?;
+    if let Verdict::NoRow(name) = &verdict {
+        let _ = writeln!(err, "row: {name}");
+    }
     if request.is_explained {
         explain_verdict(alloc, request, texts, &verdict, err);
     }

@@ -121,7 +121,7 @@ pub(crate) fn explain_verdict<E: Write>(
     alloc: Global,
     request: &Request<'_>,
     texts: &Texts,
-    verdict: &Verdict,
+    verdict: &Verdict<'_>,
     err: &mut E,
 ) {
     if let Verdict::Denied(priority, denial) = verdict {

@@ -25,6 +25,9 @@ pub(crate) const FROM: &str = "The first tick that is shown, 0 to 1000000; 0 unl
 pub(crate) const TO: &str =
     "The tick behind the last that is shown, 0 to 1000000; the run's end unless it is said";
 
+pub(crate) const ROWS: &str =
+    "The names of the tasks and routines that are drawn, with commas between them; all unless it is said";
+
 pub(crate) const CSV: &str = "Prints comma-separated values, a line a figure";
 
 pub(crate) const NO_TICK_SHOWN: &str = "no tick is shown: --from lies behind TICKS or --to";

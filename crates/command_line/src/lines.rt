@@ -84,7 +84,11 @@ fn timeline_line<'a>(alloc: Global) -> Result<Command<'a>, AllocError> {
     let line = Command::new(alloc, "timeline")
         .about("Prints a picture of a run, as SVG")
         .after_help(help::TIMELINE_EXAMPLE);
-    of_part(alloc, of_run(alloc, of_system(alloc, line)?)?)
+    let rows = Arg::new(alloc, "rows")
+        .long("rows")
+        .action(ArgAction::Set)
+        .help(help::ROWS);
+    of_part(alloc, of_run(alloc, of_system(alloc, line)?)?)?.arg(rows)
 }
 
 fn stats_line<'a>(alloc: Global) -> Result<Command<'a>, AllocError> {

@@ -11,7 +11,7 @@ pub(crate) fn write_denial<O: Write>(
     priority: u8,
     denial: NamedDenial,
     out: &mut O,
-) -> Result<Verdict, RunFault> {
+) -> Result<Verdict<'static>, RunFault> {
     writeln!(out, "denied: {denial}")?;
     Ok(Verdict::Denied(priority, denial))
 }
@@ -21,7 +21,7 @@ pub(crate) fn write_check<O: Write>(
     system: &System,
     priority: u8,
     out: &mut O,
-) -> Result<Verdict, RunFault> {
+) -> Result<Verdict<'static>, RunFault> {
     match check_partition(system, priority) {
         Ok(()) => {
             writeln!(out, "accepted")?;
@@ -35,7 +35,7 @@ pub(crate) fn write_check<O: Write>(
 pub(crate) fn write_partitions<O: Write>(
     system: &System,
     out: &mut O,
-) -> Result<Verdict, RunFault> {
+) -> Result<Verdict<'static>, RunFault> {
     for priority in 0..=system.top_priority() {
         write!(out, "{priority}: ")?;
         write_check(system, priority, out)?;

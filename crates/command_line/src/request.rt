@@ -28,11 +28,11 @@ pub enum Lines {
 
 /// What is shown of a run besides its trace.
 #[derive(Clone, Copy, Debug)]
-pub enum View {
+pub enum View<'a> {
     /// The value change dump of the ticks from that one on.
     Vcd { from: u32 },
-    /// The picture of the ticks from that one on.
-    Timeline { from: u32 },
+    /// The picture of the ticks from that one on: of all rows, or of those in a list with commas between its names.
+    Timeline { from: u32, rows: Option<&'a str> },
     /// The figures.
     Stats(Form),
 }
@@ -43,7 +43,7 @@ pub enum Question<'a> {
     /// Lines of the trace of a run.
     Lines { line: RunLine<'a>, lines: Lines },
     /// What else is shown of a run.
-    View { line: RunLine<'a>, view: View },
+    View { line: RunLine<'a>, view: View<'a> },
     /// Whether the part from a priority upward is separable from what is below.
     Check { priority: u8 },
     /// At which priorities that is so.
@@ -110,7 +110,10 @@ fn timeline<'a>(matches: &ArgMatches<'a>) -> Question<'a> {
     let (line, from) = shown_part(matches);
     Question::View {
         line,
-        view: View::Timeline { from },
+        view: View::Timeline {
+            from,
+            rows: matches.get_str("rows"),
+        },
     }
 }
 
@@ -132,7 +135,7 @@ fn shown_fault(question: &Question<'_>) -> Option<&'static str> {
         return None;
     };
     match view {
-        View::Timeline { from } => match line.ticks.checked_sub(*from) {
+        View::Timeline { from, .. } => match line.ticks.checked_sub(*from) {
             None => Some(help::NO_TICK_SHOWN),
             Some(drawn) => (drawn > MAX_DRAWN).then_some(help::TOO_MANY_DRAWN),
         },

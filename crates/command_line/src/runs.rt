@@ -6,7 +6,7 @@ use crate::partitions::write_denial;
 use crate::request::{Lines, RunLine, View};
 use crate::status::Verdict;
 use osek_base::MAX_TICKS;
-use run_views::{Progress, RunInput, write_stats, write_timeline, write_vcd};
+use run_views::{Progress, RunInput, unknown_row, write_stats, write_timeline, write_vcd};
 use std::alloc::Global;
 use std::io::Write;
 use tracer::{RunFault, StdSink, run, run_blocking, run_upper};
@@ -19,7 +19,7 @@ pub(crate) fn write_lines<O: Write, E: Write>(
     lines: Lines,
     progress: &mut Progress<'_, E>,
     out: &mut O,
-) -> Result<Verdict, RunFault> {
+) -> Result<Verdict<'static>, RunFault> {
     let Texts { oil, asm, irq } = texts;
     let mode = line.mode;
     let ticks = line.ticks.min(MAX_TICKS);
@@ -38,14 +38,14 @@ pub(crate) fn write_lines<O: Write, E: Write>(
 }
 
 /// Writes what else is shown of a run.
-pub(crate) fn write_view<O: Write, E: Write>(
+pub(crate) fn write_view<'v, O: Write, E: Write>(
     alloc: Global,
     texts: &Texts,
     line: RunLine<'_>,
-    view: View,
+    view: View<'v>,
     progress: &mut Progress<'_, E>,
     out: &mut O,
-) -> Result<Verdict, RunFault> {
+) -> Result<Verdict<'v>, RunFault> {
     let system = system_of(alloc, texts)?;
     let input = RunInput {
         irqs: &texts.irq,
@@ -54,7 +54,14 @@ pub(crate) fn write_view<O: Write, E: Write>(
     };
     match view {
         View::Vcd { from } => write_vcd(alloc, &system, input, from, progress, out)?,
-        View::Timeline { from } => write_timeline(alloc, &system, input, from, progress, out)?,
+        View::Timeline { from, rows } => {
+            if let Some(list) = rows
+                && let Some(name) = unknown_row(&system, list)
+            {
+                return Ok(Verdict::NoRow(name));
+            }
+            write_timeline(alloc, &system, input, from, rows, progress, out)?;
+        }
         View::Stats(form) => write_stats(alloc, &system, input, form, progress, out)?,
     }
     Ok(Verdict::Done)

@@ -18,18 +18,21 @@ pub const DENIED: u8 = 3;
 /// Exit status: a write failed.
 pub const WRITE_FAILED: u8 = 4;
 
-/// What is written of a request that wasn't refused.
+/// What becomes of a request whose texts and run aren't refused.
 #[derive(Debug, Drop)]
-pub(crate) enum Verdict {
+pub(crate) enum Verdict<'a> {
     Done,
+    /// A row of that name is asked for, and no task or routine has it: nothing is written.
+    NoRow(&'a str),
     /// A partition is denied at a priority.
     Denied(u8, NamedDenial),
 }
 
-impl Verdict {
+impl Verdict<'_> {
     pub(crate) fn status(&self) -> u8 {
         match self {
             Verdict::Done => DONE,
+            Verdict::NoRow(_) => REFUSED,
             Verdict::Denied(..) => DENIED,
         }
     }

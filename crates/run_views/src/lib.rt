@@ -11,5 +11,5 @@ pub use beginning::RunInput;
 pub use progress::Progress;
 pub use stats::{Form, write_stats};
 pub use timeline::write_timeline;
-pub use timelines::MAX_DRAWN;
+pub use timelines::{MAX_DRAWN, unknown_row};
 pub use vcd::write_vcd;

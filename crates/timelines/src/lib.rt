@@ -3,6 +3,7 @@
 
 mod activity;
 mod begun;
+mod chosen_rows;
 mod drawn_marks;
 mod drawn_row;
 mod drawn_stretch;
@@ -24,6 +25,7 @@ mod track;
 
 pub use activity::Activity;
 pub use begun::begun_behind;
+pub use chosen_rows::unknown_row;
 pub use held::Held;
 pub use laws::{differ_from_the_next, tile_the_ticks};
 pub use moment::Moment;

@@ -1,5 +1,6 @@
 //! A picture of a run as SVG, no part of the standards.
 
+use crate::chosen_rows::drawn_count;
 use crate::drawn_marks::write_marks;
 use crate::drawn_row::DrawnRow;
 use crate::frame::{write_head, write_heading, write_legend, write_ticks};
@@ -24,13 +25,16 @@ fn stands_above(priority: u8, number: usize, other_priority: u8, other: usize) -
     other_priority < priority || (other_priority == priority && number < other)
 }
 
-/// How many routines stand above that of a number: those of higher PRIORITY, and of equal PRIORITY those before it.
-fn place_of_routine(routines: &[Routine], number: usize, priority: u8) -> usize {
-    routines
-        .iter()
-        .enumerate()
-        .filter(|(other, routine)| stands_above(routine.priority, *other, priority, number))
-        .count()
+/// How many routines that are drawn stand above that of a number: those of higher PRIORITY, and of equal PRIORITY those before
+/// it.
+fn place_of_routine(tracks: &[Track], routines: &[Routine], number: usize, priority: u8) -> usize {
+    let mut place = 0_usize;
+    for (other, (track, routine)) in tracks.iter().zip(routines).enumerate() {
+        if track.is_drawn && stands_above(routine.priority, other, priority, number) {
+            place = place.saturating_add(1);
+        }
+    }
+    place
 }
 
 fn write_track<W: Write>(
@@ -53,11 +57,14 @@ fn write_routines<W: Write>(
     let routines = system.parts().routines.as_slice();
     let names = system.names().routines.as_slice();
     for (number, ((track, routine), name)) in tracks.iter().zip(routines).zip(names).enumerate() {
+        if !track.is_drawn {
+            continue;
+        }
         let row = DrawnRow {
             kind: Kind::Routine,
             name: name.as_str(),
             priority: routine.priority,
-            place: place_of_routine(routines, number, routine.priority),
+            place: place_of_routine(tracks, routines, number, routine.priority),
         };
         write_track(system, row, track, layout, out)?;
     }
@@ -74,14 +81,19 @@ fn write_tasks<W: Write>(
 ) -> io::Result<()> {
     let tasks = system.parts().tasks.as_slice();
     let names = system.names().tasks.as_slice();
-    for (number, ((track, task), name)) in tracks.iter().zip(tasks).zip(names).enumerate() {
+    let mut place = above;
+    for ((track, task), name) in tracks.iter().zip(tasks).zip(names) {
+        if !track.is_drawn {
+            continue;
+        }
         let row = DrawnRow {
             kind: Kind::Task,
             name: name.as_str(),
             priority: task.priority,
-            place: number.saturating_add(above),
+            place,
         };
         write_track(system, row, track, layout, out)?;
+        place = place.saturating_add(1);
     }
     Ok(())
 }
@@ -90,19 +102,20 @@ impl Timeline {
     fn layout(&self, system: &System) -> Layout {
         let names = system.names();
         let longest = longest(names.tasks.as_slice()).max(longest(names.routines.as_slice()));
-        let rows = system.routine_count().saturating_add(system.task_count());
+        let routines = drawn_count(self.routines.as_slice());
+        let rows = drawn_count(self.tasks.as_slice()).saturating_add(routines);
         Layout::new(self.from, self.end, rows, longest)
     }
 
     /// Writes the picture: an SVG document of its own, without scripts and without references to others. A row for each
-    /// routine and then each task, by falling priority. An error is a failed write.
+    /// routine and then each task that was chosen, by falling priority. An error is a failed write.
     pub fn write<W: Write>(&self, system: &System, out: &mut W) -> io::Result<()> {
         let layout = self.layout(system);
         write_head(layout, out)?;
         write_heading(layout, out)?;
         write_ticks(layout, out)?;
         write_routines(system, self.routines.as_slice(), layout, out)?;
-        let above = self.routines.len();
+        let above = drawn_count(self.routines.as_slice());
         write_tasks(system, self.tasks.as_slice(), above, layout, out)?;
         write_legend(layout, out)
     }

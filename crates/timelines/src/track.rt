@@ -12,6 +12,8 @@ pub(crate) struct Track {
     pub(crate) marks: Vec<Mark>,
     /// Whether a task's oldest job has executed since it became ready; of a routine no.
     pub(crate) has_begun: bool,
+    /// Whether its row is drawn.
+    pub(crate) is_drawn: bool,
 }
 
 impl Track {
@@ -20,6 +22,7 @@ impl Track {
             row: Row::new(alloc),
             marks: Vec::new(alloc),
             has_begun: false,
+            is_drawn: true,
         }
     }
 
