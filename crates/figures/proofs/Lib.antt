@@ -1,3 +1,4 @@
+pub mod AddLemmas
 pub mod FigureLemmas
 pub mod ListLemmas
 pub mod StepLemmas

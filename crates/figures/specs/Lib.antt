@@ -1,7 +1,9 @@
 pub mod AlarmSums
 pub mod Counts
 pub mod FigureSums
+pub mod Reaching
 pub mod ResourceSums
 pub mod ResponseSums
 pub mod RoutineSums
+pub mod StateSums
 pub mod TaskSums

@@ -1,69 +1,73 @@
--- Responses of a task's jobs, over the ticks that were seen, newest first. Jobs of a task end in the order in which they
--- were made.
-use Rattle.std.specs.Prelude.{ℕ, zero, suc, Option, Some, None, List, [], ◌∷◌, ◌++◌, sum, length, cond, max, min, nat_lt, ◌+◌, ◌-◌, ◌^◌}
+-- Responses of a task, over the ticks that were seen, newest first: of each job the ticks from that in which it became
+-- ready to that in which it ended or began to wait, both counted. Jobs of a task end in the order in which they were made.
+use Rattle.std.specs.Prelude.{ℕ, zero, suc, Option, Some, None, List, [], ◌∷◌, ◌++◌, sum_by, length, cond, min, nat_lt, ◌+◌, ◌-◌, ◌^◌}
 use Rattle.figures.specs.declared.task_tick.TaskTick.{TaskTick}
+use Rattle.figures.specs.declared.reached.Reached.{Reached}
 use Rattle.figures.specs.declared.spread.Spread.{Spread}
 use Rattle.figures.specs.declared.response_figures.TheConstants.{MAX_UNFINISHED}
 use Rattle.figures.specs.Counts.{capped, capped_sum}
+use Rattle.figures.specs.Reaching.{worst, put}
+use Rattle.figures.specs.StateSums.{is_waiting, leaves}
 
 -- the numbers' count, sum, least and greatest
-abbrev pub least : List ℕ → ℕ
+abbrev pub least : List Reached → ℕ
 least [] = 2 ^ 32 - 1
-least (n ∷ ns) = min (least ns) n
+least (r ∷ rs) = min (least rs) r.ticks
 
-abbrev pub greatest : List ℕ → ℕ
-greatest [] = 0
-greatest (n ∷ ns) = max (greatest ns) n
+unfoldable pub spread : List Reached → Spread
+spread rs = record {
+  count = capped (length rs);
+  sum = capped_sum (sum_by (λ r. r.ticks) rs);
+  least = least rs;
+  greatest = worst rs;
+}
 
-unfoldable pub spread : List ℕ → Spread
-spread ns = record { count = capped (length ns); sum = capped_sum (sum ns); least = least ns; greatest = greatest ns }
+-- the jobs that stand ready or run at the instruction: of a task that waits its one job doesn't
+abbrev pub standing : TaskTick → ℕ
+standing t = t.seen.jobs - cond (is_waiting t) 1 0
 
--- a job made in a tick is the newest one; it isn't followed where there are as many as can be
+-- a job more that is ready since a tick, the newest; it isn't followed where there are as many as can be
 abbrev pub one_more : ℕ → List ℕ → List ℕ
-one_more tick jobs = cond (nat_lt (length jobs) MAX_UNFINISHED) (jobs ++ tick ∷ []) jobs
+one_more tick since = cond (nat_lt (length since) MAX_UNFINISHED) (since ++ tick ∷ []) since
 
--- some jobs made in a tick
-abbrev pub made_in : ℕ → ℕ → List ℕ → List ℕ
-made_in tick zero jobs = jobs
-made_in tick (suc n) jobs = one_more tick (made_in tick n jobs)
+-- some jobs more
+abbrev pub some_more : ℕ → ℕ → List ℕ → List ℕ
+some_more tick zero since = since
+some_more tick (suc n) since = one_more tick (some_more tick n since)
+
+-- those that stand and weren't followed are ready since this tick
+abbrev pub entered : TaskTick → List ℕ → List ℕ
+entered t since = some_more t.tick (standing t - length since) since
 
 -- the jobs behind the oldest
 abbrev pub later : List ℕ → List ℕ
 later [] = []
-later (made ∷ jobs) = jobs
+later (s ∷ since) = since
 
-abbrev pub with_made : TaskTick → List ℕ → List ℕ
-with_made t jobs = made_in t.tick t.seen.made jobs
+-- since which tick each job is ready that neither ended nor waits, oldest first
+abbrev pub ready_since : List TaskTick → List ℕ
+ready_since [] = []
+ready_since (t ∷ before) = cond (leaves t) (later (entered t (ready_since before))) (entered t (ready_since before))
 
--- the ticks in which the jobs that haven't ended were made, oldest first
-abbrev pub unfinished : List TaskTick → List ℕ
-unfinished [] = []
-unfinished (t ∷ before) = cond t.seen.ended (later (with_made t (unfinished before))) (with_made t (unfinished before))
-
--- the ticks from that in which a job was made to that in which it ended, both counted
+-- the ticks from one to another, both counted
 abbrev pub response : ℕ → ℕ → ℕ
-response made ended = capped (ended - made + 1)
+response since tick = capped (tick - since + 1)
 
--- the response of the oldest job, where it ends
-abbrev pub oldest_response : ℕ → List ℕ → Option ℕ
+-- the response of the oldest job, where it ends or waits in a tick
+abbrev pub oldest_response : ℕ → List ℕ → Option Reached
 oldest_response tick [] = None
-oldest_response tick (made ∷ jobs) = Some (response made tick)
+oldest_response tick (s ∷ since) = Some (record { ticks = response s tick; at = tick })
 
--- a response, if there is one, before others
-abbrev pub put : Option ℕ → List ℕ → List ℕ
-put None others = others
-put (Some n) others = n ∷ others
-
--- the responses of the jobs that ended, newest first
-abbrev pub responses : List TaskTick → List ℕ
+-- the responses, newest first
+abbrev pub responses : List TaskTick → List Reached
 responses [] = []
 responses (t ∷ before) =
-    put (cond t.seen.ended (oldest_response t.tick (with_made t (unfinished before))) None) (responses before)
+    put (cond (leaves t) (oldest_response t.tick (entered t (ready_since before))) None) (responses before)
 
--- what is kept of responses: the jobs that haven't ended, and how the responses lie
+-- what is kept of responses: since when the others are ready, and how the responses lie
 pub record Responses : Type 0 where
-  pub unfinished : List ℕ
+  pub ready_since : List ℕ
   pub spread : Spread
 
 unfoldable pub response_figures : List TaskTick → Responses
-response_figures seen = record { unfinished = unfinished seen; spread = spread (responses seen) }
+response_figures seen = record { ready_since = ready_since seen; spread = spread (responses seen) }

@@ -1,39 +1,46 @@
 -- Figures of an interrupt routine, over the ticks that were seen, newest first.
-use Rattle.std.specs.Prelude.{ℕ, List, [], ◌∷◌, Option, Some, None, sum_by, count_by, cond, max, nat_lt, ◌-◌}
+use Rattle.std.specs.Prelude.{ℕ, List, [], ◌∷◌, Option, Some, None, sum_by, count_by, cond, nat_lt, ◌-◌, ◌||◌}
+use Rattle.figures.specs.declared.reached.Reached.{Reached}
 use Rattle.figures.specs.declared.routine_figures.RoutineTick.{RoutineTick}
 use Rattle.figures.specs.declared.routine_figures.RoutineFigures.{RoutineFigures}
 use Rattle.figures.specs.Counts.{capped}
+use Rattle.figures.specs.Reaching.{worse_of, first_tick}
 
--- the tick of the arrival that set the pending flag, where it is set before the routine may start: an arrival sets it
--- where it wasn't set
+-- since when an interrupt is pending, before the tick's start: one that is started in the tick was pending
 abbrev pub since : RoutineTick → Option ℕ → Option ℕ
-since r (Some u) = Some u
-since r None = cond (nat_lt 0 r.seen.arrived) (Some r.tick) None
+since r flag = first_tick (r.seen.is_pending || r.seen.is_started) r.tick flag
 
 -- a start clears the flag
 abbrev pub still : RoutineTick → Option ℕ → Option ℕ
 still r flag = cond r.seen.is_started None flag
 
--- the tick of the arrival that is pending after the last tick seen
+-- since which tick an interrupt is pending after the last tick seen
 abbrev pub pending_since : List RoutineTick → Option ℕ
 pending_since [] = None
 pending_since (r ∷ before) = still r (since r (pending_since before))
 
--- the ticks from that arrival to a start, 0 where none is started
-abbrev pub latency : RoutineTick → Option ℕ → ℕ
-latency r None = 0
-latency r (Some u) = cond r.seen.is_started (r.tick - u) 0
+-- the ticks from that one to the start, where the routine is started
+abbrev pub latency : RoutineTick → Option ℕ → Option Reached
+latency r None = None
+latency r (Some u) = cond r.seen.is_started (Some (record { ticks = r.tick - u; at = r.tick })) None
 
-abbrev pub greatest_latency : List RoutineTick → ℕ
-greatest_latency [] = 0
-greatest_latency (r ∷ before) = max (greatest_latency before) (latency r (since r (pending_since before)))
+abbrev pub greatest_latency : List RoutineTick → Option Reached
+greatest_latency [] = None
+greatest_latency (r ∷ before) = worse_of (greatest_latency before) (latency r (since r (pending_since before)))
 
--- the interrupts that arrived, those that were lost, the starts, and the greatest latency
+-- the first tick in which an interrupt was lost
+abbrev pub first_loss : List RoutineTick → Option ℕ
+first_loss [] = None
+first_loss (r ∷ before) = first_tick (nat_lt 0 r.seen.lost) r.tick (first_loss before)
+
+-- the interrupts that arrived, those that were lost, the starts, the services answered other than E_OK, and the latency
 unfoldable pub routine_figures : List RoutineTick → RoutineFigures
 routine_figures seen = record {
   arrivals = capped (sum_by (λ r. r.seen.arrived) seen);
   starts = capped (count_by (λ r. r.seen.is_started) seen);
   losses = capped (sum_by (λ r. r.seen.lost) seen);
+  errors = capped (count_by (λ r. r.has_failed) seen);
   latency = greatest_latency seen;
   pending_since = pending_since seen;
+  first_loss = first_loss seen;
 }

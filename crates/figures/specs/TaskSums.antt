@@ -1,35 +1,41 @@
 -- What is counted of a task, over the ticks that were seen, newest first.
-use Rattle.std.specs.Prelude.{Bool, true, false, List, sum_by, count_by}
-use Rattle.osek_base.specs.declared.status.TaskState.TheVariants.{Running, Waiting, Ready, Suspended}
+use Rattle.std.specs.Prelude.{ℕ, List, [], ◌∷◌, Option, Some, None, sum_by, count_by, cond, max, nat_lt, ◌-◌}
 use Rattle.figures.specs.declared.task_tick.TaskTick.{TaskTick}
 use Rattle.figures.specs.declared.task_counts.TaskCounts.{TaskCounts}
 use Rattle.figures.specs.Counts.{capped}
+use Rattle.figures.specs.Reaching.{first_tick}
 
--- it executes the tick's instruction
-abbrev pub is_running : TaskTick → Bool
-is_running t = elim t.seen.state [ Running ↦ true | Waiting ↦ false | Ready ↦ false | Suspended ↦ false ]
+-- the jobs that stand at the last tick's instruction, and that it doesn't end
+abbrev pub left_jobs : TaskTick → ℕ
+left_jobs t = t.seen.jobs - cond t.seen.ended 1 0
 
--- it is ready, and a task of lower static priority executes
-abbrev pub is_blocked : TaskTick → Bool
-is_blocked t = elim t.seen.state [ Running ↦ false | Waiting ↦ false | Ready ↦ t.lower_executes | Suspended ↦ false ]
+abbrev pub unfinished : List TaskTick → ℕ
+unfinished [] = 0
+unfinished (t ∷ before) = left_jobs t
 
--- it is ready, and no task of lower static priority executes
-abbrev pub is_preempted : TaskTick → Bool
-is_preempted t =
-    elim t.seen.state [ Running ↦ false | Waiting ↦ false | Ready ↦ (elim t.lower_executes [ true ↦ false | false ↦ true ]) | Suspended ↦ false ]
+-- the greatest number of blockers that was told
+abbrev pub more_blockers : Option ℕ → Option ℕ → Option ℕ
+more_blockers None most = most
+more_blockers (Some n) None = Some n
+more_blockers (Some n) (Some most) = Some (max most n)
 
--- it waits for an event
-abbrev pub is_waiting : TaskTick → Bool
-is_waiting t = elim t.seen.state [ Running ↦ false | Waiting ↦ true | Ready ↦ false | Suspended ↦ false ]
+abbrev pub most_blockers : List TaskTick → Option ℕ
+most_blockers [] = None
+most_blockers (t ∷ before) = more_blockers t.blockers (most_blockers before)
 
--- the jobs made and ended, the activations refused, and the ticks in each state
+-- the first tick in which an activation was refused
+abbrev pub first_refusal : List TaskTick → Option ℕ
+first_refusal [] = None
+first_refusal (t ∷ before) = first_tick (nat_lt 0 t.seen.refused) t.tick (first_refusal before)
+
+-- the jobs made and ended, the activations refused, the services answered other than E_OK
 unfoldable pub task_counts : List TaskTick → TaskCounts
 task_counts seen = record {
   activations = capped (sum_by (λ t. t.seen.made) seen);
   refused = capped (sum_by (λ t. t.seen.refused) seen);
   ended = capped (count_by (λ t. t.seen.ended) seen);
-  executed = capped (count_by is_running seen);
-  preempted = capped (count_by is_preempted seen);
-  blocked = capped (count_by is_blocked seen);
-  waiting = capped (count_by is_waiting seen);
+  unfinished = unfinished seen;
+  errors = capped (count_by (λ t. t.has_failed) seen);
+  blockers = most_blockers seen;
+  first_refusal = first_refusal seen;
 }

@@ -1,11 +1,21 @@
 //! OSEK/VDX OS: alarms. Figures of an alarm.
 
 ghost use Rattle.std.specs.Prelude.{List, [], ◌∷◌, ◌≡◌};
-ghost use Rattle.observations.specs.declared.alarm_seen.AlarmSeen.{AlarmSeen};
+ghost use Rattle.figures.specs.declared.alarm_figures.AlarmTick.{AlarmTick};
 ghost use Rattle.figures.specs.AlarmSums.{alarm_figures};
 
 use crate::counts::counted;
+use crate::reached::first_tick;
 use observations::AlarmSeen;
+
+/// What is seen of an alarm in a tick, and the tick.
+#[derive(Clone, Copy, Debug, PartialEq, Eq)]
+pub struct AlarmTick {
+    /// The number of the tick, from 0.
+    pub tick: u32,
+    /// What is seen of the alarm.
+    pub seen: AlarmSeen,
+}
 
 /// Figures of an alarm.
 #[derive(Clone, Copy, Debug, Default, PartialEq, Eq)]
@@ -14,6 +24,8 @@ pub struct AlarmFigures {
     pub expiries: u32,
     /// How often it expired and its action was refused.
     pub refused: u32,
+    /// The first tick of these.
+    pub first_refusal: Option<u32>,
 }
 
 impl AlarmFigures {
@@ -25,14 +37,16 @@ impl AlarmFigures {
         AlarmFigures {
             expiries: 0,
             refused: 0,
+            first_refusal: None,
         }
     }
 
     /// A tick more is seen.
-    pub fn observe(&mut self, seen: &AlarmSeen)
-        ensures { (before : List AlarmSeen) → self.old ≡ alarm_figures before → self.new ≡ alarm_figures (seen.now ∷ before) }
+    pub fn observe(&mut self, tick: &AlarmTick)
+        ensures { (before : List AlarmTick) → self.old ≡ alarm_figures before → self.new ≡ alarm_figures (tick.now ∷ before) }
     {
-        self.expiries = counted(self.expiries, seen.has_expired);
-        self.refused = counted(self.refused, seen.is_refused);
+        self.expiries = counted(self.expiries, tick.seen.has_expired);
+        self.refused = counted(self.refused, tick.seen.is_refused);
+        self.first_refusal = first_tick(tick.seen.is_refused, tick.tick, self.first_refusal);
     }
 }

@@ -13,7 +13,8 @@ use crate::resource_figures::ResourceFigures;
 use crate::routine_figures::RoutineFigures;
 use crate::rows::{RUN, run_cells};
 use crate::sections::{
-    width_of, write_alarms, write_jobs, write_resources, write_routines, write_times,
+    width_of, write_alarms, write_jobs, write_resources, write_responses, write_routines,
+    write_times,
 };
 use crate::seen::is_idle;
 use crate::sheet::Sheet;
@@ -28,6 +29,7 @@ use std::marker::Model;
 #[derive(Drop)]
 pub struct Figures {
     ticks: u32,
+    last: u32,
     idle: u32,
     levels: ArrayVec<u8, MAX_TASKS>,
     tasks: ArrayVec<TaskFigures, MAX_TASKS>,
@@ -44,6 +46,7 @@ impl Model for Figures {
 
     ghost view = { λ f. record {
       ticks = f.ticks;
+      last = f.last;
       idle = f.idle;
       levels = f.levels.items;
       tasks = f.tasks.items;
@@ -62,6 +65,7 @@ impl Figures {
     {
         Figures {
             ticks: 0,
+            last: 0,
             idle: 0,
             levels: levels_of(system),
             tasks: new_tasks(system.task_count()),
@@ -76,6 +80,7 @@ impl Figures {
         ensures { (S : System) (before : List Observation) → AreFigures S before self.old → AreFigures S (observation.now ∷ before) self.new }
     {
         self.ticks = counted(self.ticks, true);
+        self.last = observation.tick;
         self.idle = counted(self.idle, is_idle(observation));
         let levels = self.levels.as_slice();
         observe_tasks(self.tasks.as_mut_slice(), levels, observation);
@@ -109,6 +114,7 @@ impl Figures {
     fn write_tasks<W: Write>(&self, names: &Names, sheet: Sheet, out: &mut W) -> io::Result<()> {
         let names = names.tasks.as_slice();
         write_jobs(self.tasks.as_slice(), names, sheet, out)?;
+        write_responses(self.tasks.as_slice(), self.last, names, sheet, out)?;
         write_times(self.tasks.as_slice(), self.ticks, names, sheet, out)
     }
 

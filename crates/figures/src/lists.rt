@@ -6,8 +6,8 @@ ghost use Rattle.figures.specs.FigureSums.{
   task_figures,
   task_tick,
   routine_tick,
-  holder_seen,
-  alarm_seen,
+  holder_tick,
+  alarm_tick,
 };
 ghost use Rattle.figures.specs.RoutineSums.{routine_figures};
 ghost use Rattle.figures.specs.ResourceSums.{resource_figures};
@@ -16,7 +16,7 @@ ghost use Rattle.figures.specs.AlarmSums.{alarm_figures};
 use crate::alarm_figures::AlarmFigures;
 use crate::resource_figures::ResourceFigures;
 use crate::routine_figures::RoutineFigures;
-use crate::seen::{alarm_seen, holder_seen, routine_tick, task_tick};
+use crate::seen::{alarm_tick, holder_tick, routine_tick, task_tick};
 use crate::task_figures::TaskFigures;
 use observations::Observation;
 
@@ -41,18 +41,18 @@ pub fn observe_routines(figures: &mut [RoutineFigures], observation: &Observatio
 
 /// A tick more of each resource.
 pub fn observe_resources(figures: &mut [ResourceFigures], observation: &Observation)
-    ensures { IsListStep resource_figures (holder_seen observation.now) figures.old figures.new }
+    ensures { IsListStep resource_figures (holder_tick observation.now) figures.old figures.new }
 {
     for (number, figures) in figures.iter_mut().enumerate() {
-        figures.observe(holder_seen(observation, number));
+        figures.observe(&holder_tick(observation, number));
     }
 }
 
 /// A tick more of each alarm.
 pub fn observe_alarms(figures: &mut [AlarmFigures], observation: &Observation)
-    ensures { IsListStep alarm_figures (alarm_seen observation.now) figures.old figures.new }
+    ensures { IsListStep alarm_figures (alarm_tick observation.now) figures.old figures.new }
 {
     for (number, figures) in figures.iter_mut().enumerate() {
-        figures.observe(&alarm_seen(observation, number));
+        figures.observe(&alarm_tick(observation, number));
     }
 }

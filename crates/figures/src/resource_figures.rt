@@ -1,9 +1,11 @@
 //! OSEK/VDX OS: resource management. Figures of a resource.
 
-ghost use Rattle.std.specs.Prelude.{ℕ, Option, List, [], ◌∷◌, ◌≡◌};
-ghost use Rattle.figures.specs.ResourceSums.{resource_figures, is_same, is_got, hold_on};
+ghost use Rattle.std.specs.Prelude.{List, [], ◌∷◌, ◌≡◌};
+ghost use Rattle.figures.specs.declared.resource_figures.HolderTick.{HolderTick};
+ghost use Rattle.figures.specs.ResourceSums.{resource_figures, is_same, is_got, hold_on, hold_at};
 
 use crate::counts::counted;
+use crate::reached::{Reached, worse_of};
 use observations::Holder;
 
 // Whether a task holds it, and held it before.
@@ -23,16 +25,40 @@ fn is_got(holder: Holder, before: Holder) -> bool
     holder.task().is_some() && !is_same(holder, before)
 }
 
+/// Who holds a resource in a tick, and the tick.
+#[derive(Clone, Copy, Debug, PartialEq, Eq)]
+pub struct HolderTick {
+    /// The number of the tick, from 0.
+    pub tick: u32,
+    /// Who holds it when the tick's instruction is executed.
+    pub holder: Holder,
+}
+
+impl HolderTick {
+    // how long a hold is that the tick finds
+    fn hold(&self, held: u32) -> Option<Reached>
+        ensures { result ≡ hold_at self.now held }
+    {
+        match self.holder.task() {
+            Some(_) => Some(Reached {
+                ticks: held,
+                at: self.tick,
+            }),
+            None => None,
+        }
+    }
+}
+
 /// Figures of a resource.
 #[derive(Clone, Copy, Debug, Default, PartialEq, Eq)]
 pub struct ResourceFigures {
-    /// How many ticks left a holder that the tick before hadn't left.
+    /// In how many ticks a task held it that hadn't in the tick before.
     pub gets: u32,
-    /// The most ticks in a row that left one holder.
-    pub longest: u32,
-    /// The holder that the last tick left.
+    /// The most ticks in a row with one holder.
+    pub longest: Option<Reached>,
+    /// The holder in the last tick.
     pub holder: Holder,
-    /// How many ticks in a row have left it, 0 where there is none.
+    /// How many ticks in a row have had it, 0 where there is none.
     pub held: u32,
 }
 
@@ -44,13 +70,13 @@ impl ResourceFigures {
     {
         ResourceFigures {
             gets: 0,
-            longest: 0,
+            longest: None,
             holder: Holder::new(None),
             held: 0,
         }
     }
 
-    // The ticks in a row that have left a holder, this one counted.
+    // The ticks in a row with a holder, this one counted.
     fn hold_on(&self, holder: Holder) -> u32
         ensures { result ≡ hold_on holder self.now.holder self.now.held }
     {
@@ -63,13 +89,13 @@ impl ResourceFigures {
         }
     }
 
-    /// A tick more is seen, by the holder that it leaves.
-    pub fn observe(&mut self, holder: Holder)
-        ensures { (before : List (Option ℕ)) → self.old ≡ resource_figures before → self.new ≡ resource_figures (holder ∷ before) }
+    /// A tick more is seen.
+    pub fn observe(&mut self, tick: &HolderTick)
+        ensures { (before : List HolderTick) → self.old ≡ resource_figures before → self.new ≡ resource_figures (tick.now ∷ before) }
     {
-        self.gets = counted(self.gets, is_got(holder, self.holder));
-        self.held = self.hold_on(holder);
-        self.longest = self.longest.max(self.held);
-        self.holder = holder;
+        self.gets = counted(self.gets, is_got(tick.holder, self.holder));
+        self.held = self.hold_on(tick.holder);
+        self.longest = worse_of(self.longest, tick.hold(self.held));
+        self.holder = tick.holder;
     }
 }

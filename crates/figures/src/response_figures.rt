@@ -2,29 +2,37 @@
 
 ghost use Rattle.std.specs.Prelude.{List, [], ◌∷◌, ◌≡◌, None, cond};
 ghost use Rattle.figures.specs.declared.task_tick.TaskTick.{TaskTick};
-ghost use Rattle.figures.specs.ResponseSums.{response_figures, response, oldest_response, later, made_in, one_more};
+ghost use Rattle.figures.specs.ResponseSums.{
+  response_figures,
+  response,
+  oldest_response,
+  later,
+  entered,
+  some_more,
+  one_more,
+};
 
+use crate::reached::Reached;
 use crate::spread::Spread;
 use crate::task_tick::TaskTick;
 use arrayvec::ArrayVec;
 use osek_base::MAX_ACTIVATION;
 use std::marker::Model;
 
-/// How many unfinished jobs of a task are followed: as many as it may have, and one that is made in the tick in which
-/// another ends.
-pub const MAX_UNFINISHED: usize = MAX_ACTIVATION as usize + 1;
+/// How many jobs of a task are followed: as many as it may have.
+pub const MAX_UNFINISHED: usize = MAX_ACTIVATION as usize;
 
-// The ticks from that in which a job was made to that in which it ended, both counted.
-fn response(made: u32, ended: u32) -> u32
-    ensures { result ≡ response made ended }
+// The ticks from one to another, both counted.
+fn response(since: u32, tick: u32) -> u32
+    ensures { result ≡ response since tick }
 {
-    ended.saturating_sub(made).saturating_add(1)
+    tick.saturating_sub(since).saturating_add(1)
 }
 
-/// The responses of a task's jobs that ended, and the ticks in which the others were made, oldest first.
+/// The responses of a task's jobs, and since which tick each job is ready that neither ended nor waits, oldest first.
 #[derive(Drop)]
 pub struct ResponseFigures {
-    unfinished: ArrayVec<u32, MAX_UNFINISHED>,
+    ready_since: ArrayVec<u32, MAX_UNFINISHED>,
     spread: Spread,
 }
 
@@ -33,7 +41,7 @@ impl Model for ResponseFigures {
 
     ghost Value = { Responses };
 
-    ghost view = { λ r. record { unfinished = r.unfinished.items; spread = r.spread } };
+    ghost view = { λ r. record { ready_since = r.ready_since.items; spread = r.spread } };
 }
 
 impl ResponseFigures {
@@ -43,7 +51,7 @@ impl ResponseFigures {
         ensures { result ≡ response_figures [] }
     {
         ResponseFigures {
-            unfinished: ArrayVec::new(),
+            ready_since: ArrayVec::new(),
             spread: Spread::new(),
         }
     }
@@ -55,42 +63,71 @@ impl ResponseFigures {
         self.spread
     }
 
+    /// The age in a tick of the oldest job that neither ended nor waits: as its response, if it ended in that tick.
+    pub fn oldest(&self, tick: u32) -> Option<Reached>
+        ensures { result ≡ oldest_response tick self.now.ready_since }
+    {
+        oldest(&self.ready_since, tick)
+    }
+
     /// A tick more is seen.
     pub fn observe(&mut self, tick: &TaskTick)
         ensures { (before : List TaskTick) → self.old ≡ response_figures before → self.new ≡ response_figures (tick.now ∷ before) }
     {
-        make(&mut self.unfinished, tick.tick, tick.seen.made);
-        let response = end_oldest(&mut self.unfinished, tick.tick, tick.seen.ended);
+        enter(&mut self.ready_since, tick);
+        let response = leave(&mut self.ready_since, tick.tick, tick.leaves());
         self.spread.note(response);
     }
 }
 
-// The oldest job ends in a tick, if it does: its response, where there is one.
-fn end_oldest(jobs: &mut ArrayVec<u32, MAX_UNFINISHED>, tick: u32, has_ended: bool) -> Option<u32>
-    ensures response { result ≡ cond has_ended (oldest_response tick jobs.old.items) None }
-    ensures left { jobs.new.items ≡ cond has_ended (later jobs.old.items) jobs.old.items }
+// The response of the oldest job, if it ends or waits in a tick.
+fn oldest(since: &ArrayVec<u32, MAX_UNFINISHED>, tick: u32) -> Option<Reached>
+    ensures { result ≡ oldest_response tick since.now.items }
 {
-    if !has_ended || jobs.is_empty() {
+    let first = since.as_slice().first()?;
+    Some(Reached {
+        ticks: response(*first, tick),
+        at: tick,
+    })
+}
+
+// The oldest job ends or waits in a tick, if it does: its response, where there is one.
+fn leave(since: &mut ArrayVec<u32, MAX_UNFINISHED>, tick: u32, leaves: bool) -> Option<Reached>
+    ensures response { result ≡ cond leaves (oldest_response tick since.old.items) None }
+    ensures left { since.new.items ≡ cond leaves (later since.old.items) since.old.items }
+{
+    if !leaves || since.is_empty() {
         return None;
     }
-    let made = jobs.remove(0);
-    Some(response(made, tick))
+    let oldest = since.remove(0);
+    Some(Reached {
+        ticks: response(oldest, tick),
+        at: tick,
+    })
 }
 
-// Some jobs made in a tick.
-fn make(jobs: &mut ArrayVec<u32, MAX_UNFINISHED>, tick: u32, count: u8)
-    ensures { jobs.new.items ≡ made_in tick count jobs.old.items }
+// The jobs that stand and weren't followed are ready since this tick.
+fn enter(since: &mut ArrayVec<u32, MAX_UNFINISHED>, tick: &TaskTick)
+    ensures { since.new.items ≡ entered tick.now since.old.items }
 {
-    for _made in 0..count {
-        make_one(jobs, tick);
+    let count = usize::from(tick.standing()).saturating_sub(since.len());
+    enter_some(since, tick.tick, count);
+}
+
+// Some jobs are ready since a tick.
+fn enter_some(since: &mut ArrayVec<u32, MAX_UNFINISHED>, tick: u32, count: usize)
+    ensures { since.new.items ≡ some_more tick count since.old.items }
+{
+    for _entered in 0..count {
+        enter_one(since, tick);
     }
 }
 
-// A job made in a tick.
-fn make_one(jobs: &mut ArrayVec<u32, MAX_UNFINISHED>, tick: u32)
-    ensures { jobs.new.items ≡ one_more tick jobs.old.items }
+// A job is ready since a tick.
+fn enter_one(since: &mut ArrayVec<u32, MAX_UNFINISHED>, tick: u32)
+    ensures { since.new.items ≡ one_more tick since.old.items }
 {
-    if !jobs.is_full() {
-        jobs.push(tick);
+    if !since.is_full() {
+        since.push(tick);
     }
 }

@@ -5,6 +5,7 @@ ghost use Rattle.figures.specs.declared.routine_figures.RoutineTick.{RoutineTick
 ghost use Rattle.figures.specs.RoutineSums.{routine_figures, since, still, latency};
 
 use crate::counts::{added, counted};
+use crate::reached::{Reached, first_tick, worse_of};
 use observations::RoutineSeen;
 
 /// What is seen of an interrupt routine in a tick, and the tick.
@@ -14,18 +15,20 @@ pub struct RoutineTick {
     pub tick: u32,
     /// What is seen of the routine.
     pub seen: RoutineSeen,
+    /// Whether it executes the tick's instruction, and that is a service answered other than E_OK.
+    pub has_failed: bool,
 }
 
 impl RoutineTick {
-    // since when an arrival is pending, where one was or one comes in this tick
+    // since when an interrupt is pending, where one was or is
     fn since(&self, pending: Option<u32>) -> Option<u32>
         ensures { result ≡ since self.now pending }
     {
-        match pending {
-            Some(tick) => Some(tick),
-            None if self.seen.arrived > 0 => Some(self.tick),
-            None => None,
-        }
+        first_tick(
+            self.seen.is_pending || self.seen.is_started,
+            self.tick,
+            pending,
+        )
     }
 
     // what of it is left after the tick
@@ -35,13 +38,16 @@ impl RoutineTick {
         if self.seen.is_started { None } else { since }
     }
 
-    // the ticks from that arrival to a start in this tick, 0 where there is none
-    fn latency(&self, since: Option<u32>) -> u32
+    // the ticks from that one to a start in this tick, where there is one
+    fn latency(&self, since: Option<u32>) -> Option<Reached>
         ensures { result ≡ latency self.now since }
     {
         match since {
-            Some(arrival) if self.seen.is_started => self.tick.saturating_sub(arrival),
-            _ => 0,
+            Some(since) if self.seen.is_started => Some(Reached {
+                ticks: self.tick.saturating_sub(since),
+                at: self.tick,
+            }),
+            _ => None,
         }
     }
 }
@@ -55,10 +61,14 @@ pub struct RoutineFigures {
     pub starts: u32,
     /// How many of the arrivals were lost.
     pub losses: u32,
-    /// The greatest number of ticks from an arrival that wasn't lost to the start, 0 where no start came later.
-    pub latency: u32,
-    /// The tick of the arrival that is pending, if one is.
+    /// How many services of the routine were answered other than E_OK.
+    pub errors: u32,
+    /// The greatest number of ticks in which an interrupt was pending before the tick of its start.
+    pub latency: Option<Reached>,
+    /// Since which tick an interrupt is pending, if one is.
     pub pending_since: Option<u32>,
+    /// The first tick in which an interrupt was lost.
+    pub first_loss: Option<u32>,
 }
 
 impl RoutineFigures {
@@ -71,8 +81,10 @@ impl RoutineFigures {
             arrivals: 0,
             starts: 0,
             losses: 0,
-            latency: 0,
+            errors: 0,
+            latency: None,
             pending_since: None,
+            first_loss: None,
         }
     }
 
@@ -84,7 +96,9 @@ impl RoutineFigures {
         self.losses = added(self.losses, tick.seen.lost);
         self.starts = counted(self.starts, tick.seen.is_started);
         let since = tick.since(self.pending_since);
-        self.latency = self.latency.max(tick.latency(since));
+        self.latency = worse_of(self.latency, tick.latency(since));
         self.pending_since = tick.still(since);
+        self.errors = counted(self.errors, tick.has_failed);
+        self.first_loss = first_tick(tick.seen.lost > 0, tick.tick, self.first_loss);
     }
 }

@@ -2,11 +2,13 @@
 
 use crate::alarm_figures::AlarmFigures;
 use crate::cells::{Cell, quotient};
+use crate::reached::Reached;
 use crate::resource_figures::ResourceFigures;
+use crate::response_figures::ResponseFigures;
 use crate::routine_figures::RoutineFigures;
 use crate::sheet::Section;
-use crate::spread::Spread;
 use crate::task_counts::TaskCounts;
+use crate::task_times::TaskTimes;
 
 /// The whole run.
 pub const RUN: Section = Section {
@@ -22,28 +24,55 @@ pub const JOBS: Section = Section {
         "refused",
         "ended",
         "unfinished",
+        "errors",
+        "blockers",
+    ],
+};
+
+/// The responses of tasks.
+pub const RESPONSES: Section = Section {
+    kind: "task",
+    columns: &[
+        "responses",
         "least",
         "mean",
         "greatest",
+        "greatest_at",
+        "oldest",
     ],
 };
 
 /// The ticks of tasks.
 pub const TIMES: Section = Section {
     kind: "task",
-    columns: &["executed", "preempted", "blocked", "waiting", "load"],
+    columns: &[
+        "executed",
+        "ready",
+        "preempted",
+        "blocked",
+        "waiting",
+        "load",
+    ],
 };
 
 /// The interrupt routines.
 pub const ROUTINES: Section = Section {
     kind: "routine",
-    columns: &["arrivals", "starts", "losses", "latency"],
+    columns: &[
+        "arrivals",
+        "starts",
+        "losses",
+        "errors",
+        "latency",
+        "latency_at",
+        "pending",
+    ],
 };
 
 /// The resources.
 pub const RESOURCES: Section = Section {
     kind: "resource",
-    columns: &["gets", "longest"],
+    columns: &["gets", "longest", "longest_at"],
 };
 
 /// The alarms.
@@ -66,47 +95,83 @@ pub fn run_cells(ticks: u32, idle: u32) -> [Cell; 3] {
     ]
 }
 
+// A count, if there is one.
+fn count(count: Option<u32>) -> Cell {
+    match count {
+        Some(count) => Cell::Count(count),
+        None => Cell::Nothing,
+    }
+}
+
+// How many ticks were reached, and when.
+fn reached(reached: Option<Reached>) -> (Cell, Cell) {
+    match reached {
+        Some(reached) => (Cell::Count(reached.ticks), Cell::Count(reached.at)),
+        None => (Cell::Nothing, Cell::Nothing),
+    }
+}
+
 /// The figures of [`JOBS`].
-pub fn job_cells(counts: &TaskCounts, spread: &Spread) -> [Cell; 7] {
-    let (least, greatest) = match spread.count {
-        0 => (Cell::Nothing, Cell::Nothing),
-        _ => (Cell::Count(spread.least), Cell::Count(spread.greatest)),
-    };
+pub fn job_cells(counts: &TaskCounts) -> [Cell; 6] {
     [
         Cell::Count(counts.activations),
         Cell::Count(counts.refused),
         Cell::Count(counts.ended),
-        Cell::Count(counts.activations.saturating_sub(counts.ended)),
-        least,
-        quotient(spread.sum, spread.count),
-        greatest,
+        Cell::Count(counts.unfinished),
+        Cell::Count(counts.errors),
+        count(counts.blockers),
     ]
 }
 
-/// The figures of [`TIMES`].
-pub fn time_cells(counts: &TaskCounts, ticks: u32) -> [Cell; 5] {
+/// The figures of [`RESPONSES`], behind a last tick.
+pub fn response_cells(responses: &ResponseFigures, last: u32) -> [Cell; 6] {
+    let spread = responses.spread();
+    let least = match spread.count {
+        0 => Cell::Nothing,
+        _ => Cell::Count(spread.least),
+    };
+    let (greatest, greatest_at) = reached(spread.greatest);
+    let (oldest, _) = reached(responses.oldest(last));
     [
-        Cell::Count(counts.executed),
-        Cell::Count(counts.preempted),
-        Cell::Count(counts.blocked),
-        Cell::Count(counts.waiting),
-        load(counts.executed, ticks),
+        Cell::Count(spread.count),
+        least,
+        quotient(spread.sum, spread.count),
+        greatest,
+        greatest_at,
+        oldest,
+    ]
+}
+
+/// The figures of [`TIMES`], of so many ticks.
+pub fn time_cells(times: &TaskTimes, ticks: u32) -> [Cell; 6] {
+    [
+        Cell::Count(times.executed),
+        Cell::Count(times.ready),
+        Cell::Count(times.preempted),
+        Cell::Count(times.blocked),
+        Cell::Count(times.waiting),
+        load(times.executed, ticks),
     ]
 }
 
 /// The figures of [`ROUTINES`].
-pub fn routine_cells(figures: &RoutineFigures) -> [Cell; 4] {
+pub fn routine_cells(figures: &RoutineFigures) -> [Cell; 7] {
+    let (latency, latency_at) = reached(figures.latency);
     [
         Cell::Count(figures.arrivals),
         Cell::Count(figures.starts),
         Cell::Count(figures.losses),
-        Cell::Count(figures.latency),
+        Cell::Count(figures.errors),
+        latency,
+        latency_at,
+        count(figures.pending_since),
     ]
 }
 
 /// The figures of [`RESOURCES`].
-pub fn resource_cells(figures: &ResourceFigures) -> [Cell; 2] {
-    [Cell::Count(figures.gets), Cell::Count(figures.longest)]
+pub fn resource_cells(figures: &ResourceFigures) -> [Cell; 3] {
+    let (longest, longest_at) = reached(figures.longest);
+    [Cell::Count(figures.gets), longest, longest_at]
 }
 
 /// The figures of [`ALARMS`].

@@ -4,8 +4,8 @@ use crate::alarm_figures::AlarmFigures;
 use crate::resource_figures::ResourceFigures;
 use crate::routine_figures::RoutineFigures;
 use crate::rows::{
-    ALARMS, JOBS, RESOURCES, ROUTINES, TIMES, alarm_cells, job_cells, resource_cells,
-    routine_cells, time_cells,
+    ALARMS, JOBS, RESOURCES, RESPONSES, ROUTINES, TIMES, alarm_cells, job_cells, resource_cells,
+    response_cells, routine_cells, time_cells,
 };
 use crate::sheet::Sheet;
 use crate::task_figures::TaskFigures;
@@ -40,13 +40,29 @@ pub fn write_jobs<W: Write>(
 ) -> io::Result<()> {
     sheet.open(&JOBS, figures.len(), out)?;
     for (number, figures) in figures.iter().enumerate() {
-        let cells = job_cells(&figures.counts, &figures.responses.spread());
+        let cells = job_cells(&figures.counts);
         sheet.write_line(&JOBS, name_at(names, number), &cells, out)?;
     }
     Ok(())
 }
 
-/// Writes in how many of the ticks the tasks were in each state.
+/// Writes the responses of the tasks, behind a last tick.
+pub fn write_responses<W: Write>(
+    figures: &[TaskFigures],
+    last: u32,
+    names: &[Name],
+    sheet: Sheet,
+    out: &mut W,
+) -> io::Result<()> {
+    sheet.open(&RESPONSES, figures.len(), out)?;
+    for (number, figures) in figures.iter().enumerate() {
+        let cells = response_cells(&figures.responses, last);
+        sheet.write_line(&RESPONSES, name_at(names, number), &cells, out)?;
+    }
+    Ok(())
+}
+
+/// Writes what the ticks were for the tasks.
 pub fn write_times<W: Write>(
     figures: &[TaskFigures],
     ticks: u32,
@@ -56,7 +72,7 @@ pub fn write_times<W: Write>(
 ) -> io::Result<()> {
     sheet.open(&TIMES, figures.len(), out)?;
     for (number, figures) in figures.iter().enumerate() {
-        let cells = time_cells(&figures.counts, ticks);
+        let cells = time_cells(&figures.times, ticks);
         sheet.write_line(&TIMES, name_at(names, number), &cells, out)?;
     }
     Ok(())

@@ -8,15 +8,20 @@ ghost use Rattle.figures.specs.FigureSums.{
   lower_executes,
   task_tick,
   routine_tick,
-  holder_seen,
-  alarm_seen,
+  holder_tick,
+  alarm_tick,
   is_idle,
+  is_error,
+  is_task,
+  is_routine,
 };
 
+use crate::alarm_figures::AlarmTick;
+use crate::resource_figures::HolderTick;
 use crate::routine_figures::RoutineTick;
 use crate::task_tick::TaskTick;
 use observations::{AlarmSeen, Holder, Observation, RoutineSeen, TaskSeen};
-use osek_base::{Owner, TaskState};
+use osek_base::{Owner, Status, TaskState};
 
 fn task_seen(tasks: &[TaskSeen], number: usize) -> TaskSeen
     ensures { result ≡ slice_index_or tasks.now number unseen_task }
@@ -30,6 +35,7 @@ fn task_seen(tasks: &[TaskSeen], number: usize) -> TaskSeen
             made: 0,
             refused: 0,
             ended: false,
+            waits: false,
         },
     }
 }
@@ -42,7 +48,6 @@ fn routine_seen(routines: &[RoutineSeen], number: usize) -> RoutineSeen
         None => RoutineSeen {
             executes: false,
             is_pending: false,
-            is_active: false,
             is_started: false,
             arrived: 0,
             lost: 0,
@@ -50,27 +55,74 @@ fn routine_seen(routines: &[RoutineSeen], number: usize) -> RoutineSeen
     }
 }
 
-/// What an observation has of an alarm.
-pub fn alarm_seen(observation: &Observation, number: usize) -> AlarmSeen
-    ensures { result ≡ alarm_seen observation.now number }
+fn alarm_seen(alarms: &[AlarmSeen], number: usize) -> AlarmSeen
+    ensures { result ≡ slice_index_or alarms.now number unseen_alarm }
 {
-    match observation.alarms.as_slice().get(number) {
+    match alarms.get(number) {
         Some(seen) => *seen,
         None => AlarmSeen {
             has_expired: false,
             is_refused: false,
-            left: None,
         },
     }
 }
 
-/// Who holds a resource.
-pub fn holder_seen(observation: &Observation, number: usize) -> Holder
-    ensures { result ≡ holder_seen observation.now number }
+fn holder_seen(holders: &[Holder], number: usize) -> Holder
+    ensures { result ≡ slice_index_or holders.now number None }
 {
-    match observation.holders.as_slice().get(number) {
+    match holders.get(number) {
         Some(holder) => *holder,
         None => Holder::new(None),
+    }
+}
+
+/// Who holds a resource in a tick.
+pub fn holder_tick(observation: &Observation, number: usize) -> HolderTick
+    ensures { result ≡ holder_tick observation.now number }
+{
+    HolderTick {
+        tick: observation.tick,
+        holder: holder_seen(observation.holders.as_slice(), number),
+    }
+}
+
+/// What an observation has of an alarm.
+pub fn alarm_tick(observation: &Observation, number: usize) -> AlarmTick
+    ensures { result ≡ alarm_tick observation.now number }
+{
+    AlarmTick {
+        tick: observation.tick,
+        seen: alarm_seen(observation.alarms.as_slice(), number),
+    }
+}
+
+// Whether a status is told, other than E_OK.
+fn is_error(answered: &Option<Status>) -> bool
+    ensures { result ≡ is_error answered.now }
+{
+    match answered {
+        Some(status) => status.number() > 0,
+        None => false,
+    }
+}
+
+// Whether a task executes.
+fn is_task(executor: &Option<Owner>, number: usize) -> bool
+    ensures { result ≡ is_task executor.now number }
+{
+    match executor {
+        Some(Owner::Task(task)) => task.number() as usize == number,
+        _ => false,
+    }
+}
+
+// Whether a routine executes.
+fn is_routine(executor: &Option<Owner>, number: usize) -> bool
+    ensures { result ≡ is_routine executor.now number }
+{
+    match executor {
+        Some(Owner::Routine(routine)) => routine.number() as usize == number,
+        _ => false,
     }
 }
 
@@ -93,10 +145,13 @@ pub fn task_tick(levels: &[u8], observation: &Observation, number: usize) -> Tas
     requires { number < length levels.now }
     ensures { result ≡ task_tick levels.now observation.now number }
 {
+    let executes = is_task(&observation.executor, number);
     TaskTick {
         tick: observation.tick,
         seen: task_seen(observation.tasks.as_slice(), number),
         lower_executes: lower_executes(levels, &observation.executor, number),
+        has_failed: executes && is_error(&observation.answered),
+        blockers: if executes { observation.blockers } else { None },
     }
 }
 
@@ -117,5 +172,6 @@ pub fn routine_tick(observation: &Observation, number: usize) -> RoutineTick
     RoutineTick {
         tick: observation.tick,
         seen: routine_seen(observation.routines.as_slice(), number),
+        has_failed: is_routine(&observation.executor, number) && is_error(&observation.answered),
     }
 }

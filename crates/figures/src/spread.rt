@@ -1,9 +1,12 @@
 //! Least, mean and greatest of numbers of ticks.
 
-ghost use Rattle.std.specs.Prelude.{ℕ, List, [], ◌∷◌, ◌≡◌};
-ghost use Rattle.figures.specs.ResponseSums.{spread, put};
+ghost use Rattle.std.specs.Prelude.{List, [], ◌∷◌, ◌≡◌};
+ghost use Rattle.figures.specs.declared.reached.Reached.{Reached};
+ghost use Rattle.figures.specs.ResponseSums.{spread};
+ghost use Rattle.figures.specs.Reaching.{put};
 
 use crate::counts::counted;
+use crate::reached::{Reached, worse_of};
 
 /// How some numbers of ticks lie.
 #[derive(Clone, Copy, Debug, PartialEq, Eq)]
@@ -14,8 +17,8 @@ pub struct Spread {
     pub sum: u64,
     /// The least, 4,294,967,295 where there is none.
     pub least: u32,
-    /// The greatest, 0 where there is none.
-    pub greatest: u32,
+    /// The greatest, where it was reached first.
+    pub greatest: Option<Reached>,
 }
 
 impl Spread {
@@ -28,25 +31,26 @@ impl Spread {
             count: 0,
             sum: 0,
             least: u32::MAX,
-            greatest: 0,
+            greatest: None,
         }
     }
 
     /// A number more.
-    pub fn add(&mut self, ticks: u32)
-        ensures { (before : List ℕ) → self.old ≡ spread before → self.new ≡ spread (ticks ∷ before) }
+    pub fn add(&mut self, reached: Reached)
+        ensures { (before : List Reached) → self.old ≡ spread before → self.new ≡ spread (reached ∷ before) }
     {
         self.count = counted(self.count, true);
-        self.sum = self.sum.saturating_add(u64::from(ticks));
-        self.least = self.least.min(ticks);
-        self.greatest = self.greatest.max(ticks);
+        self.sum = self.sum.saturating_add(u64::from(reached.ticks));
+        self.least = self.least.min(reached.ticks);
+        self.greatest = worse_of(self.greatest, Some(reached));
     }
+
     /// A number more, if there is one.
-    pub fn note(&mut self, ticks: Option<u32>)
-        ensures { (before : List ℕ) → self.old ≡ spread before → self.new ≡ spread (put ticks before) }
+    pub fn note(&mut self, reached: Option<Reached>)
+        ensures { (before : List Reached) → self.old ≡ spread before → self.new ≡ spread (put reached before) }
     {
-        if let Some(ticks) = ticks {
-            self.add(ticks);
+        if let Some(reached) = reached {
+            self.add(reached);
         }
     }
 }

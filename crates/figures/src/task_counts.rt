@@ -2,12 +2,24 @@
 
 ghost use Rattle.std.specs.Prelude.{List, [], ◌∷◌, ◌≡◌};
 ghost use Rattle.figures.specs.declared.task_tick.TaskTick.{TaskTick};
-ghost use Rattle.figures.specs.TaskSums.{task_counts};
+ghost use Rattle.figures.specs.TaskSums.{more_blockers, task_counts};
 
 use crate::counts::{added, counted};
+use crate::reached::first_tick;
 use crate::task_tick::TaskTick;
 
-/// What is counted of a task: jobs, and ticks by state.
+// The greatest number of blockers, one more of which may be told.
+fn more_blockers(told: Option<u32>, most: Option<u32>) -> Option<u32>
+    ensures { result ≡ more_blockers told most }
+{
+    match (told, most) {
+        (None, most) => most,
+        (Some(told), None) => Some(told),
+        (Some(told), Some(most)) => Some(most.max(told)),
+    }
+}
+
+/// What is counted of a task: jobs, and what was refused.
 #[derive(Clone, Copy, Debug, Default, PartialEq, Eq)]
 pub struct TaskCounts {
     /// How many jobs were made.
@@ -16,14 +28,14 @@ pub struct TaskCounts {
     pub refused: u32,
     /// How many jobs ended.
     pub ended: u32,
-    /// In how many ticks the task executed.
-    pub executed: u32,
-    /// In how many ticks it was ready while no task of lower static priority executed.
-    pub preempted: u32,
-    /// In how many ticks it was ready while a task of lower static priority executed.
-    pub blocked: u32,
-    /// In how many ticks it waited for an event.
-    pub waiting: u32,
+    /// How many jobs stood at the last tick's instruction, without one that it ended.
+    pub unfinished: u32,
+    /// How many services of its jobs were answered other than E_OK.
+    pub errors: u32,
+    /// The greatest number of blockers of its jobs, if one was told.
+    pub blockers: Option<u32>,
+    /// The first tick in which an activation was refused.
+    pub first_refusal: Option<u32>,
 }
 
 impl TaskCounts {
@@ -36,10 +48,10 @@ impl TaskCounts {
             activations: 0,
             refused: 0,
             ended: 0,
-            executed: 0,
-            preempted: 0,
-            blocked: 0,
-            waiting: 0,
+            unfinished: 0,
+            errors: 0,
+            blockers: None,
+            first_refusal: None,
         }
     }
 
@@ -50,9 +62,9 @@ impl TaskCounts {
         self.activations = added(self.activations, u32::from(tick.seen.made));
         self.refused = added(self.refused, u32::from(tick.seen.refused));
         self.ended = counted(self.ended, tick.seen.ended);
-        self.executed = counted(self.executed, tick.is_running());
-        self.preempted = counted(self.preempted, tick.is_preempted());
-        self.blocked = counted(self.blocked, tick.is_blocked());
-        self.waiting = counted(self.waiting, tick.is_waiting());
+        self.unfinished = u32::from(tick.left_jobs());
+        self.errors = counted(self.errors, tick.has_failed);
+        self.blockers = more_blockers(tick.blockers, self.blockers);
+        self.first_refusal = first_tick(tick.seen.refused > 0, tick.tick, self.first_refusal);
     }
 }

@@ -7,12 +7,15 @@ ghost use Rattle.figures.specs.FigureSums.{task_figures};
 use crate::response_figures::ResponseFigures;
 use crate::task_counts::TaskCounts;
 use crate::task_tick::TaskTick;
+use crate::task_times::TaskTimes;
 
 /// Figures of a task.
 #[derive(Drop)]
 pub struct TaskFigures {
     /// What is counted of it.
     pub counts: TaskCounts,
+    /// Its ticks by what they are for it.
+    pub times: TaskTimes,
     /// The responses of its jobs.
     pub responses: ResponseFigures,
 }
@@ -33,6 +36,7 @@ impl TaskFigures {
     {
         TaskFigures {
             counts: TaskCounts::new(),
+            times: TaskTimes::new(),
             responses: ResponseFigures::new(),
         }
     }
@@ -42,6 +46,7 @@ impl TaskFigures {
         ensures { (before : List TaskTick) → self.old ≡ task_figures before → self.new ≡ task_figures (tick.now ∷ before) }
     {
         self.counts.observe(tick);
+        self.times.observe(tick);
         self.responses.observe(tick);
     }
 }

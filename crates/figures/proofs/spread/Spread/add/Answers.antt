@@ -4,5 +4,5 @@ use Rattle.figures.proofs.spread.Spread.add.Goals as goal
 -- a tick more, with each callee's result
 pub returns : goal.returns
 returns c = λ before e.
-    let more = spread_more c.args.ticks before c.args.self.now e in
+    let more = spread_more c.args.reached before c.args.self.now e in
     cc

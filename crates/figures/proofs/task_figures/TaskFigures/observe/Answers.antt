@@ -7,5 +7,6 @@ pub returns : goal.returns
 unfolding task_figures
 returns c = λ before e.
     let counts = c.observe.ensures before (ap (λ (f : TaskFigures). f.counts) e) in
-    let responses = c.observe-2.ensures before (ap (λ (f : TaskFigures). f.responses) e) in
+    let times = c.observe-2.ensures before (ap (λ (f : TaskFigures). f.times) e) in
+    let responses = c.observe-3.ensures before (ap (λ (f : TaskFigures). f.responses) e) in
     cc
