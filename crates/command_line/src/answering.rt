@@ -3,8 +3,9 @@
 use crate::explaining::{explain_fault, explain_verdict};
 use crate::host_files::Files;
 use crate::inputs::{Texts, read_texts, system_of};
+use crate::making::make_files;
 use crate::partitions::{write_check, write_partitions};
-use crate::request::{Question, Request, read_line};
+use crate::request::{Line, Question, Request, read_line};
 use crate::runs::{write_lines, write_view};
 use crate::status::{DONE, REFUSED, REFUSED_LINE, Verdict, WRITE_FAILED, status_of};
 use clap::Error as LineError;
@@ -129,6 +130,7 @@ pub fn command<S: AsStr, F: Files, O: Write, E: Write>(
 ) -> u8 {
     match read_line(alloc, words) {
         Err(error) => print_help(error, out, err),
-        Ok(request) => answer(alloc, &request, files, out, err, shows_progress),
+        Ok(Line::Answer(request)) => answer(alloc, &request, files, out, err, shows_progress),
+        Ok(Line::Make(line)) => make_files(alloc, line, files, err),
     }
 }

@@ -75,6 +75,17 @@ pub(crate) const CLASS_EXAMPLE: &str = "Prints BCC1, BCC2, ECC1 or ECC2.
 Example:
   osek_run class system.oil programs.asm";
 
+pub(crate) const FILE: &str = "The description, in TOML: tasks, interrupts and alarms";
+
+pub(crate) const FOLDER: &str =
+    "The folder that system.oil, programs.asm and arrivals.irq are written to";
+
+pub(crate) const MAKE_EXAMPLE: &str =
+    "What is wrong is told with its places, all at once, and nothing is written then.
+
+Example:
+  osek_run make system.toml -o system";
+
 pub(crate) const HINT: &str =
     "`--help` also tells the exit statuses, `osek_run SUBCOMMAND --help` the words of a subcommand.";
 

@@ -8,6 +8,7 @@ mod host_files;
 mod inputs;
 mod line_watch;
 mod lines;
+mod making;
 mod partitions;
 mod request;
 mod runs;

@@ -119,6 +119,21 @@ fn class_line<'a>(alloc: Global) -> Result<Command<'a>, AllocError> {
     of_system(alloc, line)
 }
 
+fn make_line<'a>(alloc: Global) -> Result<Command<'a>, AllocError> {
+    let folder = Arg::new(alloc, "output")
+        .short('o')
+        .long("output")
+        .required(true)
+        .action(ArgAction::Set)
+        .value_name("FOLDER")
+        .help(help::FOLDER);
+    Command::new(alloc, "make")
+        .about("Makes the files of a system that a description tells of")
+        .after_help(help::MAKE_EXAMPLE)
+        .arg(word(alloc, "FILE", help::FILE))?
+        .arg(folder)
+}
+
 /// The program's line with its subcommands.
 pub(crate) fn lines<'a>(alloc: Global) -> Result<Command<'a>, AllocError> {
     Command::new(alloc, "osek_run")
@@ -135,5 +150,6 @@ pub(crate) fn lines<'a>(alloc: Global) -> Result<Command<'a>, AllocError> {
         .subcommand(stats_line(alloc)?)?
         .subcommand(check_line(alloc)?)?
         .subcommand(partitions_line(alloc)?)?
-        .subcommand(class_line(alloc)?)
+        .subcommand(class_line(alloc)?)?
+        .subcommand(make_line(alloc)?)
 }

@@ -72,6 +72,20 @@ pub struct Request<'a> {
     pub is_explained: bool,
 }
 
+/// A system to be made: the name of its description, and of the folder that its files go to.
+#[derive(Clone, Copy, Debug)]
+pub struct MakeLine<'a> {
+    pub file: &'a str,
+    pub folder: &'a str,
+}
+
+/// What a line asks for.
+#[derive(Clone, Copy, Debug)]
+pub enum Line<'a> {
+    Answer(Request<'a>),
+    Make(MakeLine<'a>),
+}
+
 /// The word of that name. Each is required, so it is there.
 fn text<'a>(matches: &ArgMatches<'a>, name: &str) -> &'a str {
     matches.get_str(name).unwrap_or("")
@@ -180,20 +194,26 @@ fn asked<'a>(subcommand: &str, matches: &ArgMatches<'a>) -> Question<'a> {
 
 /// Reads a command line, of which the first word is the program's name. An error is a refused line, a call for help or
 /// for the version, or want of memory.
-pub fn read_line<'a, S: AsStr>(alloc: Global, words: &'a [S]) -> Result<Request<'a>, Error> {
+pub fn read_line<'a, S: AsStr>(alloc: Global, words: &'a [S]) -> Result<Line<'a>, Error> {
     let mut line = lines(alloc)?;
     let matches = line.try_get_matches_from_mut(words)?;
     let Some((name, found)) = matches.subcommand() else {
         return Err(line.error(ErrorKind::MissingSubcommand, "a subcommand is wanted")?);
     };
+    if name == "make" {
+        return Ok(Line::Make(MakeLine {
+            file: text(found, "FILE"),
+            folder: text(found, "output"),
+        }));
+    }
     let question = asked(name, found);
     if let Some(fault) = shown_fault(&question) {
         return Err(line.error(ErrorKind::ValueValidation, fault)?);
     }
-    Ok(Request {
+    Ok(Line::Answer(Request {
         oil: text(found, "OIL"),
         asm: text(found, "ASM"),
         question,
         is_explained: found.get_flag("explain"),
-    })
+    }))
 }

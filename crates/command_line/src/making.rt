@@ -1,0 +1,111 @@
+//! What is made of a description: the three files of a system, or the places of all that is wrong.
+
+use crate::host_files::{FileFault, Files};
+use crate::request::MakeLine;
+use crate::status::{DONE, REFUSED, WRITE_FAILED};
+use std::alloc::{AllocError, Global};
+use std::io::{self, Write};
+use system_maker::{Answer, Made, Remark, make};
+use text_explanations::{Piece, Source};
+use tracer::read_system;
+
+/// The names of the files in their folder.
+const OIL: &str = "system.oil";
+
+const ASM: &str = "programs.asm";
+
+const IRQ: &str = "arrivals.irq";
+
+/// Writes how many things are wrong with a description, and each at its place.
+fn write_remarks<E: Write>(source: Source<'_>, remarks: &[Remark], err: &mut E) -> io::Result<()> {
+    writeln!(err, "toml: {} faults", remarks.len())?;
+    for remark in remarks {
+        source.tell(remark.place, &[Piece::Text(remark.text.as_str())], err)?;
+    }
+    Ok(())
+}
+
+/// Writes a file into a folder. False where that failed, which is told.
+fn write_file<F: Files, E: Write>(
+    alloc: Global,
+    files: &mut F,
+    folder: &str,
+    name: &str,
+    bytes: &[u8],
+    err: &mut E,
+) -> Result<bool, AllocError> {
+    match files.write(alloc, folder, name, bytes) {
+        Ok(()) => Ok(true),
+        Err(FileFault::Memory) => Err(AllocError),
+        Err(FileFault::Unreadable) => {
+            let _ = writeln!(err, "file: {folder}/{name}");
+            Ok(false)
+        }
+    }
+}
+
+/// Writes the files of a system, where the program's own reader takes them.
+fn write_made<F: Files, E: Write>(
+    alloc: Global,
+    made: &Made,
+    files: &mut F,
+    folder: &str,
+    err: &mut E,
+) -> Result<u8, AllocError> {
+    if let Err(fault) = read_system(alloc, &made.oil, &made.asm) {
+        let _ = writeln!(err, "{fault}");
+        return Ok(REFUSED);
+    }
+    let is_written = write_file(alloc, files, folder, OIL, &made.oil, err)?
+        && write_file(alloc, files, folder, ASM, &made.asm, err)?
+        && write_file(alloc, files, folder, IRQ, &made.irq, err)?;
+    Ok(if is_written { DONE } else { WRITE_FAILED })
+}
+
+/// Makes the files of the description that a text is.
+fn make_text<F: Files, E: Write>(
+    alloc: Global,
+    line: MakeLine<'_>,
+    text: &[u8],
+    files: &mut F,
+    err: &mut E,
+) -> Result<u8, AllocError> {
+    let Ok(answer) = make(alloc, text) else {
+        return Err(AllocError);
+    };
+    match answer {
+        Answer::Made(made) => write_made(alloc, &made, files, line.folder, err),
+        Answer::Refused(remarks) => {
+            let source = Source {
+                name: line.file,
+                text,
+            };
+            let _ = write_remarks(source, remarks.as_slice(), err);
+            Ok(REFUSED)
+        }
+    }
+}
+
+/// Makes the files of a description, and gives the exit status. Where anything is wrong with it, no file is written.
+pub(crate) fn make_files<F: Files, E: Write>(
+    alloc: Global,
+    line: MakeLine<'_>,
+    files: &mut F,
+    err: &mut E,
+) -> u8 {
+    let made = match files.read(alloc, line.file) {
+        Ok(text) => make_text(alloc, line, &text, files, err),
+        Err(FileFault::Memory) => Err(AllocError),
+        Err(FileFault::Unreadable) => {
+            let _ = writeln!(err, "file: {}", line.file);
+            return REFUSED;
+        }
+    };
+    match made {
+        Ok(status) => status,
+        Err(AllocError) => {
+            let _ = writeln!(err, "memory");
+            REFUSED
+        }
+    }
+}
