@@ -5,7 +5,7 @@ use crate::line_watch::LineWatch;
 use crate::partitions::write_denial;
 use crate::request::{Lines, RunLine, View};
 use crate::status::Verdict;
-use osek_base::MAX_TICKS;
+use osek_base::{MAX_TICKS, System};
 use run_views::{Progress, RunInput, unknown_row, write_stats, write_timeline, write_vcd};
 use std::alloc::Global;
 use std::io::Write;
@@ -37,6 +37,11 @@ pub(crate) fn write_lines<O: Write, E: Write>(
     Ok(Verdict::Done)
 }
 
+/// The first name of a list of rows, if there is one, that neither a task nor a routine has.
+fn row_without_owner<'v>(system: &System, rows: Option<&'v str>) -> Option<&'v str> {
+    unknown_row(system, rows?)
+}
+
 /// Writes what else is shown of a run.
 pub(crate) fn write_view<'v, O: Write, E: Write>(
     alloc: Global,
@@ -55,9 +60,7 @@ pub(crate) fn write_view<'v, O: Write, E: Write>(
     match view {
         View::Vcd { from } => write_vcd(alloc, &system, input, from, progress, out)?,
         View::Timeline { from, rows } => {
-            if let Some(list) = rows
-                && let Some(name) = unknown_row(&system, list)
-            {
+            if let Some(name) = row_without_owner(&system, rows) {
                 return Ok(Verdict::NoRow(name));
             }
             write_timeline(alloc, &system, input, from, rows, progress, out)?;
