@@ -2,10 +2,11 @@
 
 use crate::explaining::{explain_fault, explain_verdict};
 use crate::host_files::Files;
+use crate::imports::answer_import;
 use crate::inputs::{Texts, read_texts, system_of};
 use crate::making::make_files;
 use crate::partitions::{write_check, write_partitions};
-use crate::request::{Line, Question, Request, read_line};
+use crate::request::{Asked, Question, Request, read_line};
 use crate::runs::{write_lines, write_view};
 use crate::status::{DONE, REFUSED, REFUSED_LINE, Verdict, WRITE_FAILED, status_of};
 use clap::Error as LineError;
@@ -117,9 +118,9 @@ fn print_help<O: Write, E: Write>(error: LineError, out: &mut O, err: &mut E) ->
 
 /// Answers a command line, of which the first word is the program's name, and gives the exit status: 0, also after help;
 /// 1 for a refused input, an unreadable file or want of memory; 2 for a refused line; 3 for a denied partition; 4 for a
-/// failed write. For 1 and 4 one line says on `err` what it was. Where the line asks for it, an explanation of the refusal
-/// or of the denial follows on `err`. With `shows_progress` a long run says on `err`, on one line that is
-/// written over and taken away, how far it is.
+/// failed write. For 1 and 4 one line says on `err` what it was, of a refused import a line for each refusal. Where the line
+/// asks for it, an explanation of the refusal or of the denial follows on `err`. With `shows_progress` a long run says on
+/// `err`, on one line that is written over and taken away, how far it is.
 pub fn command<S: AsStr, F: Files, O: Write, E: Write>(
     alloc: Global,
     words: &[S],
@@ -130,7 +131,8 @@ pub fn command<S: AsStr, F: Files, O: Write, E: Write>(
 ) -> u8 {
     match read_line(alloc, words) {
         Err(error) => print_help(error, out, err),
-        Ok(Line::Answer(request)) => answer(alloc, &request, files, out, err, shows_progress),
-        Ok(Line::Make(line)) => make_files(alloc, line, files, err),
+        Ok(Asked::System(request)) => answer(alloc, &request, files, out, err, shows_progress),
+        Ok(Asked::Make(line)) => make_files(alloc, line, files, err),
+        Ok(Asked::Import(names)) => answer_import(alloc, &names, files, out, err),
     }
 }

@@ -86,6 +86,16 @@ pub(crate) const MAKE_EXAMPLE: &str =
 Example:
   osek_run make system.toml -o system";
 
+pub(crate) const IMPORTED: &str =
+    "The OIL file, and behind it those that it includes: they are found by the last part of their path";
+
+pub(crate) const IMPORT_EXAMPLE: &str =
+    "What is left out, set or refused is told on standard error, each at its place. Where something is refused, nothing is
+printed.
+
+Example:
+  osek_run import application.oil implementation.oil > system.oil";
+
 pub(crate) const HINT: &str =
     "`--help` also tells the exit statuses, `osek_run SUBCOMMAND --help` the words of a subcommand.";
 

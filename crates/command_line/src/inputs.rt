@@ -24,7 +24,8 @@ pub(crate) enum Unread<'a> {
     Memory,
 }
 
-fn read_file<'a, F: Files>(
+/// Reads a file.
+pub(crate) fn read_file<'a, F: Files>(
     alloc: Global,
     files: &mut F,
     name: &'a str,

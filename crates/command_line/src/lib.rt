@@ -5,6 +5,7 @@ mod answering;
 mod explaining;
 mod help;
 mod host_files;
+mod imports;
 mod inputs;
 mod line_watch;
 mod lines;

@@ -134,6 +134,16 @@ fn make_line<'a>(alloc: Global) -> Result<Command<'a>, AllocError> {
         .arg(folder)
 }
 
+fn import_line<'a>(alloc: Global) -> Result<Command<'a>, AllocError> {
+    let files = word(alloc, "FILE", help::IMPORTED)
+        .action(ArgAction::Append)
+        .num_args(1..);
+    Command::new(alloc, "import")
+        .about("Prints OIL as other kernels use it as the OIL that is read here")
+        .after_help(help::IMPORT_EXAMPLE)
+        .arg(files)
+}
+
 /// The program's line with its subcommands.
 pub(crate) fn lines<'a>(alloc: Global) -> Result<Command<'a>, AllocError> {
     Command::new(alloc, "osek_run")
@@ -152,4 +162,5 @@ pub(crate) fn lines<'a>(alloc: Global) -> Result<Command<'a>, AllocError> {
         .subcommand(partitions_line(alloc)?)?
         .subcommand(class_line(alloc)?)?
         .subcommand(make_line(alloc)?)
+        .subcommand(import_line(alloc)?)
 }

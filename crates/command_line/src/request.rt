@@ -5,7 +5,7 @@ use crate::lines::lines;
 use clap::error::ErrorKind;
 use clap::{ArgMatches, Error};
 use run_views::{Form, MAX_DRAWN};
-use std::alloc::Global;
+use std::alloc::{AllocError, Global};
 use std::convert::AsStr;
 
 /// What a run is of besides its system: the name of its arrival list, the mode, and how many ticks, 0 to 1,000,000.
@@ -79,11 +79,12 @@ pub struct MakeLine<'a> {
     pub folder: &'a str,
 }
 
-/// What a line asks for.
-#[derive(Clone, Copy, Debug)]
-pub enum Line<'a> {
-    Answer(Request<'a>),
+/// What a command line asks for: something of a system, the files of a description, or the import of files of these names.
+#[derive(Debug, Drop)]
+pub enum Asked<'a> {
+    System(Request<'a>),
     Make(MakeLine<'a>),
+    Import(Vec<&'a str>),
 }
 
 /// The word of that name. Each is required, so it is there.
@@ -192,25 +193,39 @@ fn asked<'a>(subcommand: &str, matches: &ArgMatches<'a>) -> Question<'a> {
     }
 }
 
+/// The names of the files that are imported.
+fn imported<'a>(alloc: Global, matches: &ArgMatches<'a>) -> Result<Vec<&'a str>, AllocError> {
+    let mut names = Vec::new(alloc);
+    if let Some(words) = matches.get_strs("FILE") {
+        for word in words {
+            names.push(*word)?;
+        }
+    }
+    Ok(names)
+}
+
 /// Reads a command line, of which the first word is the program's name. An error is a refused line, a call for help or
 /// for the version, or want of memory.
-pub fn read_line<'a, S: AsStr>(alloc: Global, words: &'a [S]) -> Result<Line<'a>, Error> {
+pub fn read_line<'a, S: AsStr>(alloc: Global, words: &'a [S]) -> Result<Asked<'a>, Error> {
     let mut line = lines(alloc)?;
     let matches = line.try_get_matches_from_mut(words)?;
     let Some((name, found)) = matches.subcommand() else {
         return Err(line.error(ErrorKind::MissingSubcommand, "a subcommand is wanted")?);
     };
     if name == "make" {
-        return Ok(Line::Make(MakeLine {
+        return Ok(Asked::Make(MakeLine {
             file: text(found, "FILE"),
             folder: text(found, "output"),
         }));
+    }
+    if name == "import" {
+        return Ok(Asked::Import(imported(alloc, found)?));
     }
     let question = asked(name, found);
     if let Some(fault) = shown_fault(&question) {
         return Err(line.error(ErrorKind::ValueValidation, fault)?);
     }
-    Ok(Line::Answer(Request {
+    Ok(Asked::System(Request {
         oil: text(found, "OIL"),
         asm: text(found, "ASM"),
         question,

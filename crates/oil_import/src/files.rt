@@ -1,0 +1,169 @@
+//! OIL: grammar. A whole file: its version, its CPU and what else stands beside it.
+
+use crate::attributes::is_cpu_name;
+use crate::braces::inside;
+use crate::declared::{DEFAULT_MODE, Objects};
+use crate::draft::Draft;
+use crate::items::{Item, Written};
+use crate::messages::{Messages, Subject, Verdict};
+use crate::objects::depth_of;
+use crate::reasons;
+use crate::settings::Importer;
+use crate::sources::Place;
+use oil_reader::Kind;
+use std::alloc::{AllocError, Global};
+
+/// What a file has besides comments.
+const VERSION: &str = "OIL_VERSION";
+
+const CPU: &str = "CPU";
+
+/// The number of the first item of that word outside all braces.
+fn first(items: &[Item<'_>], word: &str) -> Option<usize> {
+    for (number, item) in items.iter().enumerate() {
+        if item.depth == 0 && item.word == word {
+            return Some(number);
+        }
+    }
+    None
+}
+
+/// What stands in the braces of the item of that number.
+fn of_cpu<'t, 'a>(items: &'t [Item<'a>], cpu: Option<usize>) -> &'t [Item<'a>] {
+    match cpu {
+        Some(number) => inside(items, number, 0),
+        None => &[],
+    }
+}
+
+impl<'a> Importer<'a> {
+    fn new(
+        alloc: Global,
+        objects: &[Item<'a>],
+        messages: Messages<'a>,
+    ) -> Result<Self, AllocError> {
+        Ok(Importer {
+            objects: Objects::new(alloc, objects, depth_of(objects))?,
+            messages,
+            draft: Draft::new(alloc),
+            needs_default_mode: false,
+        })
+    }
+
+    /// What stands outside all braces; of the first CPU with what stands in its braces.
+    fn outer(
+        &mut self,
+        alloc: Global,
+        item: &Item<'a>,
+        cpu: Option<&[Item<'a>]>,
+    ) -> Result<(), AllocError> {
+        if self.refuse_form(item)? {
+            return Ok(());
+        }
+        let subject = Subject::Word(item.word);
+        match item.word {
+            VERSION => self.version(item),
+            CPU => match cpu {
+                Some(objects) => self.cpu(alloc, item, objects),
+                None => self
+                    .messages
+                    .refuse(item.place, subject, reasons::SECOND_CPU),
+            },
+            "IMPLEMENTATION" => {
+                let reason = reasons::IMPLEMENTATION;
+                self.messages.leave_out(item.place, subject, reason)
+            }
+            _ => self
+                .messages
+                .leave_out(item.place, subject, reasons::OUTSIDE),
+        }
+    }
+
+    fn version(&mut self, item: &Item<'a>) -> Result<(), AllocError> {
+        let subject = Subject::Word(VERSION);
+        match item.written {
+            Written::Text(b"2.5") => Ok(()),
+            Written::Text(_) => {
+                let reason = reasons::OTHER_VERSION;
+                self.messages
+                    .tell(item.written_place, Verdict::Set, subject, reason)
+            }
+            _ => self.messages.refuse(item.place, subject, reasons::NO_VALUE),
+        }
+    }
+
+    /// The CPU and its objects.
+    fn cpu(
+        &mut self,
+        alloc: Global,
+        item: &Item<'a>,
+        objects: &[Item<'a>],
+    ) -> Result<(), AllocError> {
+        let subject = Subject::Word(CPU);
+        let Written::Name(name) = item.written else {
+            return self.messages.refuse(item.place, subject, reasons::NO_NAME);
+        };
+        if !is_cpu_name(name) {
+            let subject = Subject::Object(CPU, name);
+            let place = item.written_place;
+            self.messages.refuse(place, subject, reasons::BAD_NAME)?;
+        }
+        self.draft.open_file(name)?;
+        let depth = depth_of(objects);
+        for (number, object) in objects.iter().enumerate() {
+            if object.depth == depth {
+                let attributes = inside(objects, number, depth);
+                self.object(alloc, number, object, attributes)?;
+            }
+        }
+        self.end_cpu(item.end)
+    }
+
+    /// Adds what a CPU needs, and closes it.
+    fn end_cpu(&mut self, end: Place) -> Result<(), AllocError> {
+        if self.objects.count(Kind::Os) == 0 {
+            let subject = Subject::Word("OS");
+            self.messages.refuse(end, subject, reasons::MISSING)?;
+        }
+        let is_declared = self.objects.find(Kind::AppMode, DEFAULT_MODE).is_some();
+        let is_wanted = self.needs_default_mode || self.objects.count(Kind::AppMode) == 0;
+        if is_wanted && !is_declared {
+            let subject = Subject::Object("APPMODE", DEFAULT_MODE);
+            self.messages
+                .tell(end, Verdict::Set, subject, reasons::DEFAULT_MODE)?;
+            self.draft.open_object("APPMODE", DEFAULT_MODE)?;
+            self.draft.close_object()?;
+        }
+        self.draft.close_file()
+    }
+}
+
+/// What items become.
+pub(crate) fn import_items<'a>(
+    alloc: Global,
+    items: &[Item<'a>],
+    end: Place,
+    messages: Messages<'a>,
+) -> Result<Importer<'a>, AllocError> {
+    let cpu = first(items, CPU);
+    let objects = of_cpu(items, cpu);
+    let mut importer = Importer::new(alloc, objects, messages)?;
+    for (number, item) in items.iter().enumerate() {
+        if item.depth == 0 {
+            let is_cpu = cpu == Some(number);
+            importer.outer(alloc, item, is_cpu.then_some(objects))?;
+        }
+    }
+    if first(items, VERSION).is_none() {
+        let subject = Subject::Word(VERSION);
+        let reason = reasons::NO_VERSION;
+        importer
+            .messages
+            .tell(Place::first(0), Verdict::Set, subject, reason)?;
+    }
+    if cpu.is_none() {
+        let subject = Subject::Word(CPU);
+        importer.messages.refuse(end, subject, reasons::NO_CPU)?;
+    }
+    Ok(importer)
+}

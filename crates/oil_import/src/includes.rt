@@ -1,0 +1,166 @@
+//! OIL: `#include`. The tokens of all files, in the order in which they include one another.
+
+use crate::messages::{Messages, Subject};
+use crate::reasons;
+use crate::sources::{Place, Source, last_part};
+use crate::tokens::{Lexeme, Token, tokenize};
+use std::alloc::{AllocError, Global};
+
+/// The tokens of a file, and how far they are taken.
+#[derive(Drop)]
+struct File<'a> {
+    tokens: Vec<Token<'a>>,
+    end: Place,
+    /// How many tokens are taken.
+    taken: usize,
+    /// Whether it is the first file, or one that another includes.
+    is_included: bool,
+}
+
+impl<'a> File<'a> {
+    /// The next token that isn't taken.
+    fn next(&mut self) -> Option<Token<'a>> {
+        let token = *self.tokens.get(self.taken)?;
+        self.taken = self.taken.saturating_add(1);
+        Some(token)
+    }
+}
+
+/// The files, in the order given, and the numbers of those that are open, the innermost last.
+#[derive(Drop)]
+struct Files<'a> {
+    files: Vec<File<'a>>,
+    open: Vec<usize>,
+}
+
+/// What comes next of files.
+enum Next<'a> {
+    Token(Token<'a>),
+    /// A file ended, at that place.
+    End(Place),
+}
+
+impl<'a> Files<'a> {
+    fn new(alloc: Global, sources: &[Source<'a>]) -> Result<Self, AllocError> {
+        let mut files = Vec::new(alloc);
+        for (number, source) in sources.iter().enumerate() {
+            let (tokens, end) = tokenize(alloc, number, *source)?;
+            files.push(File {
+                tokens,
+                end,
+                taken: 0,
+                is_included: number == 0,
+            })?;
+        }
+        let mut open = Vec::new(alloc);
+        open.push(0)?;
+        Ok(Files { files, open })
+    }
+
+    /// How many steps it takes to go through all files: a token or an end each.
+    fn steps(&self) -> usize {
+        let mut steps = self.files.len();
+        for file in &self.files {
+            steps = steps.saturating_add(file.tokens.len());
+        }
+        steps
+    }
+
+    /// What comes next, unless all open files have ended.
+    fn next(&mut self) -> Option<Next<'a>> {
+        let number = *self.open.last()?;
+        let file = self.files.get_mut(number)?;
+        match file.next() {
+            Some(token) => Some(Next::Token(token)),
+            None => {
+                let end = file.end;
+                let _ = self.open.pop();
+                Some(Next::End(end))
+            }
+        }
+    }
+
+    /// Goes on with a file that is included, unless it was included already.
+    fn include(&mut self, number: usize) -> Result<bool, AllocError> {
+        let Some(file) = self.files.get_mut(number) else {
+            return Ok(false);
+        };
+        if file.is_included {
+            return Ok(false);
+        }
+        file.is_included = true;
+        self.open.push(number)?;
+        Ok(true)
+    }
+}
+
+/// The number of the first file whose path has that last part.
+fn number_of(sources: &[Source<'_>], path: &[u8]) -> Option<usize> {
+    let wanted = last_part(path);
+    for (number, source) in sources.iter().enumerate() {
+        if last_part(source.name.as_bytes()) == wanted {
+            return Some(number);
+        }
+    }
+    None
+}
+
+/// Goes on with the file of an include.
+fn enter<'a>(
+    files: &mut Files<'a>,
+    sources: &[Source<'_>],
+    place: Place,
+    path: &'a [u8],
+    messages: &mut Messages<'a>,
+) -> Result<(), AllocError> {
+    let Some(number) = number_of(sources, path) else {
+        return messages.leave_out(place, Subject::Word("#include"), reasons::NOT_GIVEN);
+    };
+    if files.include(number)? {
+        return Ok(());
+    }
+    messages.leave_out(place, Subject::Word("#include"), reasons::INCLUDED_ALREADY)
+}
+
+/// Tells which files no other includes.
+fn tell_unused<'a>(
+    files: &Files<'a>,
+    sources: &[Source<'a>],
+    messages: &mut Messages<'a>,
+) -> Result<(), AllocError> {
+    for (number, file) in files.files.iter().enumerate() {
+        if !file.is_included {
+            let name = match sources.get(number) {
+                Some(source) => source.name,
+                None => "",
+            };
+            let place = Place::first(number);
+            messages.leave_out(place, Subject::Word(name), reasons::NOT_INCLUDED)?;
+        }
+    }
+    Ok(())
+}
+
+/// The tokens of all files that are included, and the place of the end. Files are included where they are named, each
+/// once, the first file from the front.
+pub fn all_tokens<'a>(
+    alloc: Global,
+    sources: &[Source<'a>],
+    messages: &mut Messages<'a>,
+) -> Result<(Vec<Token<'a>>, Place), AllocError> {
+    let mut files = Files::new(alloc, sources)?;
+    let mut tokens = Vec::new(alloc);
+    let mut end = Place::first(0);
+    for _ in 0..files.steps() {
+        match files.next() {
+            None => break,
+            Some(Next::End(place)) => end = place,
+            Some(Next::Token(token)) => match token.lexeme {
+                Lexeme::Include(path) => enter(&mut files, sources, token.place, path, messages)?,
+                _ => tokens.push(token)?,
+            },
+        }
+    }
+    tell_unused(&files, sources, messages)?;
+    Ok((tokens, end))
+}

@@ -1,0 +1,140 @@
+//! What is told of an import: what was left out, set, kept with another meaning, or refused, where and why.
+
+use crate::sources::{Place, Source};
+use std::alloc::{AllocError, Global};
+use std::io::{self, Write};
+
+/// What became of something.
+#[derive(Clone, Copy, Debug, PartialEq, Eq)]
+pub enum Verdict {
+    LeftOut,
+    /// It didn't stand there.
+    Set,
+    /// It stays, but what it says here is told.
+    Kept,
+    /// It can't be expressed, so nothing is imported.
+    Refused,
+}
+
+/// What a message is about.
+#[derive(Clone, Copy, Debug, PartialEq, Eq)]
+pub enum Subject<'a> {
+    /// `KIND NAME`, as `TASK A`.
+    Object(&'a str, &'a str),
+    /// `NAME = VALUE`.
+    Setting(&'a str, &'a str),
+    /// A word or sign.
+    Word(&'a str),
+}
+
+/// A message.
+#[derive(Clone, Copy, Debug)]
+pub struct Message<'a> {
+    pub place: Place,
+    pub verdict: Verdict,
+    pub subject: Subject<'a>,
+    pub reason: &'static str,
+}
+
+/// The messages of an import, in the order of the text where each stands by itself.
+#[derive(Debug, Drop)]
+pub struct Messages<'a> {
+    list: Vec<Message<'a>>,
+    is_refused: bool,
+}
+
+impl Verdict {
+    fn text(self) -> &'static str {
+        match self {
+            Verdict::LeftOut => "left out",
+            Verdict::Set => "set",
+            Verdict::Kept => "kept",
+            Verdict::Refused => "refused",
+        }
+    }
+}
+
+impl<'a> Messages<'a> {
+    pub fn new(alloc: Global) -> Self {
+        Messages {
+            list: Vec::new(alloc),
+            is_refused: false,
+        }
+    }
+
+    /// Whether something was refused.
+    pub fn is_refused(&self) -> bool {
+        self.is_refused
+    }
+
+    /// Adds a message.
+    pub(crate) fn tell(
+        &mut self,
+        place: Place,
+        verdict: Verdict,
+        subject: Subject<'a>,
+        reason: &'static str,
+    ) -> Result<(), AllocError> {
+        if verdict == Verdict::Refused {
+            self.is_refused = true;
+        }
+        self.list.push(Message {
+            place,
+            verdict,
+            subject,
+            reason,
+        })?;
+        Ok(())
+    }
+
+    /// Adds a refusal.
+    pub(crate) fn refuse(
+        &mut self,
+        place: Place,
+        subject: Subject<'a>,
+        reason: &'static str,
+    ) -> Result<(), AllocError> {
+        self.tell(place, Verdict::Refused, subject, reason)
+    }
+
+    /// Adds that something is left out.
+    pub(crate) fn leave_out(
+        &mut self,
+        place: Place,
+        subject: Subject<'a>,
+        reason: &'static str,
+    ) -> Result<(), AllocError> {
+        self.tell(place, Verdict::LeftOut, subject, reason)
+    }
+
+    /// Writes a line `FILE:LINE:COLUMN: VERDICT: SUBJECT: REASON` for each message. An error is a failed write.
+    pub fn write<W: Write>(&self, sources: &[Source<'_>], out: &mut W) -> io::Result<()> {
+        for message in &self.list {
+            write_message(message, sources, out)?;
+        }
+        Ok(())
+    }
+}
+
+fn write_subject<W: Write>(subject: Subject<'_>, out: &mut W) -> io::Result<()> {
+    match subject {
+        Subject::Object(kind, name) => write!(out, "{kind} {name}"),
+        Subject::Setting(name, value) => write!(out, "{name} = {value}"),
+        Subject::Word(word) => write!(out, "{word}"),
+    }
+}
+
+fn write_message<W: Write>(
+    message: &Message<'_>,
+    sources: &[Source<'_>],
+    out: &mut W,
+) -> io::Result<()> {
+    let Place { file, line, column } = message.place;
+    let name = match sources.get(file) {
+        Some(source) => source.name,
+        None => "",
+    };
+    write!(out, "{name}:{line}:{column}: {}: ", message.verdict.text())?;
+    write_subject(message.subject, out)?;
+    writeln!(out, ": {}", message.reason)
+}

@@ -1,0 +1,269 @@
+//! OIL: standard objects. An object with its attributes and their blocks.
+
+use crate::attributes::{attribute_of, is_of_communication, kind_of, value_of};
+use crate::braces::inside;
+use crate::declared::is_scheduler;
+use crate::items::{Item, Written};
+use crate::messages::Subject;
+use crate::reasons;
+use crate::settings::{Importer, Seen, is_one};
+use crate::sources::Place;
+use oil_reader::{AttributeName, Kind, attributes_of};
+use std::alloc::{AllocError, Global};
+
+/// An object that is imported: its kind and name, and the place of its end.
+#[derive(Clone, Copy)]
+struct Object<'a> {
+    kind: Kind,
+    name: &'a str,
+    end: Place,
+}
+
+/// Why an attribute that isn't known is left out.
+fn reason_for(kind: Kind, word: &str) -> &'static str {
+    match (kind, word) {
+        (Kind::Os, "CC") => reasons::CLASS,
+        (Kind::Os, "SCHEDULE") => reasons::SCHEDULING,
+        (Kind::Task | Kind::Isr, "MESSAGE" | "ACCESSOR") => reasons::COMMUNICATION,
+        _ => reasons::UNKNOWN_ATTRIBUTE,
+    }
+}
+
+/// What an item says, for a message.
+fn subject_of<'a>(item: &Item<'a>) -> Subject<'a> {
+    match item.written {
+        Written::Nothing | Written::Text(_) => Subject::Word(item.word),
+        Written::Name(name) => Subject::Object(item.word, name),
+        Written::Word(value) => Subject::Setting(item.word, value),
+    }
+}
+
+/// The attributes of the block behind a value.
+fn block_of(attribute: AttributeName, value: &str) -> &'static [AttributeName] {
+    match value_of(value) {
+        Some(value) => attribute.block(value),
+        None => &[],
+    }
+}
+
+impl<'a> Importer<'a> {
+    /// Refuses an item that isn't of its form, and answers whether it did.
+    pub(crate) fn refuse_form(&mut self, item: &Item<'a>) -> Result<bool, AllocError> {
+        let Some((place, reason)) = item.fault else {
+            return Ok(false);
+        };
+        self.messages
+            .refuse(place, Subject::Word(item.word), reason)?;
+        Ok(true)
+    }
+
+    /// An item among the objects of a CPU, and what stands in its braces.
+    pub(crate) fn object(
+        &mut self,
+        alloc: Global,
+        number: usize,
+        item: &Item<'a>,
+        attributes: &[Item<'a>],
+    ) -> Result<(), AllocError> {
+        let Some(kind) = kind_of(item.word) else {
+            return self.other_object(item);
+        };
+        if self.refuse_form(item)? {
+            return Ok(());
+        }
+        let Written::Name(name) = item.written else {
+            let subject = Subject::Word(item.word);
+            return self.messages.refuse(item.place, subject, reasons::NO_NAME);
+        };
+        if is_scheduler(kind, name) {
+            let reason = reasons::RES_SCHEDULER_IS_THERE;
+            return self
+                .messages
+                .leave_out(item.place, subject_of(item), reason);
+        }
+        if !self.is_declared(kind, name, number) {
+            return self.refuse_name(kind, name, item);
+        }
+        self.draft.open_object(item.word, name)?;
+        let end = item.end;
+        self.attributes(alloc, Object { kind, name, end }, attributes)?;
+        self.draft.close_object()
+    }
+
+    /// Whether that item is the one that declares an object.
+    fn is_declared(&self, kind: Kind, name: &str, number: usize) -> bool {
+        match self.objects.find(kind, name) {
+            Some(object) => object.number == number,
+            None => false,
+        }
+    }
+
+    fn refuse_name(
+        &mut self,
+        kind: Kind,
+        name: &'a str,
+        item: &Item<'a>,
+    ) -> Result<(), AllocError> {
+        let reason = match self.objects.refusal(kind, name) {
+            Some(reason) => reason,
+            None => reasons::NOT_READ,
+        };
+        self.messages
+            .refuse(item.written_place, subject_of(item), reason)
+    }
+
+    /// Something among the objects of a CPU that is none.
+    fn other_object(&mut self, item: &Item<'a>) -> Result<(), AllocError> {
+        let reason = match item.written {
+            Written::Name(_) | Written::Nothing if item.fault.is_some() => {
+                let _ = self.refuse_form(item)?;
+                return Ok(());
+            }
+            _ if is_of_communication(item.word) => reasons::COMMUNICATION,
+            Written::Name(_) | Written::Nothing => reasons::UNKNOWN_KIND,
+            Written::Word(_) | Written::Text(_) => reasons::UNKNOWN_ATTRIBUTE,
+        };
+        self.messages
+            .leave_out(item.place, subject_of(item), reason)
+    }
+
+    /// The attributes of an object.
+    fn attributes(
+        &mut self,
+        alloc: Global,
+        object: Object<'a>,
+        items: &[Item<'a>],
+    ) -> Result<(), AllocError> {
+        let scope = attributes_of(object.kind);
+        let mut seen = Seen::new(alloc);
+        let depth = depth_of(items);
+        for (number, item) in items.iter().enumerate() {
+            if item.depth == depth {
+                match attribute_of(scope, item.word) {
+                    Some(attribute) => {
+                        let block = inside(items, number, depth);
+                        self.attribute(alloc, object, attribute, item, block, &mut seen)?;
+                    }
+                    None => self.other_attribute(object.kind, item)?,
+                }
+            }
+        }
+        self.set_all_missing(scope, &seen, object.end)
+    }
+
+    /// An attribute that isn't known.
+    fn other_attribute(&mut self, kind: Kind, item: &Item<'a>) -> Result<(), AllocError> {
+        if kind == Kind::Isr && item.word == "RESOURCE" {
+            let reason = reasons::ROUTINES_RESOURCE;
+            return self.messages.refuse(item.place, subject_of(item), reason);
+        }
+        self.leave_out(item, reason_for(kind, item.word))
+    }
+
+    /// Leaves an item out, where it is of its form.
+    fn leave_out(&mut self, item: &Item<'a>, reason: &'static str) -> Result<(), AllocError> {
+        if self.refuse_form(item)? {
+            return Ok(());
+        }
+        self.messages
+            .leave_out(item.place, subject_of(item), reason)
+    }
+
+    /// An attribute of an object, and its block.
+    fn attribute(
+        &mut self,
+        alloc: Global,
+        object: Object<'a>,
+        attribute: AttributeName,
+        item: &Item<'a>,
+        block: &[Item<'a>],
+        seen: &mut Seen<'a>,
+    ) -> Result<(), AllocError> {
+        let Some(value) = self.taken(attribute, item, seen)? else {
+            return Ok(());
+        };
+        if attribute == AttributeName::Activation
+            && !is_one(value)
+            && !self.objects.is_basic(object.name)
+        {
+            let place = item.written_place;
+            let subject = subject_of(item);
+            self.messages
+                .refuse(place, subject, reasons::ONE_ACTIVATION)?;
+        }
+        self.draft.open_setting(item.word, value)?;
+        let scope = block_of(attribute, value);
+        if scope.is_empty() {
+            self.block(alloc, scope, item.end, block)?;
+        } else {
+            self.draft.open_block()?;
+            self.block(alloc, scope, item.end, block)?;
+            self.draft.close_block()?;
+        }
+        self.draft.close_setting()
+    }
+
+    /// The attributes of a block.
+    fn block(
+        &mut self,
+        alloc: Global,
+        scope: &[AttributeName],
+        end: Place,
+        items: &[Item<'a>],
+    ) -> Result<(), AllocError> {
+        let mut seen = Seen::new(alloc);
+        let depth = depth_of(items);
+        for item in items {
+            if item.depth == depth {
+                match attribute_of(scope, item.word) {
+                    Some(attribute) => self.sub_attribute(scope, attribute, item, &mut seen)?,
+                    None => self.leave_out(item, reasons::UNKNOWN_ATTRIBUTE)?,
+                }
+            }
+        }
+        self.set_all_missing(scope, &seen, end)
+    }
+
+    /// An attribute of a block.
+    fn sub_attribute(
+        &mut self,
+        scope: &[AttributeName],
+        attribute: AttributeName,
+        item: &Item<'a>,
+        seen: &mut Seen<'a>,
+    ) -> Result<(), AllocError> {
+        let Some(value) = self.taken(attribute, item, seen)? else {
+            return Ok(());
+        };
+        let is_of_event = scope.contains(&AttributeName::ActionEvent);
+        if attribute == AttributeName::ActionTask && is_of_event && self.objects.is_basic(value) {
+            let place = item.written_place;
+            self.messages
+                .refuse(place, subject_of(item), reasons::BASIC_TASK)?;
+        }
+        self.draft.setting(item.word, value)
+    }
+
+    /// Sets the attributes that are missing at the end of an object or block.
+    fn set_all_missing(
+        &mut self,
+        scope: &[AttributeName],
+        seen: &Seen<'a>,
+        end: Place,
+    ) -> Result<(), AllocError> {
+        for attribute in scope {
+            if !seen.has(*attribute) {
+                self.set_missing(*attribute, end)?;
+            }
+        }
+        Ok(())
+    }
+}
+
+/// The depth of items that stand in one pair of braces.
+pub(crate) fn depth_of(items: &[Item<'_>]) -> usize {
+    match items.first() {
+        Some(item) => item.depth,
+        None => 0,
+    }
+}

@@ -1,0 +1,120 @@
+//! Why something is left out, set or refused.
+
+pub(crate) const NOT_GIVEN: &str = "no file of that name is given";
+
+pub(crate) const INCLUDED_ALREADY: &str = "the file is included already";
+
+pub(crate) const NOT_INCLUDED: &str = "no file includes it";
+
+pub(crate) const UNENDED: &str = "a comment or string has no end";
+
+pub(crate) const NO_TOKEN: &str = "nothing of OIL begins here";
+
+pub(crate) const DIRECTIVE: &str = "of the preprocessor only #include is read";
+
+pub(crate) const MISPLACED: &str = "it can't stand here; maybe a ; is missing before it";
+
+pub(crate) const NOTHING_TO_CLOSE: &str = "no brace is open";
+
+pub(crate) const NOT_CLOSED: &str = "a brace isn't closed";
+
+pub(crate) const OTHER_VERSION: &str = "read as 2.5";
+
+pub(crate) const NO_VERSION: &str = "it is missing";
+
+pub(crate) const IMPLEMENTATION: &str = "what an implementation adds isn't read";
+
+pub(crate) const OUTSIDE: &str = "nothing but a CPU is read here";
+
+pub(crate) const SECOND_CPU: &str = "there is one CPU";
+
+pub(crate) const NO_CPU: &str = "it is missing";
+
+pub(crate) const NO_NAME: &str = "a name is wanted behind it";
+
+pub(crate) const NO_VALUE: &str = "a value is wanted behind it";
+
+pub(crate) const BAD_NAME: &str =
+    "a name is a letter or _, then letters, digits and _, at most 32; INVALID and r0 to r7 are none";
+
+pub(crate) const UNKNOWN_KIND: &str = "there are no objects of that kind";
+
+pub(crate) const COMMUNICATION: &str = "communication and network management are left out";
+
+pub(crate) const UNKNOWN_ATTRIBUTE: &str = "there is no such attribute";
+
+pub(crate) const CLASS: &str = "the conformance class follows from the objects";
+
+pub(crate) const SCHEDULING: &str = "each task has its own SCHEDULE";
+
+pub(crate) const NO_HOOK_CODE: &str = "hooks have no code, so nothing asks for it";
+
+pub(crate) const HOOK: &str = "its calls are recorded; code of its own isn't run";
+
+pub(crate) const DIVIDES: &str = "the counter grows once in so many ticks";
+
+pub(crate) const RES_SCHEDULER_IS_THERE: &str = "it is there without being declared";
+
+pub(crate) const RES_SCHEDULER_IS_OPEN: &str = "it is open to every task";
+
+pub(crate) const TWICE: &str = "it stands a second time";
+
+pub(crate) const NAMED_ALREADY: &str = "that name stands in the list already";
+
+pub(crate) const MISSING: &str = "it is missing";
+
+pub(crate) const AUTOMATIC: &str = "it stood as AUTO";
+
+pub(crate) const NOT_CHOSEN: &str = "AUTO can't be chosen here";
+
+pub(crate) const ONE_MODE: &str = "it is missing, and there is no other mode";
+
+pub(crate) const MODES_WANTED: &str = "it is missing, and there are several modes";
+
+pub(crate) const DEFAULT_MODE: &str = "it is there without being declared";
+
+pub(crate) const UNKNOWN_REFERENCE: &str = "no object of that kind has the name";
+
+pub(crate) const EXTENDED_STATUS: &str = "there is only extended status, EXTENDED";
+
+pub(crate) const SWITCH: &str = "TRUE or FALSE is wanted";
+
+pub(crate) const PRIORITIES_OF_TASKS: &str = "a task's priority is 0 to 63";
+
+pub(crate) const PRIORITIES_OF_ROUTINES: &str = "a routine's priority is 0 to 31";
+
+pub(crate) const SCHEDULES: &str = "NON or FULL is wanted";
+
+pub(crate) const ACTIVATIONS: &str = "a task has 1 to 15 activations";
+
+pub(crate) const CATEGORIES: &str = "there are only routines of category 2";
+
+pub(crate) const PROPERTIES: &str =
+    "a resource is STANDARD or INTERNAL; linked ones can't be expressed";
+
+pub(crate) const MASKS: &str = "AUTO or 1 to 4294967295 is wanted";
+
+pub(crate) const ACTIONS: &str =
+    "an alarm activates a task or sets an event; callbacks can't be expressed";
+
+pub(crate) const NUMBERS: &str = "a number is wanted, 0 to 4294967295";
+
+pub(crate) const ROUTINES_RESOURCE: &str = "an interrupt routine can't get resources";
+
+pub(crate) const ONE_ACTIVATION: &str = "an extended task, which lists events, has one activation";
+
+pub(crate) const BASIC_TASK: &str = "the task lists no events, so none can be set for it";
+
+pub(crate) const TOO_MANY_MODES: &str = "there are at most 8";
+
+pub(crate) const TOO_MANY_TASKS: &str = "there are at most 64";
+
+pub(crate) const TOO_MANY_ROUTINES: &str = "there are at most 16";
+
+pub(crate) const TOO_MANY_RESOURCES: &str = "there are at most 32";
+
+pub(crate) const TOO_MANY_COUNTERS: &str = "there are at most 8";
+
+pub(crate) const ONE_OS: &str = "there is one OS object";
+
+pub(crate) const NOT_READ: &str = "what it becomes is no system that can be read";
