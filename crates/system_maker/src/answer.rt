@@ -37,6 +37,16 @@ pub enum Answer {
     Refused(Vec<Remark>),
 }
 
+/// A text as it is shown: U+FFFD stands for what a name can't have and a terminal might obey.
+fn shown(alloc: Global, text: &str) -> Result<String, AllocError> {
+    let mut shown = String::new(alloc);
+    for c in text.chars() {
+        let is_plain = c == ' ' || c.is_ascii_graphic();
+        shown.push(if is_plain { c } else { '\u{FFFD}' })?;
+    }
+    Ok(shown)
+}
+
 /// Faults as they are told, by place; of one place in the order in which they were found.
 fn told(alloc: Global, faults: &[Fault<'_>]) -> Result<Vec<Remark>, AllocError> {
     let mut order = BTreeSet::new(alloc);
@@ -46,9 +56,10 @@ fn told(alloc: Global, faults: &[Fault<'_>]) -> Result<Vec<Remark>, AllocError> 
     let mut remarks = Vec::new(alloc);
     for (_, number) in &order {
         if let Some(fault) = faults.get(*number) {
+            let text = format!(in alloc; "{}", fault.wrong)?;
             remarks.push(Remark {
                 place: fault.place,
-                text: format!(in alloc; "{}", fault.wrong)?,
+                text: shown(alloc, text.as_str())?,
             })?;
         }
     }
