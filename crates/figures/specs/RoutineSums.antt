@@ -1,5 +1,5 @@
 -- Figures of an interrupt routine, over the ticks that were seen, newest first.
-use Rattle.std.specs.Prelude.{ℕ, List, [], ◌∷◌, Option, Some, None, sum_by, count_by, cond, nat_lt, ◌-◌, ◌||◌}
+use Rattle.std.specs.Prelude.{ℕ, List, [], ◌∷◌, Option, Some, None, sum_by, count_by, cond, nat_lt, ◌-◌, ◌+◌, ◌||◌}
 use Rattle.figures.specs.declared.reached.Reached.{Reached}
 use Rattle.figures.specs.declared.routine_figures.RoutineTick.{RoutineTick}
 use Rattle.figures.specs.declared.routine_figures.RoutineFigures.{RoutineFigures}
@@ -27,6 +27,11 @@ latency r (Some u) = cond r.seen.is_started (Some (record { ticks = r.tick - u; 
 abbrev pub greatest_latency : List RoutineTick → Option Reached
 greatest_latency [] = None
 greatest_latency (r ∷ before) = worse_of (greatest_latency before) (latency r (since r (pending_since before)))
+
+-- for how many ticks an interrupt is pending behind a tick
+abbrev pub pending_age : ℕ → Option ℕ → Option Reached
+pending_age tick None = None
+pending_age tick (Some u) = Some (record { ticks = capped (tick - u + 1); at = tick })
 
 -- the first tick in which an interrupt was lost
 abbrev pub first_loss : List RoutineTick → Option ℕ

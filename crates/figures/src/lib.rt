@@ -2,10 +2,16 @@
 #![tactic(auto)]
 
 mod alarm_figures;
+mod broken;
 mod cells;
 mod counts;
+mod csv_text;
 mod figures;
+mod form;
+mod json_text;
 mod laws;
+mod limits;
+mod line;
 mod lists;
 mod new_lists;
 mod reached;
@@ -15,8 +21,8 @@ mod routine_figures;
 mod rows;
 mod sections;
 mod seen;
-mod sheet;
 mod spread;
+mod table;
 mod task_counts;
 mod task_figures;
 mod task_tick;
@@ -24,8 +30,10 @@ mod task_time;
 mod task_times;
 
 pub use alarm_figures::{AlarmFigures, AlarmTick};
-pub use figures::Figures;
+pub use figures::{Figures, unknown_limit};
+pub use form::Form;
 pub use laws::add_up;
+pub use limits::{Limit, Limits};
 pub use reached::Reached;
 pub use resource_figures::{HolderTick, ResourceFigures};
 pub use response_figures::{MAX_UNFINISHED, ResponseFigures};

@@ -2,7 +2,8 @@
 
 ghost use Rattle.std.specs.Prelude.{List, [], ◌∷◌, ◌≡◌};
 ghost use Rattle.figures.specs.declared.routine_figures.RoutineTick.{RoutineTick};
-ghost use Rattle.figures.specs.RoutineSums.{routine_figures, since, still, latency};
+ghost use Rattle.figures.specs.Reaching.{worse_of};
+ghost use Rattle.figures.specs.RoutineSums.{routine_figures, since, still, latency, pending_age};
 
 use crate::counts::{added, counted};
 use crate::reached::{Reached, first_tick, worse_of};
@@ -100,5 +101,25 @@ impl RoutineFigures {
         self.pending_since = tick.still(since);
         self.errors = counted(self.errors, tick.has_failed);
         self.first_loss = first_tick(tick.seen.lost > 0, tick.tick, self.first_loss);
+    }
+
+    /// The greatest latency, or the age of what is pending behind a last tick, if that is greater.
+    pub fn worst(&self, last: u32) -> Option<Reached>
+        ensures { result ≡ worse_of self.now.latency (pending_age last self.now.pending_since) }
+    {
+        worse_of(self.latency, pending_age(last, self.pending_since))
+    }
+}
+
+// For how many ticks an interrupt is pending behind a tick.
+fn pending_age(tick: u32, since: Option<u32>) -> Option<Reached>
+    ensures { result ≡ pending_age tick since }
+{
+    match since {
+        Some(since) => Some(Reached {
+            ticks: tick.saturating_sub(since).saturating_add(1),
+            at: tick,
+        }),
+        None => None,
     }
 }

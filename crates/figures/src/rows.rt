@@ -2,11 +2,11 @@
 
 use crate::alarm_figures::AlarmFigures;
 use crate::cells::{Cell, quotient};
+use crate::line::Section;
 use crate::reached::Reached;
 use crate::resource_figures::ResourceFigures;
 use crate::response_figures::ResponseFigures;
 use crate::routine_figures::RoutineFigures;
-use crate::sheet::Section;
 use crate::task_counts::TaskCounts;
 use crate::task_times::TaskTimes;
 

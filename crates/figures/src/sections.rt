@@ -1,124 +1,148 @@
-//! The sections of the text, each with the lines of one kind of objects.
+//! The sections of the figures, each with the lines of one kind of objects.
 
 use crate::alarm_figures::AlarmFigures;
+use crate::line::{Group, Line};
 use crate::resource_figures::ResourceFigures;
 use crate::routine_figures::RoutineFigures;
 use crate::rows::{
-    ALARMS, JOBS, RESOURCES, RESPONSES, ROUTINES, TIMES, alarm_cells, job_cells, resource_cells,
-    response_cells, routine_cells, time_cells,
+    ALARMS, JOBS, RESOURCES, RESPONSES, ROUTINES, RUN, TIMES, alarm_cells, job_cells,
+    resource_cells, response_cells, routine_cells, run_cells, time_cells,
 };
-use crate::sheet::Sheet;
 use crate::task_figures::TaskFigures;
 use osek_base::Name;
-use std::io::{self, Write};
+use std::alloc::{AllocError, Global};
 
 const RES_SCHEDULER: &str = "RES_SCHEDULER";
 
-// The name of that number; of none, which is behind the declared resources, RES_SCHEDULER.
-fn name_at(names: &[Name], number: usize) -> &str {
+/// The name of that number; of none, which is behind the declared resources, RES_SCHEDULER.
+pub fn name_at(names: &[Name], number: usize) -> &str {
     match names.get(number) {
         Some(name) => name.as_str(),
         None => RES_SCHEDULER,
     }
 }
 
-/// How many bytes the longest name has, no fewer than RES_SCHEDULER has and an earlier list.
-pub fn width_of(names: &[Name], earlier: usize) -> usize {
-    let mut width = earlier.max(RES_SCHEDULER.len());
-    for name in names {
-        width = width.max(name.as_str().len());
+/// How many bytes the longest name has, no fewer than RES_SCHEDULER has.
+pub fn width_of(groups: &[Group<'_>]) -> usize {
+    let mut width = RES_SCHEDULER.len();
+    for group in groups {
+        for line in group.lines.as_slice() {
+            width = width.max(line.name.len());
+        }
     }
     width
 }
 
-/// Writes what became of the tasks' jobs.
-pub fn write_jobs<W: Write>(
+/// The whole run.
+pub fn run_group<'a>(alloc: Global, ticks: u32, idle: u32) -> Result<Group<'a>, AllocError> {
+    let mut lines = Vec::new(alloc);
+    lines.push(Line::new(alloc, "", &run_cells(ticks, idle))?)?;
+    Ok(Group {
+        section: RUN,
+        lines,
+    })
+}
+
+/// What became of the tasks' jobs.
+pub fn job_group<'a>(
+    alloc: Global,
     figures: &[TaskFigures],
-    names: &[Name],
-    sheet: Sheet,
-    out: &mut W,
-) -> io::Result<()> {
-    sheet.open(&JOBS, figures.len(), out)?;
+    names: &'a [Name],
+) -> Result<Group<'a>, AllocError> {
+    let mut lines = Vec::new(alloc);
     for (number, figures) in figures.iter().enumerate() {
         let cells = job_cells(&figures.counts);
-        sheet.write_line(&JOBS, name_at(names, number), &cells, out)?;
+        lines.push(Line::new(alloc, name_at(names, number), &cells)?)?;
     }
-    Ok(())
+    Ok(Group {
+        section: JOBS,
+        lines,
+    })
 }
 
-/// Writes the responses of the tasks, behind a last tick.
-pub fn write_responses<W: Write>(
+/// The responses of the tasks, behind a last tick.
+pub fn response_group<'a>(
+    alloc: Global,
     figures: &[TaskFigures],
     last: u32,
-    names: &[Name],
-    sheet: Sheet,
-    out: &mut W,
-) -> io::Result<()> {
-    sheet.open(&RESPONSES, figures.len(), out)?;
+    names: &'a [Name],
+) -> Result<Group<'a>, AllocError> {
+    let mut lines = Vec::new(alloc);
     for (number, figures) in figures.iter().enumerate() {
         let cells = response_cells(&figures.responses, last);
-        sheet.write_line(&RESPONSES, name_at(names, number), &cells, out)?;
+        lines.push(Line::new(alloc, name_at(names, number), &cells)?)?;
     }
-    Ok(())
+    Ok(Group {
+        section: RESPONSES,
+        lines,
+    })
 }
 
-/// Writes what the ticks were for the tasks.
-pub fn write_times<W: Write>(
+/// What so many ticks were for the tasks.
+pub fn time_group<'a>(
+    alloc: Global,
     figures: &[TaskFigures],
     ticks: u32,
-    names: &[Name],
-    sheet: Sheet,
-    out: &mut W,
-) -> io::Result<()> {
-    sheet.open(&TIMES, figures.len(), out)?;
+    names: &'a [Name],
+) -> Result<Group<'a>, AllocError> {
+    let mut lines = Vec::new(alloc);
     for (number, figures) in figures.iter().enumerate() {
         let cells = time_cells(&figures.times, ticks);
-        sheet.write_line(&TIMES, name_at(names, number), &cells, out)?;
+        lines.push(Line::new(alloc, name_at(names, number), &cells)?)?;
     }
-    Ok(())
+    Ok(Group {
+        section: TIMES,
+        lines,
+    })
 }
 
-/// Writes the figures of the routines.
-pub fn write_routines<W: Write>(
+/// The routines.
+pub fn routine_group<'a>(
+    alloc: Global,
     figures: &[RoutineFigures],
-    names: &[Name],
-    sheet: Sheet,
-    out: &mut W,
-) -> io::Result<()> {
-    sheet.open(&ROUTINES, figures.len(), out)?;
+    names: &'a [Name],
+) -> Result<Group<'a>, AllocError> {
+    let mut lines = Vec::new(alloc);
     for (number, figures) in figures.iter().enumerate() {
         let cells = routine_cells(figures);
-        sheet.write_line(&ROUTINES, name_at(names, number), &cells, out)?;
+        lines.push(Line::new(alloc, name_at(names, number), &cells)?)?;
     }
-    Ok(())
+    Ok(Group {
+        section: ROUTINES,
+        lines,
+    })
 }
 
-/// Writes the figures of the resources.
-pub fn write_resources<W: Write>(
+/// The resources.
+pub fn resource_group<'a>(
+    alloc: Global,
     figures: &[ResourceFigures],
-    names: &[Name],
-    sheet: Sheet,
-    out: &mut W,
-) -> io::Result<()> {
-    sheet.open(&RESOURCES, figures.len(), out)?;
+    names: &'a [Name],
+) -> Result<Group<'a>, AllocError> {
+    let mut lines = Vec::new(alloc);
     for (number, figures) in figures.iter().enumerate() {
         let cells = resource_cells(figures);
-        sheet.write_line(&RESOURCES, name_at(names, number), &cells, out)?;
+        lines.push(Line::new(alloc, name_at(names, number), &cells)?)?;
     }
-    Ok(())
+    Ok(Group {
+        section: RESOURCES,
+        lines,
+    })
 }
 
-/// Writes the figures of the alarms.
-pub fn write_alarms<W: Write>(
+/// The alarms.
+pub fn alarm_group<'a>(
+    alloc: Global,
     figures: &[AlarmFigures],
-    names: &[Name],
-    sheet: Sheet,
-    out: &mut W,
-) -> io::Result<()> {
-    sheet.open(&ALARMS, figures.len(), out)?;
+    names: &'a [Name],
+) -> Result<Group<'a>, AllocError> {
+    let mut lines = Vec::new(alloc);
     for (number, figures) in figures.iter().enumerate() {
         let cells = alarm_cells(figures);
-        sheet.write_line(&ALARMS, name_at(names, number), &cells, out)?;
+        lines.push(Line::new(alloc, name_at(names, number), &cells)?)?;
     }
-    Ok(())
+    Ok(Group {
+        section: ALARMS,
+        lines,
+    })
 }

@@ -3,7 +3,10 @@
 ghost use Rattle.std.specs.Prelude.{List, [], ◌∷◌, ◌≡◌};
 ghost use Rattle.figures.specs.declared.task_tick.TaskTick.{TaskTick};
 ghost use Rattle.figures.specs.FigureSums.{task_figures};
+ghost use Rattle.figures.specs.ResponseSums.{oldest_response};
+ghost use Rattle.figures.specs.Reaching.{worse_of};
 
+use crate::reached::{Reached, worse_of};
 use crate::response_figures::ResponseFigures;
 use crate::task_counts::TaskCounts;
 use crate::task_tick::TaskTick;
@@ -48,5 +51,15 @@ impl TaskFigures {
         self.counts.observe(tick);
         self.times.observe(tick);
         self.responses.observe(tick);
+    }
+
+    /// The greatest response, or the age of the oldest job behind a last tick, if that is greater.
+    pub fn worst(&self, last: u32) -> Option<Reached>
+        ensures { result ≡ worse_of self.now.responses.spread.greatest (oldest_response last self.now.responses.ready_since) }
+    {
+        worse_of(
+            self.responses.spread().greatest,
+            self.responses.oldest(last),
+        )
     }
 }

@@ -1,0 +1,20 @@
+//! Limits on figures, for who checks a run by its exit status.
+
+/// How many ticks the responses of a task, or the latency of a routine, may take.
+#[derive(Clone, Copy, Debug, PartialEq, Eq)]
+pub struct Limit<'a> {
+    /// The task's or the routine's name.
+    pub name: &'a str,
+    pub ticks: u32,
+}
+
+/// What a run has to keep.
+#[derive(Clone, Copy, Debug)]
+pub struct Limits<'a> {
+    /// The limits on times.
+    pub times: &'a [Limit<'a>],
+    /// Whether no interrupt may be lost.
+    pub no_loss: bool,
+    /// Whether no activation and no alarm's action may be refused.
+    pub no_refusal: bool,
+}
