@@ -22,13 +22,16 @@ use tracer::RunFault;
 fn write_answer<'q, O: Write, E: Write>(
     alloc: Global,
     texts: &Texts,
-    question: Question<'q>,
+    request: &'q Request<'q>,
     progress: &mut Progress<'_, E>,
     out: &mut O,
 ) -> Result<Verdict<'q>, RunFault> {
-    match question {
+    match request.question {
         Question::Lines { line, lines } => write_lines(alloc, texts, line, lines, progress, out),
-        Question::View { line, view } => write_view(alloc, texts, line, view, progress, out),
+        Question::View { line, view } => {
+            let limits = request.limits.as_slice();
+            write_view(alloc, texts, line, view, limits, progress, out)
+        }
         Question::Check { priority } => write_check(&system_of(alloc, texts)?, priority, out),
         Question::Partitions => write_partitions(&system_of(alloc, texts)?, out),
         Question::Class => {
@@ -49,13 +52,11 @@ fn answer_texts<O: Write, E: Write>(
     shows_progress: bool,
 ) -> Result<u8, RunFault> {
     let mut progress = Progress::new(&mut *err, shows_progress);
-    let outcome = write_answer(alloc, texts, request.question, &mut progress, out);
+    let outcome = write_answer(alloc, texts, request, &mut progress, out);
     progress.end();
     let verdict = outcome?;
     out.flush()?;
-    if let Verdict::NoRow(name) = &verdict {
-        let _ = writeln!(err, "row: {name}");
-    }
+    let _ = verdict.write_lines(err);
     if request.is_explained {
         explain_verdict(alloc, request, texts, &verdict, err);
     }
@@ -118,9 +119,9 @@ fn print_help<O: Write, E: Write>(error: LineError, out: &mut O, err: &mut E) ->
 
 /// Answers a command line, of which the first word is the program's name, and gives the exit status: 0, also after help;
 /// 1 for a refused input, an unreadable file or want of memory; 2 for a refused line; 3 for a denied partition; 4 for a
-/// failed write. For 1 and 4 one line says on `err` what it was, of a refused import a line for each refusal. Where the line
-/// asks for it, an explanation of the refusal or of the denial follows on `err`. With `shows_progress` a long run says on
-/// `err`, on one line that is written over and taken away, how far it is.
+/// failed write; 6 where a run breaks a limit. For 1 and 4 one line says on `err` what it was, for 6 and of a refused import a
+/// line for each limit and refusal. Where the line asks for it, an explanation of the refusal or of the denial follows on
+/// `err`. With `shows_progress` a long run says on `err`, on one line that is written over and taken away, how far it is.
 pub fn command<S: AsStr, F: Files, O: Write, E: Write>(
     alloc: Global,
     words: &[S],

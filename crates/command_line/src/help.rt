@@ -30,6 +30,23 @@ pub(crate) const ROWS: &str =
 
 pub(crate) const CSV: &str = "Prints comma-separated values, a line a figure";
 
+pub(crate) const JSON: &str = "Prints JSON: an object by kinds, and in it by names";
+
+pub(crate) const FIRST: &str = "The first tick that counts, 0 to 1000000; 0 unless it is said";
+
+pub(crate) const LAST: &str =
+    "The tick behind the last that counts, 0 to 1000000; the run's end unless it is said";
+
+pub(crate) const LIMIT: &str =
+    "Exits with 6 where a response of the task, or the latency of the routine, takes more ticks";
+
+pub(crate) const NO_LOSS: &str = "Exits with 6 where an interrupt is lost";
+
+pub(crate) const NO_REFUSAL: &str =
+    "Exits with 6 where an activation or an alarm's action is refused";
+
+pub(crate) const NO_LIMIT: &str = "a limit is NAME=TICKS, with TICKS from 0 to 1000000";
+
 pub(crate) const NO_TICK_SHOWN: &str = "no tick is shown: --from lies behind TICKS or --to";
 
 pub(crate) const TOO_MANY_DRAWN: &str =
@@ -56,7 +73,10 @@ pub(crate) const TIMELINE_EXAMPLE: &str =
   osek_run timeline system.oil programs.asm arrivals.irq Normal 1000 --from 900 > run.svg";
 
 pub(crate) const STATS_EXAMPLE: &str = "Example, a million ticks in the mode Normal:
-  osek_run stats system.oil programs.asm arrivals.irq Normal 1000000";
+  osek_run stats system.oil programs.asm arrivals.irq Normal 1000000
+
+Held to limits, for scripts:
+  osek_run stats system.oil programs.asm arrivals.irq Normal 1000 --limit Control=20 --no-loss";
 
 pub(crate) const CHECK_EXAMPLE: &str =
     "Prints `accepted`, or `denied:` with the first rule that is broken, and where.
@@ -105,6 +125,7 @@ pub(crate) const STATUSES: &str = "Exit status:
   2  a refused command line
   3  a denied partition; standard output has the denial
   4  a failed write
+  6  a limit of `stats` is broken; standard error has a line for each
 
 `osek_run SUBCOMMAND --help` tells the words of a subcommand.";
 

@@ -17,4 +17,4 @@ mod status;
 
 pub use answering::command;
 pub use host_files::{FileFault, Files, HostFiles};
-pub use status::{DENIED, DONE, REFUSED, REFUSED_LINE, WRITE_FAILED};
+pub use status::{BROKEN, DENIED, DONE, REFUSED, REFUSED_LINE, WRITE_FAILED};

@@ -95,7 +95,20 @@ fn stats_line<'a>(alloc: Global) -> Result<Command<'a>, AllocError> {
     let line = Command::new(alloc, "stats")
         .about("Prints figures of a run: of its tasks, routines, resources and alarms")
         .after_help(help::STATS_EXAMPLE);
-    of_run(alloc, of_system(alloc, line)?)?.arg(flag(alloc, "csv", help::CSV))
+    let limit = Arg::new(alloc, "limit")
+        .long("limit")
+        .value_name("NAME=TICKS")
+        .action(ArgAction::Append)
+        .help(help::LIMIT);
+    let json = flag(alloc, "json", help::JSON).conflicts_with("csv")?;
+    of_run(alloc, of_system(alloc, line)?)?
+        .arg(flag(alloc, "csv", help::CSV))?
+        .arg(json)?
+        .arg(bound(alloc, "from", help::FIRST))?
+        .arg(bound(alloc, "to", help::LAST))?
+        .arg(limit)?
+        .arg(flag(alloc, "no-loss", help::NO_LOSS))?
+        .arg(flag(alloc, "no-refusal", help::NO_REFUSAL))
 }
 
 fn check_line<'a>(alloc: Global) -> Result<Command<'a>, AllocError> {

@@ -4,7 +4,8 @@ use crate::help;
 use crate::lines::lines;
 use clap::error::ErrorKind;
 use clap::{ArgMatches, Error};
-use run_views::{Form, MAX_DRAWN};
+use osek_base::MAX_TICKS;
+use run_views::{Form, Limit, MAX_DRAWN};
 use std::alloc::{AllocError, Global};
 use std::convert::AsStr;
 
@@ -26,6 +27,18 @@ pub enum Lines {
     Upper { priority: u8, alone: bool },
 }
 
+/// The figures that are asked for.
+#[derive(Clone, Copy, Debug)]
+pub struct StatsLine {
+    pub form: Form,
+    /// The first tick that counts.
+    pub from: u32,
+    /// Whether a lost interrupt is told by the exit status.
+    pub no_loss: bool,
+    /// Whether a refused activation or action is.
+    pub no_refusal: bool,
+}
+
 /// What is shown of a run besides its trace.
 #[derive(Clone, Copy, Debug)]
 pub enum View<'a> {
@@ -34,7 +47,7 @@ pub enum View<'a> {
     /// The picture of the ticks from that one on: of all rows, or of those in a list with commas between its names.
     Timeline { from: u32, rows: Option<&'a str> },
     /// The figures.
-    Stats(Form),
+    Stats(StatsLine),
 }
 
 /// What is asked of a system.
@@ -64,11 +77,13 @@ impl<'a> Question<'a> {
 
 /// A command line: the names of the two files that a system is made of, what is asked of it, and whether a refusal or a
 /// denial is explained.
-#[derive(Clone, Copy, Debug)]
+#[derive(Debug, Drop)]
 pub struct Request<'a> {
     pub oil: &'a str,
     pub asm: &'a str,
     pub question: Question<'a>,
+    /// The limits that figures are held to.
+    pub limits: Vec<Limit<'a>>,
     pub is_explained: bool,
 }
 
@@ -132,15 +147,53 @@ fn timeline<'a>(matches: &ArgMatches<'a>) -> Question<'a> {
     }
 }
 
-fn stats<'a>(matches: &ArgMatches<'a>) -> Question<'a> {
-    let form = if matches.get_flag("csv") {
+fn form(matches: &ArgMatches<'_>) -> Form {
+    if matches.get_flag("csv") {
         Form::Csv
+    } else if matches.get_flag("json") {
+        Form::Json
     } else {
         Form::Table
+    }
+}
+
+fn stats<'a>(matches: &ArgMatches<'a>) -> Question<'a> {
+    let (line, from) = shown_part(matches);
+    let stats = StatsLine {
+        form: form(matches),
+        from,
+        no_loss: matches.get_flag("no-loss"),
+        no_refusal: matches.get_flag("no-refusal"),
     };
     Question::View {
-        line: run_line(matches),
-        view: View::Stats(form),
+        line,
+        view: View::Stats(stats),
+    }
+}
+
+/// A limit of that text, NAME=TICKS.
+fn limit_of(text: &str) -> Option<Limit<'_>> {
+    let (name, ticks) = text.split_once('=')?;
+    let ticks = ticks.parse::<u32>().ok()?;
+    (ticks <= MAX_TICKS).then_some(Limit { name, ticks })
+}
+
+/// Reads the limits of a line, and gives whether each is one.
+fn read_limits<'a>(texts: &[&'a str], limits: &mut Vec<Limit<'a>>) -> Result<bool, AllocError> {
+    for text in texts {
+        match limit_of(text) {
+            Some(limit) => limits.push(limit)?,
+            None => return Ok(false),
+        }
+    }
+    Ok(true)
+}
+
+/// The texts of the limits, where the subcommand takes limits.
+fn limit_texts<'m, 'a>(subcommand: &str, matches: &'m ArgMatches<'a>) -> &'m [&'a str] {
+    match subcommand {
+        "stats" => matches.get_strs("limit").unwrap_or(&[]),
+        _ => &[],
     }
 }
 
@@ -155,7 +208,7 @@ fn shown_fault(question: &Question<'_>) -> Option<&'static str> {
             Some(drawn) => (drawn > MAX_DRAWN).then_some(help::TOO_MANY_DRAWN),
         },
         View::Vcd { from } => (*from > line.ticks).then_some(help::NO_TICK_SHOWN),
-        View::Stats(_) => None,
+        View::Stats(stats) => (stats.from > line.ticks).then_some(help::NO_TICK_SHOWN),
     }
 }
 
@@ -225,10 +278,15 @@ pub fn read_line<'a, S: AsStr>(alloc: Global, words: &'a [S]) -> Result<Asked<'a
     if let Some(fault) = shown_fault(&question) {
         return Err(line.error(ErrorKind::ValueValidation, fault)?);
     }
+    let mut limits = Vec::new(alloc);
+    if !read_limits(limit_texts(name, found), &mut limits)? {
+        return Err(line.error(ErrorKind::ValueValidation, help::NO_LIMIT)?);
+    }
     Ok(Asked::System(Request {
         oil: text(found, "OIL"),
         asm: text(found, "ASM"),
         question,
+        limits,
         is_explained: found.get_flag("explain"),
     }))
 }

@@ -6,7 +6,10 @@ use crate::partitions::write_denial;
 use crate::request::{Lines, RunLine, View};
 use crate::status::Verdict;
 use osek_base::{MAX_TICKS, System};
-use run_views::{Progress, RunInput, unknown_row, write_stats, write_timeline, write_vcd};
+use run_views::{
+    Limit, Limits, Progress, RunInput, StatsInput, unknown_limit, unknown_row, write_stats,
+    write_timeline, write_vcd,
+};
 use std::alloc::Global;
 use std::io::Write;
 use tracer::{RunFault, StdSink, run, run_blocking, run_upper};
@@ -42,12 +45,33 @@ fn row_without_owner<'v>(system: &System, rows: Option<&'v str>) -> Option<&'v s
     unknown_row(system, rows?)
 }
 
+/// Writes the figures of a run, held to limits.
+fn write_held<'v, O: Write, E: Write>(
+    alloc: Global,
+    system: &System,
+    input: RunInput<'_>,
+    asked: StatsInput<'v>,
+    progress: &mut Progress<'_, E>,
+    out: &mut O,
+) -> Result<Verdict<'v>, RunFault> {
+    if let Some(name) = unknown_limit(system, asked.limits.times) {
+        return Ok(Verdict::NoLimit(name));
+    }
+    let lines = write_stats(alloc, system, input, asked, progress, out)?;
+    if lines.is_empty() {
+        Ok(Verdict::Done)
+    } else {
+        Ok(Verdict::Broken(lines))
+    }
+}
+
 /// Writes what else is shown of a run.
 pub(crate) fn write_view<'v, O: Write, E: Write>(
     alloc: Global,
     texts: &Texts,
     line: RunLine<'_>,
     view: View<'v>,
+    limits: &'v [Limit<'v>],
     progress: &mut Progress<'_, E>,
     out: &mut O,
 ) -> Result<Verdict<'v>, RunFault> {
@@ -65,7 +89,18 @@ pub(crate) fn write_view<'v, O: Write, E: Write>(
             }
             write_timeline(alloc, &system, input, from, rows, progress, out)?;
         }
-        View::Stats(form) => write_stats(alloc, &system, input, form, progress, out)?,
+        View::Stats(stats) => {
+            let asked = StatsInput {
+                form: stats.form,
+                from: stats.from,
+                limits: Limits {
+                    times: limits,
+                    no_loss: stats.no_loss,
+                    no_refusal: stats.no_refusal,
+                },
+            };
+            return write_held(alloc, &system, input, asked, progress, out);
+        }
     }
     Ok(Verdict::Done)
 }

@@ -1,6 +1,7 @@
 //! How a command line ends: its exit status.
 
 use partition_check::NamedDenial;
+use std::io::{self, Write};
 use tracer::RunFault;
 
 /// Exit status: the line is answered, also one that asks for help.
@@ -18,6 +19,9 @@ pub const DENIED: u8 = 3;
 /// Exit status: a write failed.
 pub const WRITE_FAILED: u8 = 4;
 
+/// Exit status: a run breaks a limit.
+pub const BROKEN: u8 = 6;
+
 /// What becomes of a request whose texts and run aren't refused.
 #[derive(Debug, Drop)]
 pub(crate) enum Verdict<'a> {
@@ -26,14 +30,30 @@ pub(crate) enum Verdict<'a> {
     NoRow(&'a str),
     /// A partition is denied at a priority.
     Denied(u8, NamedDenial),
+    /// The figures are written, and limits are broken: a line for each.
+    Broken(String),
+    /// A limit is on a task or a routine of that name, and there is none: nothing is written.
+    NoLimit(&'a str),
 }
 
 impl Verdict<'_> {
+    /// Writes what stands on standard error. An error is a failed write.
+    pub(crate) fn write_lines<E: Write>(&self, err: &mut E) -> io::Result<()> {
+        match self {
+            Verdict::NoRow(name) => writeln!(err, "row: {name}"),
+            Verdict::NoLimit(name) => writeln!(err, "limit: {name}"),
+            Verdict::Broken(lines) => err.write_all(lines.as_bytes()),
+            Verdict::Done | Verdict::Denied(..) => Ok(()),
+        }
+    }
+
     pub(crate) fn status(&self) -> u8 {
         match self {
             Verdict::Done => DONE,
             Verdict::NoRow(_) => REFUSED,
             Verdict::Denied(..) => DENIED,
+            Verdict::Broken(_) => BROKEN,
+            Verdict::NoLimit(_) => REFUSED,
         }
     }
 }

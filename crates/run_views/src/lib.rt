@@ -8,8 +8,9 @@ mod timeline;
 mod vcd;
 
 pub use beginning::RunInput;
+pub use figures::{Form, Limit, Limits, unknown_limit};
 pub use progress::Progress;
-pub use stats::{Form, write_stats};
+pub use stats::{StatsInput, write_stats};
 pub use timeline::write_timeline;
 pub use timelines::{MAX_DRAWN, unknown_row};
 pub use vcd::write_vcd;

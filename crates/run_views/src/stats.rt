@@ -2,42 +2,46 @@
 
 use crate::beginning::{RunInput, begin};
 use crate::progress::Progress;
-use figures::Figures;
+use figures::{Figures, Form, Limits};
+use kernel::Counted;
+use observed_runs::ObservedRun;
 use osek_base::System;
 use std::alloc::Global;
 use std::io::Write;
 use tracer::RunFault;
 
-/// How figures are written.
-#[derive(Clone, Copy, Debug, PartialEq, Eq)]
-pub enum Form {
-    /// As tables for people.
-    Table,
-    /// As comma-separated values, a line a figure.
-    Csv,
+/// What is asked of the figures of a run.
+#[derive(Clone, Copy, Debug)]
+pub struct StatsInput<'a> {
+    /// How they are written.
+    pub form: Form,
+    /// The first tick that counts. The run is from boot on.
+    pub from: u32,
+    /// What the run has to keep.
+    pub limits: Limits<'a>,
 }
 
-/// Runs a system and writes the figures of the run. A refusal comes before the first byte.
+/// Runs a system and writes the figures of its ticks from one on. A refusal comes before the first byte. What is answered
+/// is a line for each limit that is broken.
 pub fn write_stats<O: Write, E: Write>(
     alloc: Global,
     system: &System,
     input: RunInput<'_>,
-    form: Form,
+    asked: StatsInput<'_>,
     progress: &mut Progress<'_, E>,
     out: &mut O,
-) -> Result<(), RunFault> {
-    let mut run = begin(alloc, system, input.irqs, input.mode)?;
+) -> Result<String, RunFault> {
+    let mut run: ObservedRun<'_, Counted> = begin(alloc, system, input.irqs, input.mode)?;
     let mut figures = Figures::new(system);
-    for _tick in 0..input.ticks {
+    for tick in 0..input.ticks {
         if !run.advance() {
             break;
         }
-        figures.observe(run.observation());
+        if asked.from <= tick {
+            figures.observe(run.observation());
+        }
         progress.note(run.ticks_done(), input.ticks);
     }
-    match form {
-        Form::Table => figures.write(system, out)?,
-        Form::Csv => figures.write_csv(system, out)?,
-    }
-    Ok(())
+    out.write_all(figures.text(alloc, system, asked.form)?.as_slice())?;
+    Ok(figures.broken(alloc, system, &asked.limits)?)
 }
