@@ -14,7 +14,6 @@ use Rattle.machine.specs.Windows.{word}
 use Rattle.machine.specs.Code.{Programs}
 use Rattle.machine.specs.Packed.{instr_of}
 use Rattle.kept_state.specs.Moves.{KeptRecorded, contender}
-use Rattle.kept_state.specs.KeptService.{ByNobody, caller_in}
 use Rattle.kept_state.specs.KeptTick.{execute_phase_in}
 use Rattle.kept_state.specs.Standing.{MayServe, is_overtaken, is_overtaken_by}
 use Rattle.services.specs.Objects.{Objects, kept_in, kept_of}
@@ -24,7 +23,7 @@ use Rattle.kernel.specs.Does.{Does}
 use Rattle.kernel.specs.declared.next.Next.{Next}
 use Rattle.kernel.proofs.DoesLemmas.{processor_of}
 use Rattle.kernel.proofs.Execution.{Execution, executing, executed_by}
-use Rattle.kernel.proofs.ExecutionLemmas.{execute_phase-none, execute_phase-some, may_go_on}
+use Rattle.kernel.proofs.ExecutionLemmas.{execute_phase-some, may_go_on}
 use Rattle.kernel.proofs.PhaseLemmas.{context_with, executing_alone}
 use Rattle.kernel.proofs.PlaceLemmas.{placed_known}
 
@@ -87,16 +86,4 @@ executed_does m o n words after next is f i instr_is outcome behind system state
       events =
           ap₂ (λ (p : ℕ) (j : Instr). TraceEvent.Executed next.owner p j outcome ∷ behind) f.place instr_is
           ∙ told ∙ sym (ap (λ (r : KeptRecorded). r.events) done);
-    })
-
--- where nobody executes
-pub idle_does : (m : Processor) (o : Objects) (words : List ℕ) (behind : List TraceEvent) → processor_of o words ≡ m → caller_in (kept_in o) ≡ ByNobody
-    → behind ≡ [] → Does execute_phase_in m m [] (TraceEvent.Idle ∷ behind)
-idle_does m o words behind is nobody none =
-    let idle = execute_phase-none o.system (word words) o nobody in
-    subst (λ x. Does execute_phase_in x x [] (TraceEvent.Idle ∷ behind)) is
-    (record {
-      system = refl;
-      kept = sym (ap (λ (r : KeptRecorded). r.state) idle);
-      events = ap (λ v. TraceEvent.Idle ∷ v) none ∙ sym (ap (λ (r : KeptRecorded). r.events) idle);
     })

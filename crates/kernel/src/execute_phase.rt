@@ -55,10 +55,10 @@ impl<'s, Q: ReadyQueues> Processor<'s, Q> {
 
     /// A plain instruction.
     #[inline(always)]
-    pub fn execute_plain(&mut self, next: &Next) -> Outcome
-        requires next { IsNext self.old next.now }
-        requires plain { is_plain (instr_of next.now.packed) ≡ true }
-        ensures { Does execute_phase_in self.old self.new [] (TraceEvent.Executed next.now.owner next.now.place (instr_of next.now.packed) result ∷ []) }
+    pub fn execute_plain(&mut self, next: Next) -> Outcome
+        requires next { IsNext self.old next }
+        requires plain { is_plain (instr_of next.packed) ≡ true }
+        ensures { Does execute_phase_in self.old self.new [] (TraceEvent.Executed next.owner next.place (instr_of next.packed) result ∷ []) }
     {
         Outcome::Plain(
             self.core

@@ -37,10 +37,12 @@ impl<'s, Q: ReadyQueues, B: Blockers> Watched<'s, Q, B> {
             None => None,
             Some(owner) => {
                 let next = self.processor.next_of(&owner);
-                let outcome = self.execute(&next, tick, behind);
+                let owner = next.owner;
+                let place = next.place;
+                let outcome = self.execute(next, tick, behind);
                 Some(Executed {
-                    owner: next.owner,
-                    place: next.place,
+                    owner,
+                    place,
                     outcome,
                 })
             }
@@ -49,20 +51,20 @@ impl<'s, Q: ReadyQueues, B: Blockers> Watched<'s, Q, B> {
 
     /// Who executes does its next instruction. Services with a status alone make, release or end jobs.
     #[inline(always)]
-    fn execute(&mut self, next: &Next, tick: u32, behind: &mut TickRecord) -> Outcome
-        requires next { IsNext self.old.processor next.now }
+    fn execute(&mut self, next: Next, tick: u32, behind: &mut TickRecord) -> Outcome
+        requires next { IsNext self.old.processor next }
         requires begun { HasBegun B.are_counted self.old }
         requires none { behind.old ≡ [] }
-        ensures does { Watches B.are_counted executing tick self.old self.new [] (TraceEvent.Executed next.now.owner next.now.place (instr_of next.now.packed) result ∷ behind.new) }
+        ensures does { Watches B.are_counted executing tick self.old self.new [] (TraceEvent.Executed next.owner next.place (instr_of next.packed) result ∷ behind.new) }
         ensures few { length behind.new ≤ 1 }
     {
         if next.packed.is_plain() {
             self.processor.execute_plain(next)
         } else if next.packed.is_control() {
-            self.processor.execute_control(next, behind);
+            self.processor.execute_control(&next, behind);
             Outcome::Control
         } else {
-            self.serve(next, tick, behind)
+            self.serve(&next, tick, behind)
         }
     }
 

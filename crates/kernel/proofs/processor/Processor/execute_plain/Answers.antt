@@ -16,14 +16,14 @@ use Rattle.kernel.proofs.processor.Processor.execute_plain.Goals as goal
 pub exec_packed-requires-clause-next : goal.exec_packed-requires-clause-next
 exec_packed-requires-clause-next g c =
     let k = c.self.inside in
-    let next = c.args.next.now in
+    let next = c.args.next in
     let f = fetched c.args.self.now k.system.now k.core k.windows k.code next c.self.view_is c.self.invariant c.requires.next in
     has_next k.core.system next.owner (executing k.core next.owner).cpu f.known (plain_of (instr_of next.packed)) (f.instruction ∙ plain_is (instr_of next.packed) c.requires.plain)
 
 pub exec_packed-requires-clause-placed : goal.exec_packed-requires-clause-placed
 exec_packed-requires-clause-placed g c =
     let k = c.self.inside in
-    let next = c.args.next.now in
+    let next = c.args.next in
     let f = fetched c.args.self.now k.system.now k.core k.windows k.code next c.self.view_is c.self.invariant c.requires.next in
     plain_stays k.core.system next.owner (executing k.core next.owner).cpu f.known f.proper (plain_of (instr_of next.packed)) _
     (f.instruction ∙ plain_is (instr_of next.packed) c.requires.plain) f.placed
@@ -31,7 +31,7 @@ exec_packed-requires-clause-placed g c =
 pub returns : goal.returns
 returns g c =
     let k = c.self.inside in
-    let next = c.args.next.now in
+    let next = c.args.next in
     let r = c.exec_packed in
     let e = executing k.core next.owner in
     let p = plain_of (instr_of next.packed) in

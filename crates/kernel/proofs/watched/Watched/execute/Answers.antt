@@ -12,7 +12,7 @@ pub returns-then-is_plain-clause-does : goal.returns-then-is_plain-clause-does
 returns-then-is_plain-clause-does g c =
     let k = c.self.inside in
     let counted = g.B.Blockers.are_counted in
-    let next = c.args.next.now in
+    let next = c.args.next in
     let event = TraceEvent.Executed next.owner next.place (instr_of next.packed) c.execute_plain.result in
     subst (λ (x : Watched). Watches counted executing c.args.tick x (watched_of c.execute_plain.new.self k.blocking) [] (event ∷ c.args.behind.now)) c.self.view_is
     (plain_watched counted c.args.tick (watched_of k.processor k.blocking) c.execute_plain.new.self next event c.args.behind.now
@@ -23,7 +23,7 @@ pub returns-then-is_control-clause-does : goal.returns-then-is_control-clause-do
 returns-then-is_control-clause-does g c =
     let k = c.self-then-is_control.inside in
     let counted = g.B.Blockers.are_counted in
-    let next = c.args.next.now in
+    let next = c.args.next in
     let events = TraceEvent.Executed next.owner next.place (instr_of next.packed) Outcome.Control ∷ c.execute_control.new.behind in
     subst (λ (x : Watched). Watches counted executing c.args.tick x (watched_of c.execute_control.new.self k.blocking) [] events) c.self-then-is_control.view_is
     (control_watched counted c.args.tick (watched_of k.processor k.blocking) c.execute_control.new.self next [] events
