@@ -1,5 +1,7 @@
-pub mod Acting
-pub mod Advancing
-pub mod Arriving
 pub mod Bounds
+pub mod Counting
+pub mod RefusedAlarms
 pub mod SeenSteps
+pub mod Seeing
+pub mod Staying
+pub mod Telling

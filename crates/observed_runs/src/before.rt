@@ -1,25 +1,20 @@
 //! What has to be known of the state before a tick, to tell what comes in it. No part of the standards.
 
-ghost use Rattle.std.specs.Prelude.{◌≡◌};
+ghost use Rattle.std.specs.Prelude.{◌≡◌, ◌<◌, ◌==◌, map, length};
+ghost use Rattle.osek_base.specs.Lists.{below};
 ghost use Rattle.kernel.specs.Run.{run_of};
-ghost use Rattle.observed_runs.specs.Observed.{active_routine, expiring, jobs_before, pending_flags, refused_in};
+ghost use Rattle.observed_runs.specs.Observed.{active_routine, is_pending, jobs_before};
 
-use crate::alarms_seen::{see_expiring, see_refused};
-use crate::observed_run::ObservedKernel;
-use crate::routines_seen::see_pending;
-use crate::tasks_seen::see_jobs;
 use arrayvec::ArrayVec;
-use osek_base::{IsrId, MAX_ALARMS, MAX_ROUTINES, MAX_TASKS, System};
+use kernel::{Blockers, Kernel};
+use osek_base::{IsrId, MAX_ROUTINES, MAX_TASKS, System, TaskId};
+use ready_queues::LevelQueues;
 
-/// What is known before a tick, of each object by number.
+/// What is known before a tick, of each task or routine by number.
 #[derive(Debug, Drop)]
 pub(crate) struct Before {
-    /// How many jobs each task has; nothing before the first tick.
+    /// How many jobs each task has; none before the first tick, so that those of boot are made in it.
     pub(crate) jobs: ArrayVec<u8, MAX_TASKS>,
-    /// Which alarms expire in the tick.
-    pub(crate) expiring: ArrayVec<bool, MAX_ALARMS>,
-    /// Whose action is refused then.
-    pub(crate) refused: ArrayVec<bool, MAX_ALARMS>,
     /// Which routines are pending.
     pub(crate) pending: ArrayVec<bool, MAX_ROUTINES>,
     /// Which routine is active.
@@ -31,44 +26,64 @@ impl Before {
     pub(crate) fn new() -> Self {
         Before {
             jobs: ArrayVec::new(),
-            expiring: ArrayVec::new(),
-            refused: ArrayVec::new(),
             pending: ArrayVec::new(),
             active: None,
         }
     }
 
-    /// Notes what is known before the tick of that number, which a kernel does next.
-    pub(crate) fn note(&mut self, kernel: &ObservedKernel<'_>, system: &System, tick: u32)
+    /// Notes what is known before the tick that a kernel does next.
+    pub(crate) fn note<B: Blockers>(&mut self, kernel: &Kernel<'_, LevelQueues, B>, system: &System)
         requires { kernel.now.system ≡ system.now }
-        ensures jobs { self.new.jobs.items ≡ jobs_before system.now tick (run_of kernel.now).state }
-        ensures expiring { self.new.expiring.items ≡ expiring system.now tick (run_of kernel.now).state }
-        ensures refused { self.new.refused.items ≡ refused_in system.now tick (run_of kernel.now).state }
-        ensures pending { self.new.pending.items ≡ pending_flags system.now (run_of kernel.now).state }
+        ensures jobs { self.new.jobs.items ≡ map (jobs_before (kernel.now.ticks == 0) (run_of kernel.now).state) (below (length system.now.tasks)) }
+        ensures pending { self.new.pending.items ≡ map (is_pending (run_of kernel.now).state) (below (length system.now.routines)) }
         ensures active { self.new.active ≡ active_routine (run_of kernel.now).state }
     {
-        see_expiring(kernel, system, tick, &mut self.expiring);
         see_jobs(kernel, system, &mut self.jobs);
-        see_refused(system, &self.expiring, &mut self.jobs, &mut self.refused);
-        see_jobs_before(kernel, system, tick, &mut self.jobs);
         see_pending(kernel, system, &mut self.pending);
         self.active = kernel.active_routine();
     }
 }
 
-/// Leaves how many jobs each task has; nothing before the first tick, so that the jobs of boot are made in it.
-fn see_jobs_before(
-    kernel: &ObservedKernel<'_>,
+/// How many jobs a task has, and none before the first tick.
+fn jobs_before<B: Blockers>(kernel: &Kernel<'_, LevelQueues, B>, task: TaskId) -> u8
+    requires { task < length kernel.now.system.tasks }
+    ensures { result ≡ jobs_before (kernel.now.ticks == 0) (run_of kernel.now).state task }
+{
+    if kernel.ticks() == 0 {
+        0
+    } else {
+        kernel.job_count(task)
+    }
+}
+
+/// Leaves how many jobs each task has before the tick that a kernel does next.
+#[tactic(auto, using(crate::proofs::SeenSteps::seen_more, crate::proofs::SeenSteps::seen_count))]
+fn see_jobs<B: Blockers>(
+    kernel: &Kernel<'_, LevelQueues, B>,
     system: &System,
-    tick: u32,
     jobs: &mut ArrayVec<u8, MAX_TASKS>,
 )
     requires { kernel.now.system ≡ system.now }
-    ensures { jobs.new.items ≡ jobs_before system.now tick (run_of kernel.now).state }
+    ensures { jobs.new.items ≡ map (jobs_before (kernel.now.ticks == 0) (run_of kernel.now).state) (below (length system.now.tasks)) }
 {
-    if tick == 0 {
-        jobs.clear();
-    } else {
-        see_jobs(kernel, system, jobs);
+    jobs.clear();
+    for number in 0..system.task_count() {
+        jobs.push(jobs_before(kernel, TaskId::new(number as u8)));
+    }
+}
+
+/// Leaves which routines are pending.
+#[tactic(auto, using(crate::proofs::SeenSteps::seen_more, crate::proofs::SeenSteps::seen_count))]
+fn see_pending<B: Blockers>(
+    kernel: &Kernel<'_, LevelQueues, B>,
+    system: &System,
+    pending: &mut ArrayVec<bool, MAX_ROUTINES>,
+)
+    requires { kernel.now.system ≡ system.now }
+    ensures { pending.new.items ≡ map (is_pending (run_of kernel.now).state) (below (length system.now.routines)) }
+{
+    pending.clear();
+    for number in 0..system.routine_count() {
+        pending.push(kernel.is_pending(IsrId::new(number as u8)));
     }
 }

@@ -1,93 +1,69 @@
-//! OSEK/VDX OS: task management. The instruction of a tick, as its records tell it.
+//! OSEK/VDX OS: task management. What the instruction of a tick is to tasks and routines.
 
-ghost use Rattle.std.specs.Prelude.{◌≡◌};
+ghost use Rattle.std.specs.Prelude.{◌≡◌, IfSome};
 ghost use Rattle.std.specs.Option.{option_map};
 ghost use Rattle.osek_base.specs.declared.ids.Owner.{Owner};
+ghost use Rattle.osek_base.specs.Executed.{StandsIn};
 ghost use Rattle.osek_base.specs.Lists.{same_owner};
 ghost use Rattle.observed_runs.specs.Observed.{
   activates,
-  ends,
-  execution_of,
+  answered,
+  ending,
+  instruction,
   is_accepted,
   is_by,
   is_end,
   is_limit,
-  is_number,
-  is_refused,
   owner_of,
+  refusing,
+  status_of,
+  task_of,
 };
 
-use osek_base::{Instr, IsrId, Outcome, Owner, Service, Status, TaskId, TickRecord, TraceEvent};
+use osek_base::{Executed, Instr, IsrId, Outcome, Owner, Service, Status, System, TaskId};
 
-/// An instruction: whose it is, and what it came to.
-#[derive(Clone, Copy, Debug, PartialEq, Eq)]
-pub struct Execution {
-    pub owner: Owner,
-    pub instr: Instr,
-    pub outcome: Outcome,
+/// What a tick executed, and the tasks that it concerns.
+#[derive(Clone, Copy, Debug)]
+pub(crate) struct Execution {
+    /// What was executed; None in an idle tick.
+    pub(crate) executed: Option<Executed>,
+    /// The task of which a job ends.
+    pub(crate) ending: Option<TaskId>,
+    /// The task of which an activation is refused.
+    pub(crate) refusing: Option<TaskId>,
 }
 
-/// The instruction of a tick's records; None in an idle tick.
-pub(crate) fn execution_of(records: &TickRecord) -> Option<Execution>
-    ensures { result ≡ execution_of records.now }
-{
-    for entry in records.entries() {
-        if let TraceEvent::Executed(owner, _, instr, outcome) = entry.event() {
-            return Some(Execution {
-                owner: *owner,
-                instr: *instr,
-                outcome: *outcome,
-            });
+impl Execution {
+    /// Nothing, as in an idle tick.
+    pub(crate) fn nothing() -> Self {
+        Execution {
+            executed: None,
+            ending: None,
+            refusing: None,
         }
     }
-    None
-}
 
-/// Whose the instruction is.
-pub(crate) fn executor(execution: &Option<Execution>) -> Option<Owner>
-    ensures { result ≡ option_map owner_of execution.now }
-{
-    match execution {
-        None => None,
-        Some(execution) => Some(execution.owner),
+    /// What the system's instruction at its place is to tasks.
+    pub(crate) fn of(system: &System, executed: Option<Executed>) -> Self
+        requires { IfSome executed (StandsIn system.now) }
+        ensures executed { result.executed ≡ executed }
+        ensures ending { result.ending ≡ ending system.now executed }
+        ensures refusing { result.refusing ≡ refusing system.now executed }
+    {
+        Execution {
+            executed,
+            ending: ending(system, &executed),
+            refusing: refusing(system, &executed),
+        }
     }
 }
 
-/// Whether the instruction is of that task or routine.
-pub(crate) fn is_by(who: Owner, execution: &Option<Execution>) -> bool
-    ensures { result ≡ is_by who execution.now }
+/// The instruction that was executed.
+fn instruction(system: &System, executed: &Executed) -> Instr
+    requires { StandsIn system.now executed.now }
+    ensures { result ≡ instruction system.now executed.now }
 {
-    match execution {
-        None => false,
-        Some(execution) => is_same_owner(&execution.owner, &who),
-    }
-}
-
-fn is_same_owner(one: &Owner, other: &Owner) -> bool
-    ensures { result ≡ same_owner one.now other.now }
-{
-    match one {
-        Owner::Task(one) => is_tasks(other, *one),
-        Owner::Routine(one) => is_routines(other, *one),
-    }
-}
-
-fn is_tasks(owner: &Owner, task: TaskId) -> bool
-    ensures { result ≡ same_owner (Owner.Task task) owner.now }
-{
-    match owner {
-        Owner::Task(other) => task.number() == other.number(),
-        Owner::Routine(_) => false,
-    }
-}
-
-fn is_routines(owner: &Owner, routine: IsrId) -> bool
-    ensures { result ≡ same_owner (Owner.Routine routine) owner.now }
-{
-    match owner {
-        Owner::Task(_) => false,
-        Owner::Routine(other) => routine.number() == other.number(),
-    }
+    system.instruction_at(executed.owner, executed.place)
 }
 
 /// Whether an instruction ends the job that executes it.
@@ -124,37 +100,103 @@ fn is_limit(outcome: &Outcome) -> bool
     matches!(outcome, Outcome::Answer(Status::Limit, _))
 }
 
-/// Whether the instruction ends a job of that task.
-pub(crate) fn ends(task: TaskId, execution: &Option<Execution>) -> bool
-    ensures { result ≡ ends task execution.now }
+fn task_of(owner: &Owner) -> Option<TaskId>
+    ensures { result ≡ task_of owner.now }
 {
-    match execution {
-        None => false,
-        Some(execution) => {
-            is_tasks(&execution.owner, task)
-                && is_end(&execution.instr)
-                && is_accepted(&execution.outcome)
-        }
+    match owner {
+        Owner::Task(task) => Some(*task),
+        Owner::Routine(_) => None,
     }
 }
 
-fn is_task(task: TaskId, other: Option<TaskId>) -> bool
-    ensures { result ≡ is_number task other }
+/// The task of which a job ends by what was executed.
+fn ending(system: &System, executed: &Option<Executed>) -> Option<TaskId>
+    requires { IfSome executed.now (StandsIn system.now) }
+    ensures { result ≡ ending system.now executed.now }
 {
-    match other {
-        None => false,
-        Some(other) => other.number() == task.number(),
+    match executed {
+        None => None,
+        Some(it) if is_accepted(&it.outcome) && is_end(&instruction(system, it)) => {
+            task_of(&it.owner)
+        }
+        Some(_) => None,
     }
 }
 
-/// Whether the instruction is an activation of that task that is refused with E_OS_LIMIT.
-pub(crate) fn is_refused(task: TaskId, execution: &Option<Execution>) -> bool
-    ensures { result ≡ is_refused task execution.now }
+/// The task of which an activation was refused with E_OS_LIMIT.
+fn refusing(system: &System, executed: &Option<Executed>) -> Option<TaskId>
+    requires { IfSome executed.now (StandsIn system.now) }
+    ensures { result ≡ refusing system.now executed.now }
 {
-    match execution {
+    match executed {
+        None => None,
+        Some(it) if is_limit(&it.outcome) => activates(&instruction(system, it)),
+        Some(_) => None,
+    }
+}
+
+/// Whose the instruction is.
+pub(crate) fn executor(executed: &Option<Executed>) -> Option<Owner>
+    ensures { result ≡ option_map owner_of executed.now }
+{
+    match executed {
+        None => None,
+        Some(executed) => Some(executed.owner),
+    }
+}
+
+fn status_of(outcome: &Outcome) -> Option<Status>
+    ensures { result ≡ status_of outcome.now }
+{
+    match outcome {
+        Outcome::Answer(status, _) => Some(*status),
+        _ => None,
+    }
+}
+
+/// What the instruction is answered, if it is a service with a status.
+pub(crate) fn answered(executed: &Option<Executed>) -> Option<Status>
+    ensures { result ≡ answered executed.now }
+{
+    match executed {
+        None => None,
+        Some(executed) => status_of(&executed.outcome),
+    }
+}
+
+/// Whether the instruction is of that task or routine.
+pub(crate) fn is_by(who: Owner, executed: &Option<Executed>) -> bool
+    ensures { result ≡ is_by who executed.now }
+{
+    match executed {
         None => false,
-        Some(execution) => {
-            is_limit(&execution.outcome) && is_task(task, activates(&execution.instr))
-        }
+        Some(executed) => is_same_owner(&executed.owner, &who),
+    }
+}
+
+fn is_same_owner(one: &Owner, other: &Owner) -> bool
+    ensures { result ≡ same_owner one.now other.now }
+{
+    match one {
+        Owner::Task(one) => is_tasks(other, *one),
+        Owner::Routine(one) => is_routines(other, *one),
+    }
+}
+
+fn is_tasks(owner: &Owner, task: TaskId) -> bool
+    ensures { result ≡ same_owner (Owner.Task task) owner.now }
+{
+    match owner {
+        Owner::Task(other) => task.number() == other.number(),
+        Owner::Routine(_) => false,
+    }
+}
+
+fn is_routines(owner: &Owner, routine: IsrId) -> bool
+    ensures { result ≡ same_owner (Owner.Routine routine) owner.now }
+{
+    match owner {
+        Owner::Task(_) => false,
+        Owner::Routine(other) => routine.number() == other.number(),
     }
 }

@@ -1,23 +1,26 @@
 //! OSEK/VDX OS: resource management. Who holds each resource.
 
 ghost use Rattle.std.specs.Prelude.{◌≡◌};
+ghost use Rattle.osek_base.specs.Proper.{IsProper};
 ghost use Rattle.kernel.specs.Run.{run_of};
 ghost use Rattle.observed_runs.specs.Observed.{holders_seen};
 
-use crate::observed_run::ObservedKernel;
 use arrayvec::ArrayVec;
+use kernel::{Blockers, Kernel};
 use observations::{Holder, MAX_HELD};
 use osek_base::{ResId, ResourceNumber, System};
+use ready_queues::LevelQueues;
 
 /// Leaves who holds each declared resource, and behind them RES_SCHEDULER where the system has it.
 #[tactic(auto, using(crate::proofs::SeenSteps::seen_more, crate::proofs::SeenSteps::seen_count))]
-pub(crate) fn see_holders(
-    kernel: &ObservedKernel<'_>,
+pub(crate) fn see_holders<B: Blockers>(
+    kernel: &Kernel<'_, LevelQueues, B>,
     system: &System,
     holders: &mut ArrayVec<Holder, MAX_HELD>,
 )
     requires { kernel.now.system ≡ system.now }
-    ensures { holders.new.items ≡ holders_seen system.now (run_of kernel.now).state }
+    ensures holders { holders.new.items ≡ holders_seen system.now (run_of kernel.now).state }
+    ensures proper { IsProper system.now }
 {
     holders.clear();
     for number in 0..system.resource_count() {

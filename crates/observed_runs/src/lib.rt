@@ -6,8 +6,9 @@ mod before;
 mod execution;
 mod holders_seen;
 mod observed_run;
+mod readers;
 mod routines_seen;
 mod tasks_seen;
+mod told_run;
 
-pub use execution::Execution;
 pub use observed_run::ObservedRun;

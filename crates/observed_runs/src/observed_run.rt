@@ -1,122 +1,63 @@
 //! A run that is observed, no part of the standards.
 
-ghost use Rattle.std.specs.Prelude.{◌≡◌, ◌<◌, ◌+◌, ◌-◌, ◌≤◌, not, map, length, IsTrue, IsFalse, None, Some, IfOk};
-ghost use Rattle.std.specs.Option.{option_map};
-ghost use Rattle.osek_base.specs.ArrivalList.{is_arrival_list};
-ghost use Rattle.osek_base.specs.Lists.{below};
+ghost use Rattle.std.specs.Prelude.{◌≡◌, ◌+◌, ◌-◌, ◌≤◌, false, true, not, IsTrue, IsFalse, None, Some, IfOk};
+ghost use Rattle.osek_base.specs.BlockingText.{blockers_at};
 ghost use Rattle.osek_base.specs.Names.{number_of};
-ghost use Rattle.osek_base.specs.Trace.{arriving};
 ghost use Rattle.kernel.specs.declared.boot.BootFault.{BootFault};
-ghost use Rattle.kernel.specs.Run.{AreKnown, AreLeft, is_over, run_of};
-ghost use Rattle.blocking_laws.specs.Steps.{record_at};
-ghost use Rattle.observed_runs.specs.Observed.{
-  IsObserved,
-  alarm_seen,
-  execution_of,
-  holders_seen,
-  owner_of,
-  routine_seen,
-  task_seen,
-};
+ghost use Rattle.kernel.specs.Run.{AreKnown, is_over};
+ghost use Rattle.blocking_laws.specs.Steps.{record_at, step_at};
+ghost use Rattle.observed_runs.specs.Keeping.{last_tick};
+ghost use Rattle.observed_runs.specs.Observed.{IsObserved, IsSeen, holders_seen};
 
-use crate::alarms_seen::see_alarms;
-use crate::before::Before;
-use crate::execution::{execution_of, executor};
-use crate::holders_seen::see_holders;
-use crate::routines_seen::{arrivals_end, see_routines};
-use crate::tasks_seen::see_tasks;
-use kernel::{BootFault, Kernel, NotCounted};
+use crate::execution::{answered, executor};
+use crate::told_run::ToldRun;
+use kernel::{Blockers, BootFault};
 use observations::Observation;
-use osek_base::{Arrival, Arrivals, MAX_ARRIVALS, System, TickRecord};
-use ready_queues::LevelQueues;
-use std::alloc::{AllocError, Global};
+use osek_base::{Arrivals, System, TickRecord};
+use std::alloc::Global;
 use std::marker::Model;
 
-/// The kernel of a run that is observed. Nobody asks it for numbers of blockers.
-pub(crate) type ObservedKernel<'s> = Kernel<'s, LevelQueues, NotCounted>;
-
-/// A run of a system, tick by tick, beside what is seen of the tick that was done last.
+/// A run of a system, tick by tick, beside what is seen of the tick that was done last. `B` says whether the blockers of jobs
+/// are counted.
 #[derive(Drop)]
-pub struct ObservedRun<'s> {
-    system: &'s System,
-    kernel: ObservedKernel<'s>,
-    arrivals: Vec<Arrival>,
-    arrived: usize,
-    ticks: u32,
-    records: TickRecord,
-    /// Room for a tick's records.
-    room: TickRecord,
-    before: Before,
+pub struct ObservedRun<'s, B: Blockers> {
+    told: ToldRun<'s, B>,
     seen: Observation,
 }
 
-impl<'s> Model for ObservedRun<'s> {
+impl<'s, B: Blockers> Model for ObservedRun<'s, B> {
     ghost use Rattle.kernel.specs.Run.{Run};
     ghost use Rattle.observed_runs.specs.Keeping.{IsKept};
 
     ghost Value = { Run };
 
-    ghost view = { λ r. r.kernel };
+    ghost view = { λ r. r.told };
 
-    ghost invariant = { λ r. IsKept r.kernel r.system.now r.arrivals.items r.arrived r.ticks r.records r.seen };
+    ghost invariant = { λ r. IsKept B.are_counted r.told r.seen };
 }
 
-/// Leaves what is seen of the tick that a kernel did last: of its records, of what was known before it, and of the arrivals
-/// of that tick, which begin at a place of the list.
-fn see(
-    kernel: &ObservedKernel<'_>,
-    system: &System,
-    records: &TickRecord,
-    before: &Before,
-    list: &[Arrival],
-    from: usize,
-    tick: u32,
-    seen: &mut Observation,
-)
-    requires system { kernel.now.system ≡ system.now }
-    requires left { AreLeft list.now from tick }
-    requires few { length list.now ≤ MAX_ARRIVALS }
-    requires pending { length before.now.pending.items ≡ length system.now.routines }
-    requires expiring { length before.now.expiring.items ≡ length system.now.alarms }
-    requires refused { length before.now.refused.items ≡ length system.now.alarms }
-    ensures number { seen.new.tick ≡ tick }
-    ensures executor { seen.new.executor ≡ option_map owner_of (execution_of records.now) }
-    ensures tasks { seen.new.tasks.items ≡ map (task_seen system.now (run_of kernel.now).state (execution_of records.now) before.now.jobs.items before.now.refused.items) (below (length system.now.tasks)) }
-    ensures routines { seen.new.routines.items ≡ map (routine_seen (run_of kernel.now).state (execution_of records.now) before.now.pending.items before.now.active (arriving list.now tick)) (below (length system.now.routines)) }
-    ensures holders { seen.new.holders.items ≡ holders_seen system.now (run_of kernel.now).state }
-    ensures alarms { seen.new.alarms.items ≡ map (alarm_seen system.now (run_of kernel.now).state before.now.expiring.items before.now.refused.items) (below (length system.now.alarms)) }
-{
-    let execution = execution_of(records);
-    seen.tick = tick;
-    seen.executor = executor(&execution);
-    see_tasks(kernel, system, &execution, before, &mut seen.tasks);
-    see_routines(
-        kernel,
-        system,
-        &execution,
-        before,
-        list,
-        from,
-        tick,
-        &mut seen.routines,
-    );
-    see_holders(kernel, system, &mut seen.holders);
-    see_alarms(kernel, system, before, &mut seen.alarms);
-}
-
-/// The arrivals once more: the kernel keeps its own.
-fn copied(alloc: Global, arrivals: &Arrivals) -> Result<Vec<Arrival>, AllocError>
-    ensures value { IfOk result (λ r. r.items ≡ arrivals.now) }
-    ensures kept { IfOk result (λ _. IsTrue (is_arrival_list arrivals.now)) }
-{
-    let mut list = Vec::with_capacity(alloc, arrivals.list().len())?;
-    for arrival in arrivals.list() {
-        list.push(*arrival)?;
+impl<'s, B: Blockers> ToldRun<'s, B> {
+    /// Leaves what is seen of the tick that was done last, where its holders stand already.
+    fn see(&self, seen: &mut Observation)
+        requires ticked { 1 ≤ self.now.ticks }
+        requires holders { seen.old.holders.items ≡ holders_seen self.now.system (last_tick self.now).at }
+        ensures number { seen.new.tick ≡ self.now.ticks - 1 }
+        ensures seen { IsSeen self.now.system (last_tick self.now) seen.new }
+        ensures counted { B.are_counted ≡ true → seen.new.blockers ≡ blockers_at self.now.system self.now.mode self.now.arrivals (self.now.ticks - 1) }
+        ensures uncounted { B.are_counted ≡ false → seen.new.blockers ≡ None }
+    {
+        seen.tick = self.ticks() - 1;
+        let executed = self.executed();
+        seen.executor = executor(&executed);
+        seen.answered = answered(&executed);
+        seen.blockers = self.kernel.blockers();
+        self.see_tasks(&mut seen.tasks);
+        self.see_routines(&mut seen.routines);
+        self.see_alarms(&mut seen.alarms);
     }
-    Ok(list)
 }
 
-impl<'s> ObservedRun<'s> {
+impl<'s, B: Blockers> ObservedRun<'s, B> {
     /// Boots a system in the application mode of that name, with those arrivals. Memory is taken here alone.
     pub fn boot(
         alloc: Global,
@@ -128,17 +69,9 @@ impl<'s> ObservedRun<'s> {
         ensures booted { IfOk result (λ r. (r.system ≡ system.now) × (r.arrivals ≡ arrivals) × (r.ticks ≡ 0) × (number_of mode.now system.now.names.modes ≡ Some r.mode)) }
         ensures unknown { result ≡ Err BootFault.UnknownMode → number_of mode.now system.now.names.modes ≡ None }
     {
-        let list = copied(alloc, &arrivals)?;
-        let kernel = Kernel::boot(alloc, system, mode, arrivals)?;
+        let told = ToldRun::boot(alloc, system, mode, arrivals)?;
         Ok(ObservedRun {
-            system,
-            kernel,
-            arrivals: list,
-            arrived: 0,
-            ticks: 0,
-            records: TickRecord::new(),
-            room: TickRecord::new(),
-            before: Before::new(),
+            told,
             seen: Observation::new(),
         })
     }
@@ -150,30 +83,18 @@ impl<'s> ObservedRun<'s> {
         ensures next { IsTrue result → self.new ≡ record self.old { ticks = self.old.ticks + 1 } }
         ensures stays { IsFalse result → self.new ≡ self.old }
     {
-        if self.kernel.is_over() {
+        if self.told.is_over() {
             return false;
         }
-        self.before.note(&self.kernel, self.system, self.ticks);
-        self.kernel.tick_into(&mut self.records, &mut self.room);
-        let list = self.arrivals.as_slice();
-        see(
-            &self.kernel,
-            self.system,
-            &self.records,
-            &self.before,
-            list,
-            self.arrived,
-            self.ticks,
-            &mut self.seen,
-        );
-        self.arrived = arrivals_end(list, self.arrived, self.ticks);
-        self.ticks += 1;
+        self.told.see_holders(&mut self.seen.holders);
+        self.told.advance();
+        self.told.see(&mut self.seen);
         true
     }
 
     /// What is seen of the tick that was done last; nothing before the first.
     pub fn observation(&self) -> &Observation
-        ensures { 1 ≤ self.now.ticks → IsObserved self.now.system self.now.mode self.now.arrivals (self.now.ticks - 1) result.now }
+        ensures { 1 ≤ self.now.ticks → IsObserved B.are_counted self.now.system self.now.mode self.now.arrivals (self.now.ticks - 1) result.now }
     {
         &self.seen
     }
@@ -182,13 +103,13 @@ impl<'s> ObservedRun<'s> {
     pub fn records(&self) -> &TickRecord
         ensures { 1 ≤ self.now.ticks → result.now ≡ record_at self.now.system self.now.mode self.now.arrivals (self.now.ticks - 1) }
     {
-        &self.records
+        self.told.records()
     }
 
     /// How many ticks are done.
     pub fn ticks_done(&self) -> u32
         ensures { result ≡ self.now.ticks }
     {
-        self.ticks
+        self.told.ticks()
     }
 }

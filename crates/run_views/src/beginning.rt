@@ -4,6 +4,7 @@ ghost use Rattle.std.specs.Prelude.{◌≡◌, IfErr, IfOk};
 ghost use Rattle.tracer.specs.WholeRuns.{IsBegun, RefusesStart};
 
 use arrival_lists::read_arrivals;
+use kernel::Blockers;
 use observed_runs::ObservedRun;
 use osek_base::System;
 use std::alloc::Global;
@@ -17,13 +18,14 @@ pub struct RunInput<'a> {
     pub ticks: u32,
 }
 
-/// The system, booted in a mode with the arrivals of a list, or the first fault of these.
-pub(crate) fn begin<'s>(
+/// The system, booted in a mode with the arrivals of a list, or the first fault of these. `B` says whether the blockers of
+/// jobs are counted.
+pub(crate) fn begin<'s, B: Blockers>(
     alloc: Global,
     system: &'s System,
     irqs: &[u8],
     mode: &str,
-) -> Result<ObservedRun<'s>, RunFault>
+) -> Result<ObservedRun<'s, B>, RunFault>
     ensures begun { IfOk result (IsBegun system.now irqs.now mode.now) }
     ensures refusal { IfErr result (RefusesStart system.now irqs.now mode.now) }
 {

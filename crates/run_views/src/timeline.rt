@@ -2,6 +2,7 @@
 
 use crate::beginning::{RunInput, begin};
 use crate::progress::Progress;
+use kernel::NotCounted;
 use osek_base::System;
 use std::alloc::Global;
 use std::io::Write;
@@ -19,7 +20,7 @@ pub fn write_timeline<O: Write, E: Write>(
     progress: &mut Progress<'_, E>,
     out: &mut O,
 ) -> Result<(), RunFault> {
-    let mut run = begin(alloc, system, input.irqs, input.mode)?;
+    let mut run = begin::<NotCounted>(alloc, system, input.irqs, input.mode)?;
     let mut timeline = Timeline::new(alloc, system, from, input.ticks)?;
     if let Some(list) = rows {
         timeline.choose_rows(system, list);

@@ -2,6 +2,7 @@
 
 use crate::beginning::{RunInput, begin};
 use crate::progress::Progress;
+use kernel::NotCounted;
 use osek_base::System;
 use std::alloc::Global;
 use std::io::Write;
@@ -18,7 +19,7 @@ pub fn write_vcd<O: Write, E: Write>(
     progress: &mut Progress<'_, E>,
     out: &mut O,
 ) -> Result<(), RunFault> {
-    let mut run = begin(alloc, system, input.irqs, input.mode)?;
+    let mut run = begin::<NotCounted>(alloc, system, input.irqs, input.mode)?;
     let mut dump = ValueChanges::new(system, from);
     dump.begin(out)?;
     for _tick in 0..input.ticks {

@@ -7,4 +7,4 @@ use Rattle.observed_runs.proofs.holders_seen.see_holders.Given as goal
 
 -- what is seen of those gone over
 abbrev pub invariant-loop-number : goal.invariant-loop-number
-invariant-loop-number l = l.holders.items ≡ map (λ r. holder l.system (run_of l.kernel).state (ResId.Declared r)) (below l.number)
+invariant-loop-number g l = l.holders.items ≡ map (λ r. holder l.system (run_of l.kernel).state (ResId.Declared r)) (below l.number)

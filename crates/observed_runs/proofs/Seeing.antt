@@ -1,0 +1,69 @@
+-- What is seen of an object, put together.
+use Rattle.std.proofs.Common.{◌≡◌, cond, true, ℕ, zero, suc, ◌+◌, ◌-◌, ◌<◌, ◌≤◌, Bool, false, List, [], ◌∷◌, get_or, map, length, refl, sym, ◌∙◌, ap, subst, arith, inl, inr}
+use Rattle.std.proofs.lemmas.Bool.{cases_eq}
+use Rattle.std.proofs.lemmas.List.{get_or_push, get_or_append_left, map-append, length-map}
+use Rattle.osek_base.specs.declared.arrivals.Arrival.{Arrival}
+use Rattle.osek_base.specs.Lists.{below}
+use Rattle.osek_base.specs.System.{System}
+use Rattle.osek_base.specs.declared.limits.TheConstants.{MAX_ARRIVALS}
+use Rattle.osek_base.specs.Trace.{Run as RunSoFar, arriving}
+use Rattle.blocking_laws.proofs.StepLemmas.{run_more}
+use Rattle.kernel.proofs.RunLemmas.{going}
+use Rattle.kernel.specs.Run.{Run, is_over, run_of}
+use Rattle.observed_runs.specs.Observed.{tick_at}
+use Rattle.std.specs.Prelude.{◌==◌}
+use Rattle.std.specs.List.{filter}
+use Rattle.observed_runs.proofs.SeenSteps.{seen_count}
+
+module _ {X : Type 0} (f : ℕ → X) where
+  at_below : (n i : ℕ) (d : X) → i < n → get_or (map f (below n)) i d ≡ f i
+  at_below zero i d low = absurd (omega arith)
+  at_below (suc n) i d low =
+      let long = seen_count f n (map f (below n)) refl in
+      ap (λ (xs : List X). get_or xs i d) (map-append f (below n) (n ∷ []))
+      ∙ elim (cases_eq i n) [
+        | inl e ↦ get_or_push (map f (below n)) (f n) d i (omega (arith, long, e)) ∙ ap f (sym e)
+        | inr ne ↦ get_or_append_left (map f (below n)) (f n ∷ []) d i (omega (arith, long, ne, low)) ∙ at_below n i d (omega (arith, ne, low))
+      ]
+
+-- what is said of the tick that comes is said of the last one behind it
+pub one_on : (k new : Run) (P : System → ℕ → List Arrival → ℕ → Type 0) → new ≡ record k { ticks = k.ticks + 1 }
+    → P k.system k.mode k.arrivals k.ticks → P new.system new.mode new.arrivals (new.ticks - 1)
+one_on k new P next h =
+    let last : k.ticks + 1 - 1 ≡ k.ticks = omega arith in
+    subst (λ (r : Run). P r.system r.mode r.arrivals (r.ticks - 1)) (sym next)
+    (subst (λ n. P k.system k.mode k.arrivals n) (sym last) h)
+
+-- the state behind a tick
+pub state_more : (k new : Run) → new ≡ record k { ticks = k.ticks + 1 } → is_over k ≡ false
+    → (run_of new).state ≡ (tick_at k.system k.mode k.arrivals k.ticks).after
+state_more k new next on =
+    ap (λ (r : Run). (run_of r).state) next
+    ∙ ap (λ (r : RunSoFar). r.state) (run_more k.system k.mode k.arrivals k.ticks (going k.system k.mode k.arrivals k.ticks on).on)
+
+fewer : {X : Type 0} (test : X → Bool) (xs : List X) → length (filter test xs) ≤ length xs
+fewer test [] = omega arith
+fewer test (x ∷ xs) = go (test x) (fewer test xs)
+  where
+    go : (b : Bool) → length (filter test xs) ≤ length xs → length (cond b (x ∷ filter test xs) (filter test xs)) ≤ length (x ∷ xs)
+    go true h = omega (arith, h)
+    go false h = omega (arith, h)
+
+-- the interrupts that arrive in a tick are few
+pub arriving_few : (arrivals : List Arrival) (t : ℕ) → length arrivals ≤ MAX_ARRIVALS → length (arriving arrivals t) ≤ MAX_ARRIVALS
+arriving_few arrivals t few =
+    let long = length-map (filter (λ (a : Arrival). a.tick == t) arrivals) (λ (a : Arrival). a.routine) in
+    let less = fewer (λ (a : Arrival). a.tick == t) arrivals in
+    omega (arith, long, less, few)
+
+-- what is read at a place of a list of what is seen of each number
+pub read_at : {X : Type 0} (f : ℕ → X) (n : ℕ) (xs items : List X) (i k : ℕ) (d : X) → xs ≡ items → items ≡ map f (below n) → i ≡ k → k < n
+    → get_or xs i d ≡ f k
+read_at f n xs items i k d same h is low =
+    ap (λ v. get_or v i d) (same ∙ h) ∙ ap (λ j. get_or (map f (below n)) j d) is ∙ at_below f n k d low
+
+pub inside : {X : Type 0} (f : ℕ → X) (n : ℕ) (xs items : List X) (i k : ℕ) → xs ≡ items → items ≡ map f (below n) → i ≡ k → k < n
+    → i < length xs
+inside f n xs items i k same h is low =
+    let long = seen_count f n xs (same ∙ h) in
+    omega (arith, long, is, low)

@@ -1,0 +1,10 @@
+use Rattle.std.proofs.Common.{◌≡◌, map}
+use Rattle.std.specs.Prelude.{◌==◌}
+use Rattle.osek_base.specs.Lists.{below}
+use Rattle.kernel.specs.Run.{run_of}
+use Rattle.observed_runs.specs.Observed.{jobs_before}
+use Rattle.observed_runs.proofs.before.see_jobs.Given as goal
+
+-- what is seen of those gone over
+abbrev pub invariant-loop-number : goal.invariant-loop-number
+invariant-loop-number g l = l.jobs.items ≡ map (jobs_before (l.kernel.ticks == 0) (run_of l.kernel).state) (below l.number)

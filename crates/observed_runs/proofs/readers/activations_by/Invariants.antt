@@ -1,0 +1,8 @@
+use Rattle.osek_base.specs.System.{alarm}
+use Rattle.observed_runs.specs.Observed.{is_activation}
+use Rattle.observed_runs.proofs.Counting.{AreCounted}
+use Rattle.observed_runs.proofs.readers.activations_by.Given as goal
+
+-- those of the alarms gone over
+abbrev pub invariant-loop-place : goal.invariant-loop-place
+invariant-loop-place l = AreCounted (λ a. is_activation l.task (alarm l.system a).action) l.alarms l.place l.count

@@ -1,0 +1,7 @@
+use Rattle.std.specs.Prelude.{◌==◌}
+use Rattle.observed_runs.proofs.Counting.{AreCounted}
+use Rattle.observed_runs.proofs.readers.times.Given as goal
+
+-- those of the arrivals gone over
+abbrev pub invariant-loop-other : goal.invariant-loop-other
+invariant-loop-other l = AreCounted (λ m. m == l.routine) l.arrived l.other-index l.count

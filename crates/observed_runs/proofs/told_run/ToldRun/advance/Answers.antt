@@ -1,0 +1,49 @@
+use Rattle.std.proofs.Common.{◌≡◌, false, ◌≤◌, ◌++◌, ◌∷◌, map, length, sym, ◌∙◌, ap, subst}
+use Rattle.std.specs.Prelude.{◌==◌}
+use Rattle.osek_base.specs.declared.limits.TheConstants.{MAX_ARRIVALS}
+use Rattle.osek_base.specs.Executed.{idle_or_executed}
+use Rattle.osek_base.specs.Lists.{below}
+use Rattle.osek_base.specs.System.{System}
+use Rattle.kernel.specs.Run.{Run, is_over, run_of}
+use Rattle.observed_runs.specs.Keeping.{IsTold}
+use Rattle.observed_runs.specs.Observed.{ending, is_pending, jobs_before, refusing}
+use Rattle.observed_runs.proofs.Seeing.{one_on, state_more}
+use Rattle.observed_runs.proofs.Telling.{executed_told}
+use Rattle.observed_runs.proofs.told_run.ToldRun.advance.Goals as goal
+
+pub invariant_of-self : goal.invariant_of-self
+invariant_of-self g c =
+    let k : Run = c.self.inside.kernel in
+    let t = c.tick_seen-executed in
+    let new : Run = t.new.self in
+    let e = c.of-self-inside in
+    let v = c.self.invariant in
+    let here = sym v.system in
+    let told = executed_told k.system t.new.before t.new.behind t.result k.mode k.arrivals k.ticks t.ensures.records in
+    record {
+      system = ap (λ (r : Run). r.system) t.ensures.next ∙ v.system;
+      few = subst (λ (r : Run). length r.arrivals ≤ MAX_ARRIVALS) (sym t.ensures.next) v.few;
+      told = λ later.
+          one_on k new
+          (λ S mode arrivals n. IsTold S mode arrivals n (run_of new).state c.note.new.self e.result t.new.at.tasks.items c.join.new.records)
+          t.ensures.next
+          (record {
+            behind = state_more k new t.ensures.next (subst (λ (r : Run). is_over r ≡ false) (sym c.self.view_is) c.requires);
+            known = record {
+              jobs =
+                  c.note.ensures.jobs
+                  ∙ ap (λ (S : System). map (jobs_before (k.ticks == 0) (run_of k).state) (below (length S.tasks))) here;
+              pending =
+                  c.note.ensures.pending ∙ ap (λ (S : System). map (is_pending (run_of k).state) (below (length S.routines))) here;
+              active = c.note.ensures.active;
+            };
+            done = record {
+              executed = e.ensures.executed ∙ told;
+              ending = e.ensures.ending ∙ ap (λ S. ending S t.result) here ∙ ap (ending k.system) told;
+              refusing = e.ensures.refusing ∙ ap (λ S. refusing S t.result) here ∙ ap (refusing k.system) told;
+            };
+            each = t.ensures.seen;
+            recorded =
+                c.join.ensures ∙ ap (λ S. t.new.before ++ idle_or_executed S t.result ∷ t.new.behind) here ∙ t.ensures.records;
+          });
+    }

@@ -1,0 +1,9 @@
+use Rattle.std.proofs.Common.{◌≡◌, map}
+use Rattle.osek_base.specs.Lists.{below}
+use Rattle.observed_runs.specs.Keeping.{last_tick}
+use Rattle.observed_runs.specs.Observed.{routine_seen}
+use Rattle.observed_runs.proofs.told_run.ToldRun.see_routines.Given as goal
+
+-- what is seen of those gone over
+abbrev pub invariant-loop-number : goal.invariant-loop-number
+invariant-loop-number g l = l.routines.items ≡ map (routine_seen (last_tick l.self)) (below l.number)

@@ -1,0 +1,244 @@
+//! OSEK/VDX OS: task management; interrupt processing; alarms. What a run tells of the tick that was done last.
+
+ghost use Rattle.std.specs.Prelude.{◌≡◌, ◌<◌, ◌≤◌, ◌-◌, length};
+ghost use Rattle.std.specs.List.{AllByRecursion};
+ghost use Rattle.osek_base.specs.Service.{task_state};
+ghost use Rattle.osek_base.specs.State.{jobs_of};
+ghost use Rattle.osek_base.specs.System.{alarm};
+ghost use Rattle.kernel.specs.Run.{run_of};
+ghost use Rattle.observed_runs.specs.Keeping.{last_tick};
+ghost use Rattle.kernel.specs.Told.{task_at};
+ghost use Rattle.observed_runs.specs.Observed.{
+  active_routine,
+  activations_by,
+  ending,
+  is_activation,
+  is_among,
+  is_by,
+  is_number,
+  is_pending,
+  jobs_before,
+  refusing,
+  times,
+};
+
+use crate::execution::is_by;
+use crate::told_run::ToldRun;
+use alarms::DueList;
+use kernel::{Blockers, Kernel, TaskAt};
+use osek_base::{
+    Action, AlarmId, Executed, IsrId, MAX_ACTIVATION, MAX_ALARMS, MAX_ARRIVALS, Owner, System,
+    TaskId, TaskState,
+};
+use ready_queues::LevelQueues;
+
+fn is_task(task: TaskId, other: Option<TaskId>) -> bool
+    ensures { result ≡ is_number task other }
+{
+    match other {
+        None => false,
+        Some(other) => other.number() == task.number(),
+    }
+}
+
+fn is_routine(routine: IsrId, other: Option<IsrId>) -> bool
+    ensures { result ≡ is_number routine other }
+{
+    match other {
+        None => false,
+        Some(other) => other.number() == routine.number(),
+    }
+}
+
+/// How often a routine stands in a list of arrivals.
+fn times(routine: IsrId, arrived: &[IsrId]) -> u32
+    requires { length arrived.now ≤ MAX_ARRIVALS }
+    ensures { result ≡ times routine arrived.now }
+{
+    let mut count = 0;
+    for other in arrived {
+        if other.number() == routine.number() {
+            count += 1;
+        }
+    }
+    count
+}
+
+/// Whether an alarm is one of some alarms.
+fn is_among(alarms: &DueList, alarm: AlarmId) -> bool
+    ensures { result ≡ is_among alarms.now alarm }
+{
+    for place in 0..alarms.len() {
+        if alarms.at(place).number() == alarm.number() {
+            return true;
+        }
+    }
+    false
+}
+
+fn is_activation(task: TaskId, action: &Action) -> bool
+    ensures { result ≡ is_activation task action.now }
+{
+    match action {
+        Action::ActivateTask(other) => other.number() == task.number(),
+        Action::SetEvent(..) => false,
+    }
+}
+
+/// How many of some alarms are to activate a task.
+fn activations_by(system: &System, task: TaskId, alarms: &DueList) -> u8
+    requires { AllByRecursion (λ a. a < length system.now.alarms) alarms.now }
+    ensures value { result ≡ activations_by system.now task alarms.now }
+    ensures few { result ≤ MAX_ALARMS }
+{
+    let mut count = 0;
+    for place in 0..alarms.len() {
+        let action = system.action_of(alarms.at(place));
+        if is_activation(task, &action) {
+            count += 1;
+        }
+    }
+    count
+}
+
+/// How many jobs a kernel's task has, at most MAX_ACTIVATION.
+fn few_jobs<B: Blockers>(kernel: &Kernel<'_, LevelQueues, B>, system: &System, task: TaskId) -> u8
+    requires system { kernel.now.system ≡ system.now }
+    requires task { task < length system.now.tasks }
+    ensures value { result ≡ length (jobs_of task (run_of kernel.now).state.jobs) }
+    ensures few { result ≤ MAX_ACTIVATION }
+{
+    // Who asks for the count of tasks learns that the system is proper, so that few jobs are allowed.
+    let _proper = system.task_count();
+    kernel.job_count(task)
+}
+
+impl<'s, B: Blockers> ToldRun<'s, B> {
+    /// What a task was when the instruction was executed.
+    pub(crate) fn task_at(&self, task: TaskId) -> TaskAt
+        requires ticked { 1 ≤ self.now.ticks }
+        requires task { task < length self.now.system.tasks }
+        ensures { result ≡ task_at self.now.system (last_tick self.now).at task }
+    {
+        self.at.tasks[task.number() as usize]
+    }
+
+    /// How many jobs a task had before the tick; before the first one none.
+    pub(crate) fn jobs_before(&self, task: TaskId) -> u8
+        requires ticked { 1 ≤ self.now.ticks }
+        requires task { task < length self.now.system.tasks }
+        ensures { result ≡ jobs_before (last_tick self.now).first (last_tick self.now).before task }
+    {
+        self.before.jobs[task.number() as usize]
+    }
+
+    /// How many jobs it has behind the tick.
+    pub(crate) fn jobs_behind(&self, task: TaskId) -> u8
+        requires ticked { 1 ≤ self.now.ticks }
+        requires task { task < length self.now.system.tasks }
+        ensures value { result ≡ length (jobs_of task (last_tick self.now).after.jobs) }
+        ensures few { result ≤ MAX_ACTIVATION }
+    {
+        few_jobs(&self.kernel, self.system, task)
+    }
+
+    /// Its state behind the tick.
+    pub(crate) fn state_behind(&self, task: TaskId) -> TaskState
+        requires ticked { 1 ≤ self.now.ticks }
+        requires task { task < length self.now.system.tasks }
+        ensures { result ≡ task_state (last_tick self.now).after task }
+    {
+        self.kernel.task_state(task)
+    }
+
+    /// What was executed.
+    pub(crate) fn executed(&self) -> Option<Executed>
+        requires { 1 ≤ self.now.ticks }
+        ensures { result ≡ (last_tick self.now).executed }
+    {
+        self.execution.executed
+    }
+
+    /// Whether the instruction was of that task or routine.
+    pub(crate) fn is_by(&self, who: Owner) -> bool
+        requires { 1 ≤ self.now.ticks }
+        ensures { result ≡ is_by who (last_tick self.now).executed }
+    {
+        is_by(who, &self.executed())
+    }
+
+    /// Whether a job of a task ended.
+    pub(crate) fn is_ended(&self, task: TaskId) -> bool
+        requires { 1 ≤ self.now.ticks }
+        ensures { result ≡ is_number task (ending self.now.system (last_tick self.now).executed) }
+    {
+        is_task(task, self.execution.ending)
+    }
+
+    /// Whether the instruction was an activation of a task that was refused.
+    pub(crate) fn is_refused(&self, task: TaskId) -> bool
+        requires { 1 ≤ self.now.ticks }
+        ensures { result ≡ is_number task (refusing self.now.system (last_tick self.now).executed) }
+    {
+        is_task(task, self.execution.refusing)
+    }
+
+    /// How many activations of a task by alarms were refused.
+    pub(crate) fn refused_by_alarms(&self, task: TaskId) -> u8
+        requires { 1 ≤ self.now.ticks }
+        ensures value { result ≡ activations_by self.now.system task (last_tick self.now).refused }
+        ensures few { result ≤ MAX_ALARMS }
+    {
+        activations_by(self.system, task, self.kernel.last_refused())
+    }
+
+    /// Whether a routine was pending before the tick.
+    pub(crate) fn was_pending(&self, routine: IsrId) -> bool
+        requires ticked { 1 ≤ self.now.ticks }
+        requires routine { routine < length self.now.system.routines }
+        ensures { result ≡ is_pending (last_tick self.now).before routine }
+    {
+        self.before.pending[routine.number() as usize]
+    }
+
+    /// Whether it was active then.
+    pub(crate) fn was_active(&self, routine: IsrId) -> bool
+        requires { 1 ≤ self.now.ticks }
+        ensures { result ≡ is_number routine (active_routine (last_tick self.now).before) }
+    {
+        is_routine(routine, self.before.active)
+    }
+
+    /// Whether it was pending when the instruction was executed, as it is still.
+    pub(crate) fn is_pending(&self, routine: IsrId) -> bool
+        requires ticked { 1 ≤ self.now.ticks }
+        requires routine { routine < length self.now.system.routines }
+        ensures { result ≡ is_pending (last_tick self.now).at routine }
+    {
+        self.kernel.is_pending(routine)
+    }
+
+    /// How many of its interrupts arrived.
+    pub(crate) fn arrived(&self, routine: IsrId) -> u32
+        requires { 1 ≤ self.now.ticks }
+        ensures { result ≡ times routine (last_tick self.now).arrived }
+    {
+        times(routine, self.kernel.last_arrived())
+    }
+
+    /// Whether an alarm was due.
+    pub(crate) fn has_expired(&self, alarm: AlarmId) -> bool
+        requires { 1 ≤ self.now.ticks }
+        ensures { result ≡ is_among (last_tick self.now).due alarm }
+    {
+        is_among(self.kernel.last_due(), alarm)
+    }
+
+    /// Whether its action was refused.
+    pub(crate) fn is_in_vain(&self, alarm: AlarmId) -> bool
+        requires { 1 ≤ self.now.ticks }
+        ensures { result ≡ is_among (last_tick self.now).refused alarm }
+    {
+        is_among(self.kernel.last_refused(), alarm)
+    }
+}

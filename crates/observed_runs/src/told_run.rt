@@ -1,0 +1,151 @@
+//! A run beside what its kernel tells of the last tick, no part of the standards.
+
+ghost use Rattle.std.specs.Prelude.{◌≡◌, ◌<◌, ◌+◌, ◌-◌, ◌∷◌, ◌++◌, ◌≤◌, false, length, IfOk, IfSome, Some, None};
+ghost use Rattle.osek_base.specs.Executed.{StandsIn, idle_or_executed};
+ghost use Rattle.osek_base.specs.Names.{number_of};
+ghost use Rattle.osek_base.specs.Proper.{IsProper};
+ghost use Rattle.kernel.specs.declared.boot.BootFault.{BootFault};
+ghost use Rattle.kernel.specs.Run.{AreKnown, is_over, run_of};
+ghost use Rattle.blocking_laws.specs.Steps.{record_at};
+ghost use Rattle.observed_runs.specs.Observed.{executed_in, holders_seen};
+
+use crate::before::Before;
+use crate::execution::Execution;
+use crate::holders_seen::see_holders;
+use arrayvec::ArrayVec;
+use kernel::{AtInstruction, Blockers, BootFault, Kernel};
+use observations::{Holder, MAX_HELD};
+use osek_base::{Arrivals, Executed, MAX_RECORDS, System, TickRecord, TraceEvent};
+use ready_queues::LevelQueues;
+use std::alloc::Global;
+use std::marker::Model;
+
+/// A run of a system, tick by tick, beside what has to be known of the tick that was done last.
+#[derive(Drop)]
+pub(crate) struct ToldRun<'s, B: Blockers> {
+    pub(crate) system: &'s System,
+    pub(crate) kernel: Kernel<'s, LevelQueues, B>,
+    pub(crate) before: Before,
+    pub(crate) execution: Execution,
+    pub(crate) at: AtInstruction,
+    records: TickRecord,
+    /// Room for the records behind that of the instruction.
+    behind: TickRecord,
+}
+
+impl<'s, B: Blockers> Model for ToldRun<'s, B> {
+    ghost use Rattle.kernel.specs.Run.{Run};
+    ghost use Rattle.observed_runs.specs.Keeping.{IsTelling};
+
+    ghost Value = { Run };
+
+    ghost view = { λ r. r.kernel };
+
+    ghost invariant = { λ r. IsTelling r.kernel r.system.now r.before r.execution r.at.tasks.items r.records };
+}
+
+impl<'s, B: Blockers> ToldRun<'s, B> {
+    /// Boots a system in the application mode of that name, with those arrivals. Memory is taken here alone.
+    pub(crate) fn boot(
+        alloc: Global,
+        system: &'s System,
+        mode: &str,
+        arrivals: Arrivals,
+    ) -> Result<Self, BootFault>
+        requires { AreKnown system.now arrivals }
+        ensures booted { IfOk result (λ r. (r.system ≡ system.now) × (r.arrivals ≡ arrivals) × (r.ticks ≡ 0) × (number_of mode.now system.now.names.modes ≡ Some r.mode)) }
+        ensures unknown { result ≡ Err BootFault.UnknownMode → number_of mode.now system.now.names.modes ≡ None }
+    {
+        let _few = arrivals.list();
+        let kernel = Kernel::boot(alloc, system, mode, arrivals)?;
+        Ok(ToldRun {
+            system,
+            kernel,
+            before: Before::new(),
+            execution: Execution::nothing(),
+            at: AtInstruction::new(),
+            records: TickRecord::new(),
+            behind: TickRecord::new(),
+        })
+    }
+
+    /// Its system.
+    pub(crate) fn system(&self) -> &'s System
+        ensures { result.now ≡ self.now.system }
+    {
+        self.system
+    }
+
+    /// How many ticks are done.
+    pub(crate) fn ticks(&self) -> u32
+        ensures { result ≡ self.now.ticks }
+    {
+        self.kernel.ticks()
+    }
+
+    /// Whether the run is over.
+    pub(crate) fn is_over(&self) -> bool
+        ensures { result ≡ is_over self.now }
+    {
+        self.kernel.is_over()
+    }
+
+    /// Does one tick.
+    pub(crate) fn advance(&mut self)
+        requires { is_over self.old ≡ false }
+        ensures { self.new ≡ record self.old { ticks = self.old.ticks + 1 } }
+    {
+        self.before.note(&self.kernel, self.system);
+        let executed = self
+            .kernel
+            .tick_seen(&mut self.records, &mut self.behind, &mut self.at);
+        join(&mut self.records, self.system, &executed, &self.behind);
+        self.execution = Execution::of(self.system, executed);
+    }
+
+    /// Leaves who holds each resource.
+    pub(crate) fn see_holders(&self, holders: &mut ArrayVec<Holder, MAX_HELD>)
+        ensures holders { holders.new.items ≡ holders_seen self.now.system (run_of self.now).state }
+        ensures proper { IsProper self.now.system }
+    {
+        see_holders(&self.kernel, self.system, holders);
+    }
+
+    /// The records of the tick that was done last; none before the first.
+    pub(crate) fn records(&self) -> &TickRecord
+        ensures { 1 ≤ self.now.ticks → result.now ≡ record_at self.now.system self.now.mode self.now.arrivals (self.now.ticks - 1) }
+    {
+        &self.records
+    }
+}
+
+/// Adds the record of what a tick executed, and those behind it.
+fn join(records: &mut TickRecord, system: &System, executed: &Option<Executed>, behind: &TickRecord)
+    requires there { IfSome executed.now (StandsIn system.now) }
+    requires room { length records.old + length behind.now < MAX_RECORDS }
+    ensures { records.new ≡ records.old ++ idle_or_executed system.now executed.now ∷ behind.now }
+{
+    records.push(event_of(system, executed));
+    push_all(records, behind);
+}
+
+/// The record of what a tick executed.
+fn event_of(system: &System, executed: &Option<Executed>) -> TraceEvent
+    requires { IfSome executed.now (StandsIn system.now) }
+    ensures { result ≡ idle_or_executed system.now executed.now }
+{
+    match executed {
+        None => TraceEvent::Idle,
+        Some(executed) => executed.record_in(system),
+    }
+}
+
+/// Adds some records at the end.
+fn push_all(records: &mut TickRecord, more: &TickRecord)
+    requires { length records.old + length more.now ≤ MAX_RECORDS }
+    ensures { records.new ≡ records.old ++ more.now }
+{
+    for index in 0..more.len() {
+        records.push(more.at(index));
+    }
+}
