@@ -62,10 +62,12 @@ fn write_events<W: Write>(
     list: usize,
     out: &mut W,
 ) -> io::Result<()> {
-    let mut joint = "";
-    for name in names(alloc, nodes, list)? {
-        write!(out, "{joint}{name}")?;
-        joint = " + ";
+    let names = names(alloc, nodes, list)?;
+    for (number, name) in names.iter().enumerate() {
+        if number > 0 {
+            out.write_all(b" + ")?;
+        }
+        out.write_all(name.as_bytes())?;
     }
     out.write_all(b"\n")
 }
