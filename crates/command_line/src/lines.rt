@@ -174,6 +174,6 @@ pub(crate) fn lines<'a>(alloc: Global) -> Result<Command<'a>, AllocError> {
         .subcommand(check_line(alloc)?)?
         .subcommand(partitions_line(alloc)?)?
         .subcommand(class_line(alloc)?)?
-        .subcommand(make_line(alloc)?)
+        .subcommand(make_line(alloc)?)?
         .subcommand(import_line(alloc)?)
 }

@@ -1,8 +1,10 @@
 //! Tests of what the program doesn't show: printed OIL, both kinds of ready lists and the runs over
-//! them, a run over ready lists of another make, instructions as words, and upper parts by
-//! themselves.
+//! them, a run over ready lists of another make, a machine whose interrupts are chosen as it goes,
+//! instructions as words, and upper parts by themselves.
 #![tactic(auto)]
 
+#[cfg(test)]
+mod chosen_arrivals;
 #[cfg(test)]
 mod counting_queues;
 #[cfg(test)]
