@@ -27,7 +27,9 @@ fn write_answer<'q, O: Write, E: Write>(
     out: &mut O,
 ) -> Result<Verdict<'q>, RunFault> {
     match request.question {
-        Question::Lines { line, lines } => write_lines(alloc, texts, line, lines, progress, out),
+        Question::Lines { line, lines, from } => {
+            write_lines(alloc, texts, line, lines, from, progress, out)
+        }
         Question::View { line, view } => {
             let limits = request.limits.as_slice();
             write_view(alloc, texts, line, view, limits, progress, out)

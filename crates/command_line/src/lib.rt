@@ -9,6 +9,7 @@ mod imports;
 mod inputs;
 mod line_watch;
 mod lines;
+mod lines_from;
 mod making;
 mod partitions;
 mod request;

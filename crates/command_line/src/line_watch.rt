@@ -7,14 +7,14 @@ use std::io::{self, Write};
 /// A stream of a trace. What is written by one call begins with a line, and so with the number of a tick.
 #[derive(Drop)]
 pub(crate) struct LineWatch<'w, 'e, O, E> {
-    out: &'w mut O,
+    out: O,
     progress: &'w mut Progress<'e, E>,
     ticks: u32,
 }
 
 impl<'w, 'e, O, E> LineWatch<'w, 'e, O, E> {
     /// The trace of a run of so many ticks, which goes on to `out`.
-    pub(crate) fn new(out: &'w mut O, progress: &'w mut Progress<'e, E>, ticks: u32) -> Self {
+    pub(crate) fn new(out: O, progress: &'w mut Progress<'e, E>, ticks: u32) -> Self {
         LineWatch {
             out,
             progress,

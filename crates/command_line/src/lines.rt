@@ -46,7 +46,8 @@ fn trace_line<'a>(alloc: Global) -> Result<Command<'a>, AllocError> {
     let line = Command::new(alloc, "trace")
         .about("Prints the trace of a system")
         .after_help(help::TRACE_EXAMPLE);
-    of_run(alloc, of_system(alloc, line)?)?.arg(flag(alloc, "blocking", help::BLOCKING))
+    let line = of_run(alloc, of_system(alloc, line)?)?;
+    of_part(alloc, line)?.arg(flag(alloc, "blocking", help::BLOCKING))
 }
 
 fn upper_line<'a>(alloc: Global) -> Result<Command<'a>, AllocError> {

@@ -50,15 +50,34 @@ pub enum View<'a> {
     Stats(StatsLine),
 }
 
+impl View<'_> {
+    /// The first tick that is shown.
+    fn first_tick(&self) -> u32 {
+        match *self {
+            View::Vcd { from } | View::Timeline { from, .. } => from,
+            View::Stats(StatsLine { from, .. }) => from,
+        }
+    }
+}
+
 /// What is asked of a system.
 #[derive(Clone, Copy, Debug)]
 pub enum Question<'a> {
-    /// Lines of the trace of a run.
-    Lines { line: RunLine<'a>, lines: Lines },
+    /// Lines of the trace of a run, of the ticks from one on.
+    Lines {
+        line: RunLine<'a>,
+        lines: Lines,
+        from: u32,
+    },
     /// What else is shown of a run.
-    View { line: RunLine<'a>, view: View<'a> },
+    View {
+        line: RunLine<'a>,
+        view: View<'a>,
+    },
     /// Whether the part from a priority upward is separable from what is below.
-    Check { priority: u8 },
+    Check {
+        priority: u8,
+    },
     /// At which priorities that is so.
     Partitions,
     /// The conformance class.
@@ -66,6 +85,14 @@ pub enum Question<'a> {
 }
 
 impl<'a> Question<'a> {
+    /// Whether a picture is asked for.
+    fn is_drawn(&self) -> bool {
+        match *self {
+            Question::View { view, .. } => matches!(view, View::Timeline { .. }),
+            _ => false,
+        }
+    }
+
     /// What the run is of, where one is asked for.
     pub fn run_line(&self) -> Option<RunLine<'a>> {
         match *self {
@@ -199,26 +226,26 @@ fn limit_texts<'m, 'a>(subcommand: &str, matches: &'m ArgMatches<'a>) -> &'m [&'
 
 /// Why nothing is shown, where the first tick lies behind the last, or a picture has too many.
 fn shown_fault(question: &Question<'_>) -> Option<&'static str> {
-    let Question::View { line, view } = question else {
-        return None;
+    let (line, from) = match question {
+        Question::Lines { line, from, .. } => (line, *from),
+        Question::View { line, view } => (line, view.first_tick()),
+        Question::Check { .. } | Question::Partitions | Question::Class => return None,
     };
-    match view {
-        View::Timeline { from, .. } => match line.ticks.checked_sub(*from) {
-            None => Some(help::NO_TICK_SHOWN),
-            Some(drawn) => (drawn > MAX_DRAWN).then_some(help::TOO_MANY_DRAWN),
-        },
-        View::Vcd { from } => (*from > line.ticks).then_some(help::NO_TICK_SHOWN),
-        View::Stats(stats) => (stats.from > line.ticks).then_some(help::NO_TICK_SHOWN),
-    }
+    let Some(shown) = line.ticks.checked_sub(from) else {
+        return Some(help::NO_TICK_SHOWN);
+    };
+    (question.is_drawn() && shown > MAX_DRAWN).then_some(help::TOO_MANY_DRAWN)
 }
 
 /// All lines, with the numbers of blockers where they are wanted.
-fn trace(matches: &ArgMatches<'_>) -> Lines {
-    if matches.get_flag("blocking") {
+fn trace<'a>(matches: &ArgMatches<'a>) -> Question<'a> {
+    let (line, from) = shown_part(matches);
+    let lines = if matches.get_flag("blocking") {
         Lines::Blocking
     } else {
         Lines::All
-    }
+    };
+    Question::Lines { line, lines, from }
 }
 
 /// What a subcommand asks for.
@@ -230,6 +257,7 @@ fn asked<'a>(subcommand: &str, matches: &ArgMatches<'a>) -> Question<'a> {
                 priority: priority(matches),
                 alone: matches.get_flag("alone"),
             },
+            from: 0,
         },
         "vcd" => vcd(matches),
         "timeline" => timeline(matches),
@@ -239,10 +267,7 @@ fn asked<'a>(subcommand: &str, matches: &ArgMatches<'a>) -> Question<'a> {
         },
         "partitions" => Question::Partitions,
         "class" => Question::Class,
-        _ => Question::Lines {
-            line: run_line(matches),
-            lines: trace(matches),
-        },
+        _ => trace(matches),
     }
 }
 

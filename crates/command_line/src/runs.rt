@@ -2,6 +2,7 @@
 
 use crate::inputs::{Texts, system_of};
 use crate::line_watch::LineWatch;
+use crate::lines_from::LinesFrom;
 use crate::partitions::write_denial;
 use crate::request::{Lines, RunLine, View};
 use crate::status::Verdict;
@@ -14,19 +15,21 @@ use std::alloc::Global;
 use std::io::Write;
 use tracer::{RunFault, StdSink, run, run_blocking, run_upper};
 
-/// Writes lines of the trace of a run, or the first denial.
+/// Writes lines of the trace of a run, of the ticks from one on, or the first denial.
 pub(crate) fn write_lines<O: Write, E: Write>(
     alloc: Global,
     texts: &Texts,
     line: RunLine<'_>,
     lines: Lines,
+    from: u32,
     progress: &mut Progress<'_, E>,
     out: &mut O,
 ) -> Result<Verdict<'static>, RunFault> {
     let Texts { oil, asm, irq } = texts;
     let mode = line.mode;
     let ticks = line.ticks.min(MAX_TICKS);
-    let mut sink = StdSink::new(LineWatch::new(&mut *out, progress, ticks));
+    let shown = LinesFrom::new(&mut *out, from);
+    let mut sink = StdSink::new(LineWatch::new(shown, progress, ticks));
     match lines {
         Lines::All => run(alloc, oil, asm, irq, mode, ticks, &mut sink)?,
         Lines::Blocking => run_blocking(alloc, oil, asm, irq, mode, ticks, &mut sink)?,
