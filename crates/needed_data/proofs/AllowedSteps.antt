@@ -17,7 +17,7 @@ use Rattle.kept_state.specs.Kept.{Kept}
 use Rattle.kept_state.specs.Moves.{KeptRecorded}
 use Rattle.kept_state.specs.KeptService.{KeptCaller, ByTask, ByRoutine, ByNobody, KeptReply, bare, caller_in, refusals_in, reply_in, service_in}
 use Rattle.kept_state.specs.KeptTick.{with_context_in, controlled_in, executed_in, routine_executes, caller_executes_in, execute_phase_in, before_execution_in, last_phase_in, tick_in}
-use Rattle.needed_data.specs.Need.{Need, Respects, IsClosed, allowed_context}
+use Rattle.needed_data.specs.Need.{Need, Respects, Suffices, allowed_context}
 use Rattle.needed_data.specs.Same.{allowed, HasAllowedIndices}
 use Rattle.needed_data.proofs.Steps.{mapped_routine, mapped_reply, refusals_clean, service_clean, before_clean, last_clean}
 use Rattle.needed_data.proofs.Contexts.{IsOf, context_mapped, service_active, control_mapped, control_of}
@@ -88,7 +88,7 @@ module _ (S : System) (need : Need) where
 
   -- ---- one instruction
 
-  module _ (closed : IsClosed S need) (who : Owner) (d : KeptCaller) where
+  module _ (enough : Suffices S need) (who : Owner) (d : KeptCaller) where
     contexts_held : (x : Context) (o : Kept) → IsOf who d o.active → HasAllowedIndices need o
         → HoldsThere (need.indices who) x → HasAllowedIndices need (with_context_in d x o)
     contexts_held x o of h holds =
@@ -102,29 +102,29 @@ module _ (S : System) (need : Need) where
         contexts_held (plain p x (o.words who)).context
         (record o { words = words_after o.words who (plain p x (o.words who)).effect }) of
         (λ i. record (h i) { words = words_after o.words who (plain p x (o.words who)).effect })
-        (plain_holds (need.indices who) (closed.zero who) (closed.beyond who) p x (o.words who) respects.1 holds)
+        (plain_holds (need.indices who) (enough.zero who) (enough.beyond who) p x (o.words who) respects.1 holds)
     executed_held x (Instr.Service call) o h of holds respects =
         contexts_held _ (service_in S d o (at_values x call)).state
         (subst (IsOf who d) (sym (service_active S d o (at_values x call))) of)
         (service_held d o (at_values x call) h)
-        (answered_holds (need.indices who) (closed.zero who) (closed.beyond who) (service_in S d o (at_values x call)).status
+        (answered_holds (need.indices who) (enough.zero who) (enough.beyond who) (service_in S d o (at_values x call)).status
         (service_in S d o (at_values x call)).results x respects.1 respects.2 holds)
     executed_held x (Instr.Control control) o h of holds respects =
         contexts_held (next x) (controlled_in control o) (control_of who d control o of)
         (sym (control_mapped holding same_words same_shared control o) ∙ ap (controlled_in control) h)
-        (next_holds (need.indices who) (closed.zero who) (closed.beyond who) x respects holds)
+        (next_holds (need.indices who) (enough.zero who) (enough.beyond who) x respects holds)
 
-  module _ (closed : IsClosed S need) where
+  module _ (enough : Suffices S need) where
     pub task_holds : (o : Kept) → HasAllowedIndices need o → (t : ℕ)
         → HoldsThere (need.indices (Owner.Task t)) (o.slots t).context
     task_holds o h t =
-        held_where_kept (need.indices (Owner.Task t)) (closed.zero (Owner.Task t)) (closed.beyond (Owner.Task t)) (o.slots t).context
+        held_where_kept (need.indices (Owner.Task t)) (enough.zero (Owner.Task t)) (enough.beyond (Owner.Task t)) (o.slots t).context
         (ap (λ (z : Kept). (z.slots t).context) h)
 
     pub routine_holds : (o : Kept) → HasAllowedIndices need o → (a : Active) → o.active ≡ Some a
         → HoldsThere (need.indices (Owner.Routine a.routine)) a.context
     routine_holds o h a e =
-        held_where_kept (need.indices (Owner.Routine a.routine)) (closed.zero (Owner.Routine a.routine)) (closed.beyond (Owner.Routine a.routine)) a.context
+        held_where_kept (need.indices (Owner.Routine a.routine)) (enough.zero (Owner.Routine a.routine)) (enough.beyond (Owner.Routine a.routine)) a.context
         (ap (λ (z : Active). z.context)
         (inside (mapped_routine holding a) a (subst (λ z. option_map (mapped_routine holding) z ≡ z) e (ap (λ (z : Kept). z.active) h))))
 
@@ -132,16 +132,16 @@ module _ (S : System) (need : Need) where
         → HasAllowedIndices need (routine_executes S active o).state
     routine_held o h None e = h
     routine_held o h (Some a) e =
-        executed_held closed (Owner.Routine a.routine) ByRoutine a.context
+        executed_held enough (Owner.Routine a.routine) ByRoutine a.context
         (instruction_at S (Owner.Routine a.routine) a.context.place) o h
         (subst (IsOf (Owner.Routine a.routine) ByRoutine) (sym e) refl) (routine_holds o h a e)
-        (closed.each (Owner.Routine a.routine) a.context.place)
+        (enough.each (Owner.Routine a.routine) a.context.place)
 
     caller_held : (d : KeptCaller) (o : Kept) → HasAllowedIndices need o → HasAllowedIndices need (caller_executes_in S d o).state
     caller_held (ByTask t) o h =
-        executed_held closed (Owner.Task t) (ByTask t) (o.slots t).context
+        executed_held enough (Owner.Task t) (ByTask t) (o.slots t).context
         (instruction_at S (Owner.Task t) (o.slots t).context.place) o h refl (task_holds o h t)
-        (closed.each (Owner.Task t) (o.slots t).context.place)
+        (enough.each (Owner.Task t) (o.slots t).context.place)
     caller_held ByRoutine o h = routine_held o h o.active refl
     caller_held ByNobody o h = h
 

@@ -24,7 +24,7 @@ use Rattle.kept_state.specs.Kept.{Kept}
 use Rattle.kept_state.specs.Moves.{KeptRecorded}
 use Rattle.kept_state.specs.KeptService.{KeptCaller, ByTask, ByRoutine, ByNobody, KeptReply, bare, caller_in, refusals_in, reply_in, service_in}
 use Rattle.kept_state.specs.KeptTick.{with_context_in, controlled_in, executed_in, routine_executes, caller_executes_in, execute_phase_in}
-use Rattle.needed_data.specs.Need.{Need, implies, DataFollows, respects_service, Respects, IsClosed}
+use Rattle.needed_data.specs.Need.{Need, implies, DataFollows, respects_service, Respects, Suffices}
 use Rattle.needed_data.specs.Same.{cleaned_context, cleaned_routine, cleaned_words, cleaned_shared, cleaned, HaveSameNeeded, blanked_effect, blanked_results, blanked, HasAllowedIndices}
 use Rattle.needed_data.proofs.Cleaning.{needed_too, value_alike, set_alike, context_twice, word_alike, write_alike, words_twice, shared_alike, store_alike, cleaned_twice, registers_zero}
 use Rattle.needed_data.proofs.Steps.{mapped_reply, leaves_shared, service_clean, caller_in_clean}
@@ -354,10 +354,10 @@ module _ (S : System) (need : Need) where
         (sym (cleaned_twice need (controlled_in control o)) ∙ ap (cleaned need) (sym (control_mapped (cleaning need) (cleaned_words need) (cleaned_shared need.shared) control o)));
   }
 
-  module _ (closed : IsClosed S need) where
+  module _ (enough : Suffices S need) where
     values_held : (who : Owner) (x : Context) → HoldsThere (need.indices who) x → (r : ℕ)
         → need.indices who x.place r (value x r % WINDOW_WORDS) ≡ true
-    values_held who x h = value_holds (need.indices who) (closed.zero who) (closed.beyond who) x h
+    values_held who x h = value_holds (need.indices who) (enough.zero who) (enough.beyond who) x h
 
     idle_alike : (o : Kept) → AreAlikeRecorded need (record { events = TraceEvent.Idle ∷ []; state = o })
         (record { events = TraceEvent.Idle ∷ []; state = cleaned need o })
@@ -372,8 +372,8 @@ module _ (S : System) (need : Need) where
         (instruction_at S (Owner.Routine a.routine) a.context.place) o
         (sym (context_twice (need.registers (Owner.Routine a.routine)) a.context))
         (subst (IsOf (Owner.Routine a.routine) ByRoutine) (sym e) refl)
-        (values_held (Owner.Routine a.routine) a.context (routine_holds S need closed o held a e))
-        (closed.each (Owner.Routine a.routine) a.context.place)
+        (values_held (Owner.Routine a.routine) a.context (routine_holds S need enough o held a e))
+        (enough.each (Owner.Routine a.routine) a.context.place)
 
     caller_alike : (d : KeptCaller) (o : Kept) → HasAllowedIndices need o
         → AreAlikeRecorded need (caller_executes_in S d o) (caller_executes_in S d (cleaned need o))
@@ -381,8 +381,8 @@ module _ (S : System) (need : Need) where
         executed_alike (Owner.Task t) (ByTask t) (o.slots t).context (cleaned_context (need.registers (Owner.Task t)) (o.slots t).context)
         (instruction_at S (Owner.Task t) (o.slots t).context.place) o
         (sym (context_twice (need.registers (Owner.Task t)) (o.slots t).context)) refl
-        (values_held (Owner.Task t) (o.slots t).context (task_holds S need closed o held t))
-        (closed.each (Owner.Task t) (o.slots t).context.place)
+        (values_held (Owner.Task t) (o.slots t).context (task_holds S need enough o held t))
+        (enough.each (Owner.Task t) (o.slots t).context.place)
     caller_alike ByRoutine o held = routine_alike o held o.active refl
     caller_alike ByNobody o held = idle_alike o
 

@@ -7,4 +7,4 @@ pub mod Executed
 pub mod Ticks
 pub mod Runs
 pub mod Meanings
-pub mod Closed
+pub mod Sufficient

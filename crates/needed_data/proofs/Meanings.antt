@@ -210,9 +210,9 @@ active_each need (Some a) each =
     (holds_there (need.indices (Owner.Routine a.routine)) a.context each))
 
 pub indices_mean : IndicesMean
-indices_mean S need o closed = (
+indices_mean S need o enough = (
   λ h. record {
-    slots = λ t. indices_of (Owner.Task t) (o.slots t).context (task_holds S need closed o h t);
+    slots = λ t. indices_of (Owner.Task t) (o.slots t).context (task_holds S need enough o h t);
     active = go h o.active refl;
   },
   λ each. λ i. record o {
@@ -229,10 +229,10 @@ indices_mean S need o closed = (
     indices_of : (who : Owner) (x : Context) → HoldsThere (need.indices who) x → HasAllowed (need.indices who) x
     indices_of who x h = record {
       size = h.size;
-      values = value_holds (need.indices who) (closed.zero who) (closed.beyond who) x h;
+      values = value_holds (need.indices who) (enough.zero who) (enough.beyond who) x h;
     }
 
     go : HasAllowedIndices need o → (active : Option Active) → o.active ≡ active
         → IfSome active (λ a. HasAllowed (need.indices (Owner.Routine a.routine)) a.context)
     go h None e = tt
-    go h (Some a) e = indices_of (Owner.Routine a.routine) a.context (routine_holds S need closed o h a e)
+    go h (Some a) e = indices_of (Owner.Routine a.routine) a.context (routine_holds S need enough o h a e)

@@ -9,7 +9,7 @@ use Rattle.osek_base.proofs.FrameLemmas.{tick_tick}
 use Rattle.kept_state.specs.Kept.{Kept, kept}
 use Rattle.kept_state.specs.KeptTick.{kept_step, tick_in}
 use Rattle.kept_state.proofs.Ticked.{ticks}
-use Rattle.needed_data.specs.Need.{Need, IsClosed, allowed_context}
+use Rattle.needed_data.specs.Need.{Need, Suffices, allowed_context}
 use Rattle.needed_data.specs.Same.{HaveSameNeeded, AreStepsOfSame, HasAllowedIndices}
 use Rattle.needed_data.specs.Laws.{RunsKeepIndices, RunsKeepSame, kept_after, following}
 use Rattle.needed_data.proofs.Steps.{activated_clean, rescheduled_clean, unbegun_mapped}
@@ -32,7 +32,7 @@ abbrev more_at : System → List Arrival → Run → Bool → Run
 more_at S arrivals r over =
     elim over [ true ↦ r | false ↦ step_added r (tick S (arriving arrivals r.state.tick) r.state) ]
 
-module _ (S : System) (need : Need) (closed : IsClosed S need) where
+module _ (S : System) (need : Need) (enough : Suffices S need) where
   abbrev holding : Owner → Context → Context
   holding who x = allowed_context (need.indices who) x
 
@@ -67,7 +67,7 @@ module _ (S : System) (need : Need) (closed : IsClosed S need) where
     more_held n h true = h
     more_held n h false =
         subst (HasAllowedIndices need) (sym (ap (λ (z : KeptStep). z.after) (ticks S mode arrivals n (arriving arrivals (run S mode arrivals n).state.tick) proper)))
-        (tick_held S need closed (arriving arrivals (run S mode arrivals n).state.tick) (kept S (run S mode arrivals n).state) h)
+        (tick_held S need enough (arriving arrivals (run S mode arrivals n).state.tick) (kept S (run S mode arrivals n).state) h)
 
     run_held : (n : ℕ) → HasAllowedIndices need (kept S (run S mode arrivals n).state)
     unfolding run
@@ -75,9 +75,9 @@ module _ (S : System) (need : Need) (closed : IsClosed S need) where
     run_held (suc n) = more_held n (run_held n) (run S mode arrivals n).state.over
 
 pub runs_keep_indices : RunsKeepIndices
-runs_keep_indices S need mode arrivals n proper closed = run_held S need closed proper mode arrivals n
+runs_keep_indices S need mode arrivals n proper enough = run_held S need enough proper mode arrivals n
 
-module _ (S : System) (need : Need) (mode other : ℕ) (arrivals others : List Arrival) (n m : ℕ) (proper : IsProper S) (closed : IsClosed S need) (same : (t : ℕ) → (run S mode arrivals n).state.tick ≤ t → arriving arrivals t ≡ arriving others t) where
+module _ (S : System) (need : Need) (mode other : ℕ) (arrivals others : List Arrival) (n m : ℕ) (proper : IsProper S) (enough : Suffices S need) (same : (t : ℕ) → (run S mode arrivals n).state.tick ≤ t → arriving arrivals t ≡ arriving others t) where
   record IsSoAt (r q : Run) : Type 0 where
     alike : HaveSameNeeded need (kept S r.state) (kept S q.state)
     later : (run S mode arrivals n).state.tick ≤ r.state.tick
@@ -97,8 +97,8 @@ module _ (S : System) (need : Need) (mode other : ℕ) (arrivals others : List A
       (subst (λ arrived. AreStepsOfSame need (tick_in S (arriving arrivals (run S mode arrivals i).state.tick) (kept_after S mode arrivals i))
       (tick_in S arrived (kept_after S other others j)))
       (arrive_same (run S mode arrivals i) (run S other others j) so)
-      (tick_alike S need closed (arriving arrivals (run S mode arrivals i).state.tick) (kept_after S mode arrivals i) (kept_after S other others j)
-      (run_held S need closed proper mode arrivals i) (run_held S need closed proper other others j) so.alike))
+      (tick_alike S need enough (arriving arrivals (run S mode arrivals i).state.tick) (kept_after S mode arrivals i) (kept_after S other others j)
+      (run_held S need enough proper mode arrivals i) (run_held S need enough proper other others j) so.alike))
 
   more_so : (i j : ℕ) → IsSoAt (run S mode arrivals i) (run S other others j) → (b c : Bool) → b ≡ c
       → IsSoAt (more_at S arrivals (run S mode arrivals i) b) (more_at S others (run S other others j) c)
@@ -130,6 +130,6 @@ module _ (S : System) (need : Need) (mode other : ℕ) (arrivals others : List A
       (next_so (n + k) (m + k) (all_so alike k))
 
 pub runs_keep_same : RunsKeepSame
-runs_keep_same S need mode other arrivals others n m k proper closed alike same =
-    let so = all_so S need mode other arrivals others n m proper closed same alike k in
-    (so.alike, follow S need mode other arrivals others n m proper closed same (n + k) (m + k) so)
+runs_keep_same S need mode other arrivals others n m k proper enough alike same =
+    let so = all_so S need mode other arrivals others n m proper enough same alike k in
+    (so.alike, follow S need mode other arrivals others n m proper enough same (n + k) (m + k) so)

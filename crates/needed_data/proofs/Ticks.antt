@@ -6,7 +6,7 @@ use Rattle.osek_base.specs.System.{System}
 use Rattle.kept_state.specs.Kept.{Kept}
 use Rattle.kept_state.specs.Moves.{KeptRecorded}
 use Rattle.kept_state.specs.KeptTick.{KeptStep, and_then_in, execute_phase_in, last_phase_in, before_execution_in, tick_in}
-use Rattle.needed_data.specs.Need.{Need, IsClosed}
+use Rattle.needed_data.specs.Need.{Need, Suffices}
 use Rattle.needed_data.specs.Same.{cleaned, cleaned_words, cleaned_shared, HaveSameNeeded, AreStepsOfSame, HasAllowedIndices, blanked}
 use Rattle.needed_data.specs.Laws.{TicksKeepSame, TicksKeepIndices}
 use Rattle.needed_data.proofs.Steps.{mapped_recorded, before_clean, last_clean}
@@ -21,7 +21,7 @@ module _ (need : Need) (f : Kept → KeptRecorded) (clean : (o : Kept) → f (cl
   of_alike : (o p : Kept) → HaveSameNeeded need o p → cleaned_recorded need (f o) ≡ cleaned_recorded need (f p)
   of_alike o p alike = sym (clean o) ∙ ap f alike ∙ clean p
 
-module _ (S : System) (need : Need) (closed : IsClosed S need) where
+module _ (S : System) (need : Need) (enough : Suffices S need) where
   -- a tick from phases 1 to 4 on
   abbrev finished : KeptRecorded → KeptStep
   finished ready =
@@ -48,7 +48,7 @@ module _ (S : System) (need : Need) (closed : IsClosed S need) where
         after = ap (λ (r : KeptRecorded). let z = r.state in record z { tick = z.tick + 1 }) last;
       }
 
-  tick_of_cleaned : (arrived : List ℕ) (o : Kept) → HasAllowedIndices need o
+  pub tick_of_cleaned : (arrived : List ℕ) (o : Kept) → HasAllowedIndices need o
       → AreStepsOfSame need (tick_in S arrived o) (tick_in S arrived (cleaned need o))
   unfolding tick_in
   tick_of_cleaned arrived o h =
@@ -56,7 +56,7 @@ module _ (S : System) (need : Need) (closed : IsClosed S need) where
       (sym (before_clean S (cleaning need) (cleaned_words need) (cleaned_shared need.shared) (fresh_clean need) arrived o))
       (joined (before_execution_in S arrived o).events (execute_phase_in S (before_execution_in S arrived o).state)
       (execute_phase_in S (cleaned need (before_execution_in S arrived o).state))
-      (execute_alike S need closed (before_execution_in S arrived o).state (before_held S need closed arrived o h)))
+      (execute_alike S need enough (before_execution_in S arrived o).state (before_held S need enough arrived o h)))
 
   pub tick_alike : (arrived : List ℕ) (o p : Kept) → HasAllowedIndices need o → HasAllowedIndices need p → HaveSameNeeded need o p
       → AreStepsOfSame need (tick_in S arrived o) (tick_in S arrived p)
@@ -69,7 +69,7 @@ module _ (S : System) (need : Need) (closed : IsClosed S need) where
       }
 
 pub ticks_keep_same : TicksKeepSame
-ticks_keep_same S need arrived o p closed h k alike = tick_alike S need closed arrived o p h k alike
+ticks_keep_same S need arrived o p enough h k alike = tick_alike S need enough arrived o p h k alike
 
 pub ticks_keep_indices : TicksKeepIndices
-ticks_keep_indices S need arrived o closed h = tick_held S need closed arrived o h
+ticks_keep_indices S need arrived o enough h = tick_held S need enough arrived o h

@@ -6,7 +6,7 @@ use Rattle.osek_base.specs.declared.ids.Owner.{Owner}
 use Rattle.osek_base.specs.Instruction.{Context, value}
 use Rattle.osek_base.specs.State.{Active, shared_window}
 use Rattle.kept_state.specs.Kept.{Kept, Slot}
-use Rattle.needed_data.specs.Need.{Need, IsClosed}
+use Rattle.needed_data.specs.Need.{Need, Suffices}
 use Rattle.needed_data.specs.Same.{HaveSameNeeded, HasAllowedIndices}
 
 -- at one place, with as many registers, and the same value in each that is needed
@@ -61,4 +61,4 @@ pub record HaveAllowed (need : Need) (o : Kept) : Type 0 where
   pub active : IfSome o.active (λ a. HasAllowed (need.indices (Owner.Routine a.routine)) a.context)
 
 abbrev pub IndicesMean : Type 0
-IndicesMean = (S : System) (need : Need) (o : Kept) → IsClosed S need → HasAllowedIndices need o ↔ HaveAllowed need o
+IndicesMean = (S : System) (need : Need) (o : Kept) → Suffices S need → HasAllowedIndices need o ↔ HaveAllowed need o

@@ -78,8 +78,9 @@ Respects need who place (Instr.Service call) =
     × ((r : ℕ) → r < 4 → MayHoldAll (need.indices who (place + 1)) r)
 Respects need who place (Instr.Control control) = Passes (need.indices who place) (need.indices who (place + 1))
 
--- at its first place each register may have 0, and each instruction of each program is respected. Beyond r7 is none
-pub record IsClosed (S : System) (need : Need) : Type 0 where
+-- a need suffices: at its first place each register may have 0, and each instruction of each program is respected. Beyond
+-- r7 is none
+pub record Suffices (S : System) (need : Need) : Type 0 where
   pub zero : (who : Owner) (r : ℕ) → IsTrue (need.indices who 0 r 0)
   pub beyond : (who : Owner) (place r : ℕ) → REGISTERS ≤ r → IsTrue (need.indices who place r 0)
   pub each : (who : Owner) (place : ℕ) → Respects need who place (instruction_at S who place)

@@ -1,6 +1,6 @@
 //! The laws, one function each. The functions are empty: the clause is the law.
 
-ghost use Rattle.needed_data.specs.Laws.{AllIsClosed, RunsKeepIndices, RunsKeepSame, TicksKeepIndices, TicksKeepSame};
+ghost use Rattle.needed_data.specs.Laws.{AllSuffices, RunsKeepIndices, RunsKeepSame, TicksKeepIndices, TicksKeepSame};
 ghost use Rattle.needed_data.specs.Meaning.{IndicesMean, SameMeans};
 
 /// Under the same arrivals, ticks of states that have the same needed data record the same but for
@@ -36,7 +36,7 @@ pub fn indices_mean()
     ensures { IndicesMean }
 {}
 
-/// Each system has a closed need: all.
-pub fn all_is_closed()
-    ensures { AllIsClosed }
+/// For each system it suffices to need all.
+pub fn all_suffices()
+    ensures { AllSuffices }
 {}

@@ -1,7 +1,7 @@
 //! Which data of the programs a run may depend on, word by word, and that nothing else matters.
 //!
 //! A need names registers of each task and routine, words of their windows, and windows of
-//! resources. It is closed where each instruction of each program works out what is needed from
+//! resources. It suffices where each instruction of each program works out what is needed from
 //! what is needed: what a jump compares, the times of an alarm, whatever a needed register or word
 //! comes from. Two states that differ only in data that isn't needed then do the same in each tick,
 //! but for the values that instructions show, and differ only there afterwards.
@@ -13,6 +13,6 @@
 mod laws;
 
 pub use laws::{
-    all_is_closed, indices_mean, runs_keep_indices, runs_keep_same, same_means, ticks_keep_indices,
+    all_suffices, indices_mean, runs_keep_indices, runs_keep_same, same_means, ticks_keep_indices,
     ticks_keep_same,
 };
