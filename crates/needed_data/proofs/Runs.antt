@@ -54,7 +54,7 @@ module _ (S : System) (need : Need) (enough : Suffices S need) where
       activated_held ts (activated_in S t o)
       (sym (activated_clean S holding same_words same_shared fresh_held t o) ∙ ap (activated_in S t) h)
 
-  boot_held : (mode : ℕ) → HasAllowedIndices need (boot_in S mode).state
+  pub boot_held : (mode : ℕ) → HasAllowedIndices need (boot_in S mode).state
   unfolding boot_in
   boot_held mode =
       let started : Kept = all_activated_in S (starting_tasks S mode) (begun_in S mode) in

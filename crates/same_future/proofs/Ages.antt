@@ -1,8 +1,10 @@
 -- The order of ages, and that it stays along a tick.
-use Rattle.std.proofs.Common.{ℕ, Bool, true, false, cond, List, [], ◌∷◌, ◌++◌, map, replicate, arith}
+use Rattle.std.proofs.Common.{ℕ, Bool, true, false, cond, List, [], ◌∷◌, ◌++◌, map, replicate, arith, subst}
 use Rattle.std.specs.Prelude.{None, IfSome}
 use Rattle.std.specs.List.{AllByRecursion}
-use Rattle.same_future.specs.Spans.{Seen, Age, Ticks, Above, one_older, ages_in, but_oldest, ages_next, oldest, ending_age, IsAtMost, IsAtLeast, AreOlder}
+use Rattle.same_future.specs.Ages.{AgesAreOrdered}
+use Rattle.same_future.specs.Spans.{Seen, seen_of, Age, Ticks, Above, one_older, ages_in, but_oldest, ages_next, oldest, ending_age, IsAtMost, IsAtLeast, AreOlder}
+use Rattle.same_future.proofs.Shown.{seen_alike}
 
 at_least_itself : (a : Age) → IsAtLeast a a
 at_least_itself (Ticks n) = omega arith
@@ -77,3 +79,14 @@ older_bounds [] [] most older all = tt
 older_bounds [] (y ∷ ys) most older all = absurd older
 older_bounds (x ∷ xs) [] most older all = absurd older
 older_bounds (x ∷ xs) (y ∷ ys) most older all = (at_most_least most x y older.0 all.0, older_bounds xs ys most older.1 all.1)
+
+-- ---- ages as labels
+
+pub ages_are_ordered : AgesAreOrdered
+ages_are_ordered S need = record {
+  joined = λ k l m first second span x low.
+      older_joined (k span x) (l span x) (m span x) (first span x low) (second span x low);
+  next = λ a b l m alike at_least span x low.
+      subst (λ (seen : Seen). AreOlder (ages_next (seen_of S span x a) (l span x)) (ages_next seen (m span x)))
+      (seen_alike S need a b alike span x) (older_next (seen_of S span x a) (l span x) (m span x) (at_least span x low));
+}

@@ -17,7 +17,8 @@ use Rattle.run_laws.specs.Jobs.{one_if, ends}
 use Rattle.kept_state.specs.Kept.{kept, slot_of}
 use Rattle.same_future.specs.Alike.{kept_after}
 use Rattle.same_future.specs.Spans.{Jobs, Readiness, is_wait_of, Seen, Ticks, ages_next, ending_age}
-use Rattle.same_future.specs.Covering.{kept_step_at, seen_at, ages_after}
+use Rattle.same_future.specs.Shown.{kept_step_at}
+use Rattle.same_future.specs.Ages.{seen_at, ages_after}
 use Rattle.same_future.specs.Readiness.{BasicIsReady}
 
 -- what is seen of readiness, where the task's oldest job waits or not before the tick and after it

@@ -13,11 +13,11 @@ use Rattle.kept_state.specs.Kept.{kept}
 use Rattle.same_future.specs.Alike.{kept_after}
 use Rattle.run_laws.specs.Jobs.{one_if}
 use Rattle.same_future.specs.Spans.{Holds, holder_in, is_let_go, Seen, Age, Ticks, Above, ages_next, IsAtMost}
-use Rattle.same_future.specs.Covering.{ages_after}
+use Rattle.same_future.specs.Ages.{Ages, age_labels, ages_after}
 use Rattle.same_future.specs.Paths.{arrivals_on}
 use Rattle.same_future.specs.Holds.{IsHeldFor, HoldsAreTold, FindsHold}
 use Rattle.run_laws.proofs.RunSteps.{state_more, going_before}
-use Rattle.same_future.proofs.Covered.{none_older}
+use Rattle.same_future.proofs.Bounded.{none_older}
 use Rattle.same_future.proofs.Attained.{IsOn, on_path, paths_are_runs}
 use Rattle.same_future.proofs.Holders.{none_held}
 
@@ -188,17 +188,17 @@ holds_are_told S mode r arrivals n proper going = record {
 }
 
 pub finds_hold : FindsHold
-finds_hold S mode distance table r most path chosen proper low closed none allowed has =
-    let there = paths_are_runs S mode distance path chosen proper allowed in
-    let on : IsOn S proper mode distance (chosen ∷ path) = on_path S proper mode distance (chosen ∷ path) allowed in
+finds_hold S need mode distance table r most path chosen proper enough low closed none allowed has =
+    let there = paths_are_runs age_labels S mode distance path chosen proper allowed in
+    let on : IsOn age_labels S proper mode distance (chosen ∷ path) = on_path age_labels S proper mode distance (chosen ∷ path) allowed in
     record {
       bound = λ arrivals n k spaced told.
           let is : ages_after S mode arrivals (suc n) Holds r ≡ Ticks k ∷ [] = (holds_are_told S mode r arrivals n proper told.going).all k told in
           let bounded : AllByRecursion (IsAtMost most) (ages_after S mode arrivals (suc n) Holds r) =
-          none_older S mode distance table Holds r most arrivals n proper closed low none spaced told.going in
+          none_older S need mode distance table Holds r most arrivals n proper enough closed low none spaced told.going in
           (subst (AllByRecursion (IsAtMost most)) is bounded).0;
       arrivals = arrivals_on S (chosen ∷ path);
       spaced = there.spaced;
       tick = length path;
-      attained = (holds_are_told S mode r (arrivals_on S (chosen ∷ path)) (length path) proper there.going).told most (on.ages Holds r low ∙ has);
+      attained = (holds_are_told S mode r (arrivals_on S (chosen ∷ path)) (length path) proper there.going).told most (ap (λ (l : Ages). l Holds r) on.label ∙ has);
     }

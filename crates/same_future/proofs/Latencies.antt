@@ -1,21 +1,23 @@
 -- The ages of pending interrupts are their latencies.
-use Rattle.std.proofs.Common.{ℕ, zero, suc, ◌≡◌, ◌<◌, ◌≤◌, ◌+◌, ◌-◌, ◌⊎◌, inl, inr, Bool, true, false, ◌||◌, ◌&&◌, List, [], ◌∷◌, replicate, length, refl, sym, ◌∙◌, ap, subst, arith}
+use Rattle.std.proofs.Common.{ℕ, zero, suc, ◌≡◌, ◌<◌, ◌≤◌, ◌+◌, ◌-◌, ◌⊎◌, inl, inr, Bool, true, false, ◌||◌, ◌&&◌, List, [], ◌∷◌, replicate, length, refl, sym, ◌∙◌, ap, ap₂, subst, arith}
 use Rattle.std.specs.Prelude.{Option, Some, IfSome, not}
 use Rattle.std.proofs.lemmas.Bool.{true≢false, cases_order, cases_eq}
 use Rattle.osek_base.specs.declared.arrivals.Arrival.{Arrival}
 use Rattle.osek_base.specs.System.{System}
 use Rattle.osek_base.specs.State.{State}
-use Rattle.osek_base.specs.Tick.{is_pending}
+use Rattle.osek_base.specs.Tick.{tick, is_pending}
 use Rattle.osek_base.specs.Trace.{arriving, run}
 use Rattle.osek_base.specs.Proper.{IsProper}
 use Rattle.run_laws.proofs.FormedTick.{run_form}
 use Rattle.run_laws.specs.Jobs.{one_if}
 use Rattle.same_future.specs.Spans.{Pending, Seen, Age, Ticks, Above, ages_next, ending_age, IsAtMost}
-use Rattle.same_future.specs.Covering.{arrives, seen_at, ages_after, ending_age_at}
+use Rattle.same_future.specs.Shown.{arrives, Shown}
+use Rattle.same_future.specs.Ages.{Ages, age_labels, ending_age_in, seen_at, ages_after, ending_age_at}
 use Rattle.same_future.specs.Paths.{arrivals_on, IsRun}
 use Rattle.same_future.specs.Latencies.{pends_after, StartsAfter, LatenciesAreTold, FindsLatency}
 use Rattle.run_laws.proofs.RunSteps.{state_more, going_before}
-use Rattle.same_future.proofs.Covered.{no_longer}
+use Rattle.same_future.proofs.Arrivals.{in_chosen}
+use Rattle.same_future.proofs.Bounded.{no_longer}
 use Rattle.same_future.proofs.Attained.{paths_are_runs}
 use Rattle.same_future.proofs.Flags.{only_flagged, none_flagged}
 use Rattle.run_laws.proofs.Lists.{some_inside, none_some}
@@ -44,7 +46,8 @@ module _ (S : System) (mode i : ℕ) (arrivals : List Arrival) (proper : IsPrope
   seen_is : (n : ℕ) → (run S mode arrivals n).state.over ≡ false → (p c q : Bool) → flag n ≡ p → arrives arrivals n i ≡ c → flag (suc n) ≡ q
       → seen_at S mode arrivals n Pending i ≡ sight p c q
   seen_is n going p c q was comes is =
-      ap (λ (s : State). sight (flag n) (arrives arrivals n i) (is_pending s i)) (sym (state_more S mode arrivals n going))
+      ap (λ b. sight (flag n) b (is_pending (tick S (arriving arrivals n) (run S mode arrivals n).state).after i)) (in_chosen S (arrives arrivals n) i low)
+      ∙ ap (λ (s : State). sight (flag n) (arrives arrivals n i) (is_pending s i)) (sym (state_more S mode arrivals n going))
       ∙ (ap (λ b. sight b (arrives arrivals n i) (flag (suc n))) was ∙ (ap (λ b. sight p b (flag (suc n))) comes ∙ ap (sight p c) is))
 
   -- the routine pends since an arrival so many ticks ago
@@ -213,17 +216,17 @@ latencies_are_told S mode i arrivals n proper low going = record {
 }
 
 pub finds_latency : FindsLatency
-finds_latency S mode distance table i most path chosen proper low closed none allowed has =
-    let there : IsRun S mode distance path chosen (arrivals_on S (chosen ∷ path)) = paths_are_runs S mode distance path chosen proper allowed in
+finds_latency S need mode distance table i most path chosen proper enough low closed none allowed has =
+    let there : IsRun age_labels S mode distance path chosen (arrivals_on S (chosen ∷ path)) = paths_are_runs age_labels S mode distance path chosen proper allowed in
     record {
       bound = λ arrivals n r spaced told.
           let is : ending_age_at S mode arrivals n Pending i ≡ Some (Ticks (suc r)) = (latencies_are_told S mode i arrivals n proper low told.going).all r told in
           let bounded : IfSome (ending_age_at S mode arrivals n Pending i) (IsAtMost (suc most)) =
-          no_longer S mode distance table Pending i (suc most) arrivals n proper closed low none spaced told.going in
+          no_longer S need mode distance table Pending i (suc most) arrivals n proper enough closed low none spaced told.going in
           let least : suc r ≤ suc most = subst (λ (o : Option Age). IfSome o (IsAtMost (suc most))) is bounded in
           omega (arith, least);
       arrivals = arrivals_on S (chosen ∷ path);
       spaced = there.spaced;
       tick = length path;
-      attained = (latencies_are_told S mode i (arrivals_on S (chosen ∷ path)) (length path) proper low there.going).told most (there.endings Pending i low ∙ has);
+      attained = (latencies_are_told S mode i (arrivals_on S (chosen ∷ path)) (length path) proper low there.going).told most (ap₂ (λ (shown : Shown) (l : Ages). ending_age_in S Pending i shown l) there.shown there.label ∙ has);
     }

@@ -6,7 +6,9 @@ use Rattle.osek_base.specs.Trace.{run}
 use Rattle.osek_base.specs.Proper.{IsProper}
 use Rattle.same_future.specs.Alike.{kept_after}
 use Rattle.same_future.specs.Spans.{Holds, things, holder_in, Ticks}
-use Rattle.same_future.specs.Covering.{Entry, IsClosed, HasNoOlder, ages_after}
+use Rattle.needed_data.specs.Need.{Need, Suffices}
+use Rattle.same_future.specs.Covering.{Entry, IsClosed}
+use Rattle.same_future.specs.Ages.{Ages, age_labels, HasNoOlder, ages_after}
 use Rattle.same_future.specs.Paths.{Path, entry_on, IsAllowed, IsLongest}
 
 -- a hold: a task gets the resource in a tick, and holds it after each tick from that one to tick n, after so many in all
@@ -32,7 +34,8 @@ HoldsAreTold =
 -- a closed table in which no hold of a resource is older, and a path on which one is as old, find the longest
 abbrev pub FindsHold : Type 0
 FindsHold =
-    (S : System) (mode : ℕ) (distance : ℕ → ℕ) (table : List Entry) (r most : ℕ) (path : Path) (chosen : ℕ → Bool) → IsProper S
-    → r < things S Holds → IsClosed S mode distance table → HasNoOlder table Holds r most → IsAllowed S mode distance (chosen ∷ path)
-    → (entry_on S mode distance (chosen ∷ path)).ages Holds r ≡ Ticks most ∷ []
+    (S : System) (need : Need) (mode : ℕ) (distance : ℕ → ℕ) (table : List (Entry Ages)) (r most : ℕ) (path : Path) (chosen : ℕ → Bool)
+    → IsProper S → Suffices S need → r < things S Holds → IsClosed age_labels S need mode distance table
+    → HasNoOlder table Holds r most → IsAllowed age_labels S mode distance (chosen ∷ path)
+    → (entry_on age_labels S mode distance (chosen ∷ path)).label Holds r ≡ Ticks most ∷ []
     → IsLongest S distance (IsHeldFor S mode r) most

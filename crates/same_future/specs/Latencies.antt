@@ -5,8 +5,11 @@ use Rattle.osek_base.specs.System.{System}
 use Rattle.osek_base.specs.Tick.{is_pending}
 use Rattle.osek_base.specs.Trace.{run}
 use Rattle.osek_base.specs.Proper.{IsProper}
-use Rattle.same_future.specs.Spans.{Pending, Ticks, ending_age}
-use Rattle.same_future.specs.Covering.{arrives, Entry, seen_from, IsClosed, HasNoLonger, ending_age_at}
+use Rattle.needed_data.specs.Need.{Need, Suffices}
+use Rattle.same_future.specs.Shown.{arrives}
+use Rattle.same_future.specs.Spans.{Pending, Ticks}
+use Rattle.same_future.specs.Covering.{Entry, IsClosed}
+use Rattle.same_future.specs.Ages.{Ages, age_labels, HasNoLonger, ending_age_from, ending_age_at}
 use Rattle.same_future.specs.Paths.{Path, entry_on, IsAllowed, IsLongest}
 
 -- whether a routine is pending after n ticks
@@ -38,9 +41,8 @@ LatenciesAreTold =
 -- a closed table in which no interrupt of a routine ends to pend older, and a path on which one does, find the greatest
 abbrev pub FindsLatency : Type 0
 FindsLatency =
-    (S : System) (mode : ℕ) (distance : ℕ → ℕ) (table : List Entry) (i most : ℕ) (path : Path) (chosen : ℕ → Bool) → IsProper S
-    → i < length S.routines → IsClosed S mode distance table → HasNoLonger S table Pending i (suc most)
-    → IsAllowed S mode distance (chosen ∷ path)
-    → ending_age (seen_from S chosen (entry_on S mode distance path) Pending i) ((entry_on S mode distance path).ages Pending i)
-    ≡ Some (Ticks (suc most))
+    (S : System) (need : Need) (mode : ℕ) (distance : ℕ → ℕ) (table : List (Entry Ages)) (i most : ℕ) (path : Path) (chosen : ℕ → Bool)
+    → IsProper S → Suffices S need → i < length S.routines → IsClosed age_labels S need mode distance table
+    → HasNoLonger S table Pending i (suc most) → IsAllowed age_labels S mode distance (chosen ∷ path)
+    → ending_age_from S Pending i chosen (entry_on age_labels S mode distance path) ≡ Some (Ticks (suc most))
     → IsLongest S distance (StartsAfter S mode i) most

@@ -5,7 +5,7 @@ use Rattle.osek_base.specs.System.{System, is_extended}
 use Rattle.osek_base.specs.Trace.{run}
 use Rattle.osek_base.specs.Proper.{IsProper}
 use Rattle.same_future.specs.Spans.{Jobs, Readiness}
-use Rattle.same_future.specs.Covering.{ages_after, ending_age_at}
+use Rattle.same_future.specs.Ages.{ages_after, ending_age_at}
 
 -- a job of a basic task never waits, so its readiness lasts as long as the job
 pub record IsReadyThroughout (S : System) (mode t : ℕ) (arrivals : List Arrival) (n : ℕ) : Type 0 where

@@ -8,12 +8,13 @@ use Rattle.osek_base.specs.declared.instr.Instr.{Instr}
 use Rattle.osek_base.specs.declared.status.Status.{Status}
 use Rattle.osek_base.specs.declared.trace_event.Outcome.{Outcome}
 use Rattle.osek_base.specs.declared.trace_event.TraceEvent.{TraceEvent}
-use Rattle.osek_base.specs.Lists.{below}
+use Rattle.osek_base.specs.Lists.{below, is_in}
 use Rattle.osek_base.specs.System.{System}
 use Rattle.kept_state.specs.Kept.{Kept}
 use Rattle.kept_state.specs.KeptService.{holds_in}
 use Rattle.kept_state.specs.KeptTick.{KeptStep}
 use Rattle.run_laws.specs.Jobs.{one_if, ends}
+use Rattle.same_future.specs.Shown.{Shown}
 
 -- a span begins in a tick and ends in it or in a later one. Of a task: a job, from its making to its end; its readiness,
 -- from its making or release to its end or next wait. Of a routine: a pending interrupt, from its arrival to the
@@ -64,24 +65,25 @@ is_let_go None after = false
 is_let_go (Some t) None = true
 is_let_go (Some t) (Some u) = not (t == u)
 
--- whether the oldest span ends in a tick in which these routines arrive: no more than one does
-abbrev pub ends_in : System → Span → ℕ → (ℕ → Bool) → Kept → KeptStep → Bool
-ends_in S Jobs t chosen before step = ends t step.events
-ends_in S Readiness t chosen before step = ends t step.events || begins_to_wait t step
-ends_in S Pending i chosen before step = (is_pending_in before i || chosen i) && not (is_pending_in step.after i)
-ends_in S Holds r chosen before step = is_let_go (holder_in S before r) (holder_in S step.after r)
+-- whether the oldest span ends in a tick: no more than one does
+abbrev pub ends_in : System → Span → ℕ → Shown → Bool
+ends_in S Jobs t shown = ends t shown.step.events
+ends_in S Readiness t shown = ends t shown.step.events || begins_to_wait t shown.step
+ends_in S Pending i shown =
+    (is_pending_in shown.before i || is_in i shown.arrived) && not (is_pending_in shown.step.after i)
+ends_in S Holds r shown = is_let_go (holder_in S shown.before r) (holder_in S shown.step.after r)
 
 -- what is seen in a tick: whether one ends, and how many begin
 pub record Seen : Type 0 where
   pub ended : Bool
   pub begun : ℕ
 
-abbrev pub seen_where : System → Span → ℕ → Kept → KeptStep → Bool → Seen
-seen_where S span x before step ended =
-    record { ended = ended; begun = standing S span x step.after + one_if ended - standing S span x before }
+abbrev pub seen_where : System → Span → ℕ → Shown → Bool → Seen
+seen_where S span x shown ended =
+    record { ended = ended; begun = standing S span x shown.step.after + one_if ended - standing S span x shown.before }
 
-abbrev pub seen_of : System → Span → ℕ → (ℕ → Bool) → Kept → KeptStep → Seen
-seen_of S span x chosen before step = seen_where S span x before step (ends_in S span x chosen before step)
+abbrev pub seen_of : System → Span → ℕ → Shown → Seen
+seen_of S span x shown = seen_where S span x shown (ends_in S span x shown)
 
 -- ---- ages
 

@@ -1,4 +1,4 @@
-use Rattle.same_future.proofs.Covered.{none_older}
+use Rattle.same_future.proofs.Bounded.{none_older}
 use Rattle.same_future.proofs.laws.none_older.Goals as goal
 
 pub returns : goal.returns
