@@ -47,7 +47,7 @@ any_blanked test each (event ∷ events) = ap₂ (λ (a b : Bool). a || b) (each
 
 module _ (S : System) (need : Need) where
   -- without time, data that isn't needed and values
-  abbrev blurred : Shown → Shown
+  abbrev pub blurred : Shown → Shown
   blurred shown =
       record {
         arrived = shown.arrived;
@@ -55,7 +55,7 @@ module _ (S : System) (need : Need) where
         step = record { events = map blanked shown.step.events; after = cleaned need (untimed shown.step.after) };
       }
 
-  blurred_same : (a b : Shown) → AreShownAlike S need a b → blurred a ≡ blurred b
+  pub blurred_same : (a b : Shown) → AreShownAlike S need a b → blurred a ≡ blurred b
   blurred_same a b alike = λ i. record {
     arrived = alike.arrived i;
     before = alike.before.rest i;

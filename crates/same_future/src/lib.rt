@@ -6,7 +6,7 @@
 //! each of them, whatever routines may arrive, covers every run whose interrupts keep their
 //! distances. Labels of the states, of any type, tell what the ticks before have shown: with the
 //! ages of jobs, of their readiness, of pending interrupts and of holds of resources a table bounds
-//! how long each lasts.
+//! how long each lasts. What no tick of a table shows, as a lost interrupt, never comes.
 #![tactic(auto)]
 
 mod labels;
@@ -16,7 +16,8 @@ pub use labels::{Bound, Labelling};
 pub use laws::{
     ages_are_ordered, alike_futures, alike_in_is_equivalence, alike_in_is_wider, alike_in_ticks,
     alike_is_equivalence, alike_ticks, all_sets_are_tried, always_ahead, basic_is_ready,
-    finds_hold, finds_latency, finds_response, holds_are_told, jobs_are_numbered,
-    latencies_are_told, no_job_older, no_longer, none_older, paths_are_runs, responses_are_told,
-    same_is_alike, table_bounds, table_covers, worked_longest, worked_states,
+    finds_hold, finds_latency, finds_response, holds_are_told, incidents_go_by_needed,
+    jobs_are_numbered, latencies_are_told, never_shown, no_job_older, no_longer, none_older,
+    paths_are_runs, paths_show, responses_are_told, same_is_alike, table_bounds, table_covers,
+    unlabelled_is_ordered, worked_longest, worked_states,
 };
