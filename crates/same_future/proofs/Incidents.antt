@@ -1,9 +1,6 @@
 -- What may go wrong in a tick goes by what is needed.
 use Rattle.std.proofs.Common.{ℕ, ◌≡◌, Bool, List, [], ◌∷◌, ◌++◌, refl, sym, ◌∙◌, ap, ap₂}
-use Rattle.std.specs.Prelude.{Some}
 use Rattle.osek_base.specs.declared.ids.Owner.{Owner}
-use Rattle.osek_base.specs.declared.instr.Service.{Service}
-use Rattle.osek_base.specs.declared.instr.Instr.{Instr}
 use Rattle.osek_base.specs.declared.status.Status.{Status}
 use Rattle.osek_base.specs.declared.trace_event.Outcome.{Outcome}
 use Rattle.osek_base.specs.declared.trace_event.TraceEvent.{TraceEvent}
@@ -35,8 +32,7 @@ refusal_blanked who place (TraceEvent.Executed caller at what (Outcome.Answer St
 refusal_blanked who place event = refl
 
 limit_blanked : (t : ℕ) (event : TraceEvent) → tells_limit t (blanked event) ≡ tells_limit t event
-limit_blanked t (TraceEvent.Executed caller at (Instr.Service (Service.ActivateTask (Some u))) (Outcome.Answer Status.Limit found)) = refl
-limit_blanked t (TraceEvent.Executed caller at (Instr.Service (Service.ChainTask (Some u))) (Outcome.Answer Status.Limit found)) = refl
+limit_blanked t (TraceEvent.Executed caller at what (Outcome.Answer Status.Limit found)) = refl
 limit_blanked t event = refl
 
 module _ (S : System) (need : Need) where

@@ -1,5 +1,5 @@
--- OSEK/VDX OS: task management, interrupt processing, resource management. The ages of what lasts as labels of states, and how
--- they are bounded.
+-- OSEK/VDX OS: task management, interrupt processing, resource management. The ages of what lasts
+-- as labels of states, and how they are bounded.
 use Rattle.std.specs.Prelude.{ℕ, suc, ◌≡◌, ◌<◌, Bool, false, List, Option, IfSome}
 use Rattle.std.specs.List.{AllByRecursion, Contains}
 use Rattle.osek_base.specs.declared.arrivals.Arrival.{Arrival}
@@ -30,7 +30,8 @@ age_labels =
 abbrev pub AgesAreOrdered : Type 0
 AgesAreOrdered = (S : System) (need : Need) → AreOrdered age_labels S need
 
--- the age with which a span ends in a tick, if one does; in one from an entry, with the routines that are chosen
+-- the age with which a span ends in a tick, if one does; in one from an entry, with the routines
+-- that are chosen
 abbrev pub ending_age_in : System → Span → ℕ → Shown → Ages → Option Age
 ending_age_in S span x shown l = ending_age (seen_of S span x shown) (l span x)
 
@@ -47,7 +48,8 @@ abbrev pub HasNoLonger : System → List (Entry Ages) → Span → ℕ → ℕ �
 HasNoLonger S table span x most = HoldsInTable S table (EndsWithin S span x most)
 
 abbrev pub HasNoOlder : List (Entry Ages) → Span → ℕ → ℕ → Type 0
-HasNoOlder table span x most = (e : Entry Ages) → Contains table e → AllByRecursion (IsAtMost most) (e.label span x)
+HasNoOlder table span x most =
+    (e : Entry Ages) → Contains table e → AllByRecursion (IsAtMost most) (e.label span x)
 
 -- ---- runs
 
@@ -59,22 +61,27 @@ abbrev pub ages_after : System → ℕ → List Arrival → ℕ → Span → ℕ
 ages_after S mode arrivals n = label_after age_labels S mode arrivals n
 
 abbrev pub ending_age_at : System → ℕ → List Arrival → ℕ → Span → ℕ → Option Age
-ending_age_at S mode arrivals n span x = ending_age_in S span x (shown_at S mode arrivals n) (ages_after S mode arrivals n)
+ending_age_at S mode arrivals n span x =
+    ending_age_in S span x (shown_at S mode arrivals n) (ages_after S mode arrivals n)
 
 -- ---- the laws
 
--- where a table is closed, no run whose arrivals keep the distances has a span that is older, where it ends in a tick and
--- after each tick, the last one too
+-- where a table is closed, no run whose arrivals keep the distances has a span that is older, where
+-- it ends in a tick and after each tick, the last one too
 abbrev pub NoLonger : Type 0
 NoLonger =
-    (S : System) (need : Need) (mode : ℕ) (distance : ℕ → ℕ) (table : List (Entry Ages)) (span : Span) (x most : ℕ) (arrivals : List Arrival) (n : ℕ)
-    → IsProper S → Suffices S need → IsClosed age_labels S need mode distance table → x < things S span
-    → HasNoLonger S table span x most → AreSpaced S distance arrivals → (run S mode arrivals n).state.over ≡ false
+    (S : System) (need : Need) (mode : ℕ) (distance : ℕ → ℕ) (table : List (Entry Ages))
+    (span : Span) (x most : ℕ) (arrivals : List Arrival) (n : ℕ) → IsProper S → Suffices S need
+    → IsClosed age_labels S need mode distance table → x < things S span
+    → HasNoLonger S table span x most → AreSpaced S distance arrivals
+    → (run S mode arrivals n).state.over ≡ false
     → IfSome (ending_age_at S mode arrivals n span x) (IsAtMost most)
 
 abbrev pub NoneOlder : Type 0
 NoneOlder =
-    (S : System) (need : Need) (mode : ℕ) (distance : ℕ → ℕ) (table : List (Entry Ages)) (span : Span) (x most : ℕ) (arrivals : List Arrival) (n : ℕ)
-    → IsProper S → Suffices S need → IsClosed age_labels S need mode distance table → x < things S span
-    → HasNoOlder table span x most → AreSpaced S distance arrivals → (run S mode arrivals n).state.over ≡ false
+    (S : System) (need : Need) (mode : ℕ) (distance : ℕ → ℕ) (table : List (Entry Ages))
+    (span : Span) (x most : ℕ) (arrivals : List Arrival) (n : ℕ) → IsProper S → Suffices S need
+    → IsClosed age_labels S need mode distance table → x < things S span
+    → HasNoOlder table span x most → AreSpaced S distance arrivals
+    → (run S mode arrivals n).state.over ≡ false
     → AllByRecursion (IsAtMost most) (ages_after S mode arrivals (suc n) span x)

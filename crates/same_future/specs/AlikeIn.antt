@@ -1,5 +1,6 @@
--- OSEK/VDX OS: alarms, counters and alarm management; the modelled processor. States between which only absolute time and data
--- that isn't needed differ, and that they have one next tick but for values.
+-- OSEK/VDX OS: alarms, counters and alarm management; the modelled processor. States between which
+-- only absolute time and data that isn't needed differ, and that they have one next tick but for
+-- values.
 use Rattle.std.specs.Prelude.{ℕ, ◌≡◌, List, map}
 use Rattle.osek_base.specs.System.{System}
 use Rattle.osek_base.specs.Proper.{IsProper}
@@ -10,20 +11,22 @@ use Rattle.needed_data.specs.Same.{cleaned, HaveSameNeeded, HasAllowedIndices, b
 use Rattle.needed_data.specs.Laws.{all_needed}
 use Rattle.same_future.specs.Alike.{untimed, AreAlike}
 
--- two states are alike in what is needed: between them only absolute time and data that isn't needed differ
+-- two states are alike in what is needed: between them only absolute time and data that isn't
+-- needed differ
 abbrev pub AreAlikeIn : System → Need → Kept → Kept → Type 0
 AreAlikeIn S need o p = AreAlike S (cleaned need o) (cleaned need p)
 
 pub record IsEquivalenceIn (S : System) (need : Need) : Type 0 where
   pub itself : (o : Kept) → AreAlikeIn S need o o
   pub turned : (o p : Kept) → AreAlikeIn S need o p → AreAlikeIn S need p o
-  pub joined : (o p q : Kept) → AreAlikeIn S need o p → AreAlikeIn S need p q → AreAlikeIn S need o q
+  pub joined : (o p q : Kept) → AreAlikeIn S need o p → AreAlikeIn S need p q
+      → AreAlikeIn S need o q
 
 abbrev pub AlikeInIsEquivalence : Type 0
 AlikeInIsEquivalence = (S : System) (need : Need) → IsEquivalenceIn S need
 
--- states are alike in what is needed where only absolute time differs, and where only data does; where all is needed, only
--- time may
+-- states are alike in what is needed where only absolute time differs, and where only data does
+-- that isn't needed; where all is needed, only time may
 pub record IsWider (S : System) (need : Need) : Type 0 where
   pub by_time : (o p : Kept) → AreAlike S o p → AreAlikeIn S need o p
   pub by_data : (o p : Kept) → HaveSameNeeded need o p → AreAlikeIn S need o p
@@ -34,11 +37,16 @@ AlikeInIsWider = (S : System) (need : Need) → IsWider S need
 
 -- ---- one tick
 
--- two ticks record the same but for values, execute in states that are the same but for time and data that isn't needed, and
--- leave states that are alike in what is needed, in which registers have only indices that they may have
+-- the state in which a tick executes its instruction, but for time and data that isn't needed
+abbrev pub executing_in : System → Need → List ℕ → Kept → Kept
+executing_in S need arrived o = cleaned need (untimed (before_execution_in S arrived o).state)
+
+-- two ticks record the same but for values, execute in states that are the same but for time and
+-- data that isn't needed, and leave states that are alike in what is needed, in which registers
+-- have only indices that they may have
 pub record TicksAreAlikeIn (S : System) (need : Need) (arrived : List ℕ) (o p : Kept) : Type 0 where
   pub events : map blanked (tick_in S arrived o).events ≡ map blanked (tick_in S arrived p).events
-  pub executing : cleaned need (untimed (before_execution_in S arrived o).state) ≡ cleaned need (untimed (before_execution_in S arrived p).state)
+  pub executing : executing_in S need arrived o ≡ executing_in S need arrived p
   pub after : AreAlikeIn S need (tick_in S arrived o).after (tick_in S arrived p).after
   pub indices : HasAllowedIndices need (tick_in S arrived o).after
   pub indices_too : HasAllowedIndices need (tick_in S arrived p).after
@@ -46,5 +54,6 @@ pub record TicksAreAlikeIn (S : System) (need : Need) (arrived : List ℕ) (o p 
 -- under the same arrivals, where the need suffices
 abbrev pub AlikeInTicks : Type 0
 AlikeInTicks =
-    (S : System) (need : Need) (arrived : List ℕ) (o p : Kept) → IsProper S → Suffices S need → HasAllowedIndices need o
-    → HasAllowedIndices need p → AreAlikeIn S need o p → TicksAreAlikeIn S need arrived o p
+    (S : System) (need : Need) (arrived : List ℕ) (o p : Kept) → IsProper S → Suffices S need
+    → HasAllowedIndices need o → HasAllowedIndices need p → AreAlikeIn S need o p
+    → TicksAreAlikeIn S need arrived o p

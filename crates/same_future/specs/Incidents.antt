@@ -1,5 +1,5 @@
--- OSEK/VDX OS: error handling; interrupt processing, category 2; alarms. Tests of what a tick shows:
--- what may go wrong in it.
+-- OSEK/VDX OS: error handling; interrupt processing, category 2; alarms. Tests of what a tick
+-- shows: what may go wrong in it.
 use Rattle.std.specs.Prelude.{ℕ, Bool, false, ◌&&◌, ◌==◌, List, [], ◌∷◌, ◌++◌, Some}
 use Rattle.std.specs.List.{list_any}
 use Rattle.osek_base.specs.declared.ids.Owner.{Owner}
@@ -32,7 +32,8 @@ is_shut_down shown = shown.step.after.over
 
 -- an owner's call at a place is answered other than E_OK
 abbrev pub tells_refusal : Owner → ℕ → TraceEvent → Bool
-tells_refusal who place (TraceEvent.Executed caller at what (Outcome.Answer Status.Ok found)) = false
+tells_refusal who place (TraceEvent.Executed caller at what (Outcome.Answer Status.Ok found)) =
+    false
 tells_refusal who place (TraceEvent.Executed caller at what (Outcome.Answer answer found)) =
     same_owner who caller && (at == place)
 tells_refusal who place _ = false
@@ -41,9 +42,14 @@ abbrev pub is_refused : Owner → ℕ → Shown → Bool
 is_refused who place shown = list_any (tells_refusal who place) shown.step.events
 
 -- an activation of a task is answered E_OS_LIMIT
+abbrev pub activates : ℕ → Instr → Bool
+activates t (Instr.Service (Service.ActivateTask (Some u))) = u == t
+activates t (Instr.Service (Service.ChainTask (Some u))) = u == t
+activates t _ = false
+
 abbrev pub tells_limit : ℕ → TraceEvent → Bool
-tells_limit t (TraceEvent.Executed caller at (Instr.Service (Service.ActivateTask (Some u))) (Outcome.Answer Status.Limit found)) = u == t
-tells_limit t (TraceEvent.Executed caller at (Instr.Service (Service.ChainTask (Some u))) (Outcome.Answer Status.Limit found)) = u == t
+tells_limit t (TraceEvent.Executed caller at what (Outcome.Answer Status.Limit found)) =
+    activates t what
 tells_limit t _ = false
 
 abbrev pub is_at_limit : ℕ → Shown → Bool

@@ -1,4 +1,5 @@
--- OSEK/VDX OS: interrupt processing, category 2. What a tick shows, and which ticks show the same in what is needed.
+-- OSEK/VDX OS: interrupt processing, category 2. What a tick shows, and which ticks show the same
+-- in what is needed.
 use Rattle.std.specs.Prelude.{ℕ, ◌≡◌, Bool, List, map, length}
 use Rattle.std.specs.List.{filter}
 use Rattle.osek_base.specs.declared.arrivals.Arrival.{Arrival}
@@ -21,7 +22,8 @@ arrives arrivals t i = is_in i (arriving arrivals t)
 abbrev pub chosen_of : System → (ℕ → Bool) → List ℕ
 chosen_of S chosen = filter chosen (below (length S.routines))
 
--- what a tick shows: the routines that arrive, by number, what is kept before it, and what it records and leaves
+-- what a tick shows: the routines that arrive, by number, what is kept before it, and what it
+-- records and leaves
 pub record Shown : Type 0 where
   pub arrived : List ℕ
   pub before : Kept
@@ -29,11 +31,17 @@ pub record Shown : Type 0 where
 
 -- from a state, with the routines that are chosen
 abbrev pub shown_from : System → (ℕ → Bool) → Kept → Shown
-shown_from S chosen o = record { arrived = chosen_of S chosen; before = o; step = tick_in S (chosen_of S chosen) o }
+shown_from S chosen o =
+    record {
+      arrived = chosen_of S chosen;
+      before = o;
+      step = tick_in S (chosen_of S chosen) o;
+    }
 
 -- tick n of a run
 abbrev pub kept_step_at : System → ℕ → List Arrival → ℕ → KeptStep
-kept_step_at S mode arrivals n = kept_step S (tick S (arriving arrivals n) (run S mode arrivals n).state)
+kept_step_at S mode arrivals n =
+    kept_step S (tick S (arriving arrivals n) (run S mode arrivals n).state)
 
 abbrev pub shown_at : System → ℕ → List Arrival → ℕ → Shown
 shown_at S mode arrivals n =
@@ -43,8 +51,8 @@ shown_at S mode arrivals n =
       step = kept_step_at S mode arrivals n;
     }
 
--- two ticks show the same in what is needed: the same routines arrive, the states before them and after them are alike in it,
--- and they record the same but for values
+-- two ticks show the same in what is needed: the same routines arrive, the states before them and
+-- after them are alike in it, and they record the same but for values
 pub record AreShownAlike (S : System) (need : Need) (a b : Shown) : Type 0 where
   pub arrived : a.arrived ≡ b.arrived
   pub before : AreAlikeIn S need a.before b.before

@@ -1,5 +1,6 @@
--- OSEK/VDX OS: interrupt processing, category 2. Tests of what a tick shows: what no tick of a table
--- shows never comes in a run whose interrupts keep their distances, and what a path shows does.
+-- OSEK/VDX OS: interrupt processing, category 2. Tests of what a tick shows: what no tick of a
+-- table shows never comes in a run whose interrupts keep their distances, and what a path shows
+-- does.
 use Rattle.std.specs.Prelude.{ℕ, ◌≡◌, Bool, true, false, List, ◌∷◌}
 use Rattle.osek_base.specs.declared.arrivals.Arrival.{Arrival}
 use Rattle.osek_base.specs.System.{System}
