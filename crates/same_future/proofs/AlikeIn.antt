@@ -14,7 +14,7 @@ use Rattle.needed_data.proofs.AllowedSteps.{tick_held}
 use Rattle.needed_data.proofs.Executed.{cleaning, fresh_clean}
 use Rattle.needed_data.proofs.Ticks.{tick_of_cleaned}
 use Rattle.same_future.specs.Alike.{untimed, AreAlike, TicksAreAlike}
-use Rattle.same_future.specs.AlikeIn.{AreAlikeIn, AlikeInIsEquivalence, AlikeInIsWider, TicksAreAlikeIn, AlikeInTicks}
+use Rattle.same_future.specs.AlikeIn.{AreAlikeIn, AlikeInIsEquivalence, AlikeInIsWider, executing_in, TicksAreAlikeIn, AlikeInTicks}
 use Rattle.same_future.proofs.Relation.{itself, turned, joined}
 use Rattle.same_future.proofs.Ticks.{alike_ticks}
 
@@ -22,8 +22,10 @@ module _ (S : System) (need : Need) where
   pub alike_in_itself : (o : Kept) → AreAlikeIn S need o o
   alike_in_itself o = itself S (cleaned need o)
 
-  pub alike_in_joined : (o p q : Kept) → AreAlikeIn S need o p → AreAlikeIn S need p q → AreAlikeIn S need o q
-  alike_in_joined o p q first second = joined S (cleaned need o) (cleaned need p) (cleaned need q) first second
+  pub alike_in_joined : (o p q : Kept) → AreAlikeIn S need o p → AreAlikeIn S need p q
+      → AreAlikeIn S need o q
+  alike_in_joined o p q first second =
+      joined S (cleaned need o) (cleaned need p) (cleaned need q) first second
 
   pub by_time : (o p : Kept) → AreAlike S o p → AreAlikeIn S need o p
   by_time o p alike = record {
@@ -34,7 +36,7 @@ module _ (S : System) (need : Need) where
   }
 
   by_data : (o p : Kept) → HaveSameNeeded need o p → AreAlikeIn S need o p
-  by_data o p same = subst (λ (x : Kept). AreAlike S (cleaned need o) x) same (itself S (cleaned need o))
+  by_data o p same = subst (AreAlike S (cleaned need o)) same (itself S (cleaned need o))
 
 where_all : (S : System) (o p : Kept) → AreAlikeIn S all_needed o p → AreAlike S o p
 where_all S o p alike = subst₂ (AreAlike S) (all_cleaned o) (all_cleaned p) alike
@@ -47,20 +49,25 @@ alike_in_is_equivalence S need = record {
 }
 
 pub alike_in_is_wider : AlikeInIsWider
-alike_in_is_wider S need = record { by_time = by_time S need; by_data = by_data S need; where_all = where_all S }
+alike_in_is_wider S need = record {
+  by_time = by_time S need;
+  by_data = by_data S need;
+  where_all = where_all S;
+}
 
 -- ---- one tick
 
 module _ (S : System) (need : Need) (enough : Suffices S need) (arrived : List ℕ) where
   -- the state at the instruction, of a cleaned state and cleaned
   executing_cleaned : (o : Kept)
-      → untimed (before_execution_in S arrived (cleaned need o)).state ≡ cleaned need (untimed (before_execution_in S arrived o).state)
+      → untimed (before_execution_in S arrived (cleaned need o)).state ≡ executing_in S need arrived o
   executing_cleaned o =
       ap (λ (r : KeptRecorded). untimed r.state)
-      (before_clean S (cleaning need) (cleaned_words need) (cleaned_shared need.shared) (fresh_clean need) arrived o)
+      (before_clean S (cleaning need) (cleaned_words need) (cleaned_shared need.shared)
+      (fresh_clean need) arrived o)
 
-  tick : (o p : Kept) → IsProper S → HasAllowedIndices need o → HasAllowedIndices need p → AreAlikeIn S need o p
-      → TicksAreAlikeIn S need arrived o p
+  tick : (o p : Kept) → IsProper S → HasAllowedIndices need o → HasAllowedIndices need p
+      → AreAlikeIn S need o p → TicksAreAlikeIn S need arrived o p
   tick o p proper held held_too alike =
       let both : TicksAreAlike S arrived (cleaned need o) (cleaned need p) =
       alike_ticks S arrived (cleaned need o) (cleaned need p) proper alike in
@@ -73,10 +80,12 @@ module _ (S : System) (need : Need) (enough : Suffices S need) (arrived : List �
         executing = sym (executing_cleaned o) ∙ both.executing ∙ executing_cleaned p;
         after =
             subst₂ (AreAlike S) (sym one.after) (sym two.after)
-            (by_time S need (tick_in S arrived (cleaned need o)).after (tick_in S arrived (cleaned need p)).after both.after);
+            (by_time S need (tick_in S arrived (cleaned need o)).after
+            (tick_in S arrived (cleaned need p)).after both.after);
         indices = tick_held S need enough arrived o held;
         indices_too = tick_held S need enough arrived p held_too;
       }
 
 pub alike_in_ticks : AlikeInTicks
-alike_in_ticks S need arrived o p proper enough held held_too alike = tick S need enough arrived o p proper held held_too alike
+alike_in_ticks S need arrived o p proper enough held held_too alike =
+    tick S need enough arrived o p proper held held_too alike

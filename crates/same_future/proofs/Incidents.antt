@@ -37,7 +37,8 @@ limit_blanked t event = refl
 
 module _ (S : System) (need : Need) where
   -- a test that the same without time, data that isn't needed and values answers too
-  by_blurred : (test : Shown → Bool) → ((shown : Shown) → test (blurred S need shown) ≡ test shown) → GoesByNeeded S need test
+  by_blurred : (test : Shown → Bool)
+      → ((shown : Shown) → test (blurred S need shown) ≡ test shown) → GoesByNeeded S need test
   by_blurred test same a b alike = sym (same a) ∙ ap test (blurred_same S need a b alike) ∙ same b
 
   -- ---- alarms
@@ -46,22 +47,28 @@ module _ (S : System) (need : Need) where
       → acting S a (cleaned need (untimed o))
       ≡ record (acting S a o) { state = cleaned need (untimed (acting S a o).state) }
   acting_plain a o =
-      unmasked_clean S (cleaning need) (cleaned_words need) (cleaned_shared need.shared) (fresh_clean need) ByNobody (untimed o)
+      unmasked_clean S (cleaning need) (cleaned_words need) (cleaned_shared need.shared)
+      (fresh_clean need) ByNobody (untimed o)
       (action_call (alarm S a).action)
-      (action_leaves S (cleaning need) (cleaned_words need) (cleaned_shared need.shared) (fresh_clean need) (alarm S a).action)
-      ∙ ap (λ (r : KeptReply). mapped_reply (cleaning need) (cleaned_words need) (cleaned_shared need.shared) r)
+      (action_leaves S (cleaning need) (cleaned_words need) (cleaned_shared need.shared)
+      (fresh_clean need) (alarm S a).action)
+      ∙ ap (mapped_reply (cleaning need) (cleaned_words need) (cleaned_shared need.shared))
       (acts S 0 [] (alarm S a).action o)
 
-  refused_plain : (due : List ℕ) (o : Kept) → refused_in_turn S due (cleaned need (untimed o)) ≡ refused_in_turn S due o
+  refused_plain : (due : List ℕ) (o : Kept)
+      → refused_in_turn S due (cleaned need (untimed o)) ≡ refused_in_turn S due o
   refused_plain [] o = refl
   refused_plain (a ∷ due) o =
-      ap (λ (r : KeptReply). if_refused a r.status ++ refused_in_turn S due r.state) (acting_plain a o)
+      ap (λ (r : KeptReply). if_refused a r.status ++ refused_in_turn S due r.state)
+      (acting_plain a o)
       ∙ ap (λ v. if_refused a (acting S a o).status ++ v) (refused_plain due (acting S a o).state)
 
-  refused_same : IsProper S → (o p : Kept) → AreAlikeIn S need o p → alarms_refused S o ≡ alarms_refused S p
+  refused_same : IsProper S → (o p : Kept) → AreAlikeIn S need o p
+      → alarms_refused S o ≡ alarms_refused S p
   refused_same proper o p alike =
       sym (refused_plain (due_alarms S (bare o)) (record o { alarms = alarms_advanced S (bare o) }))
-      ∙ ap₂ (refused_in_turn S) (due_same S proper (cleaned need o) (cleaned need p) alike) alike.rest
+      ∙ ap₂ (refused_in_turn S) (due_same S proper (cleaned need o) (cleaned need p) alike)
+      alike.rest
       ∙ refused_plain (due_alarms S (bare p)) (record p { alarms = alarms_advanced S (bare p) })
 
 pub incidents_go_by_needed : IncidentsGoByNeeded
@@ -70,7 +77,10 @@ incidents_go_by_needed S need proper = record {
   shut_down = by_blurred S need is_shut_down (λ shown. refl);
   refused = λ who place.
       by_blurred S need (is_refused who place)
-      (λ shown. any_blanked (tells_refusal who place) (refusal_blanked who place) shown.step.events);
-  at_limit = λ t. by_blurred S need (is_at_limit t) (λ shown. any_blanked (tells_limit t) (limit_blanked t) shown.step.events);
-  alarm_refused = λ a x y alike. ap (is_in a) (refused_same S need proper x.before y.before alike.before);
+      (λ s. any_blanked (tells_refusal who place) (refusal_blanked who place) s.step.events);
+  at_limit = λ t.
+      by_blurred S need (is_at_limit t)
+      (λ s. any_blanked (tells_limit t) (limit_blanked t) s.step.events);
+  alarm_refused = λ a x y alike.
+      ap (is_in a) (refused_same S need proper x.before y.before alike.before);
 }
