@@ -22,5 +22,5 @@ pub trait Bound {
     ghost labels: { Labels Label };
 
     /// What may hold of what a tick shows and of the label before it.
-    ghost Holds: { System → Shown → Label → Type 0 };
+    ghost Fact: { System → Shown → Label → Type 0 };
 }

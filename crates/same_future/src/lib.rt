@@ -14,10 +14,11 @@ mod laws;
 
 pub use labels::{Bound, Labelling};
 pub use laws::{
-    ages_are_ordered, alike_futures, alike_in_is_equivalence, alike_in_is_wider, alike_in_ticks,
-    alike_is_equivalence, alike_ticks, all_sets_are_tried, always_ahead, basic_is_ready,
-    finds_hold, finds_latency, finds_response, holds_are_told, incidents_go_by_needed,
-    jobs_are_numbered, latencies_are_told, never_shown, no_job_older, no_longer, none_older,
-    paths_are_runs, paths_show, responses_are_told, same_is_alike, table_bounds, table_covers,
-    unlabelled_is_ordered, worked_longest, worked_states,
+    ages_are_ordered, ages_ignore_repeats, alike_futures, alike_in_is_equivalence,
+    alike_in_is_wider, alike_in_ticks, alike_is_equivalence, alike_ticks, all_sets_are_tried,
+    always_ahead, basic_is_ready, finds_hold, finds_latency, finds_response, holds_are_told,
+    incidents_go_by_needed, jobs_are_numbered, latencies_are_told, never_shown, new_sets_are_tried,
+    no_job_older, no_longer, none_older, paths_are_runs, paths_show, responses_are_told,
+    same_is_alike, table_bounds, table_covers, unlabelled_is_ordered, worked_longest,
+    worked_states,
 };
