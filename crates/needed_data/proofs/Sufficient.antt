@@ -26,7 +26,7 @@ needs_all (Plain.St a b) = λ i low e. (refl, λ f. refl)
 needs_all (Plain.Jmp to) = tt
 needs_all (Plain.JumpIf test a b to) = refl
 
-holds_all : (place : ℕ) (p : PlainInstr) → IndicesFollow (λ q r i. true) place p
+pub holds_all : (place : ℕ) (p : PlainInstr) → IndicesFollow (λ q r i. true) place p
 holds_all place Plain.Nop = λ r i e. refl
 holds_all place (Plain.Li d n) = (λ r i ne e. refl, refl)
 holds_all place (Plain.Mov d a) = (λ r i ne e. refl, λ i e. refl)
