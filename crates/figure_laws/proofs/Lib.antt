@@ -1,0 +1,6 @@
+pub mod Greatest
+pub mod Ages
+pub mod AgeOrder
+pub mod Pending
+pub mod Holding
+pub mod Counts

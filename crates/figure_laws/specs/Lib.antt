@@ -1,0 +1,5 @@
+pub mod Labels
+pub mod Ages
+pub mod Pending
+pub mod Holding
+pub mod Counts

@@ -1,0 +1,68 @@
+//! The laws, one function each. The functions are empty: the clause is the law.
+
+ghost use Rattle.figure_laws.specs.Ages.{
+  AgesAreReadiness,
+  AgesKeepOrder,
+  OldestIsAge,
+  ResponsesAreAges,
+};
+ghost use Rattle.figure_laws.specs.Counts.{CountsTell};
+ghost use Rattle.figure_laws.specs.Holding.{HoldingKeepsOrder, HoldsAreKnown, HoldsAreLabels};
+ghost use Rattle.figure_laws.specs.Pending.{LatenciesAreAges, PendingIsAge, PendingKeepsOrder};
+
+/// The age of each job that is followed is counted from the tick since which the figures know it
+/// to be ready.
+pub fn ages_are_readiness()
+    ensures { AgesAreReadiness }
+{}
+
+/// The longest response is the greatest age with which a job ends or begins to wait.
+pub fn responses_are_ages()
+    ensures { ResponsesAreAges }
+{}
+
+/// The oldest job that is left is as old as its label.
+pub fn oldest_is_age()
+    ensures { OldestIsAge }
+{}
+
+/// Where ages are at least as many and at least as old, they stay so, and show no less.
+pub fn ages_keep_order()
+    ensures { AgesKeepOrder }
+{}
+
+/// The greatest latency is the greatest that labels show.
+pub fn latencies_are_ages()
+    ensures { LatenciesAreAges }
+{}
+
+/// An interrupt that pends is as old as its label.
+pub fn pending_is_age()
+    ensures { PendingIsAge }
+{}
+
+/// An older age of a pending interrupt stays older, and shows no less.
+pub fn pending_keeps_order()
+    ensures { PendingKeepsOrder }
+{}
+
+/// A resource is held by whom its label says, for so many ticks.
+pub fn holds_are_known()
+    ensures { HoldsAreKnown }
+{}
+
+/// The longest hold is the longest that labels show.
+pub fn holds_are_labels()
+    ensures { HoldsAreLabels }
+{}
+
+/// A longer hold stays longer, and shows no less.
+pub fn holding_keeps_order()
+    ensures { HoldingKeepsOrder }
+{}
+
+/// Refusals, losses and errors are 0, and no first one is told, exactly where none is seen in any
+/// tick; the greatest number of blockers is within a bound exactly where each that is told is.
+pub fn counts_tell()
+    ensures { CountsTell }
+{}

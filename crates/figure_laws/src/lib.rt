@@ -1,0 +1,11 @@
+//! Labels of a run that go on tick by tick, by what is seen in each tick, and that figures go by
+//! them.
+#![tactic(auto)]
+
+mod laws;
+
+pub use laws::{
+    ages_are_readiness, ages_keep_order, counts_tell, holding_keeps_order, holds_are_known,
+    holds_are_labels, latencies_are_ages, oldest_is_age, pending_is_age, pending_keeps_order,
+    responses_are_ages,
+};
