@@ -6,7 +6,7 @@ use Rattle.figures.specs.StateSums.{leaves}
 use Rattle.figure_laws.specs.Labels.{IsAtMost}
 use Rattle.figure_laws.specs.Ages.{followed, ages_in, ages_next, oldest, oldest_age, leaving_age, AreOlder, AgesKeepOrder}
 
-older_itself : (xs : List ℕ) → AreOlder xs xs
+pub older_itself : (xs : List ℕ) → AreOlder xs xs
 older_itself [] = tt
 older_itself (x ∷ xs) = (omega arith, older_itself xs)
 

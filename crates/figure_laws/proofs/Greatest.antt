@@ -8,7 +8,7 @@ use Rattle.figure_laws.specs.Labels.{Label, label_after, reached, all_shown, IsA
 
 -- ---- one number after others
 
-worse_within : (m : ℕ) (w : Option Reached) (r : Reached) → IsWithin m w → r.ticks ≤ m
+pub worse_within : (m : ℕ) (w : Option Reached) (r : Reached) → IsWithin m w → r.ticks ≤ m
     → IsWithin m (worse w r)
 worse_within m None r low here = here
 worse_within m (Some w) r low here = go (nat_lt w.ticks r.ticks)
@@ -22,7 +22,8 @@ pub record BothWithin (m : ℕ) (w : Option Reached) (r : Reached) : Type 0 wher
   pub so_far : IsWithin m w
   pub here : r.ticks ≤ m
 
-worse_parts : (m : ℕ) (w : Option Reached) (r : Reached) → IsWithin m (worse w r) → BothWithin m w r
+pub worse_parts : (m : ℕ) (w : Option Reached) (r : Reached) → IsWithin m (worse w r)
+    → BothWithin m w r
 worse_parts m None r low = record { so_far = tt; here = low }
 worse_parts m (Some w) r low = go (nat_lt w.ticks r.ticks) refl low
   where
@@ -33,10 +34,10 @@ worse_parts m (Some w) r low = go (nat_lt w.ticks r.ticks) refl low
     go false e k = let less : r.ticks ≤ w.ticks = ltb-false w.ticks r.ticks e in
         record { so_far = k; here = omega (arith, k) }
 
-capped_within : (m n : ℕ) → n ≤ m → capped n ≤ m
+pub capped_within : (m n : ℕ) → n ≤ m → capped n ≤ m
 capped_within m n low = omega arith
 
-within_capped : (m n : ℕ) → m < 2 ^ 32 - 1 → capped n ≤ m → n ≤ m
+pub within_capped : (m n : ℕ) → m < 2 ^ 32 - 1 → capped n ≤ m → n ≤ m
 within_capped m n small low = omega arith
 
 put_within : (m tick : ℕ) (shown : Option ℕ) (others : List Reached) → IsAtMost m shown

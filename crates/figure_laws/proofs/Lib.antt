@@ -4,3 +4,5 @@ pub mod AgeOrder
 pub mod Pending
 pub mod Holding
 pub mod Counts
+pub mod Times
+pub mod Merging

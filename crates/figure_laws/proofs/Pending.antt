@@ -134,7 +134,7 @@ latencies_are_ages seen h small =
 
 -- ---- order
 
-older_itself : (x : Option ℕ) → IsOlder x x
+pub older_itself : (x : Option ℕ) → IsOlder x x
 older_itself None = tt
 older_itself (Some n) = omega arith
 

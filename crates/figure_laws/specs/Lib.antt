@@ -3,3 +3,5 @@ pub mod Ages
 pub mod Pending
 pub mod Holding
 pub mod Counts
+pub mod Times
+pub mod Merging

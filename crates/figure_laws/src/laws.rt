@@ -8,7 +8,9 @@ ghost use Rattle.figure_laws.specs.Ages.{
 };
 ghost use Rattle.figure_laws.specs.Counts.{CountsTell};
 ghost use Rattle.figure_laws.specs.Holding.{HoldingKeepsOrder, HoldsAreKnown, HoldsAreLabels};
+ghost use Rattle.figure_laws.specs.Merging.{LabelsMerge};
 ghost use Rattle.figure_laws.specs.Pending.{LatenciesAreAges, PendingIsAge, PendingKeepsOrder};
+ghost use Rattle.figure_laws.specs.Times.{RoutineTimesAreAges, TaskTimesAreAges};
 
 /// The age of each job that is followed is counted from the tick since which the figures know it
 /// to be ready.
@@ -65,4 +67,20 @@ pub fn holding_keeps_order()
 /// tick; the greatest number of blockers is within a bound exactly where each that is told is.
 pub fn counts_tell()
     ensures { CountsTell }
+{}
+
+/// The longest time of a task, ended or not, goes by the ages of its oldest jobs.
+pub fn task_times_are_ages()
+    ensures { TaskTimesAreAges }
+{}
+
+/// The longest time of a routine, started or not, goes by what its interrupts have waited.
+pub fn routine_times_are_ages()
+    ensures { RoutineTimesAreAges }
+{}
+
+/// A merged label is the least that is at least two, and of a hold no more counts than that of the
+/// task that holds the resource in the next tick.
+pub fn labels_merge()
+    ensures { LabelsMerge }
 {}

@@ -1,0 +1,44 @@
+-- Times, ended or not: of a job or an interrupt that is left behind the last tick its age counts
+-- too.
+use Rattle.std.specs.Prelude.{ℕ, ◌<◌, ◌-◌, ◌^◌, List, ◌∷◌, cond, Option}
+use Rattle.std.specs.List.{AllByRecursion}
+use Rattle.std.specs.Option.{option_map}
+use Rattle.figures.specs.declared.reached.Reached.{Reached}
+use Rattle.figures.specs.declared.task_tick.TaskTick.{TaskTick}
+use Rattle.figures.specs.declared.routine_figures.RoutineTick.{RoutineTick}
+use Rattle.figures.specs.Reaching.{worse_of}
+use Rattle.figures.specs.ResponseSums.{oldest_response, response_figures}
+use Rattle.figures.specs.RoutineSums.{pending_age, routine_figures}
+use Rattle.figure_laws.specs.Labels.{Label, AreNumbered, IsWithin, NoneShowsMore}
+use Rattle.figure_laws.specs.Ages.{ages, oldest_age, tick_of}
+use Rattle.figure_laws.specs.Pending.{pending, pending_in, tick_of as start_tick_of}
+
+-- a figure is within a bound where no label shows more, and below the greatest count only there
+pub record IsBoundBy {T L : Type 0} (label : Label T L) (show : T → L → Option ℕ) (seen : List T)
+    (figure : Option Reached) : Type 0 where
+  pub within : (m : ℕ) → NoneShowsMore label show m seen → IsWithin m figure
+  pub shown : (m : ℕ) → m < 2 ^ 32 - 1 → IsWithin m figure → NoneShowsMore label show m seen
+
+-- what an interrupt has waited in a tick, where its routine starts without that tick
+abbrev pub waited : RoutineTick → Option ℕ → Option ℕ
+waited r age = cond r.seen.is_started (option_map (λ n. n - 1) (pending_in r age))
+    (pending_in r age)
+
+-- ---- laws
+
+-- the longest time of a task goes by the ages of its oldest jobs
+abbrev pub TaskTimesAreAges : Type 0
+TaskTimesAreAges =
+    (t : TaskTick) (before : List TaskTick) → AreNumbered tick_of (t ∷ before)
+    → IsBoundBy ages oldest_age (t ∷ before)
+    (worse_of (response_figures (t ∷ before)).spread.greatest
+    (oldest_response t.tick (response_figures (t ∷ before)).ready_since))
+
+-- and that of a routine by what its interrupts have waited
+abbrev pub RoutineTimesAreAges : Type 0
+RoutineTimesAreAges =
+    (r : RoutineTick) (before : List RoutineTick) → AreNumbered start_tick_of (r ∷ before)
+    → AllByRecursion (λ u. u.tick < 2 ^ 32) (r ∷ before)
+    → IsBoundBy pending waited (r ∷ before)
+    (worse_of (routine_figures (r ∷ before)).latency
+    (pending_age r.tick (routine_figures (r ∷ before)).pending_since))
