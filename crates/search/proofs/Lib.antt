@@ -1,0 +1,5 @@
+pub mod AgendaLemmas
+pub mod NumberLemmas
+pub mod AdmitLemmas
+pub mod VisitLemmas
+pub mod SearchLemmas

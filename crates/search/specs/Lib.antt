@@ -1,0 +1,6 @@
+pub mod Rules
+pub mod Searched
+pub mod Numbers
+pub mod Admitted
+pub mod Visited
+pub mod Outcomes

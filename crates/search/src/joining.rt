@@ -1,0 +1,84 @@
+//! Nodes that cover another one, or can be joined with it.
+
+ghost use Rattle.std.specs.Prelude.{◌≡◌, ℕ, ◌<◌, List, IsTrue, IfOk, Any, length};
+ghost use Rattle.search.specs.Admitted.{IsJoined, IsJoinedAt};
+
+use crate::index::Index;
+use crate::steps::Steps;
+use std::alloc::{AllocError, Global};
+
+/// What became of a node that was to be joined with one of others.
+#[derive(Drop)]
+pub enum Joined<N> {
+    /// The node of this number covers it now.
+    At(usize),
+    /// It can't be joined with any.
+    Apart(N),
+}
+
+/// Whether one of the nodes of a hash covers another.
+pub fn is_covered<S: Steps>(
+    nodes: &[S::Node],
+    index: &Index,
+    steps: &S,
+    hash: u64,
+    node: &S::Node,
+) -> bool
+    ensures { IsTrue result →
+        Any (λ x. (S.rules (S.setting steps.now)).covers x node.now) nodes.now }
+{
+    for place in 0..index.len() {
+        let Some(number) = index.number(hash, place) else {
+            return false;
+        };
+        if number < nodes.len() && steps.covers(&nodes[number], node) {
+            return true;
+        }
+    }
+    false
+}
+
+/// Joins a node with one of those of its hash.
+pub fn join_among<S: Steps>(
+    alloc: Global,
+    nodes: &mut [S::Node],
+    index: &Index,
+    steps: &S,
+    hash: u64,
+    node: S::Node,
+) -> Result<Joined<S::Node>, AllocError>
+    ensures { IfOk result
+        (IsJoined (S.rules (S.setting steps.now)) nodes.old nodes.new node) }
+{
+    let mut left = node;
+    for place in 0..index.len() {
+        let Some(number) = index.number(hash, place) else {
+            return Ok(Joined::Apart(left));
+        };
+        if number < nodes.len() {
+            match join_at(alloc, nodes, steps, number, left)? {
+                Joined::At(joined) => return Ok(Joined::At(joined)),
+                Joined::Apart(same) => left = same,
+            }
+        }
+    }
+    Ok(Joined::Apart(left))
+}
+
+/// Joins a node with that of a number.
+fn join_at<S: Steps>(
+    alloc: Global,
+    nodes: &mut [S::Node],
+    steps: &S,
+    number: usize,
+    node: S::Node,
+) -> Result<Joined<S::Node>, AllocError>
+    requires { number < length nodes.old }
+    ensures { IfOk result
+        (IsJoined (S.rules (S.setting steps.now)) nodes.old nodes.new node) }
+{
+    match steps.join(alloc, &mut nodes[number], node)? {
+        None => Ok(Joined::At(number)),
+        Some(same) => Ok(Joined::Apart(same)),
+    }
+}

@@ -1,0 +1,82 @@
+//! What a search goes through.
+
+ghost use Rattle.std.specs.Prelude.{◌≡◌, ℕ, ◌<◌, ◌≤◌, IsTrue, IfOk, IfSome, IfNone, OnSome};
+ghost use Rattle.search.specs.Rules.{Rules, AreKept, CoversBoth, NoneMay, NoMoreMay, StaysNoted};
+
+use std::alloc::{AllocError, Global};
+
+/// Nodes, and what comes of a node under a choice.
+///
+/// A node stands for many states: for one, with labels that are bounds of what is known of it, as
+/// "has lasted for so many steps at least". One node *covers* another where it stands for all that
+/// the other stands for. A choice is a number; where some things may happen in a step or not, it is
+/// the set of those that do, and [`subset_from`](crate::subset_from) tells which set is next.
+///
+/// What is seen in a step is *noted* in `self`, as a maximum that only grows. What else `self` has
+/// is its setting, by which the rules go, and never changes.
+pub trait Steps: Drop {
+    /// What is kept of a state, with its labels.
+    type Node: Drop;
+
+    /// All that the rules depend on.
+    ghost Setting: { Type 0 };
+
+    /// That of a value.
+    ghost setting: { Self → Setting };
+
+    /// Which nodes may be the first, which choices may be made in a node, which nodes stand for
+    /// what comes of one, and which nodes cover others.
+    ghost rules: { Setting → Rules Self.Node };
+
+    /// What is seen where a choice is made in a node is noted.
+    ghost is_noted: { Self → Self.Node → ℕ → Type 0 };
+
+    /// The first node, or none where one of its labels can't be kept.
+    fn first(&mut self, alloc: Global) -> Result<Option<Self::Node>, AllocError>
+        ensures setting { setting self.new ≡ setting self.old }
+        ensures notes { StaysNoted is_noted self.old self.new }
+        ensures first { IfOk result (λ found. IfSome found (rules (setting self.old)).is_first) };
+
+    /// The next choice from a number on that may be made in a node; those that are left out may
+    /// not. The greatest number is no choice.
+    fn choice_from(&self, node: &Self::Node, from: u64) -> Option<u64>
+        ensures within { IfSome result (λ choice. (from ≤ choice) × (choice < u64.MAX)) }
+        ensures between { IfSome result (NoneMay (rules (setting self.now)) node.now from) }
+        ensures none { IfNone result (NoMoreMay (rules (setting self.now)) node.now from) };
+
+    /// What comes of a node under a choice, or nothing where a label of it can't be kept.
+    fn next(
+        &mut self,
+        alloc: Global,
+        from: &Self::Node,
+        choice: u64,
+    ) -> Result<Option<Self::Node>, AllocError>
+        ensures setting { setting self.new ≡ setting self.old }
+        ensures notes { StaysNoted is_noted self.old self.new }
+        ensures next { IfOk result (λ found.
+            IfSome found ((rules (setting self.old)).is_next from.now choice)) }
+        ensures noted { IfOk result (λ found. OnSome found (is_noted self.new from.now choice)) };
+
+    /// Whether a node covers another. It may miss some that do, and then more nodes are kept.
+    fn covers(&self, one: &Self::Node, other: &Self::Node) -> bool
+        ensures { IsTrue result → (rules (setting self.now)).covers one.now other.now };
+
+    /// Makes a node cover another too, or hands that back where none can be found that covers both.
+    fn join(
+        &self,
+        alloc: Global,
+        node: &mut Self::Node,
+        other: Self::Node,
+    ) -> Result<Option<Self::Node>, AllocError>
+        ensures joined { IfOk result (λ back.
+            IfNone back (CoversBoth (rules (setting self.now)) node.new node.old other)) }
+        ensures apart { IfOk result (λ back.
+            IfSome back (λ same. (same ≡ other) × (node.new ≡ node.old))) };
+
+    /// A number that nodes share which cover each other or can be joined, as far as may be: a node
+    /// is compared with those of its number alone. Nothing else depends on it.
+    fn hash(&self, node: &Self::Node) -> u64;
+
+    /// Where a node stands for something, so does each that covers it.
+    ghost kept: { (s : Setting) → AreKept (rules s) };
+}

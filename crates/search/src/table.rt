@@ -1,0 +1,130 @@
+//! The nodes of a search.
+
+ghost use Rattle.std.specs.Prelude.{◌≡◌, ℕ, ◌<◌, length};
+ghost use Rattle.search.specs.Numbers.{AreBelow};
+
+use crate::agenda::Agenda;
+use crate::index::Index;
+use crate::joining::{Joined, is_covered, join_among};
+use crate::steps::Steps;
+use std::alloc::{AllocError, Global};
+
+/// Nodes by number, in the order in which they were found. Those are open that are still to be
+/// visited.
+#[derive(Drop)]
+pub struct Table<N> {
+    nodes: Vec<N>,
+    agenda: Agenda,
+    index: Index,
+    ghost inside: { AreBelow (length nodes.items) agenda },
+}
+
+impl<N: Drop> Table<N> {
+    ghost use Rattle.std.specs.Prelude.{◌≡◌, ℕ, ◌<◌, false, List, [], ◌∷◌, Some, IsTrue, IfOk, IfNone, IfSome, OnOk, true, ◌++◌, ◌≤◌, length, slice_get};
+    ghost use Rattle.search.specs.Numbers.{is_in, put_in};
+    ghost use Rattle.search.specs.Admitted.{Admits};
+
+    /// No node.
+    pub fn new(alloc: Global) -> Self
+        ensures nodes { result.nodes.items ≡ [] }
+        ensures open { result.agenda ≡ [] }
+    {
+        Table {
+            nodes: Vec::new(alloc),
+            agenda: Agenda::new(alloc),
+            index: Index::new(alloc),
+        }
+    }
+
+    /// How many nodes there are.
+    pub fn len(&self) -> usize
+        ensures { result ≡ length self.now.nodes.items }
+    {
+        self.nodes.len()
+    }
+
+    /// How many of them are open.
+    pub fn open_len(&self) -> usize
+        ensures { result ≡ length self.now.agenda }
+    {
+        self.agenda.len()
+    }
+
+    /// The node of a number.
+    pub fn node(&self, number: usize) -> &N
+        requires { number < length self.now.nodes.items }
+        ensures { slice_get self.now.nodes.items number ≡ Some result.now }
+    {
+        &self.nodes[number]
+    }
+
+    /// Whether the node of a number is open.
+    pub fn is_open(&self, number: usize) -> bool
+        ensures { result ≡ is_in number self.now.agenda }
+    {
+        self.agenda.contains(number)
+    }
+
+    /// Closes the node that has been open for longest, and answers its number.
+    pub fn close_first(&mut self) -> Option<usize>
+        ensures nodes { self.new.nodes.items ≡ self.old.nodes.items }
+        ensures none { IfNone result ((self.old.agenda ≡ []) × (self.new.agenda ≡ [])) }
+        ensures inside { IfSome result (λ number. number < length self.new.nodes.items) }
+        ensures first { IfSome result (λ number. self.old.agenda ≡ number ∷ self.new.agenda) }
+        ensures closed { IfSome result (λ number. is_in number self.new.agenda ≡ false) }
+    {
+        self.agenda.take()
+    }
+
+    /// Opens the node of a number, if there is one.
+    pub fn reopen(&mut self, number: usize) -> Result<(), AllocError>
+        ensures { self.new.nodes.items ≡ self.old.nodes.items }
+    {
+        if number < self.nodes.len() {
+            self.agenda.put(number)?;
+        }
+        Ok(())
+    }
+
+    /// Sees to it that some node covers another, and answers whether that could be done with as
+    /// many nodes as a limit allows. One that covers it stays as it is; one that can be joined with
+    /// it is joined and opened; else it is added, and is open.
+    pub fn admit<S: Steps<Node = N>>(
+        &mut self,
+        alloc: Global,
+        steps: &S,
+        node: N,
+        limit: usize,
+    ) -> Result<bool, AllocError>
+        ensures admits { IfOk result (λ done. IsTrue done → Admits (S.rules (S.setting steps.now))
+            self.old.nodes.items self.old.agenda self.new.nodes.items self.new.agenda node) }
+        ensures full { IfOk result (λ done. done ≡ false → limit ≤ length self.new.nodes.items) }
+    {
+        let hash = steps.hash(&node);
+        if is_covered(&self.nodes, &self.index, steps, hash, &node) {
+            return Ok(true);
+        }
+        match join_among(alloc, &mut self.nodes, &self.index, steps, hash, node)? {
+            Joined::At(number) => self.agenda.put(number)?,
+            Joined::Apart(apart) => {
+                if self.nodes.len() >= limit {
+                    return Ok(false);
+                }
+                self.add(hash, apart)?;
+            }
+        }
+        Ok(true)
+    }
+
+    /// Adds a node, which is open.
+    fn add(&mut self, hash: u64, node: N) -> Result<(), AllocError>
+        ensures nodes { OnOk result (self.new.nodes.items ≡ self.old.nodes.items ++ node ∷ []) }
+        ensures agenda { OnOk result
+            (self.new.agenda ≡ put_in (length self.old.nodes.items) self.old.agenda) }
+    {
+        let number = self.nodes.len();
+        self.index.add(hash, number)?;
+        self.nodes.push(node)?;
+        self.agenda.put(number)
+    }
+}
