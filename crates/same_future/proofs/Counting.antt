@@ -44,7 +44,8 @@ is_proper = proper counting refl
 
 -- ---- nothing is needed
 
-each : (who : Owner) (place : ℕ) → Respects none_needed who place (instruction_at counting who place)
+each : (who : Owner) (place : ℕ)
+    → Respects none_needed who place (instruction_at counting who place)
 each (Owner.Task zero) zero = (tt, holds_all 0 (Plain.Li 1 1))
 each (Owner.Task zero) (suc zero) = (refl, holds_all 1 (Plain.Compute Operation.Add 0 0 1))
 each (Owner.Task zero) (suc (suc zero)) = (tt, holds_all 2 (Plain.Jmp 1))
@@ -118,27 +119,34 @@ work_at place n now =
     }
 
 slot_alike : (m n now later t : ℕ)
-    → cleaned_slots none_needed (kept counting (work_at 1 m now)).slots t ≡ cleaned_slots none_needed (kept counting (work_at 1 n later)).slots t
+    → cleaned_slots none_needed (kept counting (work_at 1 m now)).slots t
+    ≡ cleaned_slots none_needed (kept counting (work_at 1 n later)).slots t
 unfolding work_at
 slot_alike m n now later t = go (0 == t)
   where
     go : (b : Bool)
-        → cleaned_slot (λ r. false) (slot_of (cond b (job_at 1 m ∷ []) [])) ≡ cleaned_slot (λ r. false) (slot_of (cond b (job_at 1 n ∷ []) []))
+        → cleaned_slot (λ r. false) (slot_of (cond b (job_at 1 m ∷ []) []))
+        ≡ cleaned_slot (λ r. false) (slot_of (cond b (job_at 1 n ∷ []) []))
     go true = refl
     go false = refl
 
 work_alike : (m n now later : ℕ)
-    → AreAlikeIn counting none_needed (kept counting (work_at 1 m now)) (kept counting (work_at 1 n later))
+    → AreAlikeIn counting none_needed (kept counting (work_at 1 m now))
+    (kept counting (work_at 1 n later))
 unfolding work_at
 work_alike m n now later = record {
-  rest = λ i. record (untimed (cleaned none_needed (kept counting (work_at 1 m now)))) { slots = fun_ext (slot_alike m n now later) i };
+  rest = λ i.
+      record (untimed (cleaned none_needed (kept counting (work_at 1 m now)))) {
+        slots = fun_ext (slot_alike m n now later) i;
+      };
   values = λ c inside. absurd (omega (arith, inside));
   phases = λ c inside. absurd (omega (arith, inside));
   alarms = λ a inside. absurd (omega (arith, inside));
 }
 
 abbrev RunWorks : Path → ℕ → ℕ → Type 0
-RunWorks path n now = (run counting 0 (arrivals_on counting path) (length path)).state ≡ work_at 1 n now
+RunWorks path n now =
+    (run counting 0 (arrivals_on counting path) (length path)).state ≡ work_at 1 n now
 
 works_a : RunWorks (none ∷ []) 0 1
 unfolding work_at reschedule activated released service unmasked_service alarm_phase start_phase execute_phase tick boot run
@@ -149,9 +157,11 @@ unfolding work_at reschedule activated released service unmasked_service alarm_p
 works_c = refl
 
 -- the state of a path on which A counts
-works : (path : Path) (n now : ℕ) → Allowed path → RunWorks path n now → kept counting (work_at 1 n now) ≡ (on path).state
+works : (path : Path) (n now : ℕ) → Allowed path → RunWorks path n now
+    → kept counting (work_at 1 n now) ≡ (on path).state
 works path n now allowed is =
-    ap (kept counting) (sym is) ∙ (on_path unlabelled counting is_proper 0 no_distance path allowed).state
+    ap (kept counting) (sym is)
+    ∙ (on_path unlabelled counting is_proper 0 no_distance path allowed).state
 
 -- ---- what is covered
 
@@ -167,7 +177,8 @@ covers path other alike = record {
   at_least = tt;
 }
 
-stands : (k : ℕ) → k < 3 → (path : Path) → slice_index_or table k (on path) ≡ on path → Covered (on path)
+stands : (k : ℕ) → k < 3 → (path : Path) → slice_index_or table k (on path) ≡ on path
+    → Covered (on path)
 stands k low path is = record {
   entry = on path;
   there = (k, low, is);
@@ -186,8 +197,8 @@ round = record {
 }
 
 -- what holds of each of the three holds of what the table contains
-each_entry : (P : Entry (Unit {0}) → Type 0) → P (on []) → P (on (none ∷ [])) → P (on (none ∷ none ∷ []))
-    → (a : Entry (Unit {0})) → Contains table a → P a
+each_entry : (P : Entry (Unit {0}) → Type 0) → P (on []) → P (on (none ∷ []))
+    → P (on (none ∷ none ∷ [])) → (a : Entry (Unit {0})) → Contains table a → P a
 each_entry P h0 ha hb a there = at there.0 there.1 there.2
   where
     at : (k : ℕ) → k < 3 → slice_index_or table k a ≡ a → P a
@@ -197,7 +208,9 @@ each_entry P h0 ha hb a there = at there.0 there.1 there.2
     at (suc (suc (suc k))) low is = absurd (omega (arith, low))
 
 abbrev Leads : Entry (Unit {0}) → Type 0
-Leads a = (mask : ℕ) → mask < 1 → Covered (next_entry unlabelled counting no_distance (is_in_set mask) a)
+Leads a =
+    (mask : ℕ) → mask < 1
+    → Covered (next_entry unlabelled counting no_distance (is_in_set mask) a)
 
 from_0 : Leads (on [])
 from_0 zero low = stands 1 (omega arith) (none ∷ []) refl
@@ -220,7 +233,9 @@ closed = record {
 -- ---- no run is ever over
 
 abbrev GoesOn : Entry (Unit {0}) → Type 0
-GoesOn a = (mask : ℕ) → mask < 1 → is_shut_down (shown_from counting (is_in_set mask) a.state) ≡ false
+GoesOn a =
+    (mask : ℕ) → mask < 1
+    → is_shut_down (shown_from counting (is_in_set mask) a.state) ≡ false
 
 on_0 : GoesOn (on [])
 unfolding tick_in boot_in rescheduled highest alarm_phase_in start_phase_in execute_phase_in service_in unmasked_in
@@ -252,8 +267,9 @@ goes_on arrivals zero = over_first arrivals
 goes_on arrivals (suc n) =
     let before = goes_on arrivals n in
     ap (λ (s : State). s.over) (state_more counting 0 arrivals n before)
-    ∙ never_shown unlabelled counting none_needed 0 no_distance table is_shut_down arrivals n is_proper enough
-    (unlabelled_is_ordered counting none_needed) (tried.closed none_needed 0 no_distance closed)
+    ∙ never_shown unlabelled counting none_needed 0 no_distance table is_shut_down arrivals n
+    is_proper enough (unlabelled_is_ordered counting none_needed)
+    (tried.closed none_needed 0 no_distance closed)
     (incidents_go_by_needed counting none_needed is_proper).shut_down (tried.holds never_over)
     (λ i t u low less one two. absurd (omega (arith, low))) before
 

@@ -41,7 +41,14 @@ counting =
       events = [];
       counters = [];
       alarms = [];
-      hooks = record { startup = false; error = false; shutdown = false; pre_task = false; post_task = false };
+      hooks =
+          record {
+            startup = false;
+            error = false;
+            shutdown = false;
+            pre_task = false;
+            post_task = false;
+          };
       use_res_scheduler = false;
     }
 
