@@ -38,7 +38,7 @@ module _ (S : System) (need : Need) where
   by_data : (o p : Kept) → HaveSameNeeded need o p → AreAlikeIn S need o p
   by_data o p same = subst (AreAlike S (cleaned need o)) same (itself S (cleaned need o))
 
-where_all : (S : System) (o p : Kept) → AreAlikeIn S all_needed o p → AreAlike S o p
+pub where_all : (S : System) (o p : Kept) → AreAlikeIn S all_needed o p → AreAlike S o p
 where_all S o p alike = subst₂ (AreAlike S) (all_cleaned o) (all_cleaned p) alike
 
 pub alike_in_is_equivalence : AlikeInIsEquivalence

@@ -19,6 +19,6 @@ pub use laws::{
     always_ahead, basic_is_ready, finds_hold, finds_latency, finds_response, holds_are_told,
     incidents_go_by_needed, jobs_are_numbered, latencies_are_told, never_shown, new_sets_are_tried,
     no_job_older, no_longer, none_older, paths_are_runs, paths_show, responses_are_told,
-    same_is_alike, table_bounds, table_covers, unlabelled_is_ordered, worked_counting,
-    worked_longest, worked_states,
+    same_is_alike, table_bounds, table_covers, table_covers_exactly, unlabelled_is_ordered,
+    worked_counting, worked_longest, worked_states,
 };
