@@ -3,3 +3,4 @@ pub mod NumberLemmas
 pub mod AdmitLemmas
 pub mod VisitLemmas
 pub mod SearchLemmas
+pub mod SubsetLemmas

@@ -4,3 +4,4 @@ pub mod Numbers
 pub mod Admitted
 pub mod Visited
 pub mod Outcomes
+pub mod Subsets

@@ -1,5 +1,5 @@
 -- What a search goes through.
-use Rattle.std.specs.Prelude.{ℕ, ◌<◌, ◌≤◌}
+use Rattle.std.specs.Prelude.{ℕ, ◌-◌, ◌^◌, ◌<◌, ◌≤◌}
 
 -- nodes: which may stand at the beginning, which choices may be made in a node, which nodes stand for what comes of a node
 -- under a choice, and which nodes stand for all that another one stands for
@@ -25,6 +25,13 @@ NoneMay r x from to = (choice : ℕ) → from ≤ choice → choice < to → ¬ 
 -- and none at all from a number on
 abbrev pub NoMoreMay : {N : Type 0} → Rules N → N → ℕ → Type 0
 NoMoreMay r x from = (choice : ℕ) → from ≤ choice → ¬ r.may x choice
+
+-- a choice is the first from a number on that may be made. The greatest number of 64 bits is none
+pub record IsNextChoice {N : Type 0} (r : Rules N) (x : N) (from choice : ℕ) : Type 0 where
+  pub high : from ≤ choice
+  pub low : choice < 2 ^ 64 - 1
+  pub may : r.may x choice
+  pub others : NoneMay r x from choice
 
 -- what was noted of choices in nodes stays noted
 abbrev pub StaysNoted : {X N : Type 0} → (X → N → ℕ → Type 0) → X → X → Type 0

@@ -11,10 +11,14 @@ mod agenda;
 mod index;
 mod joining;
 mod outcome;
+#[cfg(test)]
+mod ring;
 mod searching;
+mod sets;
 mod steps;
 mod table;
 
 pub use outcome::{Limits, Obstacle, Outcome, Progress};
 pub use searching::search;
+pub use sets::subset_from;
 pub use steps::Steps;

@@ -1,6 +1,6 @@
 //! The search: it visits nodes until none is open.
 
-ghost use Rattle.std.specs.Prelude.{◌≡◌, ◌≢◌, ℕ, ◌<◌, ◌≤◌, false, length, Any, Some, IfOk, IfNone, OnSome};
+ghost use Rattle.std.specs.Prelude.{◌≡◌, ◌≢◌, ℕ, ◌<◌, ◌≤◌, false, length, Any, Some, IfOk, IfNone, IfSome, slice_get};
 ghost use Rattle.search.specs.Rules.{StaysNoted};
 ghost use Rattle.search.specs.Numbers.{is_in};
 ghost use Rattle.search.specs.Visited.{AreVisited, AreVisitedBut, Tries, Visits};
@@ -148,7 +148,9 @@ fn try_choice<S: Steps>(
     choice: u64,
     limit: usize,
 ) -> Result<Option<Obstacle>, AllocError>
-    requires { number < length table.old.nodes.items }
+    requires inside { number < length table.old.nodes.items }
+    requires may { IfSome (slice_get table.old.nodes.items number)
+        (λ x. (S.rules (S.setting steps.old)).may x choice) }
     ensures setting { S.setting steps.new ≡ S.setting steps.old }
     ensures notes { StaysNoted S.is_noted steps.old steps.new }
     ensures tries { IfOk result (λ obstacle. IfNone obstacle

@@ -1,7 +1,7 @@
 //! What a search goes through.
 
-ghost use Rattle.std.specs.Prelude.{◌≡◌, ℕ, ◌<◌, ◌≤◌, IsTrue, IfOk, IfSome, IfNone, OnSome};
-ghost use Rattle.search.specs.Rules.{Rules, AreKept, CoversBoth, NoneMay, NoMoreMay, StaysNoted};
+ghost use Rattle.std.specs.Prelude.{◌≡◌, ℕ, IsTrue, IfOk, IfSome, IfNone, OnSome};
+ghost use Rattle.search.specs.Rules.{Rules, AreKept, CoversBoth, IsNextChoice, NoMoreMay, StaysNoted};
 
 use std::alloc::{AllocError, Global};
 
@@ -37,11 +37,9 @@ pub trait Steps: Drop {
         ensures notes { StaysNoted is_noted self.old self.new }
         ensures first { IfOk result (λ found. IfSome found (rules (setting self.old)).is_first) };
 
-    /// The next choice from a number on that may be made in a node; those that are left out may
-    /// not. The greatest number is no choice.
+    /// The next choice from a number on that may be made in a node.
     fn choice_from(&self, node: &Self::Node, from: u64) -> Option<u64>
-        ensures within { IfSome result (λ choice. (from ≤ choice) × (choice < u64.MAX)) }
-        ensures between { IfSome result (NoneMay (rules (setting self.now)) node.now from) }
+        ensures next { IfSome result (IsNextChoice (rules (setting self.now)) node.now from) }
         ensures none { IfNone result (NoMoreMay (rules (setting self.now)) node.now from) };
 
     /// What comes of a node under a choice, or nothing where a label of it can't be kept.
@@ -51,6 +49,7 @@ pub trait Steps: Drop {
         from: &Self::Node,
         choice: u64,
     ) -> Result<Option<Self::Node>, AllocError>
+        requires { (rules (setting self.old)).may from.now choice }
         ensures setting { setting self.new ≡ setting self.old }
         ensures notes { StaysNoted is_noted self.old self.new }
         ensures next { IfOk result (λ found.

@@ -1,5 +1,5 @@
 use Rattle.std.proofs.Common.{sym, ◌∙◌, subst}
-use Rattle.std.specs.Prelude.{IfNone}
+use Rattle.std.specs.Prelude.{IfNone, IfSome}
 use Rattle.search.specs.Rules.{NoneMay, NoMoreMay}
 use Rattle.search.specs.Visited.{Tries}
 use Rattle.search.proofs.VisitLemmas.{goes_on, opened, ends}
@@ -19,6 +19,10 @@ tried g c =
     c.choices.table.agenda c.try_choice.new.table.nodes.items c.try_choice.new.table.agenda c.args.number c.in-Some.choice))
     c.in_default-2.is c.in_ok-obstacle.ensures.tries)
 
+pub try_choice-requires-clause-may : goal.try_choice-requires-clause-may
+try_choice-requires-clause-may g c =
+    subst (λ o. IfSome o (λ x. (g.S.Steps.rules (g.S.Steps.setting c.choices.steps)).may x c.in-Some.choice)) (sym c.node.ensures) c.in-Some.ensures.next.may
+
 pub returns-then-is_open-clause-visits : goal.returns-then-is_open-clause-visits
 returns-then-is_open-clause-visits g c =
     opened (g.S.Steps.rules (g.S.Steps.setting c.args.steps.now)) (g.met.S.Steps.kept (g.S.Steps.setting c.args.steps.now)) g.S.Steps.is_noted
@@ -36,8 +40,8 @@ choices-preserved g c = record {
       c.choices.steps c.try_choice.new.steps c.in_ok-obstacle.ensures.notes
       c.args.table.now.nodes.items c.choices.table.nodes.items c.try_choice.new.table.nodes.items c.choices.table.agenda c.try_choice.new.table.agenda
       c.args.number c.choices.from c.in-Some.choice c.choices.invariant.visiting (tried g (goal.at.choices-preserved g c).In_default-2)
-      c.node.result.now c.node.ensures c.in-Some.ensures.within.0
-      (subst (λ s. NoneMay (g.S.Steps.rules s) c.node.result.now c.choices.from c.in-Some.choice) c.choices.invariant.setting c.in-Some.ensures.between)
+      c.node.result.now c.node.ensures c.in-Some.ensures.next.high
+      (subst (λ s. NoneMay (g.S.Steps.rules s) c.node.result.now c.choices.from c.in-Some.choice) c.choices.invariant.setting c.in-Some.ensures.next.others)
       (sym c.is_open.ensures ∙ c.if-is_open.false);
 }
 
