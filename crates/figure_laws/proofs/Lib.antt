@@ -6,3 +6,4 @@ pub mod Holding
 pub mod Counts
 pub mod Times
 pub mod Merging
+pub mod Seen

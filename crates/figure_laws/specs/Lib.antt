@@ -5,3 +5,4 @@ pub mod Holding
 pub mod Counts
 pub mod Times
 pub mod Merging
+pub mod Seen

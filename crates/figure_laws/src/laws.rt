@@ -10,6 +10,7 @@ ghost use Rattle.figure_laws.specs.Counts.{CountsTell};
 ghost use Rattle.figure_laws.specs.Holding.{HoldingKeepsOrder, HoldsAreKnown, HoldsAreLabels};
 ghost use Rattle.figure_laws.specs.Merging.{LabelsMerge};
 ghost use Rattle.figure_laws.specs.Pending.{LatenciesAreAges, PendingIsAge, PendingKeepsOrder};
+ghost use Rattle.figure_laws.specs.Seen.{LabelsGoBySeen};
 ghost use Rattle.figure_laws.specs.Times.{RoutineTimesAreAges, TaskTimesAreAges};
 
 /// The age of each job that is followed is counted from the tick since which the figures know it
@@ -83,4 +84,10 @@ pub fn routine_times_are_ages()
 /// task that holds the resource in the next tick.
 pub fn labels_merge()
     ensures { LabelsMerge }
+{}
+
+/// Labels go by what is seen of a thing in a tick, whatever the tick's number and what else is
+/// seen.
+pub fn labels_go_by_seen()
+    ensures { LabelsGoBySeen }
 {}

@@ -6,6 +6,7 @@ mod laws;
 
 pub use laws::{
     ages_are_readiness, ages_keep_order, counts_tell, holding_keeps_order, holds_are_known,
-    holds_are_labels, labels_merge, latencies_are_ages, oldest_is_age, pending_is_age,
-    pending_keeps_order, responses_are_ages, routine_times_are_ages, task_times_are_ages,
+    holds_are_labels, labels_go_by_seen, labels_merge, latencies_are_ages, oldest_is_age,
+    pending_is_age, pending_keeps_order, responses_are_ages, routine_times_are_ages,
+    task_times_are_ages,
 };
