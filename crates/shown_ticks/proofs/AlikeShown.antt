@@ -1,0 +1,135 @@
+-- States between which only absolute time differs show the same.
+use Rattle.std.proofs.Common.{◌≡◌, ℕ, ◌+◌, ◌-◌, Bool, false, not, ◌&&◌, List, [], ◌∷◌, ◌++◌, length, refl, sym, ◌∙◌, ap}
+use Rattle.std.specs.Prelude.{Option, slice_index_or}
+use Rattle.std.specs.Option.{option_map}
+use Rattle.osek_base.specs.declared.ids.Owner.{Owner}
+use Rattle.osek_base.specs.declared.task.Action.{Action}
+use Rattle.osek_base.specs.Alarm.{alarms_advanced, count, due_alarms, expiry, is_due}
+use Rattle.osek_base.specs.Proper.{IsProper}
+use Rattle.osek_base.specs.State.{Expiry}
+use Rattle.osek_base.specs.System.{System, alarm}
+use Rattle.osek_base.specs.Tick.{action_call}
+use Rattle.kept_state.specs.Kept.{Kept}
+use Rattle.kept_state.specs.KeptService.{ByNobody, bare, task_state_in, unmasked_in}
+use Rattle.kept_state.specs.Moves.{KeptRecorded}
+use Rattle.services.specs.Seen.{routine_of}
+use Rattle.kernel.specs.Does.{advanced_in}
+use Rattle.kernel.specs.Told.{acted_in, acting_in, if_refused, refused_of_in, task_at_in}
+use Rattle.same_future.specs.Alike.{AreAlike, TicksAreAlike, untimed}
+use Rattle.same_future.proofs.Commutes.{alarms_act}
+use Rattle.same_future.proofs.Tables.{filter_same, one_due}
+use Rattle.same_future.proofs.Ticks.{alike_ticks}
+use Rattle.same_future.proofs.Timed.{as_retimed, retimed}
+use Rattle.observed_runs.specs.Observed.{activations_by, answered, ending, executed_in, is_among, is_by, is_number, is_waiting, lost_of, one_if, owner_of, refusing, state_seen, times}
+use Rattle.shown_ticks.specs.Shown.{KeptTicked, ticked_in, jobs_before_in, task_seen_in, routine_seen_in, holders_seen_in, alarm_seen_in}
+use Rattle.shown_ticks.specs.ShownAlike.{AreShownAlike, AlikeShow}
+
+-- ---- alarms that act
+
+module _ (S : System) (u : ℕ) (bs : List (Option Expiry)) where
+  answer_untimed : (act : Action) (o : Kept)
+      → (unmasked_in S ByNobody (retimed u bs o) (action_call act)).status
+      ≡ (unmasked_in S ByNobody o (action_call act)).status
+  unfolding unmasked_in
+  answer_untimed (Action.ActivateTask t) o = refl
+  answer_untimed (Action.SetEvent t m) o = refl
+
+  refused_untimed : (due : List ℕ) (o : Kept)
+      → refused_of_in S due (retimed u bs o) ≡ refused_of_in S due o
+  refused_untimed [] o = refl
+  refused_untimed (a ∷ due) o =
+      let status = answer_untimed (alarm S a).action o in
+      let state : (acting_in S a (retimed u bs o)).state ≡ retimed u bs (acting_in S a o).state =
+      ap (λ (r : KeptRecorded). r.state) (alarms_act S u bs (a ∷ []) o) in
+      (λ i. if_refused a (status i) ++ refused_of_in S due (state i))
+      ∙ ap (λ v. if_refused a (acting_in S a o).status ++ v)
+      (refused_untimed due (acting_in S a o).state)
+
+module _ (S : System) (o p : Kept) (alike : AreAlike S o p) where
+  due_same : due_alarms S (bare o) ≡ due_alarms S (bare p)
+  due_same =
+      filter_same (is_due S (bare o)) (is_due S (bare p)) (length S.alarms)
+      (λ a inside. one_due (count S (bare o) a) (count S (bare p) a) (expiry (bare o) a)
+      (expiry (bare p) a) (alike.alarms a inside))
+
+  refused_same : (due : List ℕ) → refused_of_in S due (advanced_in S o)
+      ≡ refused_of_in S due (advanced_in S p)
+  refused_same due =
+      refused_untimed S o.tick (alarms_advanced S (bare o)) due o
+      ∙ sym (refused_untimed S p.tick (alarms_advanced S (bare p)) due o)
+      ∙ sym (ap (λ (x : Kept). refused_of_in S due
+      (record x { tick = p.tick; alarms = alarms_advanced S (bare p) }))
+      (as_retimed o p alike.rest))
+
+  acted_same : acted_in S o ≡ acted_in S p
+  acted_same =
+      (λ i. record { due = due_same i; refused = refused_of_in S (due_same i) (advanced_in S o) })
+      ∙ ap (λ v. record { due = due_alarms S (bare p); refused = v })
+      (refused_same (due_alarms S (bare p)))
+
+-- ---- a tick
+
+module _ (S : System) (proper : IsProper S) (first : Bool) (arrived : List ℕ) (o p : Kept)
+    (alike : AreAlike S o p) where
+  abbrev one : KeptTicked
+  one = ticked_in S first arrived o
+
+  abbrev other : KeptTicked
+  other = ticked_in S first arrived p
+
+  both : TicksAreAlike S arrived o p
+  both = alike_ticks S arrived o p proper alike
+
+  executed : one.executed ≡ other.executed
+  executed = ap executed_in both.events
+
+  acted : one.acted ≡ other.acted
+  acted = acted_same S o p alike
+
+  at : untimed one.at ≡ untimed other.at
+  at = both.executing
+
+  after : untimed one.after ≡ untimed other.after
+  after = both.after.rest
+
+  tasks : (t : ℕ) → task_seen_in S one t ≡ task_seen_in S other t
+  tasks t = λ i. record {
+    state = state_seen (is_by (Owner.Task t) (executed i)) (task_at_in S (at i) t).state;
+    priority = (task_at_in S (at i) t).priority;
+    jobs = (task_at_in S (at i) t).jobs;
+    made = ((after i).slots t).count + one_if
+        (is_number t (ending S (executed i))) - jobs_before_in first (alike.rest i) t;
+    refused = one_if (is_number t (refusing S (executed i))) + activations_by S t (acted i).refused;
+    ended = is_number t (ending S (executed i));
+    waits = is_by (Owner.Task t) (executed i) && is_waiting (task_state_in (after i) t);
+  }
+
+  routines : (r : ℕ) → routine_seen_in one r ≡ routine_seen_in other r
+  routines r = λ i. record {
+    executes = is_by (Owner.Routine r) (executed i);
+    is_pending = slice_index_or (at i).pending r false;
+    is_started = is_by (Owner.Routine r) (executed i) && not
+        (is_number r (option_map routine_of (alike.rest i).active));
+    arrived = times r arrived;
+    lost = lost_of (slice_index_or (alike.rest i).pending r false) (times r arrived);
+  }
+
+  alarms : (a : ℕ) → alarm_seen_in one a ≡ alarm_seen_in other a
+  alarms a = λ i. record {
+    has_expired = is_among (acted i).due a;
+    is_refused =
+        is_among (acted i).refused a;
+  }
+
+  pub shown : AreShownAlike S one other
+  shown = record {
+    executor = ap (option_map owner_of) executed;
+    answered = ap answered executed;
+    tasks = tasks;
+    routines = routines;
+    holders = ap (holders_seen_in S) at;
+    alarms = alarms;
+  }
+
+pub alike_show : AlikeShow
+alike_show S first arrived o p proper alike = shown S proper first arrived o p alike

@@ -1,0 +1,36 @@
+-- States that are alike show the same, and so do states that have the same needed data.
+use Rattle.std.specs.Prelude.{ℕ, ◌≡◌, Bool, List}
+use Rattle.std.specs.Option.{option_map}
+use Rattle.osek_base.specs.Proper.{IsProper}
+use Rattle.osek_base.specs.System.{System}
+use Rattle.kept_state.specs.Kept.{Kept}
+use Rattle.same_future.specs.Alike.{AreAlike}
+use Rattle.needed_data.specs.Need.{Need, IsClosed}
+use Rattle.needed_data.specs.Same.{HasAllowedIndices, HaveSameNeeded}
+use Rattle.observed_runs.specs.Observed.{answered, owner_of}
+use Rattle.shown_ticks.specs.Shown.{KeptTicked, alarm_seen_in, holders_seen_in, routine_seen_in, task_seen_in, ticked_in}
+
+-- two ticks show the same
+pub record AreShownAlike (S : System) (x y : KeptTicked) : Type 0 where
+  pub executor : option_map owner_of x.executed ≡ option_map owner_of y.executed
+  pub answered : answered x.executed ≡ answered y.executed
+  pub tasks : (t : ℕ) → task_seen_in S x t ≡ task_seen_in S y t
+  pub routines : (i : ℕ) → routine_seen_in x i ≡ routine_seen_in y i
+  pub holders : holders_seen_in S x.at ≡ holders_seen_in S y.at
+  pub alarms : (a : ℕ) → alarm_seen_in x a ≡ alarm_seen_in y a
+
+-- ---- laws, where the same routines arrive
+
+-- between which only absolute time differs
+abbrev pub AlikeShow : Type 0
+AlikeShow =
+    (S : System) (first : Bool) (arrived : List ℕ) (o p : Kept) → IsProper S → AreAlike S o p
+    → AreShownAlike S (ticked_in S first arrived o) (ticked_in S first arrived p)
+
+-- that have the same needed data, and registers with indices that they may have
+abbrev pub SameNeededShow : Type 0
+SameNeededShow =
+    (S : System) (need : Need) (first : Bool) (arrived : List ℕ) (o p : Kept) → IsClosed S need
+    → HasAllowedIndices need o
+    → HasAllowedIndices need p → HaveSameNeeded need o p
+    → AreShownAlike S (ticked_in S first arrived o) (ticked_in S first arrived p)
