@@ -29,8 +29,8 @@ pub record IsFirstOf {T : Type 0} (number : T → ℕ) (seen : List T) (first : 
 
 pub record TaskCountsTell (seen : List TaskTick) : Type 0 where
   pub refused : IsCountOf (λ (t : TaskTick). t.seen.refused) seen (task_counts seen).refused
-  pub first_refusal : IsFirstOf (λ (t : TaskTick). t.seen.refused) seen
-      (task_counts seen).first_refusal
+  pub first_refusal :
+      IsFirstOf (λ (t : TaskTick). t.seen.refused) seen (task_counts seen).first_refusal
   pub errors : IsCountOf (λ (t : TaskTick). one_if t.has_failed) seen (task_counts seen).errors
   -- the greatest number of blockers is within a bound exactly where each that is told is
   pub within : (m : ℕ) → AllByRecursion (λ t. IfSome t.blockers (λ n. n ≤ m)) seen
@@ -40,16 +40,16 @@ pub record TaskCountsTell (seen : List TaskTick) : Type 0 where
 
 pub record RoutineCountsTell (seen : List RoutineTick) : Type 0 where
   pub losses : IsCountOf (λ (r : RoutineTick). r.seen.lost) seen (routine_figures seen).losses
-  pub first_loss : IsFirstOf (λ (r : RoutineTick). r.seen.lost) seen
-      (routine_figures seen).first_loss
-  pub errors : IsCountOf (λ (r : RoutineTick). one_if r.has_failed) seen
-      (routine_figures seen).errors
+  pub first_loss :
+      IsFirstOf (λ (r : RoutineTick). r.seen.lost) seen (routine_figures seen).first_loss
+  pub errors :
+      IsCountOf (λ (r : RoutineTick). one_if r.has_failed) seen (routine_figures seen).errors
 
 pub record AlarmCountsTell (seen : List AlarmTick) : Type 0 where
-  pub refused : IsCountOf (λ (a : AlarmTick). one_if a.seen.is_refused) seen
-      (alarm_figures seen).refused
-  pub first_refusal : IsFirstOf (λ (a : AlarmTick). one_if a.seen.is_refused) seen
-      (alarm_figures seen).first_refusal
+  pub refused :
+      IsCountOf (λ (a : AlarmTick). one_if a.seen.is_refused) seen (alarm_figures seen).refused
+  pub first_refusal :
+      IsFirstOf (λ (a : AlarmTick). one_if a.seen.is_refused) seen (alarm_figures seen).first_refusal
 
 abbrev pub CountsTell : Type 0
 CountsTell =

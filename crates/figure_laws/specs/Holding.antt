@@ -48,8 +48,8 @@ HoldsAreKnown = (seen : List HolderTick) → IsHold seen
 -- the longest hold is the greatest that labels show
 abbrev pub HoldsAreLabels : Type 0
 HoldsAreLabels =
-    (seen : List HolderTick) → IsGreatest holding tick_of held_ticks seen
-    (resource_figures seen).longest
+    (seen : List HolderTick)
+    → IsGreatest holding tick_of held_ticks seen (resource_figures seen).longest
 
 -- a longer hold stays longer, and shows no less
 pub record HoldingKeepsOrder : Type 0 where

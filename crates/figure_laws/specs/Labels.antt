@@ -23,8 +23,8 @@ InEach label P (t ∷ before) = P t (label_after label before) × InEach label P
 abbrev pub AreNumbered : {T : Type 0} → (T → ℕ) → List T → Type 0
 AreNumbered number [] = Unit {0}
 AreNumbered number (t ∷ []) = Unit {0}
-AreNumbered number (t ∷ (u ∷ before)) = (number t ≡ suc (number u))
-    × AreNumbered number (u ∷ before)
+AreNumbered number (t ∷ (u ∷ before)) =
+    (number t ≡ suc (number u)) × AreNumbered number (u ∷ before)
 
 -- ---- what labels show
 

@@ -97,8 +97,9 @@ module _ (S : System) (proper : IsProper S) (first : Bool) (arrived : List ℕ) 
     state = state_seen (is_by (Owner.Task t) (executed i)) (task_at_in S (at i) t).state;
     priority = (task_at_in S (at i) t).priority;
     jobs = (task_at_in S (at i) t).jobs;
-    made = ((after i).slots t).count + one_if
-        (is_number t (ending S (executed i))) - jobs_before_in first (alike.rest i) t;
+    made =
+        ((after i).slots t).count + one_if (is_number t (ending S (executed i)))
+        - jobs_before_in first (alike.rest i) t;
     refused = one_if (is_number t (refusing S (executed i))) + activations_by S t (acted i).refused;
     ended = is_number t (ending S (executed i));
     waits = is_by (Owner.Task t) (executed i) && is_waiting (task_state_in (after i) t);
@@ -108,8 +109,9 @@ module _ (S : System) (proper : IsProper S) (first : Bool) (arrived : List ℕ) 
   routines r = λ i. record {
     executes = is_by (Owner.Routine r) (executed i);
     is_pending = slice_index_or (at i).pending r false;
-    is_started = is_by (Owner.Routine r) (executed i) && not
-        (is_number r (option_map routine_of (alike.rest i).active));
+    is_started =
+        is_by (Owner.Routine r) (executed i)
+        && not (is_number r (option_map routine_of (alike.rest i).active));
     arrived = times r arrived;
     lost = lost_of (slice_index_or (alike.rest i).pending r false) (times r arrived);
   }

@@ -1,3 +1,4 @@
 pub mod Shown
+pub mod BothShown
 pub mod AlikeShown
 pub mod NeededShown

@@ -168,8 +168,9 @@ module _ (S : System) (need : Need) where
       state = state_seen (by (Owner.Task t) i) (task_at_in S (at i) t).state;
       priority = (task_at_in S (at i) t).priority;
       jobs = (task_at_in S (at i) t).jobs;
-      made = ((after i).slots t).count + one_if (is_number t (ends i)) - jobs_before_in first
-          (same i) t;
+      made =
+          ((after i).slots t).count + one_if (is_number t (ends i))
+          - jobs_before_in first (same i) t;
       refused = one_if (is_number t (refuses i)) + activations_by S t (acted i).refused;
       ended = is_number t (ends i);
       waits = by (Owner.Task t) i && is_waiting (task_state_in (after i) t);

@@ -172,8 +172,9 @@ module _ (S : System) (proper : IsProper S) (mode : ℕ) (arrivals : List Arriva
     made =
         jobs_after_is t i + one_if (is_number t (ending S (executed_is i)))
         - cond (n == 0) 0 (sym (counted (jobs_of t here.jobs)) i);
-    refused = one_if (is_number t (refusing S (executed_is i))) + activations_by S t
-        (acted_is i).refused;
+    refused =
+        one_if (is_number t (refusing S (executed_is i)))
+        + activations_by S t (acted_is i).refused;
     ended = is_number t (ending S (executed_is i));
     waits = is_by (Owner.Task t) (executed_is i) && is_waiting (state_after_is t i);
   }
@@ -182,8 +183,9 @@ module _ (S : System) (proper : IsProper S) (mode : ℕ) (arrivals : List Arriva
   routine_seen_is r = λ i. record {
     executes = is_by (Owner.Routine r) (executed_is i);
     is_pending = slice_index_or (at_is i).pending r false;
-    is_started = is_by (Owner.Routine r) (executed_is i) && not
-        (is_number r (option_map routine_of here.active));
+    is_started =
+        is_by (Owner.Routine r) (executed_is i)
+        && not (is_number r (option_map routine_of here.active));
     arrived = times r (arriving arrivals n);
     lost = lost_of (slice_index_or here.pending r false) (times r (arriving arrivals n));
   }

@@ -1,5 +1,5 @@
 -- What is seen of a tick, by what is kept of the state before it and by the routines that arrive.
-use Rattle.std.specs.Prelude.{ℕ, ◌≡◌, ◌+◌, ◌-◌, Bool, false, not, ◌&&◌, ◌==◌, if◌then◌else◌, List, [], ◌∷◌, ◌++◌, map, Option, length, slice_index_or}
+use Rattle.std.specs.Prelude.{ℕ, ◌≡◌, ◌+◌, ◌-◌, Bool, false, not, ◌&&◌, ◌==◌, if◌then◌else◌, List, [], ◌∷◌, ◌++◌, map, Option, length}
 use Rattle.std.specs.Option.{option_map}
 use Rattle.observations.specs.declared.alarm_seen.AlarmSeen.{AlarmSeen}
 use Rattle.observations.specs.declared.observation.Observation.{Observation}
@@ -16,6 +16,7 @@ use Rattle.osek_base.specs.Trace.{arriving, run}
 use Rattle.kept_state.specs.Kept.{Kept, kept}
 use Rattle.kept_state.specs.KeptService.{task_state_in}
 use Rattle.kept_state.specs.KeptTick.{before_execution_in, tick_in}
+use Rattle.same_future.specs.Spans.{is_pending_in}
 use Rattle.services.specs.Seen.{holder_in, routine_of}
 use Rattle.kernel.specs.declared.acted.Acted.{Acted}
 use Rattle.kernel.specs.Told.{acted_in, task_at_in}
@@ -55,23 +56,22 @@ task_seen_in S k t =
       state = state_seen (is_by (Owner.Task t) k.executed) (task_at_in S k.at t).state;
       priority = (task_at_in S k.at t).priority;
       jobs = (task_at_in S k.at t).jobs;
-      made = (k.after.slots t).count + one_if
-          (is_number t (ending S k.executed)) - jobs_before_in k.first k.before t;
+      made =
+          (k.after.slots t).count + one_if (is_number t (ending S k.executed))
+          - jobs_before_in k.first k.before t;
       refused = one_if (is_number t (refusing S k.executed)) + activations_by S t k.acted.refused;
       ended = is_number t (ending S k.executed);
       waits = is_by (Owner.Task t) k.executed && is_waiting (task_state_in k.after t);
     }
-
-abbrev pub is_pending_in : Kept → ℕ → Bool
-is_pending_in o i = slice_index_or o.pending i false
 
 abbrev pub routine_seen_in : KeptTicked → ℕ → RoutineSeen
 routine_seen_in k i =
     record {
       executes = is_by (Owner.Routine i) k.executed;
       is_pending = is_pending_in k.at i;
-      is_started = is_by (Owner.Routine i) k.executed && not
-          (is_number i (option_map routine_of k.before.active));
+      is_started =
+          is_by (Owner.Routine i) k.executed
+          && not (is_number i (option_map routine_of k.before.active));
       arrived = times i k.arrived;
       lost = lost_of (is_pending_in k.before i) (times i k.arrived);
     }
@@ -80,15 +80,12 @@ abbrev pub scheduler_seen_in : System → Kept → List (Option ℕ)
 scheduler_seen_in S o = if S.use_res_scheduler then holder_in S o ResId.Scheduler ∷ [] else []
 
 abbrev pub holders_seen_in : System → Kept → List (Option ℕ)
-holders_seen_in S o = map (λ r. holder_in S o (ResId.Declared r))
-    (below (length S.resources)) ++ scheduler_seen_in S o
+holders_seen_in S o =
+    map (λ r. holder_in S o (ResId.Declared r)) (below (length S.resources)) ++ scheduler_seen_in S o
 
 abbrev pub alarm_seen_in : KeptTicked → ℕ → AlarmSeen
-alarm_seen_in k a = record {
-  has_expired = is_among k.acted.due a;
-  is_refused =
-      is_among k.acted.refused a;
-}
+alarm_seen_in k a =
+    record { has_expired = is_among k.acted.due a; is_refused = is_among k.acted.refused a }
 
 pub record IsShown (S : System) (k : KeptTicked) (o : Observation) : Type 0 where
   pub executor : o.executor ≡ option_map owner_of k.executed
@@ -110,8 +107,8 @@ pub record ShowTheSame (S : System) (k : Ticked) (x : KeptTicked) : Type 0 where
 
 -- tick n of a run, by what is kept of the state before it and by the routines that arrive in it
 abbrev pub kept_tick_at : System → ℕ → List Arrival → ℕ → KeptTicked
-kept_tick_at S mode arrivals n = ticked_in S (n == 0) (arriving arrivals n)
-    (kept S (run S mode arrivals n).state)
+kept_tick_at S mode arrivals n =
+    ticked_in S (n == 0) (arriving arrivals n) (kept S (run S mode arrivals n).state)
 
 abbrev pub RunsShow : Type 0
 RunsShow =

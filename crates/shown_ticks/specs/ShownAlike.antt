@@ -7,8 +7,9 @@ use Rattle.kept_state.specs.Kept.{Kept}
 use Rattle.same_future.specs.Alike.{AreAlike}
 use Rattle.needed_data.specs.Need.{Need, IsClosed}
 use Rattle.needed_data.specs.Same.{HasAllowedIndices, HaveSameNeeded}
+use Rattle.observations.specs.declared.observation.Observation.{Observation}
 use Rattle.observed_runs.specs.Observed.{answered, owner_of}
-use Rattle.shown_ticks.specs.Shown.{KeptTicked, alarm_seen_in, holders_seen_in, routine_seen_in, task_seen_in, ticked_in}
+use Rattle.shown_ticks.specs.Shown.{KeptTicked, IsShown, alarm_seen_in, holders_seen_in, routine_seen_in, task_seen_in, ticked_in}
 
 -- two ticks show the same
 pub record AreShownAlike (S : System) (x y : KeptTicked) : Type 0 where
@@ -18,6 +19,12 @@ pub record AreShownAlike (S : System) (x y : KeptTicked) : Type 0 where
   pub routines : (i : ℕ) → routine_seen_in x i ≡ routine_seen_in y i
   pub holders : holders_seen_in S x.at ≡ holders_seen_in S y.at
   pub alarms : (a : ℕ) → alarm_seen_in x a ≡ alarm_seen_in y a
+
+-- so one observation is of both
+abbrev pub ShownByBoth : Type 0
+ShownByBoth =
+    (S : System) (x y : KeptTicked) (o : Observation) → AreShownAlike S x y → IsShown S x o
+    → IsShown S y o
 
 -- ---- laws, where the same routines arrive
 
@@ -31,6 +38,5 @@ AlikeShow =
 abbrev pub SameNeededShow : Type 0
 SameNeededShow =
     (S : System) (need : Need) (first : Bool) (arrived : List ℕ) (o p : Kept) → IsClosed S need
-    → HasAllowedIndices need o
-    → HasAllowedIndices need p → HaveSameNeeded need o p
+    → HasAllowedIndices need o → HasAllowedIndices need p → HaveSameNeeded need o p
     → AreShownAlike S (ticked_in S first arrived o) (ticked_in S first arrived p)
