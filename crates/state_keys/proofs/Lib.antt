@@ -1,0 +1,5 @@
+mod Codes
+mod Parts
+mod Ready
+mod Data
+mod Told

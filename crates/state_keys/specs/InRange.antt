@@ -1,0 +1,49 @@
+-- OSEK/VDX OS: task management, interrupt processing, alarms. What a key of bytes asks of states to
+-- tell all that is needed of them, and that it does.
+use Rattle.std.specs.Prelude.{ℕ, ◌≡◌, ◌<◌, ◌≤◌, [], IfSome, length, true}
+use Rattle.osek_base.specs.declared.limits.TheConstants.{MAX_TASK_PRIORITY, REGISTERS, WINDOW_WORDS, SHARED_WORDS}
+use Rattle.osek_base.specs.declared.ids.Owner.{Owner}
+use Rattle.osek_base.specs.System.{System}
+use Rattle.osek_base.specs.Instruction.{Context}
+use Rattle.osek_base.specs.State.{shared_window}
+use Rattle.kept_state.specs.Kept.{Kept, unbegun}
+use Rattle.needed_data.specs.Need.{Need}
+use Rattle.same_future.specs.AlikeIn.{AreAlikeIn}
+use Rattle.same_future.specs.Relative.{AreAhead}
+use Rattle.state_keys.specs.Key.{key}
+
+abbrev pub HasRegisters : Context → Type 0
+HasRegisters x = length x.registers ≡ REGISTERS
+
+-- a state has what a system has and no more, and no alarm has passed its count
+pub record IsInRange (S : System) (o : Kept) : Type 0 where
+  -- where there is no job, nothing is kept of one; none is of a task beyond the system's
+  pub unused : (t : ℕ) → (o.slots t).count ≡ 0 → o.slots t ≡ unbegun 0
+  pub tasks : (t : ℕ) → length S.tasks ≤ t → (o.slots t).count ≡ 0
+  pub registers : (t : ℕ) → HasRegisters (o.slots t).context
+  pub active : IfSome o.active (λ a. HasRegisters a.context)
+  -- no task is ready above the highest priority that a task may have
+  pub levels : (l : ℕ) → MAX_TASK_PRIORITY < l → o.queues l ≡ []
+  pub pending : length o.pending ≡ length S.routines
+  pub masks : length o.masks ≡ length S.tasks
+  pub shared : length o.shared ≡ length S.resources
+  pub windows : (r : ℕ) → r < length S.resources → length (shared_window o.shared r) ≡ SHARED_WORDS
+  pub ahead : AreAhead S o
+
+-- who has a window
+abbrev pub IsOwner : System → Owner → Type 0
+IsOwner S (Owner.Task t) = t < length S.tasks
+IsOwner S (Owner.Routine i) = i < length S.routines
+
+-- no word is needed beyond the windows of the system's tasks and routines
+abbrev pub NeedsOwnWords : System → Need → Type 0
+NeedsOwnWords S need =
+    (who : Owner) (i : ℕ) → need.words who i ≡ true → IsOwner S who × (i < WINDOW_WORDS)
+
+-- ---- the law
+
+-- states in range whose keys are equal are alike in what is needed
+abbrev pub KeysTell : Type 0
+KeysTell =
+    (S : System) (need : Need) (o p : Kept) → NeedsOwnWords S need → IsInRange S o → IsInRange S p
+    → key S need o ≡ key S need p → AreAlikeIn S need o p
