@@ -5,6 +5,7 @@ use Rattle.std.proofs.lemmas.List.{ext_get_or, get_or_past}
 use Rattle.std.proofs.lemmas.Bool.{cases_lt}
 use Rattle.osek_base.specs.declared.limits.TheConstants.{WINDOW_WORDS, SHARED_WORDS}
 use Rattle.osek_base.specs.declared.ids.Owner.{Owner}
+use Rattle.osek_base.specs.Separable.{IsOwner}
 use Rattle.osek_base.specs.System.{System}
 use Rattle.osek_base.specs.State.{shared_window, shared_word}
 use Rattle.kept_state.specs.Kept.{Kept}
@@ -12,7 +13,7 @@ use Rattle.needed_data.specs.Need.{Need}
 use Rattle.needed_data.specs.Meaning.{AreSameShared}
 use Rattle.state_keys.specs.Bytes.{each, number}
 use Rattle.state_keys.specs.Key.{window_key, shared_key, words_key}
-use Rattle.state_keys.specs.InRange.{IsInRange, IsOwner, NeedsOwnWords}
+use Rattle.state_keys.specs.InRange.{IsInRange, NeedsOwnWords}
 use Rattle.state_keys.proofs.Codes.{Tells, weaker, nothing, ◌⨾◌, each_tells, number_tells, needed_tells}
 
 module _ (need : Need) (o p : Kept) where

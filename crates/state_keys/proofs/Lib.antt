@@ -3,3 +3,5 @@ mod Parts
 mod Ready
 mod Data
 mod Told
+mod Windows
+mod Runs

@@ -1,13 +1,17 @@
 -- OSEK/VDX OS: task management, interrupt processing, alarms. What a key of bytes asks of states to
 -- tell all that is needed of them, and that it does.
-use Rattle.std.specs.Prelude.{ℕ, ◌≡◌, ◌<◌, ◌≤◌, [], IfSome, length, true}
+use Rattle.std.specs.Prelude.{ℕ, ◌≡◌, ◌<◌, ◌≤◌, [], IfSome, List, length, true}
 use Rattle.osek_base.specs.declared.limits.TheConstants.{MAX_TASK_PRIORITY, REGISTERS, WINDOW_WORDS, SHARED_WORDS}
 use Rattle.osek_base.specs.declared.ids.Owner.{Owner}
+use Rattle.osek_base.specs.declared.arrivals.Arrival.{Arrival}
 use Rattle.osek_base.specs.System.{System}
 use Rattle.osek_base.specs.Instruction.{Context}
 use Rattle.osek_base.specs.State.{shared_window}
+use Rattle.osek_base.specs.Proper.{IsProper}
+use Rattle.osek_base.specs.Separable.{IsOwner}
 use Rattle.kept_state.specs.Kept.{Kept, unbegun}
 use Rattle.needed_data.specs.Need.{Need}
+use Rattle.same_future.specs.Alike.{kept_after}
 use Rattle.same_future.specs.AlikeIn.{AreAlikeIn}
 use Rattle.same_future.specs.Relative.{AreAhead}
 use Rattle.state_keys.specs.Key.{key}
@@ -30,20 +34,21 @@ pub record IsInRange (S : System) (o : Kept) : Type 0 where
   pub windows : (r : ℕ) → r < length S.resources → length (shared_window o.shared r) ≡ SHARED_WORDS
   pub ahead : AreAhead S o
 
--- who has a window
-abbrev pub IsOwner : System → Owner → Type 0
-IsOwner S (Owner.Task t) = t < length S.tasks
-IsOwner S (Owner.Routine i) = i < length S.routines
-
 -- no word is needed beyond the windows of the system's tasks and routines
 abbrev pub NeedsOwnWords : System → Need → Type 0
 NeedsOwnWords S need =
     (who : Owner) (i : ℕ) → need.words who i ≡ true → IsOwner S who × (i < WINDOW_WORDS)
 
--- ---- the law
+-- ---- the laws
 
 -- states in range whose keys are equal are alike in what is needed
 abbrev pub KeysTell : Type 0
 KeysTell =
     (S : System) (need : Need) (o p : Kept) → NeedsOwnWords S need → IsInRange S o → IsInRange S p
     → key S need o ≡ key S need p → AreAlikeIn S need o p
+
+-- so is what is kept after each tick of every run
+abbrev pub RunsAreInRange : Type 0
+RunsAreInRange =
+    (S : System) (mode : ℕ) (arrivals : List Arrival) (n : ℕ) → IsProper S
+    → IsInRange S (kept_after S mode arrivals n)

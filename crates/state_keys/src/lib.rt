@@ -7,4 +7,4 @@
 
 mod laws;
 
-pub use laws::keys_tell;
+pub use laws::{keys_tell, runs_are_in_range};
