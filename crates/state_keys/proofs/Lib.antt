@@ -5,3 +5,6 @@ mod Data
 mod Told
 mod Windows
 mod Runs
+mod Equal
+mod Examples
+mod Short

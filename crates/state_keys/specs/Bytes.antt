@@ -1,19 +1,20 @@
 -- The bytes of numbers, flags and lists, of which none begins another.
-use Rattle.std.specs.Prelude.{ℕ, zero, suc, ◌+◌, ◌/◌, ◌%◌, Bool, nat_lt, if◌then◌else◌, List, [], ◌∷◌, ◌++◌, Option, Some, None}
+use Rattle.std.specs.Prelude.{ℕ, zero, suc, ◌+◌, ◌/◌, ◌%◌, ◌^◌, ◌<◌, ◌≤◌, Bool, nat_lt, if◌then◌else◌, List, [], ◌∷◌, ◌++◌, length, Option, Some, None}
+use Rattle.std.specs.List.{AllByRecursion}
 
 -- the parts of the numbers below n, one after another
 unfoldable pub each : ℕ → (ℕ → List ℕ) → List ℕ
 each zero part = []
 each (suc n) part = each n part ++ part n
 
--- a number in base 128, lowest digit first, in k + 1 bytes at most: a byte from 128 on is a digit
--- that others follow, one below 128 the last
+-- a number in base 128, lowest digit first, a byte a digit: one from 128 on says that another one
+-- follows. There are k + 1 at most
 unfoldable pub digits : ℕ → ℕ → List ℕ
 digits zero n = n ∷ []
 digits (suc k) n =
     if nat_lt n 128 then n ∷ [] else (128 + n % 128) ∷ digits k (n / 128)
 
--- a number below 2 ^ 32 has five bytes at most, one below 128 has one
+-- of a number of 32 bits that is all of it; below 128 it is one byte
 unfoldable pub number : ℕ → List ℕ
 number n = digits 4 n
 
@@ -28,3 +29,13 @@ optional bytes (Some x) = 1 ∷ bytes x
 -- nothing for what isn't needed
 abbrev pub needed : Bool → ℕ → List ℕ
 needed need n = if need then number n else []
+
+-- ---- the law
+
+abbrev pub IsByte : ℕ → Type 0
+IsByte b = b < 256
+
+-- a number of 32 bits is five bytes at most
+abbrev pub NumbersAreShort : Type 0
+NumbersAreShort =
+    (n : ℕ) → n < 2 ^ 32 → AllByRecursion IsByte (number n) × (length (number n) ≤ 5)

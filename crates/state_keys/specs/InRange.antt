@@ -47,7 +47,13 @@ KeysTell =
     (S : System) (need : Need) (o p : Kept) → NeedsOwnWords S need → IsInRange S o → IsInRange S p
     → key S need o ≡ key S need p → AreAlikeIn S need o p
 
--- so is what is kept after each tick of every run
+-- states in range that are alike in what is needed have equal keys
+abbrev pub AlikeHaveOneKey : Type 0
+AlikeHaveOneKey =
+    (S : System) (need : Need) (o p : Kept) → IsInRange S o → IsInRange S p
+    → AreAlikeIn S need o p → key S need o ≡ key S need p
+
+-- what is kept after each tick of every run is in range
 abbrev pub RunsAreInRange : Type 0
 RunsAreInRange =
     (S : System) (mode : ℕ) (arrivals : List Arrival) (n : ℕ) → IsProper S

@@ -1,3 +1,4 @@
 pub mod Bytes
 pub mod Key
 pub mod InRange
+pub mod Worked

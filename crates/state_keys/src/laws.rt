@@ -1,10 +1,28 @@
 //! The laws, one function each. The functions are empty: the clause is the law.
 
-ghost use Rattle.state_keys.specs.InRange.{KeysTell, RunsAreInRange};
+ghost use Rattle.state_keys.specs.Bytes.{NumbersAreShort};
+ghost use Rattle.state_keys.specs.InRange.{AlikeHaveOneKey, KeysTell, RunsAreInRange};
+ghost use Rattle.state_keys.specs.Worked.{WorkedKeys};
 
-/// States in range whose keys are equal are alike in what is needed.
+/// The key of a state of a run, worked out by hand.
+pub fn worked_keys()
+    ensures { WorkedKeys }
+{}
+
+/// A number of 32 bits is one to five bytes.
+pub fn numbers_are_short()
+    ensures { NumbersAreShort }
+{}
+
+/// States in range whose keys are equal are alike in what is needed, where no word is needed beyond
+/// the windows of the system's tasks and routines.
 pub fn keys_tell()
     ensures { KeysTell }
+{}
+
+/// States in range that are alike in what is needed have equal keys.
+pub fn alike_have_one_key()
+    ensures { AlikeHaveOneKey }
 {}
 
 /// What is kept after each tick of every run of a proper system is in range.

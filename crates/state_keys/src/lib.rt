@@ -1,4 +1,5 @@
-//! A key of bytes for each state, equal only for states that are alike in what is needed.
+//! A key of bytes for each state: keys of states of runs are equal exactly where the states are
+//! alike in what is needed.
 //!
 //! The key is the state part by part: who executes, interrupts, each task, the ready queues, what
 //! alarms have left, counters, and the words that are needed. No part begins another one of its
@@ -7,4 +8,4 @@
 
 mod laws;
 
-pub use laws::{keys_tell, runs_are_in_range};
+pub use laws::{alike_have_one_key, keys_tell, numbers_are_short, runs_are_in_range, worked_keys};
