@@ -44,7 +44,7 @@ pub record AreAlike (S : System) (p : ℕ) (mine theirs : Recorded) : Type 0 whe
 module _ (S : System) (p : ℕ) (both : IsCounterpart S p) (low : IsLow S p)
     (known : (a : ℕ) → a < length S.alarms → action_task (alarm S a).action < length S.tasks) where
   -- an upper alarm
-  acts_upper : (a : ℕ) (s : State) → IsLayered S p s → a < length S.alarms → is_upper_alarm S p a ≡ true
+  pub acts_upper : (a : ℕ) (s : State) → IsLayered S p s → a < length S.alarms → is_upper_alarm S p a ≡ true
       → AreAlike S p (alarm_acts S a s) (alarm_acts (upper_core S p) (rank (is_upper_alarm S p) a) (up S p s))
   acts_upper a s layered inside high =
       let act : Action = (alarm S a).action in
@@ -61,7 +61,7 @@ module _ (S : System) (p : ℕ) (both : IsCounterpart S p) (low : IsLow S p)
       })
 
   -- a lower one
-  acts_lower : (a : ℕ) (s : State) → IsLayered S p s → a < length S.alarms → is_upper_alarm S p a ≡ false
+  pub acts_lower : (a : ℕ) (s : State) → IsLayered S p s → a < length S.alarms → is_upper_alarm S p a ≡ false
       → AreAlike S p (alarm_acts S a s) (record { events = []; state = up S p s })
   acts_lower a s layered inside unseen =
       let act : Action = (alarm S a).action in

@@ -98,13 +98,13 @@ module _ (S : System) (p : ℕ) (both : IsCounterpart S p) (j : Job) (x : Contex
 -- ---- the same instruction stands there
 
 module _ (S : System) (p : ℕ) (both : IsCounterpart S p) where
-  task_instruction : (t place : ℕ) → t < upper_count S p
+  pub task_instruction : (t place : ℕ) → t < upper_count S p
       → instruction_at (upper_core S p) (Owner.Task t) place ≡ renumbered S p (instruction_at S (Owner.Task t) place)
   task_instruction t place first =
       ap (λ (a : Task). instruction_in a.program place) (both.tasks t first)
       ∙ get_or-map (renumbered S p) (program S (Owner.Task t)) place (Instr.Plain Plain.Nop)
 
-  routine_instruction : (i place : ℕ)
+  pub routine_instruction : (i place : ℕ)
       → instruction_at (upper_core S p) (Owner.Routine i) place ≡ renumbered S p (instruction_at S (Owner.Routine i) place)
   routine_instruction i place =
       ap (λ all. instruction_in all place) (both.routine_programs i)
@@ -112,7 +112,7 @@ module _ (S : System) (p : ℕ) (both : IsCounterpart S p) where
 
 -- ---- who executes
 
-found : {X : Type 0} (P : X → Type 0) (test : X → Bool) (xs : List X) (x : X) → AllByRecursion P xs → find test xs ≡ Some x
+pub found : {X : Type 0} (P : X → Type 0) (test : X → Bool) (xs : List X) (x : X) → AllByRecursion P xs → find test xs ≡ Some x
     → P x × (test x ≡ true)
 found P test [] x all h = absurd (grind arith)
 found {X} P test (y ∷ xs) x all h = go (test y) refl h (found P test xs x all.1)
@@ -123,7 +123,7 @@ found {X} P test (y ∷ xs) x all h = go (test y) refl h (found P test xs x all.
         (subst P same all.0, subst (λ z. test z ≡ true) same e)
     go false e k rest = rest k
 
-same_ids : (a b : JobId) → same_id a b ≡ true → a ≡ b
+pub same_ids : (a b : JobId) → same_id a b ≡ true → a ≡ b
 same_ids a b h =
     let both = and_parts (a.task == b.task) (a.serial == b.serial) h in
     let task : a.task ≡ b.task = equal a.task b.task both.0 in

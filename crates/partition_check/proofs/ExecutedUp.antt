@@ -110,7 +110,7 @@ at_asks x (Service.LoadShared r i) = refl
 at_asks x (Service.StoreShared r i v) = refl
 at_asks x call = refl
 
-at_renumbered : (S : System) (p : ℕ) (x : Context) (call : ServiceCall)
+pub at_renumbered : (S : System) (p : ℕ) (x : Context) (call : ServiceCall)
     → at_values x (renumbered_service S p call) ≡ renumbered_service S p (at_values x call)
 at_renumbered S p x (Service.SetRelAlarm a i c) = refl
 at_renumbered S p x (Service.SetAbsAlarm a i c) = refl

@@ -1,43 +1,43 @@
-mod Shared
+pub mod Shared
 mod Firsts
 mod PlaceLemmas
 mod Breaches
 mod Rules
 pub mod Ranks
 mod Falling
-mod RunLemmas
-mod UpperState
+pub mod RunLemmas
+pub mod UpperState
 mod UpperPhases
 mod UpperWords
-mod CoreFacts
-mod Core
-mod ListsUp
-mod JobsUp
-mod AlarmsUp
-mod SharedUp
-mod PriorityUp
-mod RefusalsUp
-mod ResultsUp
+pub mod CoreFacts
+pub mod Core
+pub mod ListsUp
+pub mod JobsUp
+pub mod AlarmsUp
+pub mod SharedUp
+pub mod PriorityUp
+pub mod RefusalsUp
+pub mod ResultsUp
 mod EffectsUp
-mod ServiceUp
+pub mod ServiceUp
 mod LayersKept
 mod ServiceLow
-mod ActionsUp
-mod Dispatch
+pub mod ActionsUp
+pub mod Dispatch
 mod DispatchUp
-mod Renumbering
+pub mod Renumbering
 mod Quiet
-mod AlarmPhase
-mod AlarmActs
-mod Boot
-mod TextUp
-mod ProgramFacts
-mod ExecutedUp
-mod ExecuteUp
-mod TickUp
-mod IsolationLemmas
+pub mod AlarmPhase
+pub mod AlarmActs
+pub mod Boot
+pub mod TextUp
+pub mod ProgramFacts
+pub mod ExecutedUp
+pub mod ExecuteUp
+pub mod TickUp
+pub mod IsolationLemmas
 mod Isolated
-mod Picked
+pub mod Picked
 mod PartInstrs
 mod PartTasks
 pub mod PartProper

@@ -123,7 +123,7 @@ module _ (S : System) (p : ℕ) (proper : IsProper S) where
               a (subst (λ n. a < n) (length-map (upper_alarms S p) (alarm S)) h);
         }
 
-    part_proper : IsProper (upper_part S p)
+    pub part_proper : IsProper (upper_part S p)
     part_proper = part_is_proper S p proper separable
 
     -- the upper part of the upper part is the upper part

@@ -119,7 +119,7 @@ module _ (S : System) (p : ℕ) (both : IsCounterpart S p) where
   got_last_up s (RoutineCalls a) r upper seen = refl
   got_last_up s NobodyCalls r upper seen = refl
 
-  any_same_up : (held : List ResId) (r : ResId) → AllByRecursion (λ q. is_visible S p q ≡ true) held → is_visible S p r ≡ true
+  pub any_same_up : (held : List ResId) (r : ResId) → AllByRecursion (λ q. is_visible S p q ≡ true) held → is_visible S p r ≡ true
       → list_any (same_resource (renumbered_resource S p r)) (map (renumbered_resource S p) held) ≡ list_any (same_resource r) held
   any_same_up [] r all seen = refl
   any_same_up (q ∷ held) r all seen = ap₂ (λ a b. a || b) (both.same r q seen all.0) (any_same_up held r all.1 seen)
@@ -147,7 +147,7 @@ module _ (S : System) (p : ℕ) (both : IsCounterpart S p) where
       differs false e = refl
 
   -- only upper jobs hold what is visible
-  holders_upper : (r : ResId) → is_visible S p r ≡ true → (jobs : List Job) → AllByRecursion (IsLayeredJob S p) jobs
+  pub holders_upper : (r : ResId) → is_visible S p r ≡ true → (jobs : List Job) → AllByRecursion (IsLayeredJob S p) jobs
       → AllByRecursion (λ j. holds j r ≡ true → is_upper_job S p j ≡ true) jobs
   holders_upper r seen [] all = tt
   holders_upper r seen (j ∷ jobs) all = (go (is_upper_job S p j) refl, holders_upper r seen jobs all.1)

@@ -60,7 +60,7 @@ module _ (S : System) (p : ℕ) (both : IsCounterpart S p) (low : IsLow S p) (pr
       go false = reschedule_alike s layered
 
   -- phases 1 to 4
-  before_alike : (arrived : List ℕ) (s : State) → IsLayered S p s
+  pub before_alike : (arrived : List ℕ) (s : State) → IsLayered S p s
       → AreAlike S p (before_execution S arrived s) (before_execution (upper_core S p) arrived (up S p s))
   before_alike arrived s layered =
       let dispatched =

@@ -1,0 +1,4 @@
+pub mod Sides
+pub mod Counted
+pub mod SeenUp
+pub mod States
