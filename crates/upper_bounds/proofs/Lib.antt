@@ -2,3 +2,7 @@ pub mod Sides
 pub mod Counted
 pub mod SeenUp
 pub mod States
+pub mod Executions
+pub mod Refused
+pub mod Answered
+pub mod Bounds

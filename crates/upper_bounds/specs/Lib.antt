@@ -1,3 +1,6 @@
 pub mod Above
 pub mod StatesAbove
 pub mod JobsAbove
+pub mod ExecutedAbove
+pub mod AlarmsAbove
+pub mod BoundsAbove

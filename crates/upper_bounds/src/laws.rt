@@ -1,5 +1,8 @@
 //! The laws, one function each. The functions are empty: the clause is the law.
 
+ghost use Rattle.upper_bounds.specs.AlarmsAbove.{AlarmsActTheSame};
+ghost use Rattle.upper_bounds.specs.BoundsAbove.{BoundsAreFoundInThePart, BoundsAreThoseOfThePart};
+ghost use Rattle.upper_bounds.specs.ExecutedAbove.{ExecutionsAreTheSame};
 ghost use Rattle.upper_bounds.specs.JobsAbove.{TasksAreSeenTheSame};
 ghost use Rattle.upper_bounds.specs.StatesAbove.{StatesAreSeenTheSame};
 
@@ -12,4 +15,27 @@ pub fn states_are_seen_the_same()
 /// There the jobs of an upper task are made and end in the same ticks: the responses are the same.
 pub fn tasks_are_seen_the_same()
     ensures { TasksAreSeenTheSame }
+{}
+
+/// In every tick the same upper owner executes the same instruction with the same outcome, or none
+/// does, and the same activations of upper tasks are answered E_OS_LIMIT.
+pub fn executions_are_the_same()
+    ensures { ExecutionsAreTheSame }
+{}
+
+/// In every tick the same upper alarms expire, and their actions are answered alike.
+pub fn alarms_act_the_same()
+    ensures { AlarmsActTheSame }
+{}
+
+/// The longest response of an upper task, over every list of arrivals that keep their distances, is
+/// that in the upper part by itself, and so is how long a job of it is left.
+pub fn bounds_are_those_of_the_part()
+    ensures { BoundsAreThoseOfThePart }
+{}
+
+/// A closed table of the upper part by itself finds the longest response of an upper task in the
+/// whole system, and how long a job of it is left there.
+pub fn bounds_are_found_in_the_part()
+    ensures { BoundsAreFoundInThePart }
 {}

@@ -3,9 +3,14 @@
 //! Of a proper system that is separable at a priority, and each that agrees with it from that
 //! priority upward, and of its upper part as a system by itself: under the same interrupts upper
 //! tasks, routines, resources and alarms are in the same states after every number of ticks, the
-//! same jobs are made and end.
+//! same jobs are made and end, the same instructions are executed, and the same alarms act. So the
+//! longest response of an upper task, over every list of interrupts that keep their distances, is
+//! found in the upper part alone.
 #![tactic(auto)]
 
 mod laws;
 
-pub use laws::{states_are_seen_the_same, tasks_are_seen_the_same};
+pub use laws::{
+    alarms_act_the_same, bounds_are_found_in_the_part, bounds_are_those_of_the_part,
+    executions_are_the_same, states_are_seen_the_same, tasks_are_seen_the_same,
+};

@@ -1,0 +1,59 @@
+-- Partitions, no part of the standards. How long upper tasks take at the most is the same in
+-- systems that agree, and is found in the upper part by itself.
+use Rattle.std.specs.Prelude.{ℕ, suc, ◌≡◌, ◌<◌, ◌≤◌, ◌+◌, ◌↔◌, false, List, Bool, ◌∷◌, Some}
+use Rattle.osek_base.specs.declared.arrivals.Arrival.{Arrival}
+use Rattle.osek_base.specs.System.{System}
+use Rattle.osek_base.specs.Trace.{run}
+use Rattle.osek_base.specs.Agree.{upper_part}
+use Rattle.osek_base.specs.Proper.{IsProper}
+use Rattle.osek_base.specs.Separable.{Separable}
+use Rattle.run_laws.specs.Jobs.{made_by, ended_by, IsMadeIn, EndsAfter}
+use Rattle.needed_data.specs.Need.{Need, Suffices}
+use Rattle.same_future.specs.Spans.{Jobs, Ticks}
+use Rattle.same_future.specs.Covering.{AreSpaced, Entry, IsClosed}
+use Rattle.same_future.specs.Ages.{Ages, age_labels, HasNoLonger, HasNoOlder, ending_age_from}
+use Rattle.same_future.specs.Paths.{Path, entry_on, IsAllowed, IsLongest}
+use Rattle.upper_bounds.specs.Above.{IsUpperTask, IsThatOfTheUpperPart}
+
+-- over every list of arrivals that keep the distances, after no tick a job of a task is left that
+-- was made so many ticks before
+abbrev pub NoneStaysLonger : System → ℕ → (ℕ → ℕ) → ℕ → ℕ → Type 0
+NoneStaysLonger S mode distance t most =
+    (arrivals : List Arrival) (n k u : ℕ) → AreSpaced S distance arrivals
+    → (run S mode arrivals n).state.over ≡ false → IsMadeIn S mode t arrivals k u
+    → ended_by S mode t arrivals (suc n) ≤ k → k < made_by S mode t arrivals (suc n)
+    → n < u + most
+
+-- two systems have the same bounds of each upper task: the longest response, and how long a job is
+-- left
+pub record HaveTheSameBounds (S B : System) (p : ℕ) : Type 0 where
+  pub longest : (mode : ℕ) (distance : ℕ → ℕ) (t most : ℕ) → IsUpperTask S p t
+      → IsLongest S distance (EndsAfter S mode t) most
+      ↔ IsLongest B distance (EndsAfter B mode t) most
+  pub longest_left : (mode : ℕ) (distance : ℕ → ℕ) (t most : ℕ) → IsUpperTask S p t
+      → NoneStaysLonger S mode distance t most ↔ NoneStaysLonger B mode distance t most
+
+abbrev pub BoundsAreThoseOfThePart : Type 0
+BoundsAreThoseOfThePart = IsThatOfTheUpperPart HaveTheSameBounds
+
+-- ---- what is found in the part
+
+-- of a table of the part T of S by itself: one in which no job of an upper task ends older, and a
+-- path of the part on which one ends as old, find the longest response in the whole system; and one
+-- that has no older job bounds how long a job is left in it
+pub record IsFoundInThePart (S T : System) (mode : ℕ) (distance : ℕ → ℕ)
+    (table : List (Entry Ages)) (t most : ℕ) : Type 0 where
+  pub longest : (path : Path) (chosen : ℕ → Bool) → HasNoLonger T table Jobs t most
+      → IsAllowed age_labels T mode distance (chosen ∷ path)
+      → ending_age_from T Jobs t chosen (entry_on age_labels T mode distance path)
+      ≡ Some (Ticks most)
+      → IsLongest S distance (EndsAfter S mode t) most
+  pub longest_left : HasNoOlder table Jobs t most → NoneStaysLonger S mode distance t most
+
+-- so a table that is closed, made of the upper part alone, tells of every system with that part
+abbrev pub BoundsAreFoundInThePart : Type 0
+BoundsAreFoundInThePart =
+    (S : System) (p : ℕ) (need : Need) (mode : ℕ) (distance : ℕ → ℕ) (table : List (Entry Ages))
+    (t most : ℕ) → IsProper S → Separable S p → Suffices (upper_part S p) need
+    → IsUpperTask S p t → IsClosed age_labels (upper_part S p) need mode distance table
+    → IsFoundInThePart S (upper_part S p) mode distance table t most
