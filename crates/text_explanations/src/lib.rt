@@ -16,13 +16,14 @@ mod scopes;
 mod shown;
 mod source;
 mod trees;
+mod unseen;
 mod words;
 
 pub use notes::{write_choice, write_first_names, write_names};
 pub use oil_faults::explain_oil;
 pub use pieces::{Piece, kind_word};
 pub use programs::explain_programs;
-pub use refused_lines::{LineFault, explain_arrivals, explain_mode};
+pub use refused_lines::{LineFault, explain_arrivals, explain_mode, explain_open_mode};
 pub use source::Source;
 pub use trees::{names, tree_of};
 pub use words::{CodeWord, Part, code_words};

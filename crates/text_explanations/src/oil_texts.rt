@@ -3,6 +3,7 @@
 use crate::notes::write_names;
 use crate::pieces::Piece::{Number, Text};
 use crate::source::Source;
+use crate::unseen::mark_at;
 use oil_reader::{OilFault, read_oil};
 use std::alloc::{AllocError, Global};
 use std::io::{self, Write};
@@ -54,7 +55,7 @@ fn bad_token_at(text: &[u8]) -> BadToken {
             1,
         ),
         _ => bad_token(
-            "no token begins here",
+            mark_at(text).unwrap_or("no token begins here"),
             "names, numbers, \"2.5\", { } = ; and comments",
             1,
         ),

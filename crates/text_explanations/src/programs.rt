@@ -5,6 +5,7 @@ use crate::notes::{write_choice, write_names, write_nearest};
 use crate::oil_texts::explain_run;
 use crate::pieces::Piece::{self, Text};
 use crate::source::Source;
+use crate::unseen::mark_at;
 use crate::words::{CodeWord, Part, code_words};
 use std::alloc::{AllocError, Global};
 use std::io::{self, Write};
@@ -25,7 +26,7 @@ fn explain_token<W: Write>(source: Source<'_>, place: usize, out: &mut W) -> io:
     if !source.word(place).is_empty() {
         return explain_run(source, place, out);
     }
-    let what = [Text("no token begins here")];
+    let what = [Text(mark_at(source.from(place)).unwrap_or("no token begins here"))];
     let allowed = ".task .isr, words, numbers, the signs , : + and comments behind ;";
     source.note_bytes(place, 1, &what, "allowed", &[Text(allowed)], out)
 }

@@ -1,9 +1,10 @@
 //! Refused lines of an arrival list, and unknown modes.
 
-use crate::notes::write_choice;
+use crate::notes::{write_choice, write_names};
 use crate::pieces::Piece::Text;
 use crate::source::Source;
 use crate::trees::{names, tree_of};
+use crate::unseen::first_unseen;
 use oil_reader::Kind;
 use std::alloc::Global;
 use std::io::{self, Write};
@@ -86,6 +87,11 @@ pub fn explain_arrivals<W: Write>(
 ) -> io::Result<()> {
     let place = place_of(irq.text, line);
     let (what, allowed) = told(fault);
+    if let (LineFault::Syntax, Some(unseen)) = (fault, first_unseen(irq.from(place))) {
+        let place = place.saturating_add(unseen.place);
+        let what = [Text(unseen.name), Text(" stands in the line")];
+        return irq.note(place, &what, "allowed", &[Text(allowed)], out);
+    }
     if fault != LineFault::UnknownIsr {
         return irq.note(place, &[Text(what)], "allowed", &[Text(allowed)], out);
     }
@@ -103,4 +109,18 @@ pub fn explain_mode<W: Write>(
 ) -> io::Result<()> {
     writeln!(out, "{}: there is no APPMODE {mode}", oil.name)?;
     write_named(alloc, oil, Kind::AppMode, mode, out)
+}
+
+/// Explains that one of the modes of an OIL file has to be chosen. An error is a failed write, or want of memory for the
+/// explanation.
+pub fn explain_open_mode<W: Write>(alloc: Global, oil: Source<'_>, out: &mut W) -> io::Result<()> {
+    writeln!(
+        out,
+        "{}: there are several APPMODE, so one has to be named",
+        oil.name
+    )?;
+    match tree_of(alloc, oil.text) {
+        Some(tree) => write_names("allowed", &names(alloc, &tree, Kind::AppMode)?, out),
+        None => Ok(()),
+    }
 }

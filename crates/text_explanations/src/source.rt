@@ -68,7 +68,19 @@ impl<'a> Source<'a> {
         write_carets(number, columns(head), len.min(tail.len()).max(1), out)
     }
 
-    /// Writes `NAME:LINE:COLUMN: WHAT`, and shows so many bytes from the place on. An error is a failed write.
+    /// Writes `NAME:LINE:COLUMN: WHAT` and nothing below. An error is a failed write.
+    pub fn mention<W: Write>(
+        self,
+        place: usize,
+        what: &[Piece<'_>],
+        out: &mut W,
+    ) -> io::Result<()> {
+        let Position { line, column } = self.position(place);
+        write!(out, "{}:{line}:{column}: ", self.name)?;
+        write_pieces(what, out)
+    }
+
+    /// The same, and shows so many bytes from the place on. An error is a failed write.
     pub(crate) fn tell_bytes<W: Write>(
         self,
         place: usize,
@@ -76,9 +88,7 @@ impl<'a> Source<'a> {
         what: &[Piece<'_>],
         out: &mut W,
     ) -> io::Result<()> {
-        let Position { line, column } = self.position(place);
-        write!(out, "{}:{line}:{column}: ", self.name)?;
-        write_pieces(what, out)?;
+        self.mention(place, what, out)?;
         self.show(place, len, out)
     }
 
