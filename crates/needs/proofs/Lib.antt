@@ -1,0 +1,4 @@
+pub mod NumberLemmas
+pub mod PassLemmas
+pub mod EntryLemmas
+pub mod EverythingLemmas

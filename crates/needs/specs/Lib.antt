@@ -1,0 +1,4 @@
+pub mod Table
+pub mod Within
+pub mod Entries
+pub mod Everything
