@@ -10,7 +10,7 @@ use Rattle.osek_base.specs.declared.instr.Plain.{Plain}
 use Rattle.osek_base.specs.declared.instr.Instr.{Instr}
 use Rattle.osek_base.specs.System.{System, Task, Routine, no_task, no_routine, program, instruction_in, instruction_at}
 use Rattle.osek_base.specs.Separable.{IsOwner}
-use Rattle.needed_data.specs.Need.{Need, Respects, IsClosed}
+use Rattle.needed_data.specs.Need.{Need, Respects, Suffices}
 use Rattle.needs.specs.declared.table.OwnerNeeds.{OwnerNeeds}
 use Rattle.needs.specs.declared.table.Needs.{Needs}
 use Rattle.needs.specs.Table.{has, allows, entry, need_of, need_by}
@@ -132,7 +132,7 @@ module _ (S : System) (needs : Needs) (tasks_long : length needs.tasks.items ≡
     each_there who place (Some own) is =
         by_entry needs who own is place (instruction_at S who place) ((in_table who own is).1.each who place)
 
-    pub closed_from : IsClosed S (need_of needs)
+    pub closed_from : Suffices S (need_of needs)
     closed_from = record {
       zero = λ who r. zero_there who r (entry needs who) refl;
       beyond = λ who place r past. beyond_there who place r (entry needs who) refl past;

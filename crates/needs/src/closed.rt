@@ -3,7 +3,7 @@
 ghost use Rattle.std.specs.Prelude.{ℕ, ◌≡◌, ◌<◌, IsTrue, Some, length, slice_get, nat_lt};
 ghost use Rattle.osek_base.specs.declared.ids.Owner.{Owner};
 ghost use Rattle.osek_base.specs.System.{program};
-ghost use Rattle.needed_data.specs.Need.{Respects, IsClosed};
+ghost use Rattle.needed_data.specs.Need.{Respects, Suffices};
 ghost use Rattle.needs.specs.Table.{has, allows, need_by, need_of};
 ghost use Rattle.needs.specs.Entries.{EntryRespects, PlacesRespect, TasksRespect, RoutinesRespect};
 ghost use Rattle.needs.specs.Within.{IsWithin};
@@ -167,7 +167,7 @@ pub(crate) fn declared_resources(system: &System) -> Numbers
 
 /// Whether a table is closed for a system, and needs nothing that the system hasn't; at true both hold.
 pub(crate) fn is_closed(system: &System, needs: &Needs) -> bool
-    ensures closed { IsTrue result → IsClosed system.now (need_of needs.now) }
+    ensures closed { IsTrue result → Suffices system.now (need_of needs.now) }
     ensures within { IsTrue result → IsWithin system.now (need_of needs.now) }
 {
     if !belongs(system, needs) {

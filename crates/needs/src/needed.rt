@@ -1,7 +1,7 @@
 //! What a system needs, by passes over its programs until the table is closed.
 
 ghost use Rattle.std.specs.Prelude.{ℕ, ◌≡◌, ◌≤◌, IfOk, length};
-ghost use Rattle.needed_data.specs.Need.{IsClosed};
+ghost use Rattle.needed_data.specs.Need.{Suffices};
 ghost use Rattle.needs.specs.Table.{has, need_of};
 ghost use Rattle.needs.specs.Everything.{IsAll, AreAll};
 ghost use Rattle.needs.specs.Within.{IsWithin};
@@ -75,7 +75,7 @@ fn all_of_owners(alloc: Global, count: usize) -> Result<Vec<OwnerNeeds>, AllocEr
 
 /// The table in which all is needed that the system has.
 fn everything(alloc: Global, system: &System) -> Result<Needs, AllocError>
-    ensures closed { IfOk result (λ needs. IsClosed system.now (need_of needs)) }
+    ensures closed { IfOk result (λ needs. Suffices system.now (need_of needs)) }
     ensures within { IfOk result (λ needs. IsWithin system.now (need_of needs)) }
 {
     let tasks = all_of_owners(alloc, system.task_count())?;
@@ -91,7 +91,7 @@ fn everything(alloc: Global, system: &System) -> Result<Needs, AllocError>
 /// What a system needs: what its jumps compare and its alarms are set to, and what these are worked
 /// out from. Where that isn't found by as many passes as are made, all is needed.
 pub fn needed_data(alloc: Global, system: &System) -> Result<Needs, AllocError>
-    ensures closed { IfOk result (λ needs. IsClosed system.now (need_of needs)) }
+    ensures closed { IfOk result (λ needs. Suffices system.now (need_of needs)) }
     ensures within { IfOk result (λ needs. IsWithin system.now (need_of needs)) }
 {
     let mut needs = nothing(alloc, system)?;
