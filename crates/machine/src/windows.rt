@@ -51,6 +51,13 @@ impl Windows {
     {
         self.words[position(owner, index)] = new;
     }
+
+    /// All words become those of other windows.
+    pub fn copy_from(&mut self, other: &Windows)
+        ensures { self.new ≡ other.now }
+    {
+        self.words = other.words;
+    }
 }
 
 /// Where a word stands among all.
