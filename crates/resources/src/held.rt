@@ -1,7 +1,7 @@
 //! The resources of one job.
 
 ghost use Rattle.osek_base.specs.declared.status.Status.{Status};
-ghost use Rattle.std.specs.Prelude.{if◌then◌else◌, ◌≡◌, ◌<◌, [], ◌∷◌, ◌++◌, IsFalse, length, map};
+ghost use Rattle.std.specs.Prelude.{if◌then◌else◌, ◌≡◌, ◌<◌, ◌≤◌, [], ◌∷◌, ◌++◌, IsFalse, length, map};
 ghost use Rattle.osek_base.specs.Lists.{is_empty, greatest, same_resource, without_last};
 ghost use Rattle.osek_base.specs.Ceiling.{ceiling};
 ghost use Rattle.resources.specs.Held.{is_held, is_last, IsLow, number_of, priority_with};
@@ -48,6 +48,20 @@ impl Held {
         ensures { self.new ≡ [] }
     {
         self.resources.clear();
+    }
+
+    /// What is held becomes what another job holds, in its order.
+    pub fn copy_from(&mut self, other: &Held)
+        ensures { self.new ≡ other.now }
+    {
+        replace_all(&mut self.resources, other.resources.as_slice());
+    }
+
+    /// What is held, in the order got.
+    pub fn list(&self) -> &[ResId]
+        ensures { result.now ≡ self.now }
+    {
+        self.resources.as_slice()
     }
 
     /// Gets a resource that isn't held: it is the last.
@@ -116,6 +130,18 @@ impl Held {
             None => false,
             Some(last) => is_same(*last, resource),
         }
+    }
+}
+
+/// The content becomes some resources.
+fn replace_all(resources: &mut ArrayVec<ResId, MOST_HELD>, others: &[ResId])
+    requires { length others.now ≤ MOST_HELD }
+    ensures { resources.new.items ≡ others.now }
+{
+    resources.clear();
+    match resources.try_extend_from_slice(others) {
+        Ok(()) => {}
+        Err(_) => unreachable!(),
     }
 }
 
