@@ -5,8 +5,8 @@ use Rattle.std.proofs.lemmas.Nat.{div-mul-add, div-add-mod'}
 use Rattle.std.proofs.Math.Nat.{add-div_left, mod-lt, mod-add-mod}
 use Rattle.std.proofs.lemmas.Bool.{cases_Bool, and_parts, eqb-true, ltb-true, lt-ltb, not-true}
 use Rattle.std.proofs.lemmas.Bool.Decides.{nat_tests}
-use Rattle.alarms.specs.Waits.{Wait, wait_of, less, again, is_over, expiry_at, has, are_apart, are_ahead, without, one_less, is_none_over, are_low, overs, inserted, is_sooner, left_in}
-use Rattle.alarms.specs.Alarms.{expired_at, remaining_at}
+use Rattle.alarms.specs.Waits.{Wait, wait_of, less, again, is_over, expiry_at, has, are_apart, are_ahead, without, one_less, is_none_over, are_low, overs, inserted, is_sooner, left_in, cycle_in}
+use Rattle.alarms.specs.Alarms.{expired_at, remaining_at, cycle_of}
 use Rattle.osek_base.specs.Alarm.{is_due_at}
 use Rattle.alarms.proofs.ExpiryLemmas.{expiry-less, expiry-again, due-over, ahead-over, wait_of-less, wait_of-inserted, wait_of-without, or_first, or_second}
 
@@ -195,6 +195,10 @@ cancelled_expiry n ws b a apart = elim (cases_Bool (eqb b a)) [
       let now : wait_of a (without b ws) ≡ wait_of a ws = rw away at (wait_of-without ws b a apart) in
       rw away (ap (expiry_at n) now)
 ]
+
+pub cycle_of_expiry : (n : ℕ) (w : Option Wait) → cycle_in w ≡ cycle_of (expiry_at n w)
+cycle_of_expiry n None = refl
+cycle_of_expiry n (Some w) = refl
 
 pub left_of_expiry : (n : ℕ) (w : Option Wait) → left_in w ≡ remaining_at n (expiry_at n w)
 left_of_expiry n None = refl

@@ -8,10 +8,10 @@ use Rattle.osek_base.specs.declared.task.Counter.{Counter}
 use Rattle.osek_base.specs.System.{System, Alarm, counter, counter_of, no_alarm, no_counter}
 use Rattle.osek_base.specs.Alarm.{count}
 use Rattle.alarms.specs.declared.counter_alarms.CounterAlarms.{CounterAlarms}
-use Rattle.alarms.specs.Alarms.{AlarmTable, IsTableOf, state_of, counter_in, count_in, remaining_at}
-use Rattle.alarms.specs.Waits.{wait_of, left_in}
+use Rattle.alarms.specs.Alarms.{AlarmTable, IsTableOf, state_of, counter_in, count_in, remaining_at, cycle_of}
+use Rattle.alarms.specs.Waits.{wait_of, left_in, cycle_in}
 use Rattle.alarms.specs.Counters.{count_of, expiry_in, counter_with, expiries_of, counters_of, table_of}
-use Rattle.alarms.proofs.CountLemmas.{left_of_expiry}
+use Rattle.alarms.proofs.CountLemmas.{cycle_of_expiry, left_of_expiry}
 use Rattle.alarms.proofs.TableLemmas.{length-map-below, at_below}
 
 -- an element of a vector is written
@@ -69,3 +69,9 @@ pub left_there : (tick : ℕ) (ks : List CounterAlarms) (numbers : List ℕ) (a 
 left_there tick ks numbers a low =
     rw (count_there tick ks numbers a low, expiry_there tick ks numbers a low)
     (left_of_expiry (count_of tick (counter_with ks numbers a)) (wait_of a (counter_with ks numbers a).running))
+
+-- the cycle of an alarm
+pub cycle_listed : (tick : ℕ) (ks : List CounterAlarms) (numbers : List ℕ) (a : ℕ) → a < length numbers
+    → cycle_in (wait_of a (counter_with ks numbers a).running) ≡ cycle_of (get_or (expiries_of tick ks numbers) a None)
+cycle_listed tick ks numbers a low =
+    rw (expiry_there tick ks numbers a low) (cycle_of_expiry (count_of tick (counter_with ks numbers a)) (wait_of a (counter_with ks numbers a).running))

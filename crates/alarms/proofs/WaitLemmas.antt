@@ -7,7 +7,7 @@ use Rattle.std.proofs.lemmas.Bool.Decides.{nat_tests}
 use Rattle.std.proofs.lemmas.Bool.{ltb-true, lt-ltb, ltb-false, ne_eqb, and_parts, and_right}
 use Rattle.std.specs.List.{list_all, list_any}
 use Rattle.alarms.specs.declared.difference_list.Waiting.{Waiting}
-use Rattle.alarms.specs.Waits.{Wait, span, wait_before, waits, is_sooner, inserted, without, wait_of, left_in, one_less, cut, not_waiting, cut_at, grown, grown_at, is_of, are_ahead}
+use Rattle.alarms.specs.Waits.{Wait, span, wait_before, waits, is_sooner, inserted, without, wait_of, left_in, cycle_in, one_less, cut, not_waiting, cut_at, grown, grown_at, is_of, are_ahead}
 
 pub span-append : (xs ys : List Waiting) → span (xs ++ ys) ≡ span xs + span ys
 span-append [] ys = omega arith
@@ -158,6 +158,13 @@ left_at a es place within none here =
     let found = found_there a (take place es) (drop (suc place) es) (get_or es place not_waiting) none here in
     ap (λ (xs : List Waiting). left_in (wait_of a (waits xs))) (split_at es place not_waiting within)
     ∙ (ap left_in found ∙ ap (λ (xs : List Waiting). Some (span xs)) (sym (drop-cons es place not_waiting within)))
+
+pub cycle_there : (a : ℕ) (es : List Waiting) (place : ℕ) → place < length es → list_any (is_of a) (take place es) ≡ false
+    → is_of a (get_or es place not_waiting) ≡ true
+    → cycle_in (wait_of a (waits es)) ≡ Some (get_or es place not_waiting).cycle
+cycle_there a es place within none here =
+    let found = found_there a (take place es) (drop (suc place) es) (get_or es place not_waiting) none here in
+    ap (λ (xs : List Waiting). cycle_in (wait_of a (waits xs))) (split_at es place not_waiting within) ∙ ap cycle_in found
 
 two_from : (es : List Waiting) (p : ℕ) → suc p < length es → (get_or es p not_waiting).difference + (get_or es (suc p) not_waiting).difference ≤ span es
 two_from [] p within = absurd (omega arith)

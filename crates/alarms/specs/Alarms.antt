@@ -45,6 +45,11 @@ abbrev pub remaining_at : ℕ → Option Expiry → Option ℕ
 remaining_at n None = None
 remaining_at n (Some e) = Some (e.count - n)
 
+-- the cycle of an expiry
+abbrev pub cycle_of : Option Expiry → Option ℕ
+cycle_of None = None
+cycle_of (Some e) = Some e.cycle
+
 -- how many counts an alarm has before it expires, where it is on
 abbrev pub remaining_of : System → AlarmTable → ℕ → Option ℕ
 remaining_of S a i = remaining_at (count S (state_of S a) i) (expiry (state_of S a) i)

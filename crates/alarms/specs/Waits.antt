@@ -71,6 +71,11 @@ abbrev pub left_in : Option Wait → Option ℕ
 left_in None = None
 left_in (Some w) = Some w.left
 
+-- its cycle
+abbrev pub cycle_in : Option Wait → Option ℕ
+cycle_in None = None
+cycle_in (Some w) = Some w.cycle
+
 -- one count less
 abbrev pub one_less : Wait → Wait
 one_less w = record w { left = w.left - 1 }

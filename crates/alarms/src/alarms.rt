@@ -8,12 +8,15 @@ ghost use Rattle.osek_base.specs.Alarm.{is_bad_cycle, next_count};
 ghost use Rattle.osek_base.specs.declared.instr.Service.{Service};
 ghost use Rattle.osek_base.specs.Trace.{first_expiry, starting_alarms};
 ghost use Rattle.alarms.specs.Waits.{is_raised};
-ghost use Rattle.alarms.specs.Alarms.{IsTableOf, status_of, after_call, counter_in, count_in, remaining_at, remaining_of, next_tick, due_of, expired};
+ghost use Rattle.alarms.specs.Alarms.{IsTableOf, status_of, after_call, counter_in, count_in, remaining_at, remaining_of, cycle_of, next_tick, due_of, expired};
 
 use crate::counter_alarms::CounterAlarms;
-use crate::counters::{advance_each, cancel_on, counter_numbers, idle_counters, start_on};
+use crate::counters::{
+    advance_each, cancel_on, counter_numbers, idle_counters, replace_counters, start_on,
+};
 use crate::due_alarms::DueAlarms;
 use crate::due_list::DueList;
+use crate::replacing::replace;
 use arrayvec::ArrayVec;
 use osek_base::{AlarmId, Counter, MAX_ALARMS, MAX_COUNTERS, MAX_TICKS, ModeId, Status, System};
 use std::marker::Model;
@@ -54,6 +57,15 @@ impl Alarms {
             numbers: counter_numbers(&parts.alarms),
             tick: 0,
         }
+    }
+
+    /// All alarms, and the tick, become those of others.
+    pub fn copy_from(&mut self, other: &Alarms)
+        ensures { self.new ≡ other.now }
+    {
+        replace_counters(&mut self.counters, other.counters.as_slice());
+        replace(&mut self.numbers, other.numbers.as_slice());
+        self.tick = other.tick;
     }
 
     /// How often `advance` was called: the present tick, below [`MAX_TICKS`].
@@ -146,6 +158,16 @@ impl Alarms {
         ensures { result ≡ remaining_of system.now self.now alarm }
     {
         self.counts_left(alarm)
+    }
+
+    /// How many counts after an expiry an alarm expires again, 0 where it goes off then; None where it is off.
+    pub fn cycle(&self, alarm: AlarmId) -> Option<u32>
+        requires { alarm < length self.now.expiries }
+        ensures { result ≡ cycle_of (slice_index_or self.now.expiries alarm None) }
+    {
+        let number = self.numbers[alarm.number() as usize];
+        let counter = &self.counters[number as usize];
+        counter.running.cycle(alarm)
     }
 
     /// The next tick begins, and the alarms that are due in it expire: each expires again a cycle later, or goes off. The

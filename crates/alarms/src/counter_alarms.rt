@@ -40,6 +40,17 @@ impl CounterAlarms {
         }
     }
 
+    /// The same counter with the same alarms once more.
+    pub fn copied(&self) -> Self
+        ensures { result ≡ self.now }
+    {
+        CounterAlarms {
+            counter: self.counter,
+            next: self.next,
+            running: self.running.copied(),
+        }
+    }
+
     /// The tick after `tick`: where the counter grows, its alarms that are due expire, and are added to `due`.
     #[inline(always)]
     pub fn advance(&mut self, tick: u32, due: &mut DueAlarms)

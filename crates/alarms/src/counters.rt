@@ -23,6 +23,21 @@ pub fn idle_counters(declared: &[Counter]) -> ArrayVec<CounterAlarms, MAX_COUNTE
     counters
 }
 
+/// The content becomes some counters with their alarms.
+pub fn replace_counters(
+    counters: &mut ArrayVec<CounterAlarms, MAX_COUNTERS>,
+    others: &[CounterAlarms],
+)
+    requires { length others.now ≤ MAX_COUNTERS }
+    ensures { counters.new.items ≡ others.now }
+{
+    counters.clear();
+    for number in 0..others.len() {
+        let other = &others[number];
+        counters.push(other.copied());
+    }
+}
+
 /// The number of the counter of each alarm.
 pub fn counter_numbers(alarms: &[Alarm]) -> ArrayVec<u8, MAX_ALARMS>
     requires { length alarms.now ≤ MAX_ALARMS }

@@ -2,9 +2,10 @@
 
 ghost use Rattle.std.specs.Prelude.{◌≡◌, ◌==◌, ◌<◌, ◌≤◌, ◌^◌, ◌+◌, ◌-◌, [], ◌∷◌, ◌++◌, ◌||◌, ℕ, length, map, is_some, drop, take, Option, Some, None, IfSome, IfNone, MatchOption, slice_index_or, true, false};
 ghost use Rattle.std.specs.List.{list_all, insert, remove, list_any};
-ghost use Rattle.alarms.specs.Waits.{span, inserted, without, wait_of, left_in, one_less, Wait, waits, wait_before, is_sooner, not_waiting, cut_at, grown_at, is_of, are_ahead, are_apart, overs, is_over, again, is_raised, restarted};
+ghost use Rattle.alarms.specs.Waits.{span, inserted, without, wait_of, left_in, cycle_in, one_less, Wait, waits, wait_before, is_sooner, not_waiting, cut_at, grown_at, is_of, are_ahead, are_apart, overs, is_over, again, is_raised, restarted};
 
 use crate::due_alarms::DueAlarms;
+use crate::replacing::replace;
 use arrayvec::ArrayVec;
 use osek_base::{AlarmId, MAX_ALARMS};
 use std::marker::Model;
@@ -51,6 +52,15 @@ impl DifferenceList {
         }
     }
 
+    /// The same alarms once more.
+    pub fn copied(&self) -> Self
+        ensures { result ≡ self.now }
+    {
+        let mut entries = ArrayVec::new();
+        replace(&mut entries, self.entries.as_slice());
+        DifferenceList { entries }
+    }
+
     /// How many alarms are running.
     pub fn len(&self) -> usize
         ensures value { result ≡ length self.now }
@@ -90,6 +100,18 @@ impl DifferenceList {
         let place = place_of(&self.entries, alarm);
         if place < self.entries.len() {
             Some(span_from(&self.entries, place))
+        } else {
+            None
+        }
+    }
+
+    /// The cycle of an alarm, 0 for once; None where it isn't in the list.
+    pub fn cycle(&self, alarm: AlarmId) -> Option<u32>
+        ensures { result ≡ cycle_in (wait_of alarm self.now) }
+    {
+        let place = place_of(&self.entries, alarm);
+        if place < self.entries.len() {
+            Some(cycle_at(&self.entries, place))
         } else {
             None
         }
@@ -193,6 +215,14 @@ fn span_from(entries: &ArrayVec<Waiting, MAX_ALARMS>, place: usize) -> u32
         left += entries[at].difference;
     }
     left
+}
+
+/// The cycle of the alarm at a place.
+fn cycle_at(entries: &ArrayVec<Waiting, MAX_ALARMS>, place: usize) -> u32
+    requires { place < length entries.now.items }
+    ensures { result ≡ (slice_index_or entries.now.items place not_waiting).cycle }
+{
+    entries[place].cycle
 }
 
 /// Whether the last wait is over.

@@ -2,6 +2,7 @@
 
 ghost use Rattle.std.specs.Prelude.{◌≡◌, ◌<◌, ◌≤◌, ◌∷◌, ◌++◌, [], length, slice_index_or};
 
+use crate::replacing::replace;
 use arrayvec::ArrayVec;
 use osek_base::{AlarmId, MAX_ALARMS};
 use std::marker::Model;
@@ -38,6 +39,13 @@ impl DueList {
         if !self.alarms.is_empty() {
             self.alarms.clear();
         }
+    }
+
+    /// The content becomes that of another list.
+    pub fn copy_from(&mut self, other: &DueList)
+        ensures { self.new ≡ other.now }
+    {
+        replace(&mut self.alarms, other.alarms.as_slice());
     }
 
     /// How many alarms there are.

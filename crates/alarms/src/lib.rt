@@ -7,6 +7,7 @@ mod counters;
 mod difference_list;
 mod due_alarms;
 mod due_list;
+mod replacing;
 
 pub use alarms::Alarms;
 pub use due_alarms::DueAlarms;
