@@ -22,6 +22,18 @@ impl Model for JobStamps {
     ghost view = { λ s. s.tasks.items };
 }
 
+/// The content becomes the stamps of some tasks.
+fn replace_tasks(tasks: &mut ArrayVec<TaskStamps, MAX_TASKS>, others: &[TaskStamps])
+    requires { length others.now ≤ MAX_TASKS }
+    ensures { tasks.new.items ≡ others.now }
+{
+    tasks.clear();
+    for number in 0..others.len() {
+        let other = &others[number];
+        tasks.push(other.copied());
+    }
+}
+
 impl JobStamps {
     /// No job of any task.
     pub fn new(count: usize) -> Self
@@ -33,6 +45,13 @@ impl JobStamps {
             tasks.push(TaskStamps::new());
         }
         JobStamps { tasks }
+    }
+
+    /// The stamps become those of others.
+    pub fn copy_from(&mut self, other: &JobStamps)
+        ensures { self.new ≡ other.now }
+    {
+        replace_tasks(&mut self.tasks, other.tasks.as_slice());
     }
 
     /// A job of a task more, ready from a tick on: it is the newest.

@@ -32,6 +32,13 @@ impl LastTicks {
         }
     }
 
+    /// The last tick of each level becomes that of others.
+    pub fn copy_from(&mut self, other: &LastTicks)
+        ensures { self.new ≡ other.now }
+    {
+        self.behind = other.behind;
+    }
+
     /// A job of a level executes in a tick.
     #[inline(always)]
     pub fn note(&mut self, level: u8, tick: u32)

@@ -40,6 +40,18 @@ impl TaskStamps {
         }
     }
 
+    /// The same stamps once more.
+    pub fn copied(&self) -> Self
+        ensures { result ≡ self.now }
+    {
+        let mut stamps = ArrayVec::new();
+        match stamps.try_extend_from_slice(self.stamps.as_slice()) {
+            Ok(()) => {}
+            Err(_) => unreachable!(),
+        }
+        TaskStamps { stamps }
+    }
+
     /// A job more, ready from a tick on: it is the newest.
     pub fn add(&mut self, tick: u32)
         requires { length self.old < MAX_ACTIVATION }
