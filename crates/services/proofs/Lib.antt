@@ -8,3 +8,5 @@ pub mod DispatchedLemmas
 pub mod RescheduledLemmas
 pub mod AsDefinedLemmas
 pub mod StepLemmas
+pub mod CompactLemmas
+pub mod CopyLemmas

@@ -4,3 +4,4 @@ pub mod Steps
 pub mod AsDefined
 pub mod Dispatched
 pub mod Seen
+pub mod CompactQueues

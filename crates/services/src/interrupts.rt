@@ -23,7 +23,7 @@ use ready_queues::ReadyQueues;
 use std::marker::Model;
 
 /// The active interrupt routine, with its registers and place.
-#[derive(Drop)]
+#[derive(Clone, Copy)]
 pub struct Active {
     pub routine: IsrId,
     pub cpu: Cpu,
@@ -35,9 +35,18 @@ impl Model for Active {
     ghost Value = { Executing };
 
     ghost view = { λ a. record { routine = a.routine; context = a.cpu } };
+
+    ghost inverse = { λ x. record { routine = x.routine; cpu = x.context } };
 }
 
 impl Active {
+    /// Which routine it is.
+    pub fn routine(&self) -> IsrId
+        ensures { result ≡ self.now.routine }
+    {
+        self.routine
+    }
+
     /// The registers and the place of the routine.
     pub fn cpu(&self) -> Cpu
         ensures { result ≡ self.now.context }

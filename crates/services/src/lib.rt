@@ -5,12 +5,16 @@
 mod alarm_services;
 mod caller;
 mod calls;
+mod compact_queues;
+mod copy_queues;
+mod copying;
 mod dispatch;
 mod event_services;
 mod interrupts;
 mod objects;
 mod os_core;
 mod readers;
+mod ready_entry;
 mod ready_list;
 mod resource_services;
 mod shared_services;
@@ -19,4 +23,10 @@ mod slot;
 mod task_services;
 
 pub use calls::{Answer, Call};
+pub use compact_queues::CompactQueues;
+pub use copy_queues::CopyQueues;
+pub use interrupts::Active;
+pub use objects::Objects;
 pub use os_core::Core;
+pub use ready_entry::ReadyEntry;
+pub use slot::Slot;

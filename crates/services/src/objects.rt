@@ -185,6 +185,14 @@ impl<'s, Q: ReadyQueues> Objects<'s, Q> {
         self.masks[task.number() as usize]
     }
 
+    /// How many jobs a task has, and what its oldest one holds, waits for and has in its registers.
+    pub fn slot(&self, task: TaskId) -> &Slot
+        requires { task < length self.now.system.tasks }
+        ensures { result.now ≡ by_task self.now.slots task }
+    {
+        &self.slots[task.number() as usize]
+    }
+
     /// The events of a task become those of a mask.
     pub fn put_events(&mut self, task: TaskId, mask: u32)
         requires { task < length self.old.system.tasks }

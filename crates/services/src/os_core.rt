@@ -45,7 +45,7 @@ use std::marker::Model;
 pub struct Core<'s, Q: ReadyQueues> {
     pub(crate) objects: Objects<'s, Q>,
     /// Set only where a reschedule changes nothing; each step that may call for one takes it back.
-    is_dispatched: bool,
+    pub(crate) is_dispatched: bool,
 }
 
 impl<'s, Q: ReadyQueues> Model for Core<'s, Q> {
@@ -89,6 +89,14 @@ impl<'s, Q: ReadyQueues> Core<'s, Q> {
             objects: Objects::new(alloc, system)?,
             is_dispatched: false,
         })
+    }
+
+    /// All that is kept but the words of tasks and routines, for who wants to read it.
+    #[inline(always)]
+    pub fn objects(&self) -> &Objects<'s, Q>
+        ensures { result.now ≡ self.now }
+    {
+        &self.objects
     }
 
     /// Sets the alarms that start by themselves in a mode, at tick 0.

@@ -1,12 +1,14 @@
 //! OSEK/VDX OS: task management, task state model. What is seen of a running system between the steps of a kernel.
 
-ghost use Rattle.std.specs.Prelude.{◌≡◌, ◌<◌, IfSome, false, slice_index_or, length};
+ghost use Rattle.std.specs.Prelude.{◌≡◌, ◌<◌, IfSome, None, false, slice_index_or, length};
 ghost use Rattle.std.specs.Option.{option_map};
+ghost use Rattle.alarms.specs.Alarms.{cycle_of};
 ghost use Rattle.osek_base.specs.State.{interrupts_off};
 ghost use Rattle.kept_state.specs.KeptService.{bare, holds_in, task_state_in};
 ghost use Rattle.services.specs.Objects.{by_task, kept_in};
 ghost use Rattle.services.specs.Seen.{counts_left, holder_in, priority_in, routine_of};
 
+use crate::interrupts::Active;
 use crate::objects::Objects;
 use crate::os_core::Core;
 use osek_base::{AlarmId, IsrId, ResId, TaskId, TaskState};
@@ -65,6 +67,41 @@ impl<'s, Q: ReadyQueues> Objects<'s, Q> {
         self.pending[routine.number() as usize]
     }
 
+    /// The routine that is active, with its registers and its place.
+    pub fn active(&self) -> &Option<Active>
+        ensures { result.now ≡ self.now.active }
+    {
+        &self.active
+    }
+
+    /// Whether the job of the running task has ended.
+    pub fn is_gone(&self) -> bool
+        ensures { result ≡ self.now.gone }
+    {
+        self.gone
+    }
+
+    /// Whether DisableAllInterrupts has set the switch.
+    pub fn is_disabled(&self) -> bool
+        ensures { result ≡ self.now.disabled }
+    {
+        self.disabled
+    }
+
+    /// How many calls of SuspendAllInterrupts are not resumed yet.
+    pub fn suspended_all(&self) -> u32
+        ensures { result ≡ self.now.suspended_all }
+    {
+        self.suspended_all
+    }
+
+    /// How many calls of SuspendOSInterrupts are not resumed yet.
+    pub fn suspended_os(&self) -> u32
+        ensures { result ≡ self.now.suspended_os }
+    {
+        self.suspended_os
+    }
+
     /// The active routine.
     pub fn active_routine(&self) -> Option<IsrId>
         ensures { result ≡ option_map routine_of self.now.active }
@@ -81,6 +118,14 @@ impl<'s, Q: ReadyQueues> Objects<'s, Q> {
         ensures { result ≡ counts_left self.now.system (bare (kept_in self.now)) alarm }
     {
         self.alarms.remaining(self.system, alarm)
+    }
+
+    /// How many counts after an expiry an alarm expires again, 0 where it goes off then; None while it is off.
+    pub fn cycle(&self, alarm: AlarmId) -> Option<u32>
+        requires { alarm < length self.now.system.alarms }
+        ensures { result ≡ cycle_of (slice_index_or self.now.alarms alarm None) }
+    {
+        self.alarms.cycle(alarm)
     }
 }
 

@@ -5,6 +5,7 @@ ghost use Rattle.ready_queues.specs.Queues.{total};
 ghost use Rattle.ready_queues.specs.Moves.{put_last, put_first, without_first_at_level, first, highest};
 ghost use Rattle.ready_queues.specs.LevelLists.{by_level, level_lists};
 
+use crate::copy_queues::CopyQueues;
 use osek_base::TaskId;
 use ready_queues::{LEVELS, ReadyQueues};
 use std::alloc::{AllocError, Global};
@@ -89,5 +90,15 @@ impl<Q: ReadyQueues> ReadyList<Q> {
             Some(task) => task,
             None => unreachable!(),
         }
+    }
+}
+
+impl<Q: CopyQueues> ReadyList<Q> {
+    /// The tasks of each level become those of another list with as much room.
+    pub fn copy_from(&mut self, other: &ReadyList<Q>)
+        requires { self.old.room ≡ other.now.room }
+        ensures { self.new ≡ other.now }
+    {
+        self.queues.copy_from(&other.queues);
     }
 }

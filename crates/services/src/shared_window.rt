@@ -31,6 +31,13 @@ impl SharedWindow {
         }
     }
 
+    /// All words become those of another window.
+    pub fn copy_from(&mut self, other: &SharedWindow)
+        ensures { self.new ≡ other.now }
+    {
+        self.words = other.words;
+    }
+
     /// The word at an index, which counts mod [`SHARED_WORDS`].
     pub fn word(&self, index: u32) -> u32
         ensures { result ≡ slice_index self.now (index % SHARED_WORDS) }

@@ -64,6 +64,18 @@ impl Slot {
         }
     }
 
+    /// All of it becomes that of another.
+    pub fn copy_from(&mut self, other: &Slot)
+        ensures { self.new ≡ other.now }
+    {
+        self.count = other.count;
+        self.begun = other.begun;
+        self.held.copy_from(&other.held);
+        self.taken = other.taken;
+        self.waits_for = other.waits_for;
+        self.cpu.load(&other.cpu);
+    }
+
     /// How many jobs the task has.
     #[inline(always)]
     pub fn count(&self) -> u8
@@ -94,6 +106,27 @@ impl Slot {
         self.taken = false;
         self.waits_for = None;
         self.cpu.load(&Cpu::new());
+    }
+
+    /// Whether the oldest job has begun.
+    pub fn is_begun(&self) -> bool
+        ensures { result ≡ self.now.begun }
+    {
+        self.begun
+    }
+
+    /// What the oldest job holds, in the order got, the internal resource aside.
+    pub fn held(&self) -> &[ResId]
+        ensures { result.now ≡ self.now.held }
+    {
+        self.held.list()
+    }
+
+    /// Whether the oldest job has taken its internal resource.
+    pub fn is_taken(&self) -> bool
+        ensures { result ≡ self.now.taken }
+    {
+        self.taken
     }
 
     /// Whether the oldest job waits for an event.
@@ -225,6 +258,7 @@ impl Slot {
     {
         exec_packed(&mut self.cpu, windows, owner, packed)
     }
+
     /// A service of a program with the values of the oldest job's registers.
     #[inline(always)]
     pub fn with_values(&self, service: &Service<Register>) -> Service<u32>
