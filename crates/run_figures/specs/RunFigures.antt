@@ -1,0 +1,100 @@
+-- Figures of a run within bounds, by what each tick shows of what is kept of the state before it.
+use Rattle.std.specs.Prelude.{ℕ, zero, suc, ◌≡◌, ◌<◌, ◌≤◌, ◌^◌, false, List, [], ◌∷◌, Option, None, length, slice_index_or}
+use Rattle.osek_base.specs.declared.arrivals.Arrival.{Arrival}
+use Rattle.osek_base.specs.Proper.{IsProper}
+use Rattle.osek_base.specs.System.{System}
+use Rattle.osek_base.specs.Trace.{run}
+use Rattle.observations.specs.declared.observation.Observation.{Observation}
+use Rattle.observed_runs.specs.Observed.{IsSeen, tick_at}
+use Rattle.shown_ticks.specs.Shown.{holders_seen_in, kept_tick_at, routine_seen_in, task_seen_in}
+use Rattle.figures.specs.declared.task_tick.TaskTick.{TaskTick}
+use Rattle.figures.specs.declared.routine_figures.RoutineTick.{RoutineTick}
+use Rattle.figures.specs.declared.resource_figures.HolderTick.{HolderTick}
+use Rattle.figures.specs.FigureSums.{AreFigures, RunFigures, held_count, task_figures}
+use Rattle.figures.specs.ResourceSums.{resource_figures}
+use Rattle.figures.specs.RoutineSums.{routine_figures}
+use Rattle.figure_laws.specs.Labels.{Label, IsAtMost, IsWithin}
+use Rattle.figure_laws.specs.Ages.{ages, leaving_age}
+use Rattle.figure_laws.specs.Pending.{pending, start_latency}
+use Rattle.figure_laws.specs.Holding.{holding, held_ticks}
+
+-- an observation is of tick n of a run that isn't over before it
+pub record IsTickOf (S : System) (mode : ℕ) (arrivals : List Arrival) (n : ℕ)
+    (o : Observation) : Type 0 where
+  pub number : o.tick ≡ n
+  pub going : (run S mode arrivals n).state.over ≡ false
+  pub seen : IsSeen S (tick_at S mode arrivals n) o
+
+-- observations are of the first n ticks of a run, newest first
+abbrev pub AreTicksOf : System → ℕ → List Arrival → ℕ → List Observation → Type 0
+AreTicksOf S mode arrivals zero [] = Unit {0}
+AreTicksOf S mode arrivals (suc n) (o ∷ before) =
+    IsTickOf S mode arrivals n o × AreTicksOf S mode arrivals n before
+AreTicksOf S mode arrivals zero (o ∷ before) = ⊥
+AreTicksOf S mode arrivals (suc n) [] = ⊥
+
+-- ---- what each tick shows of a thing, as far as labels go by it
+
+abbrev pub task_ticks : System → ℕ → List Arrival → ℕ → ℕ → TaskTick
+task_ticks S mode arrivals k i =
+    record {
+      tick = i;
+      seen = task_seen_in S (kept_tick_at S mode arrivals i) k;
+      lower_executes = false;
+      has_failed = false;
+      blockers = None;
+    }
+
+abbrev pub routine_ticks : System → ℕ → List Arrival → ℕ → ℕ → RoutineTick
+routine_ticks S mode arrivals k i =
+    record {
+      tick = i;
+      seen = routine_seen_in (kept_tick_at S mode arrivals i) k;
+      has_failed = false;
+    }
+
+abbrev pub holder_ticks : System → ℕ → List Arrival → ℕ → ℕ → HolderTick
+holder_ticks S mode arrivals k i =
+    record {
+      tick = i;
+      holder = slice_index_or (holders_seen_in S (kept_tick_at S mode arrivals i).at) k None;
+    }
+
+-- the label before tick n, and that up to there none shows more
+abbrev pub label_before : {T L : Type 0} → Label T L → (ℕ → T) → ℕ → L
+label_before label ticks zero = label.first
+label_before label ticks (suc n) = label.next (ticks n) (label_before label ticks n)
+
+abbrev pub NoneMoreBefore : {T L : Type 0} → Label T L → (T → L → Option ℕ) → (ℕ → T) → ℕ → ℕ
+    → Type 0
+NoneMoreBefore label show ticks m n =
+    (i : ℕ) → i < n → IsAtMost m (show (ticks i) (label_before label ticks i))
+
+-- ---- the laws
+
+-- the figures of the first n ticks of a run
+pub record AreRunFigures (S : System) (mode : ℕ) (arrivals : List Arrival) (n : ℕ)
+    (f : RunFigures) : Type 0 where
+  pub seen : List Observation
+  pub proper : IsProper S
+  pub small : n ≤ 2 ^ 32
+  pub ticks : AreTicksOf S mode arrivals n seen
+  pub figures : AreFigures S seen f
+
+-- are within bounds where no label shows more in any of these ticks
+pub record StayWithin (S : System) (mode : ℕ) (arrivals : List Arrival) (n : ℕ)
+    (f : RunFigures) : Type 0 where
+  pub responses : (k m : ℕ) → k < length S.tasks
+      → NoneMoreBefore ages leaving_age (task_ticks S mode arrivals k) m n
+      → IsWithin m (slice_index_or f.tasks k (task_figures [])).responses.spread.greatest
+  pub latencies : (k m : ℕ) → k < length S.routines
+      → NoneMoreBefore pending start_latency (routine_ticks S mode arrivals k) m n
+      → IsWithin m (slice_index_or f.routines k (routine_figures [])).latency
+  pub holds : (k m : ℕ) → k < held_count S
+      → NoneMoreBefore holding held_ticks (holder_ticks S mode arrivals k) m n
+      → IsWithin m (slice_index_or f.resources k (resource_figures [])).longest
+
+abbrev pub RunsStayWithin : Type 0
+RunsStayWithin =
+    (S : System) (mode : ℕ) (arrivals : List Arrival) (n : ℕ) (f : RunFigures)
+    → AreRunFigures S mode arrivals n f → StayWithin S mode arrivals n f

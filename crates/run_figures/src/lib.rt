@@ -1,0 +1,6 @@
+//! Figures of a run are within bounds where no label of what its ticks show is above them.
+#![tactic(auto)]
+
+mod laws;
+
+pub use laws::runs_stay_within;
