@@ -49,7 +49,8 @@ pub record AlarmCountsTell (seen : List AlarmTick) : Type 0 where
   pub refused :
       IsCountOf (λ (a : AlarmTick). one_if a.seen.is_refused) seen (alarm_figures seen).refused
   pub first_refusal :
-      IsFirstOf (λ (a : AlarmTick). one_if a.seen.is_refused) seen (alarm_figures seen).first_refusal
+      IsFirstOf (λ (a : AlarmTick). one_if a.seen.is_refused) seen
+      (alarm_figures seen).first_refusal
 
 abbrev pub CountsTell : Type 0
 CountsTell =

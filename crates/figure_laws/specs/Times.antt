@@ -6,8 +6,9 @@ use Rattle.std.specs.Option.{option_map}
 use Rattle.figures.specs.declared.reached.Reached.{Reached}
 use Rattle.figures.specs.declared.task_tick.TaskTick.{TaskTick}
 use Rattle.figures.specs.declared.routine_figures.RoutineTick.{RoutineTick}
+use Rattle.figures.specs.declared.routine_figures.RoutineFigures.{RoutineFigures}
 use Rattle.figures.specs.Reaching.{worse_of}
-use Rattle.figures.specs.ResponseSums.{oldest_response, response_figures}
+use Rattle.figures.specs.ResponseSums.{Responses, oldest_response, response_figures}
 use Rattle.figures.specs.RoutineSums.{pending_age, routine_figures}
 use Rattle.figure_laws.specs.Labels.{Label, AreNumbered, IsWithin, NoneShowsMore}
 use Rattle.figure_laws.specs.Ages.{ages, oldest_age, tick_of}
@@ -19,10 +20,17 @@ pub record IsBoundBy {T L : Type 0} (label : Label T L) (show : T → L → Opti
   pub within : (m : ℕ) → NoneShowsMore label show m seen → IsWithin m figure
   pub shown : (m : ℕ) → m < 2 ^ 32 - 1 → IsWithin m figure → NoneShowsMore label show m seen
 
+-- the longest time of a task or a routine, or the age of what is left behind a last tick
+abbrev pub response_time : ℕ → Responses → Option Reached
+response_time last r = worse_of r.spread.greatest (oldest_response last r.ready_since)
+
+abbrev pub routine_time : ℕ → RoutineFigures → Option Reached
+routine_time last f = worse_of f.latency (pending_age last f.pending_since)
+
 -- what an interrupt has waited in a tick, where its routine starts without that tick
 abbrev pub waited : RoutineTick → Option ℕ → Option ℕ
-waited r age = cond r.seen.is_started (option_map (λ n. n - 1) (pending_in r age))
-    (pending_in r age)
+waited r age =
+    cond r.seen.is_started (option_map (λ n. n - 1) (pending_in r age)) (pending_in r age)
 
 -- ---- laws
 
@@ -30,15 +38,11 @@ waited r age = cond r.seen.is_started (option_map (λ n. n - 1) (pending_in r ag
 abbrev pub TaskTimesAreAges : Type 0
 TaskTimesAreAges =
     (t : TaskTick) (before : List TaskTick) → AreNumbered tick_of (t ∷ before)
-    → IsBoundBy ages oldest_age (t ∷ before)
-    (worse_of (response_figures (t ∷ before)).spread.greatest
-    (oldest_response t.tick (response_figures (t ∷ before)).ready_since))
+    → IsBoundBy ages oldest_age (t ∷ before) (response_time t.tick (response_figures (t ∷ before)))
 
 -- and that of a routine by what its interrupts have waited
 abbrev pub RoutineTimesAreAges : Type 0
 RoutineTimesAreAges =
     (r : RoutineTick) (before : List RoutineTick) → AreNumbered start_tick_of (r ∷ before)
     → AllByRecursion (λ u. u.tick < 2 ^ 32) (r ∷ before)
-    → IsBoundBy pending waited (r ∷ before)
-    (worse_of (routine_figures (r ∷ before)).latency
-    (pending_age r.tick (routine_figures (r ∷ before)).pending_since))
+    → IsBoundBy pending waited (r ∷ before) (routine_time r.tick (routine_figures (r ∷ before)))

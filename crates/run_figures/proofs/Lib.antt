@@ -1,1 +1,3 @@
 pub mod Running
+pub mod Times
+pub mod Nothing

@@ -28,7 +28,7 @@ use Rattle.figure_laws.proofs.Ages.{responses_are_ages}
 use Rattle.figure_laws.proofs.Pending.{latencies_are_ages}
 use Rattle.figure_laws.proofs.Holding.{holds_are_labels}
 use Rattle.figure_laws.proofs.Seen.{labels_go_by_seen}
-use Rattle.run_figures.specs.RunFigures.{IsTickOf, AreTicksOf, task_ticks, routine_ticks, holder_ticks, label_before, NoneMoreBefore, AreRunFigures, RunsStayWithin}
+use Rattle.run_figures.specs.RunFigures.{IsTickOf, AreTicksOf, task_ticks, routine_ticks, holder_ticks, label_before, NoneMoreBefore, AreRunFigures}
 
 module _ (S : System) (mode : ℕ) (arrivals : List Arrival) where
   -- ---- a label over observations, where each shows and leaves what its tick does
@@ -48,7 +48,7 @@ module _ (S : System) (mode : ℕ) (arrivals : List Arrival) where
         next n o are.0 (label_after label (map tick before))
         ∙ ap (label.next (ticks n)) (same_label n before are.1)
 
-    none_more : (m n : ℕ) (seen : List Observation) → AreTicksOf S mode arrivals n seen
+    pub none_more : (m n : ℕ) (seen : List Observation) → AreTicksOf S mode arrivals n seen
         → NoneMoreBefore label show ticks m n → NoneShowsMore label show m (map tick seen)
     none_more m zero [] are none = tt
     none_more m zero (o ∷ before) are none = absurd are
@@ -66,7 +66,7 @@ module _ (S : System) (mode : ℕ) (arrivals : List Arrival) where
 
   module _ {T : Type 0} (number : T → ℕ) (tick : Observation → T)
       (same : (o : Observation) → number (tick o) ≡ o.tick) where
-    numbered : (n : ℕ) (seen : List Observation) → AreTicksOf S mode arrivals n seen
+    pub numbered : (n : ℕ) (seen : List Observation) → AreTicksOf S mode arrivals n seen
         → AreNumbered number (map tick seen)
     numbered zero [] are = tt
     numbered zero (o ∷ before) are = absurd are
@@ -82,7 +82,8 @@ module _ (S : System) (mode : ℕ) (arrivals : List Arrival) where
           numbered (suc n) (u ∷ before) are.1,
         )
 
-    all_small : (n : ℕ) (seen : List Observation) → AreTicksOf S mode arrivals n seen → n ≤ 2 ^ 32
+    pub all_small : (n : ℕ) (seen : List Observation) → AreTicksOf S mode arrivals n seen
+        → n ≤ 2 ^ 32
         → AllByRecursion (λ t. number t < 2 ^ 32) (map tick seen)
     all_small zero [] are small = tt
     all_small zero (o ∷ before) are small = absurd are
@@ -94,17 +95,17 @@ module _ (S : System) (mode : ℕ) (arrivals : List Arrival) where
   -- ---- what an observation has of each thing
 
   module _ (proper : IsProper S) (n : ℕ) (o : Observation) (is : IsTickOf S mode arrivals n o) where
-    shows : IsShown S (kept_tick_at S mode arrivals n) o
+    pub shows : IsShown S (kept_tick_at S mode arrivals n) o
     shows = seen_is_shown S mode arrivals n o proper is.going is.seen
 
-    task_seen : (k : ℕ) → k < length S.tasks
+    pub task_seen : (k : ℕ) → k < length S.tasks
         → (task_tick (levels_of S) o k).seen ≡ (task_ticks S mode arrivals k n).seen
     task_seen k low =
         ap (λ xs. slice_index_or xs k unseen_task) shows.tasks
         ∙ table_at (task_seen_in S (kept_tick_at S mode arrivals n))
         (length S.tasks) k unseen_task low
 
-    routine_seen : (k : ℕ) → k < length S.routines
+    pub routine_seen : (k : ℕ) → k < length S.routines
         → (routine_tick o k).seen ≡ (routine_ticks S mode arrivals k n).seen
     routine_seen k low =
         ap (λ xs. slice_index_or xs k unseen_routine) shows.routines
@@ -114,12 +115,12 @@ module _ (S : System) (mode : ℕ) (arrivals : List Arrival) where
     holder_seen : (k : ℕ) → (holder_tick o k).holder ≡ (holder_ticks S mode arrivals k n).holder
     holder_seen k = ap (λ xs. slice_index_or xs k None) shows.holders
 
-    task_agrees : (k : ℕ) → k < length S.tasks → (old : List ℕ)
+    pub task_agrees : (k : ℕ) → k < length S.tasks → (old : List ℕ)
         → AgesAgree (task_tick (levels_of S) o k) (task_ticks S mode arrivals k n) old
     task_agrees k low old = labels_go_by_seen.ages (task_tick (levels_of S) o k)
         (task_ticks S mode arrivals k n) old (task_seen k low)
 
-    routine_agrees : (k : ℕ) → k < length S.routines → (age : Option ℕ)
+    pub routine_agrees : (k : ℕ) → k < length S.routines → (age : Option ℕ)
         → PendingAgrees (routine_tick o k) (routine_ticks S mode arrivals k n) age
     routine_agrees k low age = labels_go_by_seen.pending (routine_tick o k)
         (routine_ticks S mode arrivals k n) age (routine_seen k low)
@@ -132,13 +133,13 @@ module _ (S : System) (mode : ℕ) (arrivals : List Arrival) where
 
 -- ---- the law
 
-responses_of : (seen : List TaskTick) → (task_figures seen).responses ≡ response_figures seen
+pub responses_of : (seen : List TaskTick) → (task_figures seen).responses ≡ response_figures seen
 unfolding task_figures
 responses_of seen = refl
 
 module _ (S : System) (mode : ℕ) (arrivals : List Arrival) (n : ℕ) (f : RunFigures)
     (are : AreRunFigures S mode arrivals n f) where
-  responses_within : (k m : ℕ) → k < length S.tasks
+  pub responses_within : (k m : ℕ) → k < length S.tasks
       → NoneMoreBefore ages leaving_age (task_ticks S mode arrivals k) m n
       → IsWithin m (slice_index_or f.tasks k (task_figures [])).responses.spread.greatest
   responses_within k m low none =
@@ -156,7 +157,7 @@ module _ (S : System) (mode : ℕ) (arrivals : List Arrival) (n : ℕ) (f : RunF
       (λ i o is old. (task_agrees S mode arrivals are.proper i o is k low old).leaving)
       m n are.seen are.ticks none))
 
-  latencies_within : (k m : ℕ) → k < length S.routines
+  pub latencies_within : (k m : ℕ) → k < length S.routines
       → NoneMoreBefore pending start_latency (routine_ticks S mode arrivals k) m n
       → IsWithin m (slice_index_or f.routines k (routine_figures [])).latency
   latencies_within k m low none =
@@ -174,7 +175,7 @@ module _ (S : System) (mode : ℕ) (arrivals : List Arrival) (n : ℕ) (f : RunF
       (λ i o is age. (routine_agrees S mode arrivals are.proper i o is k low age).latency)
       m n are.seen are.ticks none))
 
-  holds_within : (k m : ℕ) → k < held_count S
+  pub holds_within : (k m : ℕ) → k < held_count S
       → NoneMoreBefore holding held_ticks (holder_ticks S mode arrivals k) m n
       → IsWithin m (slice_index_or f.resources k (resource_figures [])).longest
   holds_within k m low none =
@@ -187,10 +188,3 @@ module _ (S : System) (mode : ℕ) (arrivals : List Arrival) (n : ℕ) (f : RunF
       (λ i o is hold. (holder_agrees S mode arrivals are.proper i o is k hold).next)
       (λ i o is hold. (holder_agrees S mode arrivals are.proper i o is k hold).held)
       m n are.seen are.ticks none))
-
-pub runs_stay_within : RunsStayWithin
-runs_stay_within S mode arrivals n f are = record {
-  responses = responses_within S mode arrivals n f are;
-  latencies = latencies_within S mode arrivals n f are;
-  holds = holds_within S mode arrivals n f are;
-}

@@ -6,16 +6,20 @@ use Rattle.osek_base.specs.System.{System}
 use Rattle.osek_base.specs.Trace.{run}
 use Rattle.observations.specs.declared.observation.Observation.{Observation}
 use Rattle.observed_runs.specs.Observed.{IsSeen, tick_at}
-use Rattle.shown_ticks.specs.Shown.{holders_seen_in, kept_tick_at, routine_seen_in, task_seen_in}
+use Rattle.shown_ticks.specs.Shown.{alarm_seen_in, holders_seen_in, kept_tick_at, routine_seen_in, task_seen_in}
 use Rattle.figures.specs.declared.task_tick.TaskTick.{TaskTick}
 use Rattle.figures.specs.declared.routine_figures.RoutineTick.{RoutineTick}
 use Rattle.figures.specs.declared.resource_figures.HolderTick.{HolderTick}
+use Rattle.figures.specs.declared.alarm_figures.AlarmTick.{AlarmTick}
+use Rattle.figures.specs.AlarmSums.{alarm_figures}
 use Rattle.figures.specs.FigureSums.{AreFigures, RunFigures, held_count, task_figures}
 use Rattle.figures.specs.ResourceSums.{resource_figures}
 use Rattle.figures.specs.RoutineSums.{routine_figures}
 use Rattle.figure_laws.specs.Labels.{Label, IsAtMost, IsWithin}
-use Rattle.figure_laws.specs.Ages.{ages, leaving_age}
+use Rattle.figure_laws.specs.Ages.{ages, leaving_age, oldest_age}
 use Rattle.figure_laws.specs.Pending.{pending, start_latency}
+use Rattle.figure_laws.specs.Counts.{one_if}
+use Rattle.figure_laws.specs.Times.{response_time, routine_time, waited}
 use Rattle.figure_laws.specs.Holding.{holding, held_ticks}
 
 -- an observation is of tick n of a run that isn't over before it
@@ -60,6 +64,10 @@ holder_ticks S mode arrivals k i =
       holder = slice_index_or (holders_seen_in S (kept_tick_at S mode arrivals i).at) k None;
     }
 
+abbrev pub alarm_ticks : System → ℕ → List Arrival → ℕ → ℕ → AlarmTick
+alarm_ticks S mode arrivals k i =
+    record { tick = i; seen = alarm_seen_in (kept_tick_at S mode arrivals i) k }
+
 -- the label before tick n, and that up to there none shows more
 abbrev pub label_before : {T L : Type 0} → Label T L → (ℕ → T) → ℕ → L
 label_before label ticks zero = label.first
@@ -93,8 +101,37 @@ pub record StayWithin (S : System) (mode : ℕ) (arrivals : List Arrival) (n : �
   pub holds : (k m : ℕ) → k < held_count S
       → NoneMoreBefore holding held_ticks (holder_ticks S mode arrivals k) m n
       → IsWithin m (slice_index_or f.resources k (resource_figures [])).longest
+  -- and so does what hasn't ended behind the last of them
+  pub times : (k m : ℕ) → k < length S.tasks
+      → NoneMoreBefore ages oldest_age (task_ticks S mode arrivals k) m n
+      → IsWithin m (response_time f.last (slice_index_or f.tasks k (task_figures [])).responses)
+  pub waits : (k m : ℕ) → k < length S.routines
+      → NoneMoreBefore pending waited (routine_ticks S mode arrivals k) m n
+      → IsWithin m (routine_time f.last (slice_index_or f.routines k (routine_figures [])))
 
 abbrev pub RunsStayWithin : Type 0
 RunsStayWithin =
     (S : System) (mode : ℕ) (arrivals : List Arrival) (n : ℕ) (f : RunFigures)
     → AreRunFigures S mode arrivals n f → StayWithin S mode arrivals n f
+
+-- a number is 0 in each of the first n ticks
+abbrev pub IsZeroBefore : (ℕ → ℕ) → ℕ → Type 0
+IsZeroBefore number n = (i : ℕ) → i < n → number i ≡ 0
+
+-- nothing is lost or refused where it isn't in any tick
+pub record HaveNone (S : System) (mode : ℕ) (arrivals : List Arrival) (n : ℕ)
+    (f : RunFigures) : Type 0 where
+  pub losses : (k : ℕ) → k < length S.routines
+      → IsZeroBefore (λ i. (routine_ticks S mode arrivals k i).seen.lost) n
+      → (slice_index_or f.routines k (routine_figures [])).losses ≡ 0
+  pub refusals : (k : ℕ) → k < length S.tasks
+      → IsZeroBefore (λ i. (task_ticks S mode arrivals k i).seen.refused) n
+      → (slice_index_or f.tasks k (task_figures [])).counts.refused ≡ 0
+  pub actions : (k : ℕ) → k < length S.alarms
+      → IsZeroBefore (λ i. one_if (alarm_ticks S mode arrivals k i).seen.is_refused) n
+      → (slice_index_or f.alarms k (alarm_figures [])).refused ≡ 0
+
+abbrev pub RunsHaveNone : Type 0
+RunsHaveNone =
+    (S : System) (mode : ℕ) (arrivals : List Arrival) (n : ℕ) (f : RunFigures)
+    → AreRunFigures S mode arrivals n f → HaveNone S mode arrivals n f

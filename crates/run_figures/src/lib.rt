@@ -3,4 +3,4 @@
 
 mod laws;
 
-pub use laws::runs_stay_within;
+pub use laws::{runs_have_none, runs_stay_within};

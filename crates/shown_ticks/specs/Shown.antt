@@ -81,7 +81,8 @@ scheduler_seen_in S o = if S.use_res_scheduler then holder_in S o ResId.Schedule
 
 abbrev pub holders_seen_in : System → Kept → List (Option ℕ)
 holders_seen_in S o =
-    map (λ r. holder_in S o (ResId.Declared r)) (below (length S.resources)) ++ scheduler_seen_in S o
+    map (λ r. holder_in S o (ResId.Declared r)) (below (length S.resources))
+    ++ scheduler_seen_in S o
 
 abbrev pub alarm_seen_in : KeptTicked → ℕ → AlarmSeen
 alarm_seen_in k a =

@@ -1,4 +1,4 @@
-use Rattle.run_figures.proofs.Running.{runs_stay_within}
+use Rattle.run_figures.proofs.Times.{runs_stay_within}
 use Rattle.run_figures.proofs.laws.runs_stay_within.Goals as goal
 
 pub returns : goal.returns
