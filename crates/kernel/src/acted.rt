@@ -21,4 +21,12 @@ impl Acted {
             refused: DueList::new(),
         }
     }
+
+    /// Both become those of another tick.
+    pub fn copy_from(&mut self, other: &Acted)
+        ensures { self.new ≡ other.now }
+    {
+        self.due.copy_from(&other.due);
+        self.refused.copy_from(&other.refused);
+    }
 }

@@ -51,6 +51,15 @@ impl<B: Blockers> Blocking<B> {
         }
     }
 
+    /// All of it becomes that of another.
+    pub fn copy_from(&mut self, other: &Blocking<B>)
+        ensures { self.new ≡ other.now }
+    {
+        self.stamps.copy_from(&other.stamps);
+        self.last.copy_from(&other.last);
+        self.begun = other.begun;
+    }
+
     /// How many blockers the job had that executed last, where it did so for the first time since it became ready.
     pub fn number(&self) -> Option<u32>
         ensures counted { B.are_counted ≡ true → result ≡ number_told self.now.told }

@@ -275,7 +275,7 @@ fn arrived_by(list: &[Arrival], arrived: usize, tick: u32) -> usize
 }
 
 /// Adds some records at the end.
-fn push_all(record_of_tick: &mut TickRecord, more: &TickRecord)
+pub fn push_all(record_of_tick: &mut TickRecord, more: &TickRecord)
     requires { length record_of_tick.old + length more.now ≤ MAX_RECORDS }
     ensures { record_of_tick.new ≡ record_of_tick.old ++ more.now }
 {

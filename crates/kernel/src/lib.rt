@@ -9,6 +9,7 @@ mod begun;
 mod blockers;
 mod blocking;
 mod boot;
+mod copying;
 mod execute_phase;
 mod executing;
 mod kernel;

@@ -7,12 +7,14 @@ ghost use Rattle.osek_base.specs.Executed.{StandsIn, idle_or_executed};
 ghost use Rattle.osek_base.specs.State.{shared_window};
 ghost use Rattle.kept_state.specs.KeptTick.{before_execution_in};
 ghost use Rattle.ready_queues.specs.LevelLists.{level_lists, by_level};
+ghost use Rattle.services.specs.Objects.{kept_of};
 ghost use Rattle.kernel.specs.Looking.{number_told};
 ghost use Rattle.kernel.specs.Machine.{GoesOn, IsBooted, IsOfRun, Ticks, next_tick, picture, system_of};
 
 use crate::acted::Acted;
 use crate::blockers::{Blockers, Counted};
 use crate::blocking::Blocking;
+use crate::kernel::push_all;
 use crate::looker::{Looker, Unseen};
 use crate::processor::Processor;
 use crate::watched::Watched;
@@ -22,7 +24,7 @@ use osek_base::{
     TickRecord, WINDOW_WORDS,
 };
 use ready_queues::ReadyQueues;
-use services::Core;
+use services::{CopyQueues, Core, Objects};
 use std::alloc::{AllocError, Global};
 use std::marker::Model;
 use std::mem;
@@ -134,6 +136,16 @@ impl<'s, Q: ReadyQueues, B: Blockers> Machine<'s, Q, B> {
         &self.acted.refused
     }
 
+    /// All that is kept of the state but the words of tasks and routines. Its clock shows the tick that was done last, from which
+    /// the counts left of alarms are told.
+    pub fn objects(&self) -> &Objects<'s, Q>
+        ensures system { result.now.system ≡ system_of self.now }
+        ensures picture { kept_of (picture self.now).words (record result.now { tick = next_tick self.now }) ≡ picture self.now }
+        ensures clock { result.now.tick ≡ next_tick self.now - 1 }
+    {
+        self.core().objects()
+    }
+
     /// The objects of the services, whose clock shows the tick that was done last.
     #[inline(always)]
     pub(crate) fn core(&self) -> &Core<'s, Q>
@@ -197,6 +209,20 @@ impl<'s, Q: ReadyQueues, B: Blockers> Machine<'s, Q, B> {
     }
 }
 
+impl<'s, Q: CopyQueues, B: Blockers> Machine<'s, Q, B> {
+    /// All of it becomes that of another machine of the same system, so that both go on alike. It takes no memory and never
+    /// fails.
+    pub fn copy_from(&mut self, other: &Machine<'s, Q, B>)
+        requires { system_of self.old ≡ system_of other.now }
+        ensures { self.new ≡ other.now }
+    {
+        self.watched.copy_from(&other.watched);
+        self.ticks = other.ticks;
+        replace(&mut self.opening, &other.opening);
+        self.acted.copy_from(&other.acted);
+    }
+}
+
 /// Puts in the records that stand before a tick's own: those of boot in tick 0, else none.
 #[inline(always)]
 fn put_first(opening: &mut TickRecord, tick: u32, records: &mut TickRecord)
@@ -208,4 +234,13 @@ fn put_first(opening: &mut TickRecord, tick: u32, records: &mut TickRecord)
     if tick == 0 {
         mem::swap(records, opening);
     }
+}
+
+/// The content becomes some records.
+fn replace(records: &mut TickRecord, others: &TickRecord)
+    requires { length others.now ≤ MAX_RECORDS }
+    ensures { records.new ≡ others.now }
+{
+    records.clear();
+    push_all(records, others);
 }
