@@ -19,7 +19,7 @@ use Rattle.kept_state.specs.Moves.{KeptRecorded}
 use Rattle.services.specs.Seen.{routine_of}
 use Rattle.kernel.specs.Does.{advanced_in}
 use Rattle.kernel.specs.Told.{acted_in, acting_in, if_refused, refused_of_in, task_at_in}
-use Rattle.needed_data.specs.Need.{Need, IsClosed}
+use Rattle.needed_data.specs.Need.{Need, Suffices}
 use Rattle.needed_data.specs.Same.{AreStepsOfSame, HasAllowedIndices, HaveSameNeeded, blanked, blanked_outcome, cleaned, cleaned_routine, cleaned_shared, cleaned_words}
 use Rattle.needed_data.proofs.Executed.{cleaning, fresh_clean}
 use Rattle.needed_data.proofs.Steps.{before_clean, leaves_shared, unmasked_clean}
@@ -108,7 +108,7 @@ module _ (S : System) (need : Need) where
 
   -- ---- a tick
 
-  module _ (closed : IsClosed S need) (first : Bool) (arrived : List ℕ) (o p : Kept)
+  module _ (closed : Suffices S need) (first : Bool) (arrived : List ℕ) (o p : Kept)
       (h : HasAllowedIndices need o)
       (k : HasAllowedIndices need p) (same : HaveSameNeeded need o p) where
     abbrev one : KeptTicked

@@ -5,7 +5,7 @@ use Rattle.osek_base.specs.Proper.{IsProper}
 use Rattle.osek_base.specs.System.{System}
 use Rattle.kept_state.specs.Kept.{Kept}
 use Rattle.same_future.specs.Alike.{AreAlike}
-use Rattle.needed_data.specs.Need.{Need, IsClosed}
+use Rattle.needed_data.specs.Need.{Need, Suffices}
 use Rattle.needed_data.specs.Same.{HasAllowedIndices, HaveSameNeeded}
 use Rattle.observations.specs.declared.observation.Observation.{Observation}
 use Rattle.observed_runs.specs.Observed.{answered, owner_of}
@@ -37,6 +37,6 @@ AlikeShow =
 -- that have the same needed data, and registers with indices that they may have
 abbrev pub SameNeededShow : Type 0
 SameNeededShow =
-    (S : System) (need : Need) (first : Bool) (arrived : List ℕ) (o p : Kept) → IsClosed S need
+    (S : System) (need : Need) (first : Bool) (arrived : List ℕ) (o p : Kept) → Suffices S need
     → HasAllowedIndices need o → HasAllowedIndices need p → HaveSameNeeded need o p
     → AreShownAlike S (ticked_in S first arrived o) (ticked_in S first arrived p)
