@@ -146,9 +146,9 @@ impl<'s, Q: ReadyQueues, B: Blockers> Machine<'s, Q, B> {
         self.core().objects()
     }
 
-    /// The objects of the services, whose clock shows the tick that was done last.
+    /// The core of the services, whose clock shows the tick that was done last. It tells the running task and who executes.
     #[inline(always)]
-    pub(crate) fn core(&self) -> &Core<'s, Q>
+    pub fn core(&self) -> &Core<'s, Q>
         ensures system { result.now.system ≡ system_of self.now }
         ensures objects { record result.now { tick = next_tick self.now } ≡ self.now.processor.objects }
         ensures clock { result.now.tick ≡ next_tick self.now - 1 }
