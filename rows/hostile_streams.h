@@ -9,9 +9,10 @@ static char last_name[300];
 
 static int is_unreadable(void)
 {
-    char line[320];
+    char line[320], explained[660];
     snprintf(line, sizeof line, "file: %s\n", last_name);
-    return is_refused(line);
+    snprintf(explained, sizeof explained, "%s%s: it can't be read\n", line, last_name);
+    return is_refused(line) || is_refused(explained);
 }
 
 /* Whether a child is made that reads like this. The place in the file is shared with it and set back. */

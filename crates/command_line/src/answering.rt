@@ -1,18 +1,20 @@
 //! Answers to command lines: what is asked is written, and then how it ended.
 
-use crate::explaining::{explain_fault, explain_verdict};
+use crate::explaining::{explain_fault, explain_unread, explain_verdict};
+use crate::folder::{Folder, folder_of, with_files};
 use crate::host_files::Files;
 use crate::imports::answer_import;
 use crate::inputs::{Texts, read_texts, system_of};
 use crate::making::make_files;
-use crate::partitions::{write_check, write_partitions};
+use crate::partitions::{write_cut, write_cuts};
 use crate::request::{Asked, Question, Request, read_line};
 use crate::runs::{write_lines, write_view};
+use crate::showing::write_shown;
 use crate::status::{DONE, REFUSED, REFUSED_LINE, Verdict, WRITE_FAILED, status_of};
 use clap::Error as LineError;
 use clap::error::ErrorKind;
 use run_views::Progress;
-use std::alloc::Global;
+use std::alloc::{AllocError, Global};
 use std::convert::AsStr;
 use std::io::Write;
 use system_gen::class_of;
@@ -34,13 +36,18 @@ fn write_answer<'q, O: Write, E: Write>(
             let limits = request.limits.as_slice();
             write_view(alloc, texts, line, view, limits, progress, out)
         }
-        Question::Check { priority } => write_check(&system_of(alloc, texts)?, priority, out),
-        Question::Partitions => write_partitions(&system_of(alloc, texts)?, out),
+        Question::Check { priority, is_whole } => {
+            write_cut(alloc, &system_of(alloc, texts)?, priority, is_whole, out)
+        }
+        Question::Partitions { are_joined } => {
+            write_cuts(alloc, &system_of(alloc, texts)?, are_joined, out)
+        }
         Question::Class => {
             let class = class_of(&system_of(alloc, texts)?);
             writeln!(out, "{}", class.name())?;
             Ok(Verdict::Done)
         }
+        Question::Show => write_shown(alloc, request, texts, out),
     }
 }
 
@@ -97,6 +104,9 @@ fn answer<F: Files, O: Write, E: Write>(
         },
         Err(unread) => {
             let _ = writeln!(err, "{unread}");
+            if request.is_explained {
+                let _ = explain_unread(unread, err);
+            }
             REFUSED
         }
     }
@@ -119,6 +129,53 @@ fn print_help<O: Write, E: Write>(error: LineError, out: &mut O, err: &mut E) ->
     DONE
 }
 
+/// Answers what a line asks for, and gives the exit status.
+fn answer_asked<F: Files, O: Write, E: Write>(
+    alloc: Global,
+    asked: Result<Asked<'_>, LineError>,
+    files: &mut F,
+    out: &mut O,
+    err: &mut E,
+    shows_progress: bool,
+) -> u8 {
+    match asked {
+        Err(error) => print_help(error, out, err),
+        Ok(Asked::System(request)) => answer(alloc, &request, files, out, err, shows_progress),
+        Ok(Asked::Make(line)) => make_files(alloc, line, files, err),
+        Ok(Asked::Import(names)) => answer_import(alloc, &names, files, out, err),
+    }
+}
+
+/// Answers a line that names a folder. Where a word is missing in it, it is tried without the mode.
+fn answer_folder<S: AsStr, F: Files, O: Write, E: Write>(
+    alloc: Global,
+    words: &[S],
+    folder: Folder<'_>,
+    files: &mut F,
+    out: &mut O,
+    err: &mut E,
+    shows_progress: bool,
+) -> Result<u8, AllocError> {
+    let whole = with_files(alloc, words, folder, true)?;
+    let short = with_files(alloc, words, folder, false)?;
+    let mut asked = read_line(alloc, &whole, true);
+    if is_short(&asked) {
+        let without_mode = read_line(alloc, &short, false);
+        if !is_short(&without_mode) {
+            asked = without_mode;
+        }
+    }
+    Ok(answer_asked(alloc, asked, files, out, err, shows_progress))
+}
+
+/// Whether a line is refused since a word is missing.
+fn is_short(asked: &Result<Asked<'_>, LineError>) -> bool {
+    match asked {
+        Ok(_) => false,
+        Err(error) => error.kind() == ErrorKind::MissingRequiredArgument,
+    }
+}
+
 /// Answers a command line, of which the first word is the program's name, and gives the exit status: 0, also after help;
 /// 1 for a refused input, an unreadable file or want of memory; 2 for a refused line; 3 for a denied partition; 4 for a
 /// failed write; 6 where a run breaks a limit. For 1 and 4 one line says on `err` what it was, for 6 and of a refused import a
@@ -132,10 +189,15 @@ pub fn command<S: AsStr, F: Files, O: Write, E: Write>(
     err: &mut E,
     shows_progress: bool,
 ) -> u8 {
-    match read_line(alloc, words) {
-        Err(error) => print_help(error, out, err),
-        Ok(Asked::System(request)) => answer(alloc, &request, files, out, err, shows_progress),
-        Ok(Asked::Make(line)) => make_files(alloc, line, files, err),
-        Ok(Asked::Import(names)) => answer_import(alloc, &names, files, out, err),
+    let Some(folder) = folder_of(words) else {
+        let asked = read_line(alloc, words, true);
+        return answer_asked(alloc, asked, files, out, err, shows_progress);
+    };
+    match answer_folder(alloc, words, folder, files, out, err, shows_progress) {
+        Ok(status) => status,
+        Err(AllocError) => {
+            let _ = writeln!(err, "memory");
+            REFUSED
+        }
     }
 }

@@ -1,20 +1,23 @@
 //! What is written behind the line of a refusal or a denial, where it is asked for.
 
-use crate::inputs::{Texts, system_of};
+use crate::host_files::Refusal;
+use crate::inputs::{Texts, Unread, system_of};
+use crate::partitions::{Stretch, stretches};
 use crate::request::{Question, Request, RunLine};
 use crate::status::Verdict;
 use arrival_lists::IrqFault;
-use explanations::{explain_denial, explain_generation};
+use explanations::{explain_denial, explain_denials, explain_generation};
 use partition_check::{NamedDenial, check_partition};
 use std::alloc::Global;
 use std::io::{self, Write};
 use text_explanations::{
-    LineFault, Source, explain_arrivals, explain_mode, explain_oil, explain_programs,
+    LineFault, Source, explain_arrivals, explain_mode, explain_oil, explain_open_mode,
+    explain_programs,
 };
 use tracer::RunFault;
 
 /// The OIL file of a request.
-fn oil<'t>(request: &Request<'t>, texts: &'t Texts) -> Source<'t> {
+pub(crate) fn oil<'t>(request: &Request<'t>, texts: &'t Texts) -> Source<'t> {
     Source {
         name: request.oil,
         text: &texts.oil,
@@ -22,7 +25,7 @@ fn oil<'t>(request: &Request<'t>, texts: &'t Texts) -> Source<'t> {
 }
 
 /// The program text of a request.
-fn asm<'t>(request: &Request<'t>, texts: &'t Texts) -> Source<'t> {
+pub(crate) fn asm<'t>(request: &Request<'t>, texts: &'t Texts) -> Source<'t> {
     Source {
         name: request.asm,
         text: &texts.asm,
@@ -30,16 +33,33 @@ fn asm<'t>(request: &Request<'t>, texts: &'t Texts) -> Source<'t> {
 }
 
 /// The arrival list of a request, and the mode that it names. Both are empty where no run is asked for.
-fn run_of<'t>(request: &Request<'t>, texts: &'t Texts) -> (Source<'t>, &'t str) {
+fn run_of<'t>(request: &Request<'t>, texts: &'t Texts) -> (Source<'t>, Option<&'t str>) {
     let (name, mode) = match request.question.run_line() {
         Some(RunLine { irq, mode, .. }) => (irq, mode),
-        None => ("", ""),
+        None => ("", None),
     };
     let irq = Source {
         name,
         text: &texts.irq,
     };
     (irq, mode)
+}
+
+/// What is said of a file that can't be read.
+fn refusal_text(refusal: Refusal) -> &'static str {
+    match refusal {
+        Refusal::Missing => "there is no file of that name",
+        Refusal::Folder => "it is a folder",
+        Refusal::Failed => "it can't be read",
+    }
+}
+
+/// Writes why a file could not be had. Want of memory has no explanation.
+pub(crate) fn explain_unread<W: Write>(unread: Unread<'_>, out: &mut W) -> io::Result<()> {
+    match unread {
+        Unread::File(name, refusal) => writeln!(out, "{name}: {}", refusal_text(refusal)),
+        Unread::Memory => Ok(()),
+    }
 }
 
 /// The line of a refused arrival list, and what is wrong with it.
@@ -74,7 +94,10 @@ pub(crate) fn explain_fault<W: Write>(
             Some((line, fault)) => explain_arrivals(alloc, oil, irq, line, fault, out),
             None => Ok(()),
         },
-        RunFault::Boot(_) => explain_mode(alloc, oil, mode, out),
+        RunFault::Boot(_) => match mode {
+            Some(mode) => explain_mode(alloc, oil, mode, out),
+            None => explain_open_mode(alloc, oil, out),
+        },
         RunFault::Denied(_) | RunFault::Memory | RunFault::Write => Ok(()),
     }
 }
@@ -98,6 +121,27 @@ fn explain_cut<W: Write>(
     )
 }
 
+/// The same of several denials, one behind the other, with a lead behind the place of each.
+fn explain_cuts<W: Write>(
+    alloc: Global,
+    request: &Request<'_>,
+    texts: &Texts,
+    p: u8,
+    lead: &str,
+    denials: &[NamedDenial],
+    out: &mut W,
+) -> io::Result<()> {
+    explain_denials(
+        alloc,
+        oil(request, texts),
+        asm(request, texts),
+        p,
+        lead,
+        denials,
+        out,
+    )
+}
+
 /// Explains why a system can't be cut at the priorities at which it can't.
 fn explain_partitions<E: Write>(
     alloc: Global,
@@ -116,6 +160,37 @@ fn explain_partitions<E: Write>(
     Ok(())
 }
 
+/// Explains a stretch of priorities at which a system can't be cut, at the lowest of them. The stretch stands behind the place.
+fn explain_stretch<E: Write>(
+    alloc: Global,
+    request: &Request<'_>,
+    texts: &Texts,
+    stretch: Stretch,
+    denial: NamedDenial,
+    err: &mut E,
+) -> Result<(), RunFault> {
+    let lead = format!(in alloc; "{stretch}: ")?;
+    let first = stretch.first;
+    explain_cuts(alloc, request, texts, first, lead.as_str(), &[denial], err)?;
+    Ok(())
+}
+
+/// Explains the stretches of priorities at which a system can't be cut.
+fn explain_joined<E: Write>(
+    alloc: Global,
+    request: &Request<'_>,
+    texts: &Texts,
+    err: &mut E,
+) -> Result<(), RunFault> {
+    let system = system_of(alloc, texts)?;
+    for stretch in stretches(alloc, &system)? {
+        if let Some(denial) = stretch.denial {
+            explain_stretch(alloc, request, texts, stretch, denial.named(&system), err)?;
+        }
+    }
+    Ok(())
+}
+
 /// Explains what was denied, as far as memory and `err` allow.
 pub(crate) fn explain_verdict<E: Write>(
     alloc: Global,
@@ -124,10 +199,22 @@ pub(crate) fn explain_verdict<E: Write>(
     verdict: &Verdict<'_>,
     err: &mut E,
 ) {
-    if let Verdict::Denied(priority, denial) = verdict {
-        let _ = explain_cut(alloc, request, texts, *priority, denial, err);
+    match verdict {
+        Verdict::Denied(priority, denial) => {
+            let _ = explain_cut(alloc, request, texts, *priority, denial, err);
+        }
+        Verdict::AllDenied(priority, denials) => {
+            let _ = explain_cuts(alloc, request, texts, *priority, "", denials, err);
+        }
+        _ => {}
     }
-    if let Question::Partitions = request.question {
-        let _ = explain_partitions(alloc, request, texts, err);
+    match request.question {
+        Question::Partitions { are_joined: false } => {
+            let _ = explain_partitions(alloc, request, texts, err);
+        }
+        Question::Partitions { are_joined: true } => {
+            let _ = explain_joined(alloc, request, texts, err);
+        }
+        _ => {}
     }
 }

@@ -17,6 +17,10 @@ pub(crate) const PRIORITY: &str =
 
 pub(crate) const ALONE: &str = "Runs the upper part by itself; what is printed is the same";
 
+pub(crate) const ALL: &str = "Prints all denials, a line each, in the order of the rules";
+
+pub(crate) const JOINED: &str = "Prints neighbouring priorities with one verdict as one line";
+
 pub(crate) const BLOCKING: &str =
     "Prints ` ! N` behind a job's first instruction since it became ready: N jobs of lower priority executed meanwhile";
 
@@ -52,6 +56,11 @@ pub(crate) const NO_TICK_SHOWN: &str = "no tick is shown: --from lies behind TIC
 pub(crate) const TOO_MANY_DRAWN: &str =
     "a picture has at most 5000 ticks: --from and --to choose them";
 
+pub(crate) const IN: &str =
+    "In place of the files: the folder of system.oil, programs.asm and arrivals.irq; a lone mode may be left out then";
+
+pub(crate) const TWO_FOLDERS: &str = "--in stands once, in place of the files";
+
 pub(crate) const EXPLAIN: &str =
     "Says behind a refusal or a denial, on standard error, where it is and what would be allowed";
 
@@ -59,7 +68,10 @@ pub(crate) const TRACE_EXAMPLE: &str = "Example, ten ticks in the mode Normal:
   osek_run trace system.oil programs.asm arrivals.irq Normal 10
 
 With the numbers of blockers:
-  osek_run trace --blocking system.oil programs.asm arrivals.irq Normal 10";
+  osek_run trace --blocking system.oil programs.asm arrivals.irq Normal 10
+
+The files system.oil, programs.asm and arrivals.irq of a folder:
+  osek_run trace --in FOLDER Normal 10";
 
 pub(crate) const UPPER_EXAMPLE: &str =
     "Example, ten ticks in the mode Normal, seen from priority 5 upward:
@@ -82,18 +94,31 @@ pub(crate) const CHECK_EXAMPLE: &str =
     "Prints `accepted`, or `denied:` with the first rule that is broken, and where.
 
 Example, the cut at priority 5:
-  osek_run check system.oil programs.asm 5";
+  osek_run check system.oil programs.asm 5
+
+All that is in its way, each explained:
+  osek_run check --all --explain system.oil programs.asm 5";
 
 pub(crate) const PARTITIONS_EXAMPLE: &str =
     "Prints a line for each priority: `P: accepted`, or `P: denied:` with the first rule that is broken, and where.
 
 Example:
-  osek_run partitions system.oil programs.asm";
+  osek_run partitions system.oil programs.asm
+
+Neighbours joined, as `6..10: accepted`:
+  osek_run partitions --joined system.oil programs.asm";
 
 pub(crate) const CLASS_EXAMPLE: &str = "Prints BCC1, BCC2, ECC1 or ECC2.
 
 Example:
   osek_run class system.oil programs.asm";
+
+pub(crate) const SHOW_EXAMPLE: &str =
+    "On standard output: the class, and a table for each kind of objects, with numbers, ceilings and masks. On standard
+error: a line for each mistake, as an event that a task waits for and doesn't list, or an object that nobody uses.
+
+Example:
+  osek_run show system.oil programs.asm";
 
 pub(crate) const FILE: &str = "The description, in TOML: tasks, interrupts and alarms";
 

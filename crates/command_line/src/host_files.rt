@@ -2,13 +2,24 @@
 
 use std::alloc::{AllocError, Global};
 use std::fs;
-use std::io::ErrorKind;
+use std::io::{Error, ErrorKind};
+
+/// Why a file can't be read or written.
+#[derive(Clone, Copy, Debug, PartialEq, Eq)]
+pub enum Refusal {
+    /// There is no file of that name.
+    Missing,
+    /// It is a folder.
+    Folder,
+    /// Reading or writing it failed.
+    Failed,
+}
 
 /// Why a file's bytes could not be had, or not be written.
 #[derive(Clone, Copy, Debug, PartialEq, Eq)]
 pub enum FileFault {
-    /// There is no such file, or reading it failed; or writing it failed.
-    Unreadable,
+    /// The file refuses.
+    Refused(Refusal),
     /// Memory was refused.
     Memory,
 }
@@ -26,7 +37,7 @@ impl From<AllocError> for FileFault {
 
 /// Files by name. A test has its own in memory.
 pub trait Files {
-    /// All bytes of a file.
+    /// All bytes of a file; of the system's files `-` is standard input.
     fn read(&mut self, alloc: Global, name: &str) -> Result<Vec<u8>, FileFault>;
 
     /// Writes a file of a folder, in place of what it had. The folder is made where it isn't there.
@@ -37,6 +48,24 @@ pub trait Files {
         name: &str,
         bytes: &[u8],
     ) -> Result<(), FileFault>;
+}
+
+/// Where a file is read that a line names: `-` is standard input.
+fn path_of(name: &str) -> &str {
+    match name {
+        "-" => "/dev/stdin",
+        name => name,
+    }
+}
+
+/// What an error of the system says of a file.
+fn fault_of(error: Error) -> FileFault {
+    match error.kind() {
+        ErrorKind::OutOfMemory => FileFault::Memory,
+        ErrorKind::NotFound | ErrorKind::NotADirectory => FileFault::Refused(Refusal::Missing),
+        ErrorKind::IsADirectory => FileFault::Refused(Refusal::Folder),
+        _ => FileFault::Refused(Refusal::Failed),
+    }
 }
 
 /// The files of the system.
@@ -53,10 +82,9 @@ impl<'a> HostFiles<'a> {
 
 impl Files for HostFiles<'_> {
     fn read(&mut self, _alloc: Global, name: &str) -> Result<Vec<u8>, FileFault> {
-        match fs::read(self.rt, name) {
+        match fs::read(self.rt, path_of(name)) {
             Ok(bytes) => Ok(bytes),
-            Err(error) if error.kind() == ErrorKind::OutOfMemory => Err(FileFault::Memory),
-            Err(_) => Err(FileFault::Unreadable),
+            Err(error) => Err(fault_of(error)),
         }
     }
 
@@ -74,8 +102,7 @@ impl Files for HostFiles<'_> {
         };
         match written {
             Ok(()) => Ok(()),
-            Err(error) if error.kind() == ErrorKind::OutOfMemory => Err(FileFault::Memory),
-            Err(_) => Err(FileFault::Unreadable),
+            Err(error) => Err(fault_of(error)),
         }
     }
 }

@@ -1,7 +1,8 @@
 //! What a command line's files have: their texts, and the system of these.
 
-use crate::host_files::{FileFault, Files};
+use crate::host_files::{FileFault, Files, Refusal};
 use crate::request::Request;
+use oil_reader::read_oil;
 use osek_base::System;
 use std::alloc::Global;
 use thiserror::Error;
@@ -19,7 +20,7 @@ pub(crate) struct Texts {
 #[derive(Clone, Copy, Debug, PartialEq, Eq, Drop, Error)]
 pub(crate) enum Unread<'a> {
     #[error("file: {0}")]
-    File(&'a str),
+    File(&'a str, Refusal),
     #[error("memory")]
     Memory,
 }
@@ -32,7 +33,7 @@ pub(crate) fn read_file<'a, F: Files>(
 ) -> Result<Vec<u8>, Unread<'a>> {
     match files.read(alloc, name) {
         Ok(bytes) => Ok(bytes),
-        Err(FileFault::Unreadable) => Err(Unread::File(name)),
+        Err(FileFault::Refused(refusal)) => Err(Unread::File(name, refusal)),
         Err(FileFault::Memory) => Err(Unread::Memory),
     }
 }
@@ -50,6 +51,23 @@ pub(crate) fn read_texts<'a, F: Files>(
         None => Vec::new(alloc),
     };
     Ok(Texts { oil, asm, irq })
+}
+
+/// The name of a run's mode: the one that its line has, or else the only one of the OIL file. It is empty where the file has
+/// several.
+pub(crate) fn mode_of(
+    alloc: Global,
+    texts: &Texts,
+    mode: Option<&str>,
+) -> Result<String, RunFault> {
+    if let Some(mode) = mode {
+        return Ok(format!(in alloc; "{mode}")?);
+    }
+    let file = read_oil(alloc, &texts.oil)?;
+    match file.app_modes() {
+        [only] => Ok(format!(in alloc; "{}", only.as_str())?),
+        _ => Ok(String::new(alloc)),
+    }
 }
 
 /// The system of the two texts that it is made of.

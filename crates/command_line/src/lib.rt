@@ -3,6 +3,7 @@
 
 mod answering;
 mod explaining;
+mod folder;
 mod help;
 mod host_files;
 mod imports;
@@ -14,8 +15,9 @@ mod making;
 mod partitions;
 mod request;
 mod runs;
+mod showing;
 mod status;
 
 pub use answering::command;
-pub use host_files::{FileFault, Files, HostFiles};
+pub use host_files::{FileFault, Files, HostFiles, Refusal};
 pub use status::{BROKEN, DENIED, DONE, REFUSED, REFUSED_LINE, WRITE_FAILED};

@@ -21,8 +21,14 @@ fn flag<'a>(alloc: Global, name: &'a str, meaning: &'a str) -> Arg<'a> {
 
 /// The names of the two files that a system is made of, and whether a refusal is explained.
 fn of_system<'a>(alloc: Global, line: Command<'a>) -> Result<Command<'a>, AllocError> {
+    let folder = Arg::new(alloc, "in")
+        .long("in")
+        .action(ArgAction::Set)
+        .value_name("FOLDER")
+        .help(help::IN);
     line.arg(word(alloc, "OIL", help::OIL))?
         .arg(word(alloc, "ASM", help::ASM))?
+        .arg(folder)?
         .arg(flag(alloc, "explain", help::EXPLAIN))
 }
 
@@ -116,20 +122,29 @@ fn check_line<'a>(alloc: Global) -> Result<Command<'a>, AllocError> {
     let line = Command::new(alloc, "check")
         .about("Checks that the part from priority P upward is separable from the part below")
         .after_help(help::CHECK_EXAMPLE);
-    of_system(alloc, line)?.arg(priority(alloc))
+    of_system(alloc, line)?
+        .arg(priority(alloc))?
+        .arg(flag(alloc, "all", help::ALL))
 }
 
 fn partitions_line<'a>(alloc: Global) -> Result<Command<'a>, AllocError> {
     let line = Command::new(alloc, "partitions")
         .about("Checks that at each priority, from 0 to the greatest of a task")
         .after_help(help::PARTITIONS_EXAMPLE);
-    of_system(alloc, line)
+    of_system(alloc, line)?.arg(flag(alloc, "joined", help::JOINED))
 }
 
 fn class_line<'a>(alloc: Global) -> Result<Command<'a>, AllocError> {
     let line = Command::new(alloc, "class")
         .about("Prints the conformance class of a system")
         .after_help(help::CLASS_EXAMPLE);
+    of_system(alloc, line)
+}
+
+fn show_line<'a>(alloc: Global) -> Result<Command<'a>, AllocError> {
+    let line = Command::new(alloc, "show")
+        .about("Prints what a system consists of, and warns of mistakes")
+        .after_help(help::SHOW_EXAMPLE);
     of_system(alloc, line)
 }
 
@@ -175,6 +190,7 @@ pub(crate) fn lines<'a>(alloc: Global) -> Result<Command<'a>, AllocError> {
         .subcommand(check_line(alloc)?)?
         .subcommand(partitions_line(alloc)?)?
         .subcommand(class_line(alloc)?)?
+        .subcommand(show_line(alloc)?)?
         .subcommand(make_line(alloc)?)?
         .subcommand(import_line(alloc)?)
 }

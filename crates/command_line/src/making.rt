@@ -1,5 +1,6 @@
 //! What is made of a description: the three files of a system, or the places of all that is wrong.
 
+use crate::folder::NAMES;
 use crate::host_files::{FileFault, Files};
 use crate::request::MakeLine;
 use crate::status::{DONE, REFUSED, WRITE_FAILED};
@@ -8,13 +9,6 @@ use std::io::{self, Write};
 use system_maker::{Answer, Made, Remark, make};
 use text_explanations::{Piece, Source};
 use tracer::read_system;
-
-/// The names of the files in their folder.
-const OIL: &str = "system.oil";
-
-const ASM: &str = "programs.asm";
-
-const IRQ: &str = "arrivals.irq";
 
 /// Writes how many things are wrong with a description, and each at its place.
 fn write_remarks<E: Write>(source: Source<'_>, remarks: &[Remark], err: &mut E) -> io::Result<()> {
@@ -37,7 +31,7 @@ fn write_file<F: Files, E: Write>(
     match files.write(alloc, folder, name, bytes) {
         Ok(()) => Ok(true),
         Err(FileFault::Memory) => Err(AllocError),
-        Err(FileFault::Unreadable) => {
+        Err(FileFault::Refused(_)) => {
             let _ = writeln!(err, "file: {folder}/{name}");
             Ok(false)
         }
@@ -56,9 +50,10 @@ fn write_made<F: Files, E: Write>(
         let _ = writeln!(err, "{fault}");
         return Ok(REFUSED);
     }
-    let is_written = write_file(alloc, files, folder, OIL, &made.oil, err)?
-        && write_file(alloc, files, folder, ASM, &made.asm, err)?
-        && write_file(alloc, files, folder, IRQ, &made.irq, err)?;
+    let [oil, asm, irq] = NAMES;
+    let is_written = write_file(alloc, files, folder, oil, &made.oil, err)?
+        && write_file(alloc, files, folder, asm, &made.asm, err)?
+        && write_file(alloc, files, folder, irq, &made.irq, err)?;
     Ok(if is_written { DONE } else { WRITE_FAILED })
 }
 
@@ -96,7 +91,7 @@ pub(crate) fn make_files<F: Files, E: Write>(
     let made = match files.read(alloc, line.file) {
         Ok(text) => make_text(alloc, line, &text, files, err),
         Err(FileFault::Memory) => Err(AllocError),
-        Err(FileFault::Unreadable) => {
+        Err(FileFault::Refused(_)) => {
             let _ = writeln!(err, "file: {}", line.file);
             return REFUSED;
         }

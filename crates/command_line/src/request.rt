@@ -13,7 +13,8 @@ use std::convert::AsStr;
 #[derive(Clone, Copy, Debug)]
 pub struct RunLine<'a> {
     pub irq: &'a str,
-    pub mode: &'a str,
+    /// None for the only one.
+    pub mode: Option<&'a str>,
     pub ticks: u32,
 }
 
@@ -74,14 +75,19 @@ pub enum Question<'a> {
         line: RunLine<'a>,
         view: View<'a>,
     },
-    /// Whether the part from a priority upward is separable from what is below.
+    /// Whether the part from a priority upward is separable from what is below; the first denial, or all.
     Check {
         priority: u8,
+        is_whole: bool,
     },
-    /// At which priorities that is so.
-    Partitions,
+    /// At which priorities that is so, each by itself or joined where they have one verdict.
+    Partitions {
+        are_joined: bool,
+    },
     /// The conformance class.
     Class,
+    /// What generation made, and what is surely a mistake.
+    Show,
 }
 
 impl<'a> Question<'a> {
@@ -97,7 +103,10 @@ impl<'a> Question<'a> {
     pub fn run_line(&self) -> Option<RunLine<'a>> {
         match *self {
             Question::Lines { line, .. } | Question::View { line, .. } => Some(line),
-            Question::Check { .. } | Question::Partitions | Question::Class => None,
+            Question::Check { .. }
+            | Question::Partitions { .. }
+            | Question::Class
+            | Question::Show => None,
         }
     }
 }
@@ -137,7 +146,7 @@ fn text<'a>(matches: &ArgMatches<'a>, name: &str) -> &'a str {
 fn run_line<'a>(matches: &ArgMatches<'a>) -> RunLine<'a> {
     RunLine {
         irq: text(matches, "IRQ"),
-        mode: text(matches, "MODE"),
+        mode: matches.get_str("MODE"),
         ticks: matches.get_one::<u32>("TICKS").unwrap_or(0),
     }
 }
@@ -229,12 +238,18 @@ fn shown_fault(question: &Question<'_>) -> Option<&'static str> {
     let (line, from) = match question {
         Question::Lines { line, from, .. } => (line, *from),
         Question::View { line, view } => (line, view.first_tick()),
-        Question::Check { .. } | Question::Partitions | Question::Class => return None,
+        Question::Check { .. } | Question::Partitions { .. } | Question::Class | Question::Show =>
+            return None,
     };
     let Some(shown) = line.ticks.checked_sub(from) else {
         return Some(help::NO_TICK_SHOWN);
     };
     (question.is_drawn() && shown > MAX_DRAWN).then_some(help::TOO_MANY_DRAWN)
+}
+
+/// Why a line that names a folder is refused: it was taken for the files already, so this is a second one.
+fn folder_fault(matches: &ArgMatches<'_>) -> Option<&'static str> {
+    matches.get_str("in").map(|_name| help::TWO_FOLDERS)
 }
 
 /// All lines, with the numbers of blockers where they are wanted.
@@ -264,9 +279,13 @@ fn asked<'a>(subcommand: &str, matches: &ArgMatches<'a>) -> Question<'a> {
         "stats" => stats(matches),
         "check" => Question::Check {
             priority: priority(matches),
+            is_whole: matches.get_flag("all"),
         },
-        "partitions" => Question::Partitions,
+        "partitions" => Question::Partitions {
+            are_joined: matches.get_flag("joined"),
+        },
         "class" => Question::Class,
+        "show" => Question::Show,
         _ => trace(matches),
     }
 }
@@ -282,9 +301,29 @@ fn imported<'a>(alloc: Global, matches: &ArgMatches<'a>) -> Result<Vec<&'a str>,
     Ok(names)
 }
 
-/// Reads a command line, of which the first word is the program's name. An error is a refused line, a call for help or
-/// for the version, or want of memory.
-pub fn read_line<'a, S: AsStr>(alloc: Global, words: &'a [S]) -> Result<Asked<'a>, Error> {
+/// Takes the mode of a question away: the word in its place stands for the only one.
+fn without_mode<'a>(question: Question<'a>) -> Question<'a> {
+    match question {
+        Question::Lines { line, lines, from } => Question::Lines {
+            line: RunLine { mode: None, ..line },
+            lines,
+            from,
+        },
+        Question::View { line, view } => Question::View {
+            line: RunLine { mode: None, ..line },
+            view,
+        },
+        question => question,
+    }
+}
+
+/// Reads a command line, of which the first word is the program's name. Where it has no mode, a word stands in its place. An
+/// error is a refused line, a call for help or for the version, or want of memory.
+pub fn read_line<'a, S: AsStr>(
+    alloc: Global,
+    words: &'a [S],
+    has_mode: bool,
+) -> Result<Asked<'a>, Error> {
     let mut line = lines(alloc)?;
     let matches = line.try_get_matches_from_mut(words)?;
     let Some((name, found)) = matches.subcommand() else {
@@ -300,7 +339,7 @@ pub fn read_line<'a, S: AsStr>(alloc: Global, words: &'a [S]) -> Result<Asked<'a
         return Ok(Asked::Import(imported(alloc, found)?));
     }
     let question = asked(name, found);
-    if let Some(fault) = shown_fault(&question) {
+    if let Some(fault) = shown_fault(&question).or(folder_fault(found)) {
         return Err(line.error(ErrorKind::ValueValidation, fault)?);
     }
     let mut limits = Vec::new(alloc);
@@ -310,7 +349,11 @@ pub fn read_line<'a, S: AsStr>(alloc: Global, words: &'a [S]) -> Result<Asked<'a
     Ok(Asked::System(Request {
         oil: text(found, "OIL"),
         asm: text(found, "ASM"),
-        question,
+        question: if has_mode {
+            question
+        } else {
+            without_mode(question)
+        },
         limits,
         is_explained: found.get_flag("explain"),
     }))

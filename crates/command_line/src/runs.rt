@@ -1,6 +1,6 @@
 //! What is written of a run: the lines of its trace, or how else it is shown.
 
-use crate::inputs::{Texts, system_of};
+use crate::inputs::{Texts, mode_of, system_of};
 use crate::line_watch::LineWatch;
 use crate::lines_from::LinesFrom;
 use crate::partitions::write_denial;
@@ -26,7 +26,8 @@ pub(crate) fn write_lines<O: Write, E: Write>(
     out: &mut O,
 ) -> Result<Verdict<'static>, RunFault> {
     let Texts { oil, asm, irq } = texts;
-    let mode = line.mode;
+    let mode = mode_of(alloc, texts, line.mode)?;
+    let mode = mode.as_str();
     let ticks = line.ticks.min(MAX_TICKS);
     let shown = LinesFrom::new(&mut *out, from);
     let mut sink = StdSink::new(LineWatch::new(shown, progress, ticks));
@@ -79,9 +80,10 @@ pub(crate) fn write_view<'v, O: Write, E: Write>(
     out: &mut O,
 ) -> Result<Verdict<'v>, RunFault> {
     let system = system_of(alloc, texts)?;
+    let mode = mode_of(alloc, texts, line.mode)?;
     let input = RunInput {
         irqs: &texts.irq,
-        mode: line.mode,
+        mode: mode.as_str(),
         ticks: line.ticks,
     };
     match view {

@@ -30,10 +30,14 @@ pub(crate) enum Verdict<'a> {
     NoRow(&'a str),
     /// A partition is denied at a priority.
     Denied(u8, NamedDenial),
+    /// The same, with all denials.
+    AllDenied(u8, Vec<NamedDenial>),
     /// The figures are written, and limits are broken: a line for each.
     Broken(String),
     /// A limit is on a task or a routine of that name, and there is none: nothing is written.
     NoLimit(&'a str),
+    /// The system is shown: a line for each mistake.
+    Warned(Vec<u8>),
 }
 
 impl Verdict<'_> {
@@ -43,15 +47,16 @@ impl Verdict<'_> {
             Verdict::NoRow(name) => writeln!(err, "row: {name}"),
             Verdict::NoLimit(name) => writeln!(err, "limit: {name}"),
             Verdict::Broken(lines) => err.write_all(lines.as_bytes()),
-            Verdict::Done | Verdict::Denied(..) => Ok(()),
+            Verdict::Warned(lines) => err.write_all(lines),
+            Verdict::Done | Verdict::Denied(..) | Verdict::AllDenied(..) => Ok(()),
         }
     }
 
     pub(crate) fn status(&self) -> u8 {
         match self {
-            Verdict::Done => DONE,
+            Verdict::Done | Verdict::Warned(_) => DONE,
             Verdict::NoRow(_) => REFUSED,
-            Verdict::Denied(..) => DENIED,
+            Verdict::Denied(..) | Verdict::AllDenied(..) => DENIED,
             Verdict::Broken(_) => BROKEN,
             Verdict::NoLimit(_) => REFUSED,
         }

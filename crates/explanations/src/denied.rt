@@ -1,13 +1,14 @@
 //! Denied partitions: what is named or listed, and what would be allowed.
 
-use crate::declared::{attribute, level, object, word_of};
-use crate::instructions::{mnemonic_at, named_kind, operand_of, owner_word};
-use crate::parsed::{Parsed, Parts};
 use oil_reader::{Kind, Object, Setting, SyntaxTree};
 use osek_base::Owner;
 use partition_check::{NamedDenial, Rule};
 use std::alloc::{AllocError, Global};
 use std::io::{self, Write};
+use system_texts::{
+    Parsed, Parts, attribute, level, mnemonic_at, named_kind, object, operand_of, owner_word,
+    word_of,
+};
 use task_asm::ProgramKind;
 use text_explanations::Piece::{self, Named, Number, Text};
 use text_explanations::{CodeWord, Source, names, write_first_names};
@@ -16,11 +17,25 @@ use text_explanations::{CodeWord, Source, names, write_first_names};
 #[derive(Drop)]
 struct Cut<'d> {
     p: u8,
+    /// What stands behind the place, before what is wrong there.
+    lead: &'d str,
     rule: Rule,
     subject: Owner,
     place: Option<u16>,
     /// The name of the subject.
     name: &'d str,
+}
+
+fn cut_of<'d>(p: u8, lead: &'d str, denial: &'d NamedDenial) -> Cut<'d> {
+    let denied = denial.denial;
+    Cut {
+        p,
+        lead,
+        rule: denied.rule,
+        subject: denied.subject,
+        place: denied.place,
+        name: denial.name.as_str(),
+    }
 }
 
 /// The names of the objects of a kind that a rule allows: the upper ones for upper programs, or else the lower ones.
@@ -63,7 +78,9 @@ fn explain_schedule<W: Write>(
     };
     let [name, by, level] = leveled(parsed.tree, Kind::Task, task.name.text);
     let p = Number(cut.p as usize);
-    let what = [name, by, level, Text(", is below "), p, Text(" and NON")];
+    let lead = Text(cut.lead);
+    let below = Text(", is below ");
+    let what = [lead, name, by, level, below, p, Text(" and NON")];
     let place = schedule.setting.value_place;
     parsed
         .oil
@@ -99,6 +116,7 @@ fn explain_listed<W: Write>(
     let below = Text(", is below ");
     let p = Number(cut.p as usize);
     let what = [
+        Text(cut.lead),
         task,
         by,
         level,
@@ -146,7 +164,8 @@ fn explain_named<'a, W: Write>(
     };
     let name = Text(cut.name);
     let p = Number(cut.p as usize);
-    let what = [name, Text(" names "), named, by, level, Text(side), p];
+    let names = Text(" names ");
+    let what = [Text(cut.lead), name, names, named, by, level, Text(side), p];
     parsed.asm.tell(operand.place, &what, out)?;
     write_first_names("allowed", &allowed(alloc, parsed.tree, cut, kind)?, out)
 }
@@ -160,6 +179,7 @@ fn explain_lower<W: Write>(
 ) -> io::Result<()> {
     let end = Text(", turns interrupts off or on, or shuts down");
     let what = [
+        Text(cut.lead),
         Text(cut.name),
         Text(", below "),
         Number(cut.p as usize),
@@ -177,6 +197,7 @@ fn explain_task_id<W: Write>(
     out: &mut W,
 ) -> io::Result<()> {
     let what = [
+        Text(cut.lead),
         Text("routine "),
         Text(cut.name),
         Text(" asks which task runs"),
@@ -230,8 +251,29 @@ fn explain_cut<'a, W: Write>(
     }
 }
 
-/// Explains the denial, at a priority, of the system of an OIL file and its programs: what is named or listed, where, and
-/// what would be allowed. An error is a failed write, or want of memory for the explanation.
+/// Explains denials at a priority, of the system of an OIL file and its programs: what is named or listed, where, and what would
+/// be allowed. They stand one behind the other, and the lead behind the place of each. An error is a failed write, or want of
+/// memory for the explanation.
+pub fn explain_denials<'a, W: Write>(
+    alloc: Global,
+    oil: Source<'a>,
+    asm: Source<'a>,
+    p: u8,
+    lead: &'a str,
+    denials: &'a [NamedDenial],
+    out: &mut W,
+) -> io::Result<()> {
+    let Some(parts) = Parts::of(alloc, oil, asm)? else {
+        return Ok(());
+    };
+    for denial in denials {
+        let cut = cut_of(p, lead, denial);
+        explain_cut(alloc, parts.parsed(oil, asm), &cut, out)?;
+    }
+    Ok(())
+}
+
+/// Explains one denial at a priority.
 pub fn explain_denial<'a, W: Write>(
     alloc: Global,
     oil: Source<'a>,
@@ -243,13 +285,6 @@ pub fn explain_denial<'a, W: Write>(
     let Some(parts) = Parts::of(alloc, oil, asm)? else {
         return Ok(());
     };
-    let denied = denial.denial;
-    let cut = Cut {
-        p,
-        rule: denied.rule,
-        subject: denied.subject,
-        place: denied.place,
-        name: denial.name.as_str(),
-    };
+    let cut = cut_of(p, "", denial);
     explain_cut(alloc, parts.parsed(oil, asm), &cut, out)
 }

@@ -1,8 +1,5 @@
 //! Faults of generation.
 
-use crate::declared::{attribute, is_internal, is_set, object, word_of};
-use crate::instructions::{first_of, last_mnemonic, owner_word};
-use crate::parsed::{Parsed, Parts};
 use crate::references::explain_unknown_name;
 use crate::times::{explain_alarm, explain_counter};
 use oil_reader::{Attribute, Kind, Object, SyntaxTree};
@@ -12,6 +9,10 @@ use osek_base::{
 use std::alloc::Global;
 use std::io::{self, Write};
 use system_gen::{GenFault, ObjectKind};
+use system_texts::{
+    Parsed, Parts, attribute, first_of, is_internal, is_set, last_mnemonic, object, owner_word,
+    word_of,
+};
 use task_asm::ProgramKind;
 use text_explanations::Piece::{self, Named, Number, Text};
 use text_explanations::{CodeWord, Source, kind_word};

@@ -2,13 +2,10 @@
 //! wrong there, and what would be allowed. Each is written behind the fixed line of the refusal.
 #![tactic(auto)]
 
-mod declared;
 mod denied;
 mod generation;
-mod instructions;
-mod parsed;
 mod references;
 mod times;
 
-pub use denied::explain_denial;
+pub use denied::{explain_denial, explain_denials};
 pub use generation::explain_generation;

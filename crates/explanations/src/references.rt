@@ -1,11 +1,9 @@
 //! Names that stand for objects, in the order in which generation looks them up.
 
-use crate::declared::{has_scheduler, is_internal, object, word_of};
-use crate::instructions::named_kind;
-use crate::parsed::Parsed;
 use oil_reader::{Attribute, Kind, Object, Setting, SyntaxTree, Value};
 use std::alloc::{AllocError, Global};
 use std::io::{self, Write};
+use system_texts::{Parsed, has_scheduler, is_internal, named_kind, object, word_of};
 use task_asm::ProgramKind;
 use text_explanations::Piece::{self, Named, Text};
 use text_explanations::{CodeWord, Part, Source, names, write_choice, write_names};

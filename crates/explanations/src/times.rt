@@ -1,9 +1,9 @@
 //! Values of counters and alarms that generation refuses.
 
-use crate::declared::{attribute, inner, number_in, number_of, object, word_of};
 use oil_reader::{Kind, Object, Setting, SyntaxTree};
 use osek_base::MAX_COUNTS;
 use std::io::{self, Write};
+use system_texts::{attribute, inner, number_in, number_of, object, word_of};
 use text_explanations::Piece::{Named, Number, Text};
 use text_explanations::Source;
 

@@ -7,7 +7,7 @@ use text_explanations::{CodeWord, Source, code_words, tree_of};
 
 /// The two texts of a system, and what they consist of.
 #[derive(Clone, Copy)]
-pub(crate) struct Parsed<'t, 'a> {
+pub struct Parsed<'t, 'a> {
     pub oil: Source<'a>,
     pub tree: &'t SyntaxTree<'a>,
     pub asm: Source<'a>,
@@ -16,18 +16,14 @@ pub(crate) struct Parsed<'t, 'a> {
 
 /// What the two texts of a system consist of.
 #[derive(Drop)]
-pub(crate) struct Parts<'a> {
+pub struct Parts<'a> {
     tree: SyntaxTree<'a>,
     words: Vec<CodeWord<'a>>,
 }
 
 impl<'a> Parts<'a> {
     /// The parts of two texts, where both can be read.
-    pub(crate) fn of(
-        alloc: Global,
-        oil: Source<'a>,
-        asm: Source<'a>,
-    ) -> Result<Option<Self>, AllocError> {
+    pub fn of(alloc: Global, oil: Source<'a>, asm: Source<'a>) -> Result<Option<Self>, AllocError> {
         let Some(tree) = tree_of(alloc, oil.text) else {
             return Ok(None);
         };
@@ -39,7 +35,7 @@ impl<'a> Parts<'a> {
     }
 
     /// The two texts with their parts.
-    pub(crate) fn parsed(&self, oil: Source<'a>, asm: Source<'a>) -> Parsed<'_, 'a> {
+    pub fn parsed(&self, oil: Source<'a>, asm: Source<'a>) -> Parsed<'_, 'a> {
         Parsed {
             oil,
             tree: &self.tree,

@@ -17,7 +17,7 @@ const ON_ALARMS: [&str; 5] = ["SREL", "SABS", "CANA", "GALM", "GBAS"];
 const ON_EVENTS: [&str; 3] = ["SETE", "CLRE", "WAIT"];
 
 /// The kind of object that an operand of a mnemonic names: the first operand, of number 0, or a later one.
-pub(crate) fn named_kind(mnemonic: &str, number: usize) -> Option<Kind> {
+pub fn named_kind(mnemonic: &str, number: usize) -> Option<Kind> {
     if number == 0 && ON_TASKS.contains(&mnemonic) {
         Some(Kind::Task)
     } else if number == 0 && ON_RESOURCES.contains(&mnemonic) {
@@ -32,7 +32,7 @@ pub(crate) fn named_kind(mnemonic: &str, number: usize) -> Option<Kind> {
 }
 
 /// The name behind the directive of the program of that kind and name.
-pub(crate) fn owner_word<'a>(
+pub fn owner_word<'a>(
     words: &[CodeWord<'a>],
     kind: ProgramKind,
     name: &str,
@@ -51,7 +51,7 @@ fn is_mnemonic_of(word: CodeWord<'_>, program: usize) -> bool {
 }
 
 /// The mnemonic of the instruction at a place of a program, from 0 on.
-pub(crate) fn mnemonic_at<'a>(
+pub fn mnemonic_at<'a>(
     words: &[CodeWord<'a>],
     program: usize,
     place: usize,
@@ -69,7 +69,7 @@ pub(crate) fn mnemonic_at<'a>(
 }
 
 /// The mnemonic of a program's last instruction.
-pub(crate) fn last_mnemonic<'a>(words: &[CodeWord<'a>], program: usize) -> Option<CodeWord<'a>> {
+pub fn last_mnemonic<'a>(words: &[CodeWord<'a>], program: usize) -> Option<CodeWord<'a>> {
     let mut last = None;
     for word in words {
         if is_mnemonic_of(*word, program) {
@@ -80,7 +80,7 @@ pub(crate) fn last_mnemonic<'a>(words: &[CodeWord<'a>], program: usize) -> Optio
 }
 
 /// The first instruction of a program with a mnemonic.
-pub(crate) fn first_of<'a>(
+pub fn first_of<'a>(
     words: &[CodeWord<'a>],
     program: usize,
     mnemonic: &str,
@@ -94,10 +94,7 @@ pub(crate) fn first_of<'a>(
 }
 
 /// The first operand of the instruction with a mnemonic, where it is a word.
-pub(crate) fn operand_of<'a>(
-    words: &[CodeWord<'a>],
-    mnemonic: CodeWord<'a>,
-) -> Option<CodeWord<'a>> {
+pub fn operand_of<'a>(words: &[CodeWord<'a>], mnemonic: CodeWord<'a>) -> Option<CodeWord<'a>> {
     for word in words {
         if word.place > mnemonic.place {
             return match word.part {

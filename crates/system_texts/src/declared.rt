@@ -3,11 +3,7 @@
 use oil_reader::{Attribute, Kind, Object, Setting, SyntaxTree, Value};
 
 /// The object of that kind and name.
-pub(crate) fn object<'t, 'a>(
-    tree: &'t SyntaxTree<'a>,
-    kind: Kind,
-    name: &str,
-) -> Option<&'t Object<'a>> {
+pub fn object<'t, 'a>(tree: &'t SyntaxTree<'a>, kind: Kind, name: &str) -> Option<&'t Object<'a>> {
     for object in &tree.objects {
         if object.kind == kind && object.name.text == name {
             return Some(object);
@@ -17,7 +13,7 @@ pub(crate) fn object<'t, 'a>(
 }
 
 /// The attribute of that word.
-pub(crate) fn attribute<'t, 'a>(object: &'t Object<'a>, word: &str) -> Option<&'t Attribute<'a>> {
+pub fn attribute<'t, 'a>(object: &'t Object<'a>, word: &str) -> Option<&'t Attribute<'a>> {
     for attribute in &object.attributes {
         if attribute.setting.name.text == word {
             return Some(attribute);
@@ -27,7 +23,7 @@ pub(crate) fn attribute<'t, 'a>(object: &'t Object<'a>, word: &str) -> Option<&'
 }
 
 /// The setting of that word behind the value of an attribute.
-pub(crate) fn inner<'a>(object: &Object<'a>, word: &str, inner: &str) -> Option<Setting<'a>> {
+pub fn inner<'a>(object: &Object<'a>, word: &str, inner: &str) -> Option<Setting<'a>> {
     let attribute = attribute(object, word)?;
     let block = attribute.block.as_ref()?;
     for setting in &block.settings {
@@ -39,7 +35,7 @@ pub(crate) fn inner<'a>(object: &Object<'a>, word: &str, inner: &str) -> Option<
 }
 
 /// The word of a value, empty where it is a number.
-pub(crate) fn word_of<'a>(value: Value<'a>) -> &'a str {
+pub fn word_of<'a>(value: Value<'a>) -> &'a str {
     match value {
         Value::Name(word) => word.text,
         Value::Number(_) => "",
@@ -47,7 +43,7 @@ pub(crate) fn word_of<'a>(value: Value<'a>) -> &'a str {
 }
 
 /// The number of a value, 0 where it is a word.
-pub(crate) fn number_of(value: Value<'_>) -> u32 {
+pub fn number_of(value: Value<'_>) -> u32 {
     match value {
         Value::Name(_) => 0,
         Value::Number(number) => number,
@@ -55,7 +51,7 @@ pub(crate) fn number_of(value: Value<'_>) -> u32 {
 }
 
 /// The number that an attribute has as its value, 0 where there is none.
-pub(crate) fn number_in(object: &Object<'_>, word: &str) -> u32 {
+pub fn number_in(object: &Object<'_>, word: &str) -> u32 {
     match attribute(object, word) {
         Some(attribute) => number_of(attribute.setting.value),
         None => 0,
@@ -63,7 +59,7 @@ pub(crate) fn number_in(object: &Object<'_>, word: &str) -> u32 {
 }
 
 /// Whether an attribute has that word as its value.
-pub(crate) fn is_set(object: &Object<'_>, word: &str, value: &str) -> bool {
+pub fn is_set(object: &Object<'_>, word: &str, value: &str) -> bool {
     for attribute in &object.attributes {
         let setting = attribute.setting;
         if setting.name.text == word && word_of(setting.value) == value {
@@ -74,7 +70,7 @@ pub(crate) fn is_set(object: &Object<'_>, word: &str, value: &str) -> bool {
 }
 
 /// Whether a resource is internal.
-pub(crate) fn is_internal(tree: &SyntaxTree<'_>, name: &str) -> bool {
+pub fn is_internal(tree: &SyntaxTree<'_>, name: &str) -> bool {
     match object(tree, Kind::Resource, name) {
         Some(resource) => is_set(resource, "RESOURCEPROPERTY", "INTERNAL"),
         None => false,
@@ -82,7 +78,7 @@ pub(crate) fn is_internal(tree: &SyntaxTree<'_>, name: &str) -> bool {
 }
 
 /// Whether RES_SCHEDULER exists.
-pub(crate) fn has_scheduler(tree: &SyntaxTree<'_>) -> bool {
+pub fn has_scheduler(tree: &SyntaxTree<'_>) -> bool {
     for object in &tree.objects {
         if object.kind == Kind::Os && is_set(object, "USERESSCHEDULER", "FALSE") {
             return false;
@@ -124,7 +120,7 @@ fn target<'a>(tree: &SyntaxTree<'a>, alarm: &str) -> &'a str {
 
 /// By what an object is upper or lower: the priority of a task, the ceiling of a resource, the priority of the task that an
 /// alarm acts on; 0 for all else.
-pub(crate) fn level(tree: &SyntaxTree<'_>, kind: Kind, name: &str) -> u32 {
+pub fn level(tree: &SyntaxTree<'_>, kind: Kind, name: &str) -> u32 {
     match kind {
         Kind::Task => priority_of(tree, name),
         Kind::Resource => ceiling(tree, name),

@@ -1,0 +1,58 @@
+//! Events and their masks.
+
+use crate::lists::tasks_with;
+use crate::table::{Row, Table};
+use oil_reader::{Object, SyntaxTree};
+use osek_base::System;
+use std::alloc::{AllocError, Global};
+use system_texts::word_of;
+
+/// The mask of the event of a name, 0 where there is none.
+fn mask_of(system: &System, name: &str) -> u32 {
+    let masks = system.parts().events.iter();
+    for (event, mask) in system.names().events.iter().zip(masks) {
+        if event.as_str() == name {
+            return *mask;
+        }
+    }
+    0
+}
+
+/// The events, in declaration order.
+pub(crate) fn event_table(
+    alloc: Global,
+    system: &System,
+    tree: &SyntaxTree<'_>,
+) -> Result<Table, AllocError> {
+    let mut table = Table::new(alloc, &["event", "mask", "tasks"])?;
+    let masks = system.parts().events.iter();
+    for (event, mask) in system.names().events.iter().zip(masks) {
+        let mut row = Row::new(alloc);
+        row.text(event.as_str())?;
+        row.mask(*mask)?;
+        row.names(&tasks_with(alloc, tree, "EVENT", event.as_str())?)?;
+        table.add(row)?;
+    }
+    Ok(table)
+}
+
+/// The event before a place that a task lists and whose mask has a bit of that of an event.
+pub(crate) fn sharing<'a>(
+    system: &System,
+    task: &Object<'a>,
+    event: &str,
+    place: usize,
+) -> Option<&'a str> {
+    let mask = mask_of(system, event);
+    for attribute in &task.attributes {
+        let setting = attribute.setting;
+        let other = word_of(setting.value);
+        if setting.name.text == "EVENT"
+            && setting.value_place < place
+            && mask_of(system, other) & mask != 0
+        {
+            return Some(other);
+        }
+    }
+    None
+}
