@@ -3,11 +3,10 @@
 use std::alloc::{AllocError, Global};
 use std::collections::HashMap;
 
-/// Numbers by hash. Numbers of one hash stand at the hashes behind it, up to the first that has
-/// none.
+/// Numbers by hash. Those of one hash have places, counted from 0.
 #[derive(Drop)]
 pub struct Index {
-    numbers: HashMap<u64, usize>,
+    numbers: HashMap<(u64, usize), usize>,
 }
 
 impl Index {
@@ -23,17 +22,16 @@ impl Index {
         self.numbers.len()
     }
 
-    /// The number at so many places behind that of a hash.
+    /// The number of a hash at a place.
     pub fn number(&self, hash: u64, place: usize) -> Option<usize> {
-        self.numbers.get(&hash.wrapping_add(place as u64)).copied()
+        self.numbers.get(&(hash, place)).copied()
     }
 
-    /// Adds a number.
+    /// Adds a number to those of a hash.
     pub fn add(&mut self, hash: u64, number: usize) -> Result<(), AllocError> {
         for place in 0..=self.numbers.len() {
-            let free = hash.wrapping_add(place as u64);
-            if !self.numbers.contains_key(&free) {
-                self.numbers.insert(free, number)?;
+            if !self.numbers.contains_key(&(hash, place)) {
+                self.numbers.insert((hash, place), number)?;
                 return Ok(());
             }
         }
