@@ -18,7 +18,8 @@ AreVisitedBut {N} r is_noted nodes open_numbers but =
     (number : ℕ) (x : N) → number ≢ but → IsClosed nodes open_numbers number x → IsVisited r is_noted nodes x
 
 -- a choice is tried in the node of a number: what comes of it is admitted, and what is seen is noted
-pub record Tries {N : Type 0} (r : Rules N) (is_noted : N → ℕ → Type 0) (before : List N) (open_before : List ℕ) (after : List N) (open_after : List ℕ) (number choice : ℕ) : Type 0 where
+pub record Tries {N : Type 0} (r : Rules N) (is_noted : N → ℕ → Type 0) (before : List N) (open_before : List ℕ) (after : List N)
+    (open_after : List ℕ) (number choice : ℕ) : Type 0 where
   pub from : N
   pub to : N
   pub here : slice_get before number ≡ Some from

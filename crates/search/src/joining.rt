@@ -1,7 +1,7 @@
 //! Nodes that cover another one, or can be joined with it.
 
-ghost use Rattle.std.specs.Prelude.{◌≡◌, ℕ, ◌<◌, List, IsTrue, IfOk, Any, length};
-ghost use Rattle.search.specs.Admitted.{IsJoined, IsJoinedAt};
+ghost use Rattle.std.specs.Prelude.{◌≡◌, ℕ, ◌<◌, IsTrue, IfOk, Any, length};
+ghost use Rattle.search.specs.Admitted.{IsJoined};
 
 use crate::index::Index;
 use crate::steps::Steps;

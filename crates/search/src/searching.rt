@@ -14,9 +14,9 @@ use std::alloc::{AllocError, Global};
 /// Searches all that can come of the first node, whatever is chosen.
 ///
 /// At `Decided` the nodes that are kept stand for all of it: one stands for the beginning, and for
-/// each of them and each choice that may be made in it, one stands for what comes of it, and what is
-/// seen there is noted. `Undecided` says why the search stopped, how many nodes are kept and how
-/// many of them were still to be visited. An error is want of memory.
+/// each of them and each choice that may be made in it, one stands for what comes of it, and what
+/// is seen there is noted. `Undecided` says why the search stopped, how many nodes are kept and
+/// how many of them were still to be visited. An error is want of memory.
 ///
 /// Nodes are visited in the order in which they were found. What comes of one is dropped where a
 /// node covers it, or joined with a node, which is then visited again, or else kept.
