@@ -65,7 +65,7 @@ fn zeros_may_stand(rows: &[Row]) -> bool
 
 /// Whether what is needed of a task or routine is within its registers and words, and closed under
 /// its program.
-fn entry_respects(own: &OwnerNeeds, shared: Numbers, lines: &[Line]) -> bool
+pub(crate) fn entry_respects(own: &OwnerNeeds, shared: Numbers, lines: &[Line]) -> bool
     ensures { IsTrue result → EntryRespects own.now shared lines.now }
 {
     if lines.len() != own.indices.len() {

@@ -12,6 +12,8 @@ mod indices;
 mod needed;
 mod numbers;
 mod passes;
+#[cfg(test)]
+mod pump;
 mod table;
 
 pub use needed::needed_data;

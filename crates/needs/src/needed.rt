@@ -17,7 +17,7 @@ use std::alloc::{AllocError, Global};
 const PASSES: usize = 1024;
 
 /// Nothing of a task or routine, whose registers have 0 at its first place.
-fn none_of_owner(alloc: Global, program: &Program) -> Result<OwnerNeeds, AllocError> {
+pub(crate) fn none_of_owner(alloc: Global, program: &Program) -> Result<OwnerNeeds, AllocError> {
     let mut indices = Vec::with_capacity(alloc, program.len())?;
     for place in 0..program.len() {
         let count = if place == 0 { 1 } else { 0 };

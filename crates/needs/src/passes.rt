@@ -205,7 +205,7 @@ fn add_instr(own: &mut OwnerNeeds, shared: &mut Numbers, place: usize, instr: &I
     }
 }
 
-fn add_program(own: &mut OwnerNeeds, shared: &mut Numbers, lines: &[Line]) {
+pub(crate) fn add_program(own: &mut OwnerNeeds, shared: &mut Numbers, lines: &[Line]) {
     for place in 0..lines.len().min(MAX_INSTRUCTIONS) {
         let line = &lines[place];
         add_instr(own, shared, place, line.instr());
