@@ -108,10 +108,10 @@ module _ (S : System) (needs : Needs) (tasks_long : length needs.tasks.items ≡
         → IsOwner S who × EntryRespects own needs.shared (program S who)
     in_table (Owner.Task t) own is =
         let low : t < length S.tasks = omega (arith, slice_get_within needs.tasks.items t own is, tasks_long) in
-        (low, tasks t own low is)
+        (low, tasks t low own is)
     in_table (Owner.Routine n) own is =
         let low : n < length S.routines = omega (arith, slice_get_within needs.routines.items n own is, routines_long) in
-        (low, routines n own low is)
+        (low, routines n low own is)
 
     zero_there : (who : Owner) (r : ℕ) (e : Option OwnerNeeds) → entry needs who ≡ e → IsTrue ((need_of needs).indices who 0 r 0)
     zero_there who r None is = ap (λ e. (as_entry needs who e).indices who 0 r 0) is

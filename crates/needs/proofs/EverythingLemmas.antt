@@ -123,11 +123,11 @@ module _ (S : System) (own : OwnerNeeds) (shared : ℕ) (all : IsAll own) (decla
 
 pub tasks_all : (S : System) (needs : Needs) → IsProper S → AreAll needs.tasks.items
     → ((r : ℕ) → has needs.shared r ≡ nat_lt r (length S.resources)) → TasksRespect S needs (length S.tasks)
-tasks_all S needs proper all declared t own low is = entry_all S own needs.shared (all t own is) declared (Owner.Task t) proper low
+tasks_all S needs proper all declared t low own is = entry_all S own needs.shared (all t own is) declared (Owner.Task t) proper low
 
 pub routines_all : (S : System) (needs : Needs) → IsProper S → AreAll needs.routines.items
     → ((r : ℕ) → has needs.shared r ≡ nat_lt r (length S.resources)) → RoutinesRespect S needs (length S.routines)
-routines_all S needs proper all declared i own low is = entry_all S own needs.shared (all i own is) declared (Owner.Routine i) proper low
+routines_all S needs proper all declared i low own is = entry_all S own needs.shared (all i own is) declared (Owner.Routine i) proper low
 
 -- one more at the end
 pub all_more : (owners : List OwnerNeeds) (one : OwnerNeeds) → AreAll owners → IsAll one → AreAll (owners ++ one ∷ [])

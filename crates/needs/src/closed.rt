@@ -1,13 +1,19 @@
 //! Whether a table is closed: each instruction of each program is respected.
 
-ghost use Rattle.std.specs.Prelude.{ℕ, ◌≡◌, ◌<◌, IsTrue, Some, length, slice_get, nat_lt};
+ghost use Rattle.std.specs.Prelude.{ℕ, ◌≡◌, ◌<◌, IsTrue, length, nat_lt};
 ghost use Rattle.osek_base.specs.declared.ids.Owner.{Owner};
 ghost use Rattle.osek_base.specs.System.{program};
 ghost use Rattle.needed_data.specs.Need.{Respects, Suffices};
 ghost use Rattle.needs.specs.Table.{has, allows, need_by, need_of};
-ghost use Rattle.needs.specs.Entries.{EntryRespects, PlacesRespect, TasksRespect, RoutinesRespect};
+ghost use Rattle.needs.specs.Entries.{
+  EntryRespects,
+  PlacesRespect,
+  TaskRespects,
+  TasksRespect,
+  RoutineRespects,
+  RoutinesRespect,
+};
 ghost use Rattle.needs.specs.Within.{IsWithin};
-ghost use Rattle.needs.specs.declared.table.OwnerNeeds.{OwnerNeeds};
 
 use crate::data::{data_follows, service_follows};
 use crate::indices::{all_pass, answers_follow, indices_follow, may_hold};
@@ -104,7 +110,7 @@ pub(crate) fn routine_lines(system: &System, number: usize) -> &[Line]
 fn task_respects(system: &System, needs: &Needs, number: usize) -> bool
     requires task { number < length system.now.tasks }
     requires entry { number < length needs.now.tasks.items }
-    ensures { IsTrue result → (own : OwnerNeeds) → slice_get needs.now.tasks.items number ≡ Some own → EntryRespects own needs.now.shared (program system.now (Owner.Task number)) }
+    ensures { IsTrue result → TaskRespects system.now needs.now number }
 {
     let own = &needs.tasks[number];
     entry_respects(own, needs.shared, task_lines(system, number))
@@ -113,7 +119,7 @@ fn task_respects(system: &System, needs: &Needs, number: usize) -> bool
 fn routine_respects(system: &System, needs: &Needs, number: usize) -> bool
     requires routine { number < length system.now.routines }
     requires entry { number < length needs.now.routines.items }
-    ensures { IsTrue result → (own : OwnerNeeds) → slice_get needs.now.routines.items number ≡ Some own → EntryRespects own needs.now.shared (program system.now (Owner.Routine number)) }
+    ensures { IsTrue result → RoutineRespects system.now needs.now number }
 {
     let own = &needs.routines[number];
     entry_respects(own, needs.shared, routine_lines(system, number))
@@ -165,7 +171,8 @@ pub(crate) fn declared_resources(system: &System) -> Numbers
     Numbers::below(system.resource_count())
 }
 
-/// Whether a table is closed for a system, and needs nothing that the system hasn't; at true both hold.
+/// Whether a table is closed for a system, and needs nothing that the system hasn't; at true both
+/// hold.
 pub(crate) fn is_closed(system: &System, needs: &Needs) -> bool
     ensures closed { IsTrue result → Suffices system.now (need_of needs.now) }
     ensures within { IsTrue result → IsWithin system.now (need_of needs.now) }

@@ -3,8 +3,9 @@
 ghost use Rattle.std.specs.Prelude.{◌≡◌, ◌<◌, ◌&&◌, IsTrue, length};
 ghost use Rattle.osek_base.specs.declared.instr.Plain.{Plain};
 ghost use Rattle.osek_base.specs.declared.instr.Service.{Service};
-ghost use Rattle.needed_data.specs.Need.{DataFollows, implies, respects_service};
-ghost use Rattle.needs.specs.Table.{has, allows, declared_in};
+ghost use Rattle.needed_data.specs.Need.{implies};
+ghost use Rattle.needs.specs.Entries.{PlainFollows, service_follows};
+ghost use Rattle.needs.specs.Table.{has, declared_in};
 
 use crate::indices::indices_at;
 use crate::numbers::Numbers;
@@ -37,7 +38,7 @@ fn needs_both(own: &OwnerNeeds, a: Register, b: Register) -> bool
 
 fn load_follows(own: &OwnerNeeds, place: usize, d: Register, a: Register) -> bool
     requires { place < length own.now.indices.items }
-    ensures { IsTrue result → DataFollows (has own.now.registers) (has own.now.words) (allows own.now.indices.items place) (Plain.Ld d a) }
+    ensures { IsTrue result → PlainFollows own.now place (Plain.Ld d a) }
 {
     if !needs(own, d) {
         return true;
@@ -48,7 +49,7 @@ fn load_follows(own: &OwnerNeeds, place: usize, d: Register, a: Register) -> boo
 
 fn store_follows(own: &OwnerNeeds, place: usize, a: Register, b: Register) -> bool
     requires { place < length own.now.indices.items }
-    ensures { IsTrue result → DataFollows (has own.now.registers) (has own.now.words) (allows own.now.indices.items place) (Plain.St a b) }
+    ensures { IsTrue result → PlainFollows own.now place (Plain.St a b) }
 {
     let index = implies(!own.words.is_empty(), needs(own, a));
     let value = implies(
@@ -61,7 +62,7 @@ fn store_follows(own: &OwnerNeeds, place: usize, a: Register, b: Register) -> bo
 /// Whether a plain instruction's data follows; at true it does.
 pub(crate) fn data_follows(own: &OwnerNeeds, place: usize, plain: &Plain) -> bool
     requires { place < length own.now.indices.items }
-    ensures { IsTrue result → DataFollows (has own.now.registers) (has own.now.words) (allows own.now.indices.items place) plain.now }
+    ensures { IsTrue result → PlainFollows own.now place plain.now }
 {
     match plain {
         Plain::Mov(d, a) => implies(needs(own, *d), needs(own, *a)),
@@ -92,7 +93,7 @@ fn shared_load_follows(
     operand: &Option<ResId>,
     index: Register,
 ) -> bool
-    ensures { result ≡ respects_service (has own.now.registers) (has shared) (Service.LoadShared operand.now index) }
+    ensures { result ≡ service_follows own.now shared (Service.LoadShared operand.now index) }
 {
     match declared(operand) {
         None => true,
@@ -110,7 +111,7 @@ fn shared_store_follows(
     index: Register,
     value: Register,
 ) -> bool
-    ensures { result ≡ respects_service (has own.now.registers) (has shared) (Service.StoreShared operand.now index value) }
+    ensures { result ≡ service_follows own.now shared (Service.StoreShared operand.now index value) }
 {
     match declared(operand) {
         None => true,
@@ -124,7 +125,7 @@ pub(crate) fn service_follows(
     shared: Numbers,
     service: &Service<Register>,
 ) -> bool
-    ensures { result ≡ respects_service (has own.now.registers) (has shared) service.now }
+    ensures { result ≡ service_follows own.now shared service.now }
 {
     match service {
         Service::SetRelAlarm(_, a, b) => needs_both(own, *a, *b),
