@@ -1,6 +1,6 @@
 -- The jobs of an upper task are counted alike in systems that agree: how many are made, are left,
 -- and end.
-use Rattle.std.proofs.Common.{◌≡◌, ℕ, zero, suc, ◌<◌, ◌+◌, ◌-◌, Bool, true, false, List, [], ◌∷◌, replicate, length, refl, sym, ◌∙◌, ap, ap₂, arith, get_or-take}
+use Rattle.std.proofs.Common.{◌≡◌, ℕ, ◌<◌, ◌+◌, ◌-◌, Bool, true, false, List, [], ◌∷◌, length, refl, sym, ◌∙◌, ap, ap₂, arith, get_or-take}
 use Rattle.std.specs.Prelude.{slice_index}
 use Rattle.osek_base.specs.declared.arrivals.Arrival.{Arrival}
 use Rattle.osek_base.specs.System.{System}
@@ -15,10 +15,12 @@ use Rattle.kept_state.specs.Kept.{slot_of, kept}
 use Rattle.partition_check.proofs.UpperState.{up, upper_count}
 use Rattle.partition_check.proofs.JobsUp.{jobs_of_length_up}
 use Rattle.partition_check.proofs.PriorityUp.{first_tasks}
-use Rattle.same_future.specs.Spans.{Jobs, Seen, Ticks, ages_next, ending_age}
-use Rattle.same_future.specs.Ages.{seen_at, ages_after}
+use Rattle.same_future.specs.Alike.{kept_after}
+use Rattle.same_future.specs.Shown.{kept_step_at}
+use Rattle.same_future.specs.Spans.{Jobs, standing}
 use Rattle.upper_bounds.specs.Above.{IsUpperTask, AreOneAbove}
 use Rattle.upper_bounds.specs.JobsAbove.{AreTheSameJobs, HaveTheSameJobs, TasksAreSeenTheSame}
+use Rattle.upper_bounds.proofs.Aging.{as_old}
 use Rattle.upper_bounds.proofs.Sides.{both, same_state, same_later, upper_there, upper_back, of_the_part}
 
 -- ---- of states that are one from above
@@ -57,13 +59,6 @@ ends_told m m' l l' true true h k = refl
 ends_told m m' l l' false false h k = refl
 ends_told m m' l l' true false h k = absurd (omega (arith, h, k))
 ends_told m m' l l' false true h k = absurd (omega (arith, h, k))
-
-abbrev pub seen_from : Bool → ℕ → ℕ → Seen
-seen_from ended before after = record { ended = ended; begun = after + one_if ended - before }
-
-same_seen : (a b : Bool) (l l' k k' : ℕ) → a ≡ b → l ≡ k → l' ≡ k'
-    → seen_from a l l' ≡ seen_from b k k'
-same_seen a b l l' k k' x y z = λ i. seen_from (x i) (y i) (z i)
 
 module _ (S B : System) (p : ℕ) (pair : AreOneAbove S B p)
     (mode : ℕ) (arrivals : List Arrival) (t : ℕ) (mine : IsUpperTask S p t) where
@@ -123,29 +118,22 @@ module _ (S B : System) (p : ℕ) (pair : AreOneAbove S B p)
       (has_ended S n) (has_ended B n)
       even (omega (arith, even_B, m, l, m', l'))
 
-  seen_same : (n : ℕ) → seen_at S mode arrivals n Jobs t ≡ seen_at B mode arrivals n Jobs t
-  seen_same n =
-      same_seen (has_ended S n) (has_ended B n)
-      ((kept S (after S n)).slots t).count ((kept S (later S n)).slots t).count
-      ((kept B (after B n)).slots t).count ((kept B (later B n)).slots t).count
-      (ends_same n)
-      (slot_count S t (after S n) ∙ run_left n ∙ sym (slot_count B t (after B n)))
-      (slot_count S t (later S n) ∙ later_left n ∙ sym (slot_count B t (later B n)))
+  jobs_left : (n : ℕ) → standing S Jobs t (kept_after S mode arrivals n)
+      ≡ standing B Jobs t (kept_after B mode arrivals n)
+  jobs_left n =
+      slot_count S t (after S n) ∙ run_left n ∙ sym (slot_count B t (after B n))
 
-  ages_same : (n : ℕ) → ages_after S mode arrivals n Jobs t ≡ ages_after B mode arrivals n Jobs t
-  ages_same zero =
-      ap (λ k. replicate k (Ticks 0))
-      (slot_count S t (after S 0) ∙ run_left 0 ∙ sym (slot_count B t (after B 0)))
-  ages_same (suc n) = ap₂ ages_next (seen_same n) (ages_same n)
+  jobs_later : (n : ℕ) → standing S Jobs t (kept_step_at S mode arrivals n).after
+      ≡ standing B Jobs t (kept_step_at B mode arrivals n).after
+  jobs_later n =
+      slot_count S t (later S n) ∙ later_left n ∙ sym (slot_count B t (later B n))
 
   same_jobs : (n : ℕ) → AreTheSameJobs S B mode arrivals n t
   same_jobs n =
       record {
         made = run_made n;
         ended = ap₂ (λ (a b : ℕ). a - b) (run_made n) (run_left n);
-        seen = seen_same n;
-        ages = ages_same n;
-        ending = ap₂ ending_age (seen_same n) (ages_same n);
+        lasting = as_old S B mode arrivals Jobs t t jobs_left jobs_later ends_same n;
       }
 
 pub same_tasks : (S B : System) (p : ℕ) → AreOneAbove S B p → HaveTheSameJobs S B p

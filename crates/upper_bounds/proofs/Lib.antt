@@ -1,7 +1,9 @@
 pub mod Sides
+pub mod Aging
 pub mod Counted
 pub mod SeenUp
 pub mod States
+pub mod Lasting
 pub mod Executions
 pub mod Refused
 pub mod Answered

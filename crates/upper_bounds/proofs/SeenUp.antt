@@ -18,18 +18,52 @@ use Rattle.osek_base.specs.Separable.{first_of_list}
 use Rattle.osek_base.proofs.ForemostLemmas.{keep}
 use Rattle.partition_check.proofs.UpperState.{up, up_job, up_jobs, is_upper_id, is_upper_job, upper_count}
 use Rattle.partition_check.proofs.Shared.{IsCounterpart, IsLayered, IsLayeredJob, is_visible}
-use Rattle.partition_check.proofs.CoreFacts.{upper_tasks_first}
+use Rattle.partition_check.proofs.CoreFacts.{lt_true, lt_false, upper_tasks_first}
 use Rattle.partition_check.proofs.ListsUp.{true≢false, find_weaker, all_filter, all_pass, all_weaken, all_both, each_below}
 use Rattle.partition_check.proofs.PriorityUp.{dynamic_up, held_visible, upper_tasks_first as each_first}
 use Rattle.partition_check.proofs.JobsUp.{same_id_task, jobs_of_up, job_of_up}
 use Rattle.partition_check.proofs.RefusalsUp.{any_same_up, holders_upper, count_up}
 use Rattle.partition_check.proofs.AlarmsUp.{expiry_up}
-use Rattle.upper_bounds.specs.StatesAbove.{oldest_job, but_held, is_held_by, holder, counts_from, counts_left, is_caller, executes}
+use Rattle.kept_state.specs.Kept.{slot_of}
+use Rattle.kept_state.specs.KeptService.{holds_in}
+use Rattle.same_future.specs.Spans.{resource_of}
+use Rattle.upper_bounds.specs.StatesAbove.{holder, oldest_job, but_held, counts_from, counts_left, is_caller, executes}
 
 first_map : {X Y : Type 0} (f : X → Y) (xs : List X)
     → first_of_list (map f xs) ≡ option_map f (first_of_list xs)
 first_map f [] = refl
 first_map f (x ∷ xs) = refl
+
+-- who holds a resource, by the jobs of a state
+abbrev pub is_held_by : ResId → Option Job → Bool
+is_held_by r None = false
+is_held_by r (Some j) = holds j r
+
+abbrev pub holder_of : System → State → ResId → Option ℕ
+holder_of S s r = find (λ t. is_held_by r (oldest_job s t)) (below (length S.tasks))
+
+held_kept : (r : ResId) (js : List Job)
+    → holds_in r (slot_of js) ≡ is_held_by r (first_of_list js)
+held_kept r [] = refl
+held_kept r (j ∷ js) = refl
+
+holder_kept : (S : System) (s : State) (r : ℕ) → holder S s r ≡ holder_of S s (resource_of S r)
+holder_kept S s r =
+    λ i. find (λ t. held_kept (resource_of S r) (jobs_of t s.jobs) i) (below (length S.tasks))
+
+pub holder_declared : (S : System) (s : State) (r : ℕ) → r < length S.resources
+    → holder S s r ≡ holder_of S s (ResId.Declared r)
+holder_declared S s r inside =
+    holder_kept S s r
+    ∙ ap (λ b. holder_of S s (cond b (ResId.Declared r) ResId.Scheduler))
+    (lt_true r (length S.resources) inside)
+
+pub holder_scheduler : (S : System) (s : State)
+    → holder S s (length S.resources) ≡ holder_of S s ResId.Scheduler
+holder_scheduler S s =
+    holder_kept S s (length S.resources)
+    ∙ ap (λ b. holder_of S s (cond b (ResId.Declared (length S.resources)) ResId.Scheduler))
+    (lt_false (length S.resources) (length S.resources) (omega arith))
 
 find_same : (f g : ℕ → Bool) (ns : List ℕ) → AllByRecursion (λ n. f n ≡ g n) ns
     → find f ns ≡ find g ns
@@ -113,7 +147,7 @@ module _ (S : System) (p : ℕ) (both : IsCounterpart S p) (proper : IsProper S)
       go (j ∷ js) all own h = ap (is_upper_task S p) (sym (eqb-true j.id.task t own.0)) ∙ all.0 h
 
   pub holder_up : (r : ResId) → is_visible S p r ≡ true
-      → holder (upper_core S p) (up S p s) (renumbered_resource S p r) ≡ holder S s r
+      → holder_of (upper_core S p) (up S p s) (renumbered_resource S p r) ≡ holder_of S s r
   holder_up r seen =
       let theirs : ℕ → Bool = λ t. is_held_by (renumbered_resource S p r)
       (oldest_job (up S p s) t) in

@@ -3,6 +3,7 @@ use Rattle.std.proofs.Common.{◌≡◌, ℕ, ◌/◌, ◌<◌, List, length, re
 use Rattle.std.specs.Prelude.{IsTrue, slice_index}
 use Rattle.std.specs.Option.{option_map}
 use Rattle.std.proofs.lemmas.List.{length-map}
+use Rattle.osek_base.specs.declared.arrivals.Arrival.{Arrival}
 use Rattle.osek_base.specs.declared.ids.ResId.{ResId}
 use Rattle.osek_base.specs.declared.ids.Owner.{Owner}
 use Rattle.osek_base.specs.System.{System, alarm, counter_of, task}
@@ -28,11 +29,11 @@ use Rattle.partition_check.proofs.SharedUp.{window_up}
 use Rattle.partition_check.proofs.ExecutedUp.{own_words}
 use Rattle.partition_check.proofs.TickUp.{before_alike}
 use Rattle.partition_check.proofs.PartAgrees.{all_upper}
-use Rattle.upper_bounds.specs.Above.{IsUpperTask, AreOneAbove}
-use Rattle.upper_bounds.specs.StatesAbove.{oldest_job, but_held, holder, counts_from, counts_left, executes, IsTheSameResource, IsTheSameAlarm, IsTaskSeenTheSame, IsSeenTheSame, DeclareTheSame, HaveTheSameStates, StatesAreSeenTheSame}
-use Rattle.upper_bounds.proofs.Sides.{IsBeside, both, below, run_beside, one_state, upper_there, of_the_part}
+use Rattle.upper_bounds.specs.Above.{IsUpperTask, IsTheSameResource, IsTheSameAlarm, AreOneAbove}
+use Rattle.upper_bounds.specs.StatesAbove.{oldest_job, but_held, counts_from, counts_left, executes, IsTaskSeenTheSame, IsSeenTheSame, DeclareTheSame, HaveTheSameStates, StatesAreSeenTheSame}
+use Rattle.upper_bounds.proofs.Sides.{IsBeside, both, below, run_beside, later_beside, one_state, upper_there, of_the_part}
 use Rattle.upper_bounds.proofs.Counted.{left_same}
-use Rattle.upper_bounds.proofs.SeenUp.{oldest_up, priority_up, holder_up, counts_up, task_executes, routine_executes}
+use Rattle.upper_bounds.proofs.SeenUp.{holder_of, holder_declared, holder_scheduler, oldest_up, priority_up, holder_up, counts_up, task_executes, routine_executes}
 
 module _ (S B : System) (p : ℕ) (pair : AreOneAbove S B p) where
   cores : upper_core S p ≡ upper_core B p
@@ -116,13 +117,17 @@ module _ (S B : System) (p : ℕ) (pair : AreOneAbove S B p) where
           suspended_all = ap (λ (x : State). x.suspended_all) same;
           suspended_os = ap (λ (x : State). x.suspended_os) same;
           holders = λ r q h.
-              sym (holder_up S p mine pair.proper s layered (ResId.Declared r) h.upper)
-              ∙ (λ i. holder (cores i) (same i) (ResId.Declared (h.number i)))
-              ∙ holder_up B p theirs pair.proper_there b layered_B (ResId.Declared q) h.upper_there;
+              holder_declared S s r h.known
+              ∙ sym (holder_up S p mine pair.proper s layered (ResId.Declared r) h.upper)
+              ∙ (λ i. holder_of (cores i) (same i) (ResId.Declared (h.number i)))
+              ∙ holder_up B p theirs pair.proper_there b layered_B (ResId.Declared q) h.upper_there
+              ∙ sym (holder_declared B b q h.known_there);
           scheduler =
-              sym (holder_up S p mine pair.proper s layered ResId.Scheduler refl)
-              ∙ (λ i. holder (cores i) (same i) ResId.Scheduler)
-              ∙ holder_up B p theirs pair.proper_there b layered_B ResId.Scheduler refl;
+              holder_scheduler S s
+              ∙ sym (holder_up S p mine pair.proper s layered ResId.Scheduler refl)
+              ∙ (λ i. holder_of (cores i) (same i) ResId.Scheduler)
+              ∙ holder_up B p theirs pair.proper_there b layered_B ResId.Scheduler refl
+              ∙ sym (holder_scheduler B b);
           shared = λ r q h.
               sym (window_up S p mine s r h.known h.upper)
               ∙ (λ i. shared_window (same i).shared (h.number i))
@@ -162,7 +167,7 @@ module _ (S : System) (p : ℕ) (proper : IsProper S) (separable : Separable S p
             ∙ sym alike.state;
       }
 
-same_states : (S B : System) (p : ℕ) → AreOneAbove S B p → HaveTheSameStates S B p
+pub same_states : (S B : System) (p : ℕ) → AreOneAbove S B p → HaveTheSameStates S B p
 same_states S B p pair =
     let one : upper_core S p ≡ upper_core B p = Agree-core S B p pair.agree in
     record {
@@ -190,6 +195,21 @@ same_states S B p pair =
           (run_beside B p pair.proper_there pair.separable_there mode arrivals n))
           (ap (λ C. (tick C (arriving arrivals n) (run C mode arrivals n).state).executing) one);
     }
+
+-- a tick later, whatever the end
+pub later_states : (S B : System) (p : ℕ) → AreOneAbove S B p → (mode : ℕ) (arrivals : List Arrival)
+    (n : ℕ) → IsSeenTheSame S B p (tick S (arriving arrivals n) (run S mode arrivals n).state).after
+    (tick B (arriving arrivals n) (run B mode arrivals n).state).after
+later_states S B p pair mode arrivals n =
+    beside_same S B p pair
+    (tick S (arriving arrivals n) (run S mode arrivals n).state).after
+    (tick B (arriving arrivals n) (run B mode arrivals n).state).after
+    (tick (upper_core S p) (arriving arrivals n) (run (upper_core S p) mode arrivals n).state).after
+    (tick (upper_core B p) (arriving arrivals n) (run (upper_core B p) mode arrivals n).state).after
+    (later_beside S p pair.proper pair.separable mode arrivals n (arriving arrivals n))
+    (later_beside B p pair.proper_there pair.separable_there mode arrivals n (arriving arrivals n))
+    (ap (λ C. (tick C (arriving arrivals n) (run C mode arrivals n).state).after)
+    (Agree-core S B p pair.agree))
 
 -- ---- the numbers of the upper part by itself
 

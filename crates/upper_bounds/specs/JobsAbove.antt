@@ -6,8 +6,8 @@ use Rattle.osek_base.specs.System.{System}
 use Rattle.osek_base.specs.Trace.{run}
 use Rattle.run_laws.specs.Jobs.{made_by, ended_by}
 use Rattle.same_future.specs.Spans.{Jobs}
-use Rattle.same_future.specs.Ages.{seen_at, ages_after, ending_age_at}
 use Rattle.upper_bounds.specs.Above.{IsUpperTask, IsThatOfTheUpperPart}
+use Rattle.upper_bounds.specs.SpansAbove.{AreAsOld}
 
 -- in two systems, under the same arrivals: as many jobs of a task were made before tick n, and as
 -- many have ended; in tick n a job of it ends in both or in neither, and as many are made; its jobs
@@ -16,9 +16,7 @@ pub record AreTheSameJobs (S B : System) (mode : ℕ) (arrivals : List Arrival)
     (n t : ℕ) : Type 0 where
   pub made : made_by S mode t arrivals n ≡ made_by B mode t arrivals n
   pub ended : ended_by S mode t arrivals n ≡ ended_by B mode t arrivals n
-  pub seen : seen_at S mode arrivals n Jobs t ≡ seen_at B mode arrivals n Jobs t
-  pub ages : ages_after S mode arrivals n Jobs t ≡ ages_after B mode arrivals n Jobs t
-  pub ending : ending_age_at S mode arrivals n Jobs t ≡ ending_age_at B mode arrivals n Jobs t
+  pub lasting : AreAsOld S B mode arrivals n Jobs t t
 
 -- two systems have the same upper tasks, by number; in each mode and under the same arrivals each
 -- of them has the same jobs after every number of ticks, and the runs are over together

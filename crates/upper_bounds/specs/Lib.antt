@@ -1,5 +1,6 @@
 pub mod Above
 pub mod StatesAbove
+pub mod SpansAbove
 pub mod JobsAbove
 pub mod ExecutedAbove
 pub mod AlarmsAbove

@@ -1,38 +1,34 @@
 -- Partitions, no part of the standards. What is seen of the upper part of a state is the same in
 -- systems that agree.
 use Rattle.std.specs.Prelude.{ℕ, ◌≡◌, ◌<◌, Bool, false, ◌==◌, IsTrue, List, [], Option, Some, None, length, slice_index}
-use Rattle.std.specs.List.{find}
 use Rattle.std.specs.Option.{option_map}
 use Rattle.osek_base.specs.declared.arrivals.Arrival.{Arrival}
-use Rattle.osek_base.specs.declared.ids.ResId.{ResId}
 use Rattle.osek_base.specs.declared.ids.Owner.{Owner}
-use Rattle.osek_base.specs.Lists.{below}
 use Rattle.osek_base.specs.System.{System, alarm, counter_of}
 use Rattle.osek_base.specs.State.{Job, Expiry, State, jobs_of, shared_window}
 use Rattle.osek_base.specs.Priority.{dynamic_priority}
 use Rattle.osek_base.specs.Alarm.{count, expiry}
-use Rattle.osek_base.specs.Service.{Caller, JobCalls, RoutineCalls, holds, task_state, remaining}
+use Rattle.osek_base.specs.Service.{Caller, JobCalls, RoutineCalls, task_state, remaining}
 use Rattle.osek_base.specs.Tick.{executor, tick}
 use Rattle.osek_base.specs.Trace.{arriving, run}
 use Rattle.osek_base.specs.Upper.{is_upper_alarm}
 use Rattle.osek_base.specs.Agree.{rank, is_upper_declared, upper_task, upper_part}
 use Rattle.osek_base.specs.Proper.{IsProper}
 use Rattle.osek_base.specs.Separable.{Separable, first_of_list}
-use Rattle.upper_bounds.specs.Above.{IsUpperTask, IsThatOfTheUpperPart}
+use Rattle.kept_state.specs.Kept.{kept}
+use Rattle.same_future.specs.Spans.{holder_in}
+use Rattle.upper_bounds.specs.Above.{IsUpperTask, IsTheSameResource, IsTheSameAlarm, IsThatOfTheUpperPart}
 
 -- ---- what is seen
 
--- the oldest job of a task, and the first task whose oldest job holds a resource. A kernel tells
--- them by the same words, which stand with its code, and no kernel is needed here
+-- the oldest job of a task. A kernel tells it by the same word, which stands with its code, and no
+-- kernel is needed here
 abbrev pub oldest_job : State → ℕ → Option Job
 oldest_job s t = first_of_list (jobs_of t s.jobs)
 
-abbrev pub is_held_by : ResId → Option Job → Bool
-is_held_by r None = false
-is_held_by r (Some j) = holds j r
-
-abbrev pub holder : System → State → ResId → Option ℕ
-holder S s r = find (λ t. is_held_by r (oldest_job s t)) (below (length S.tasks))
+-- the task that holds a resource, RES_SCHEDULER behind the declared ones
+abbrev pub holder : System → State → ℕ → Option ℕ
+holder S s r = holder_in S (kept S s) r
 
 -- a job but for what it holds, which resources tell
 abbrev pub but_held : Job → Job
@@ -54,23 +50,6 @@ is_caller _ _ = false
 
 abbrev pub executes : State → Owner → Bool
 executes s who = is_caller who (executor s)
-
--- ---- the same things in two systems
-
--- a resource of one system and one of another are upper, with one number among the upper ones
-pub record IsTheSameResource (S B : System) (p r q : ℕ) : Type 0 where
-  pub known : r < length S.resources
-  pub upper : IsTrue (is_upper_declared S p r)
-  pub known_there : q < length B.resources
-  pub upper_there : IsTrue (is_upper_declared B p q)
-  pub number : rank (is_upper_declared S p) r ≡ rank (is_upper_declared B p) q
-
-pub record IsTheSameAlarm (S B : System) (p a b : ℕ) : Type 0 where
-  pub known : a < length S.alarms
-  pub upper : IsTrue (is_upper_alarm S p a)
-  pub known_there : b < length B.alarms
-  pub upper_there : IsTrue (is_upper_alarm B p b)
-  pub number : rank (is_upper_alarm S p) a ≡ rank (is_upper_alarm B p) b
 
 -- ---- the same in two states
 
@@ -98,8 +77,8 @@ pub record IsSeenTheSame (S B : System) (p : ℕ) (s b : State) : Type 0 where
   pub suspended_all : s.suspended_all ≡ b.suspended_all
   pub suspended_os : s.suspended_os ≡ b.suspended_os
   pub holders : (r q : ℕ) → IsTheSameResource S B p r q
-      → holder S s (ResId.Declared r) ≡ holder B b (ResId.Declared q)
-  pub scheduler : holder S s ResId.Scheduler ≡ holder B b ResId.Scheduler
+      → holder S s r ≡ holder B b q
+  pub scheduler : holder S s (length S.resources) ≡ holder B b (length B.resources)
   pub shared : (r q : ℕ) → IsTheSameResource S B p r q
       → shared_window s.shared r ≡ shared_window b.shared q
   pub expiries : (a c : ℕ) → IsTheSameAlarm S B p a c → expiry s a ≡ expiry b c

@@ -4,6 +4,7 @@ ghost use Rattle.upper_bounds.specs.AlarmsAbove.{AlarmsActTheSame};
 ghost use Rattle.upper_bounds.specs.BoundsAbove.{BoundsAreFoundInThePart, BoundsAreThoseOfThePart};
 ghost use Rattle.upper_bounds.specs.ExecutedAbove.{ExecutionsAreTheSame};
 ghost use Rattle.upper_bounds.specs.JobsAbove.{TasksAreSeenTheSame};
+ghost use Rattle.upper_bounds.specs.SpansAbove.{SpansAreAsOld};
 ghost use Rattle.upper_bounds.specs.StatesAbove.{StatesAreSeenTheSame};
 
 /// The states of upper tasks, routines, resources and alarms are the same in each system that
@@ -15,6 +16,12 @@ pub fn states_are_seen_the_same()
 /// There the jobs of an upper task are made and end in the same ticks: the responses are the same.
 pub fn tasks_are_seen_the_same()
     ensures { TasksAreSeenTheSame }
+{}
+
+/// Interrupts pend there for as many ticks, and upper resources and RES_SCHEDULER are held for as
+/// many.
+pub fn spans_are_as_old()
+    ensures { SpansAreAsOld }
 {}
 
 /// In every tick the same upper owner executes the same instruction with the same outcome, or none

@@ -12,5 +12,5 @@ mod laws;
 
 pub use laws::{
     alarms_act_the_same, bounds_are_found_in_the_part, bounds_are_those_of_the_part,
-    executions_are_the_same, states_are_seen_the_same, tasks_are_seen_the_same,
+    executions_are_the_same, spans_are_as_old, states_are_seen_the_same, tasks_are_seen_the_same,
 };
