@@ -1,137 +1,100 @@
--- The bounds of an upper task are the same in systems that agree: they speak of what is made and
--- what has ended alone.
-use Rattle.std.proofs.Common.{◌≡◌, ℕ, suc, ◌<◌, ◌≤◌, List, length, sym, ◌∙◌, subst}
+-- Bounds of the upper part are the same in systems that agree, and are found in the part by itself.
+use Rattle.std.proofs.Common.{◌≡◌, ℕ, ◌<◌, List, length, sym, ap, subst, arith}
+use Rattle.std.specs.Prelude.{slice_index_or, false, true}
 use Rattle.osek_base.specs.declared.arrivals.Arrival.{Arrival}
 use Rattle.osek_base.specs.System.{System}
-use Rattle.osek_base.specs.Trace.{run}
-use Rattle.osek_base.specs.Agree.{upper_part}
-use Rattle.run_laws.specs.Jobs.{made_by, ended_by, IsMadeIn, EndsIn, EndsAfter}
-use Rattle.same_future.specs.Covering.{AreSpaced}
+use Rattle.osek_base.specs.Agree.{rank, is_upper_declared, upper_part}
+use Rattle.run_laws.specs.Jobs.{EndsAfter}
+use Rattle.same_future.specs.Spans.{Holds, things}
 use Rattle.same_future.specs.Paths.{IsLongest}
+use Rattle.same_future.specs.Latencies.{StartsAfter}
+use Rattle.same_future.specs.Holds.{IsHeldFor}
 use Rattle.same_future.proofs.Told.{no_job_older, finds_response}
+use Rattle.same_future.proofs.Latencies.{finds_latency}
+use Rattle.same_future.proofs.Held.{finds_hold}
 use Rattle.upper_bounds.specs.Above.{IsUpperTask, AreOneAbove}
-use Rattle.upper_bounds.specs.BoundsAbove.{NoneStaysLonger, HaveTheSameBounds, BoundsAreThoseOfThePart, BoundsAreFoundInThePart}
+use Rattle.upper_bounds.specs.BoundsAbove.{HaveTheSameBounds, BoundsAreThoseOfThePart, BoundsAreFoundInThePart}
 use Rattle.upper_bounds.proofs.Sides.{routine_count, upper_there, with_part, of_the_part}
 use Rattle.upper_bounds.proofs.Counted.{same_tasks}
-
--- ---- the longest goes over where what takes long does
-
-spaced_there : (S B : System) → length S.routines ≡ length B.routines → (distance : ℕ → ℕ)
-    (arrivals : List Arrival) → AreSpaced S distance arrivals → AreSpaced B distance arrivals
-spaced_there S B routines distance arrivals h i u v known =
-    h i u v (subst (λ m. i < m) (sym routines) known)
-
--- what takes long in one system takes as long in another
-abbrev pub GoesOver : (List Arrival → ℕ → ℕ → Type 0) → (List Arrival → ℕ → ℕ → Type 0) → Type 0
-GoesOver takes there = (arrivals : List Arrival) (n r : ℕ) → takes arrivals n r → there arrivals n r
-
-pub longest_there : (S B : System) → length S.routines ≡ length B.routines
-    → (takes there : List Arrival → ℕ → ℕ → Type 0) → GoesOver takes there → GoesOver there takes
-    → (distance : ℕ → ℕ) (most : ℕ) → IsLongest S distance takes most
-    → IsLongest B distance there most
-longest_there S B routines takes there over back distance most h =
-    record {
-      bound = λ arrivals n r keeps ends.
-          h.bound arrivals n r (spaced_there B S (sym routines) distance arrivals keeps)
-          (back arrivals n r ends);
-      arrivals = h.arrivals;
-      spaced = spaced_there S B routines distance h.arrivals h.spaced;
-      tick = h.tick;
-      attained = over h.arrivals h.tick most h.attained;
-    }
-
--- ---- from one system to another in which as many jobs are made and end
-
-pub record IsCounted (S B : System) (mode t : ℕ) : Type 0 where
-  pub made : (arrivals : List Arrival) (n : ℕ)
-      → made_by S mode t arrivals n ≡ made_by B mode t arrivals n
-  pub ended : (arrivals : List Arrival) (n : ℕ)
-      → ended_by S mode t arrivals n ≡ ended_by B mode t arrivals n
-  pub over : (arrivals : List Arrival) (n : ℕ)
-      → (run S mode arrivals n).state.over ≡ (run B mode arrivals n).state.over
-  pub routines : length S.routines ≡ length B.routines
-
-turned : (S B : System) (mode t : ℕ) → IsCounted S B mode t → IsCounted B S mode t
-turned S B mode t same =
-    record {
-      made = λ arrivals n. sym (same.made arrivals n);
-      ended = λ arrivals n. sym (same.ended arrivals n);
-      over = λ arrivals n. sym (same.over arrivals n);
-      routines = sym same.routines;
-    }
-
-module _ (S B : System) (mode t : ℕ) (same : IsCounted S B mode t) where
-  made_there : (arrivals : List Arrival) (k u : ℕ) → IsMadeIn S mode t arrivals k u
-      → IsMadeIn B mode t arrivals k u
-  made_there arrivals k u h =
-      record {
-        made = subst (λ m. k < m) (same.made arrivals (suc u)) h.made;
-        not_before = λ some. subst (λ m. m ≤ k) (same.made arrivals u) (h.not_before some);
-      }
-
-  ends_there : (arrivals : List Arrival) (k v : ℕ) → EndsIn S mode t arrivals k v
-      → EndsIn B mode t arrivals k v
-  ends_there arrivals k v h =
-      record {
-        ended = subst (λ m. k < m) (same.ended arrivals (suc v)) h.ended;
-        not_before = subst (λ m. m ≤ k) (same.ended arrivals v) h.not_before;
-      }
-
-  response_there : GoesOver (EndsAfter S mode t) (EndsAfter B mode t)
-  response_there arrivals n r h =
-      record {
-        job = h.job;
-        made_in = h.made_in;
-        is_made = made_there arrivals h.job h.made_in h.is_made;
-        ends = ends_there arrivals h.job n h.ends;
-        long = h.long;
-      }
-
-none_there : (S B : System) (mode : ℕ) (distance : ℕ → ℕ) (t most : ℕ) → IsCounted S B mode t
-    → NoneStaysLonger S mode distance t most → NoneStaysLonger B mode distance t most
-none_there S B mode distance t most same h arrivals n k u keeps going made behind before =
-    h arrivals n k u (spaced_there B S (sym same.routines) distance arrivals keeps)
-    (same.over arrivals n ∙ going)
-    (made_there B S mode t (turned S B mode t same) arrivals k u made)
-    (subst (λ m. m ≤ k) (sym (same.ended arrivals (suc n))) behind)
-    (subst (λ m. k < m) (sym (same.made arrivals (suc n))) before)
+use Rattle.upper_bounds.proofs.States.{same_states, part_resource}
+use Rattle.upper_bounds.proofs.Longest.{IsCounted, turned, GoesOver, longest_there, none_there, response_there, AreOverTogether, PendTogether, latency_there, AreHeldTogether, hold_there}
 
 -- ---- systems that agree
 
+abbrev pub IsOneLongest : System → System → (ℕ → ℕ) → (List Arrival → ℕ → ℕ → Type 0)
+    → (List Arrival → ℕ → ℕ → Type 0) → ℕ → Type 0
+IsOneLongest S B distance takes there most =
+    (IsLongest S distance takes most → IsLongest B distance there most)
+    × (IsLongest B distance there most → IsLongest S distance takes most)
+
+both_ways : (S B : System) → length S.routines ≡ length B.routines
+    → (takes there : List Arrival → ℕ → ℕ → Type 0) → GoesOver takes there → GoesOver there takes
+    → (distance : ℕ → ℕ) (most : ℕ) → IsOneLongest S B distance takes there most
+both_ways S B routines takes there over back distance most = (
+  longest_there S B routines takes there over back distance most,
+  longest_there B S (sym routines) there takes back over distance most,
+)
+
 module _ (S B : System) (p : ℕ) (pair : AreOneAbove S B p) where
+  over_together : (mode : ℕ) → AreOverTogether S B mode
+  over_together mode arrivals n = (same_tasks S B p pair).over mode arrivals n
+
   counted : (mode t : ℕ) → IsUpperTask S p t → IsCounted S B mode t
   counted mode t mine =
       let same = same_tasks S B p pair in
       record {
         made = λ arrivals n. (same.jobs mode arrivals n t mine).made;
         ended = λ arrivals n. (same.jobs mode arrivals n t mine).ended;
-        over = λ arrivals n. same.over mode arrivals n;
+        over = over_together mode;
         routines = routine_count S B p pair;
       }
 
-  longest_same : (mode : ℕ) (distance : ℕ → ℕ) (t most : ℕ) → IsUpperTask S p t
-      → (IsLongest S distance (EndsAfter S mode t) most
-      → IsLongest B distance (EndsAfter B mode t) most)
-      × (IsLongest B distance (EndsAfter B mode t) most
-      → IsLongest S distance (EndsAfter S mode t) most)
-  longest_same mode distance t most mine =
+  one_response : (mode : ℕ) (distance : ℕ → ℕ) (t most : ℕ) → IsUpperTask S p t
+      → IsOneLongest S B distance (EndsAfter S mode t) (EndsAfter B mode t) most
+  one_response mode distance t most mine =
       let same = counted mode t mine in
-      let over = response_there S B mode t same in
-      let back = response_there B S mode t (turned S B mode t same) in (
-        longest_there S B same.routines (EndsAfter S mode t) (EndsAfter B mode t) over back distance
-            most,
-        longest_there B S (sym same.routines) (EndsAfter B mode t) (EndsAfter S mode t) back over
-            distance most,
-      )
+      both_ways S B same.routines (EndsAfter S mode t) (EndsAfter B mode t)
+      (response_there S B mode t same) (response_there B S mode t (turned S B mode t same))
+      distance most
+
+  pend_together : (mode i : ℕ) → PendTogether S B mode i
+  pend_together mode i arrivals n =
+      ap (λ pending. slice_index_or pending i false)
+      ((same_states S B p pair).between mode arrivals n).pending
+
+  one_latency : (mode : ℕ) (distance : ℕ → ℕ) (i most : ℕ)
+      → IsOneLongest S B distance (StartsAfter S mode i) (StartsAfter B mode i) most
+  one_latency mode distance i most =
+      both_ways S B (routine_count S B p pair) (StartsAfter S mode i) (StartsAfter B mode i)
+      (latency_there S B mode i (over_together mode) (pend_together mode i))
+      (latency_there B S mode i (λ arrivals n. sym (over_together mode arrivals n))
+      (λ arrivals n. sym (pend_together mode i arrivals n)))
+      distance most
+
+  one_hold : (mode : ℕ) (distance : ℕ → ℕ) (r q most : ℕ) → AreHeldTogether S B mode r q
+      → IsOneLongest S B distance (IsHeldFor S mode r) (IsHeldFor B mode q) most
+  one_hold mode distance r q most held =
+      both_ways S B (routine_count S B p pair) (IsHeldFor S mode r) (IsHeldFor B mode q)
+      (hold_there S B mode r q (over_together mode) held)
+      (hold_there B S mode q r (λ arrivals n. sym (over_together mode arrivals n))
+      (λ arrivals n. sym (held arrivals n)))
+      distance most
 
   same_bounds : HaveTheSameBounds S B p
   same_bounds =
       record {
-        longest = longest_same;
+        longest = one_response;
         longest_left = λ mode distance t most mine. (
           none_there S B mode distance t most (counted mode t mine),
           none_there B S mode distance t most (turned S B mode t (counted mode t mine)),
         );
+        latency = one_latency;
+        hold = λ mode distance r q most h.
+            one_hold mode distance r q most
+            (λ arrivals n. ((same_states S B p pair).between mode arrivals n).holders r q h);
+        hold_of_scheduler = λ mode distance most.
+            one_hold mode distance (length S.resources) (length B.resources) most
+            (λ arrivals n. ((same_states S B p pair).between mode arrivals n).scheduler);
       }
 
 pub bounds_are_those_of_the_part : BoundsAreThoseOfThePart
@@ -139,21 +102,44 @@ bounds_are_those_of_the_part = of_the_part HaveTheSameBounds same_bounds
 
 -- ---- what is found in the part
 
+is_thing : (T : System) (q : ℕ) → q < length T.resources → q < things T Holds
+is_thing T q inside = omega (arith, inside)
+
+scheduler_is_thing : (T : System) → T.use_res_scheduler ≡ true → length T.resources < things T Holds
+scheduler_is_thing T used = rw used (omega arith)
+
 pub bounds_are_found_in_the_part : BoundsAreFoundInThePart
-bounds_are_found_in_the_part S p need mode distance table t most proper separable enough mine
-    closed =
+bounds_are_found_in_the_part S p need mode distance table proper separable enough closed =
     let T : System = upper_part S p in
     let pair : AreOneAbove S T p = with_part S p proper separable in
     let same : HaveTheSameBounds S T p = same_bounds S T p pair in
-    let there : IsUpperTask T p t = upper_there S T p pair t mine in
+    let own = pair.proper_there in
     record {
-      longest = λ path chosen none allowed has.
-          (same.longest mode distance t most mine).1
-          (finds_response T need mode distance table t most path chosen pair.proper_there enough
-          there.known closed none allowed has);
-      longest_left = λ none.
-          (same.longest_left mode distance t most mine).1
-          (λ arrivals n k u spaced going made first last.
-          no_job_older T need mode distance table t most arrivals n k u pair.proper_there enough
-          there.known closed none spaced going made first last);
+      response = λ t most mine.
+          let there : IsUpperTask T p t = upper_there S T p pair t mine in
+          record {
+            longest = λ path chosen none allowed has.
+                (same.longest mode distance t most mine).1
+                (finds_response T need mode distance table t most path chosen own enough there.known
+                closed none allowed has);
+            longest_left = λ none.
+                (same.longest_left mode distance t most mine).1
+                (λ arrivals n k u spaced going made first last.
+                no_job_older T need mode distance table t most arrivals n k u own enough there.known
+                closed none spaced going made first last);
+          };
+      latency = λ i most inside path chosen none allowed has.
+          (same.latency mode distance i most).1
+          (finds_latency T need mode distance table i most path chosen own enough
+          (subst (λ m. i < m) (routine_count S T p pair) inside) closed none allowed has);
+      hold = λ r most inside high path chosen none allowed has.
+          let new : ℕ = rank (is_upper_declared S p) r in
+          let one = part_resource S p proper separable r inside high in
+          (same.hold mode distance r new most one).1
+          (finds_hold T need mode distance table new most path chosen own enough
+          (is_thing T new one.known_there) closed none allowed has);
+      hold_of_scheduler = λ most used path chosen none allowed has.
+          (same.hold_of_scheduler mode distance most).1
+          (finds_hold T need mode distance table (length T.resources) most path chosen own enough
+          (scheduler_is_thing T used) closed none allowed has);
     }

@@ -7,4 +7,5 @@ pub mod Lasting
 pub mod Executions
 pub mod Refused
 pub mod Answered
+pub mod Longest
 pub mod Bounds

@@ -214,7 +214,7 @@ later_states S B p pair mode arrivals n =
 -- ---- the numbers of the upper part by itself
 
 module _ (S : System) (p : ℕ) (proper : IsProper S) (separable : Separable S p) where
-  part_resource : (r : ℕ) → r < length S.resources → IsTrue (is_upper_declared S p r)
+  pub part_resource : (r : ℕ) → r < length S.resources → IsTrue (is_upper_declared S p r)
       → IsTheSameResource S (upper_part S p) p r (rank (is_upper_declared S p) r)
   part_resource r inside high =
       let whole = all_upper S p proper separable in

@@ -35,14 +35,15 @@ pub fn alarms_act_the_same()
     ensures { AlarmsActTheSame }
 {}
 
-/// The longest response of an upper task, over every list of arrivals that keep their distances, is
-/// that in the upper part by itself, and so is how long a job of it is left.
+/// Over every list of arrivals that keep their distances, the longest response of an upper task is
+/// that in the upper part by itself, and so is how long a job of it is left, the greatest latency of
+/// a routine, and the longest hold of an upper resource and of RES_SCHEDULER.
 pub fn bounds_are_those_of_the_part()
     ensures { BoundsAreThoseOfThePart }
 {}
 
-/// A closed table of the upper part by itself finds the longest response of an upper task in the
-/// whole system, and how long a job of it is left there.
+/// A closed table of the upper part by itself, and a path of it, find each of these in the whole
+/// system.
 pub fn bounds_are_found_in_the_part()
     ensures { BoundsAreFoundInThePart }
 {}
