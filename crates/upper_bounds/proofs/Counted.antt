@@ -44,7 +44,7 @@ module _ (S B : System) (p t : ℕ) (s b : State) (same : up S p s ≡ up B p b)
       ∙ ap (made t) same
       ∙ get_or-take (upper_count B p) b.made t 0 first_B
 
-slot_count : (S : System) (t : ℕ) (s : State) → ((kept S s).slots t).count ≡ left t s
+pub slot_count : (S : System) (t : ℕ) (s : State) → ((kept S s).slots t).count ≡ left t s
 slot_count S t s = go (jobs_of t s.jobs)
   where
     go : (js : List Job) → (slot_of js).count ≡ length js

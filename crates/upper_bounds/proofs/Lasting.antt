@@ -1,4 +1,4 @@
--- Pending interrupts and holds of the upper part are as old in systems that agree.
+-- Readiness, pending interrupts and holds of the upper part are as old in systems that agree.
 use Rattle.std.proofs.Common.{◌≡◌, ℕ, not, ◌&&◌, ◌||◌, List, length, ap}
 use Rattle.std.specs.Prelude.{Option, is_some, slice_index_or, false}
 use Rattle.std.specs.List.{filter}
@@ -16,6 +16,7 @@ use Rattle.upper_bounds.specs.StatesAbove.{holder, IsSeenTheSame}
 use Rattle.upper_bounds.specs.SpansAbove.{AreAsOld, HaveTheSameSpans, SpansAreAsOld}
 use Rattle.upper_bounds.proofs.Sides.{routine_count, of_the_part}
 use Rattle.upper_bounds.proofs.Aging.{as_old}
+use Rattle.upper_bounds.proofs.Readying.{readiness_up}
 use Rattle.upper_bounds.proofs.States.{same_states, later_states}
 
 module _ (S B : System) (p : ℕ) (pair : AreOneAbove S B p) (mode : ℕ)
@@ -68,6 +69,7 @@ module _ (S B : System) (p : ℕ) (pair : AreOneAbove S B p) (mode : ℕ)
 same_spans : (S B : System) (p : ℕ) → AreOneAbove S B p → HaveTheSameSpans S B p
 same_spans S B p pair =
     record {
+      readiness = λ mode arrivals n t mine. readiness_up S B p pair mode arrivals t mine n;
       pending = λ mode arrivals n i. pends_up S B p pair mode arrivals n i;
       holds = λ mode arrivals n r q h. held_up S B p pair mode arrivals n r q h;
       scheduler = λ mode arrivals n. scheduler_up S B p pair mode arrivals n;

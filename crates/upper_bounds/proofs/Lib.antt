@@ -3,9 +3,11 @@ pub mod Aging
 pub mod Counted
 pub mod SeenUp
 pub mod States
-pub mod Lasting
 pub mod Executions
+pub mod ToldAbove
 pub mod Refused
+pub mod Readying
+pub mod Lasting
 pub mod Answered
 pub mod Longest
 pub mod Bounds

@@ -1,51 +1,30 @@
--- Activations of upper tasks that are answered E_OS_LIMIT are told by what the upper part executes.
+-- Activations of upper tasks that are answered E_OS_LIMIT, and waits of upper tasks, are told by
+-- what the upper part executes.
 use Rattle.std.proofs.Common.{◌≡◌, ℕ, Bool, true, false, cond, List, [], ◌∷◌, refl, sym, ◌∙◌, ap, ne_eqb}
 use Rattle.std.specs.Prelude.{Option, Some, None}
-use Rattle.std.specs.List.{filter_map, AllByRecursion}
+use Rattle.std.specs.List.{list_any}
 use Rattle.osek_base.specs.declared.arrivals.Arrival.{Arrival}
 use Rattle.osek_base.specs.declared.ids.Owner.{Owner}
 use Rattle.osek_base.specs.declared.instr.Instr.{Instr}
 use Rattle.osek_base.specs.declared.instr.Service.{Service}
-use Rattle.osek_base.specs.declared.instr.Control.{Control}
 use Rattle.osek_base.specs.declared.status.Status.{Status}
 use Rattle.osek_base.specs.declared.trace_event.Outcome.{Outcome}
-use Rattle.osek_base.specs.declared.trace_event.Source.{Source}
 use Rattle.osek_base.specs.declared.trace_event.TraceEvent.{TraceEvent}
-use Rattle.osek_base.specs.System.{System, instruction_at}
-use Rattle.osek_base.specs.Instruction.{Context, plain}
-use Rattle.osek_base.specs.State.{Job, JobId, Active, State, same_id, job_of}
-use Rattle.osek_base.specs.Reschedule.{hooked}
-use Rattle.osek_base.specs.Service.{Caller, JobCalls, RoutineCalls, Reply, service}
-use Rattle.osek_base.specs.Tick.{error_record, at_values, shutdown_record, executed, caller_executes, caller_of, job_caller, execute_phase, tick}
-use Rattle.osek_base.specs.Trace.{arriving, run}
+use Rattle.osek_base.specs.System.{System}
 use Rattle.osek_base.specs.Upper.{is_upper_task, is_upper_owner}
-use Rattle.osek_base.specs.Separable.{Separable, names_upper}
-use Rattle.osek_base.specs.Agree.{renumbered, upper_core}
-use Rattle.osek_base.specs.Proper.{IsProper}
-use Rattle.partition_check.proofs.UpperState.{is_upper_job}
-use Rattle.partition_check.proofs.IsolationLemmas.{Agree-core}
-use Rattle.partition_check.proofs.Shared.{IsLayered, IsLayeredJob}
+use Rattle.osek_base.specs.Separable.{names_upper}
+use Rattle.osek_base.specs.Agree.{renumbered}
 use Rattle.partition_check.proofs.ListsUp.{true≢false}
-use Rattle.partition_check.proofs.ProgramFacts.{lower_instr}
 use Rattle.partition_check.proofs.ExecuteUp.{found}
-use Rattle.upper_bounds.specs.ExecutedAbove.{upper_execution, upper_executions, refused_to, refusals_of, ExecuteTheSame, ExecutionsAreTheSame}
+use Rattle.upper_bounds.specs.ExecutedAbove.{refused_to, ExecuteTheSame, ExecutionsAreTheSame}
 use Rattle.same_future.specs.Alike.{records_at}
 use Rattle.same_future.specs.Incidents.{activates, tells_limit}
-use Rattle.upper_bounds.specs.Above.{AreOneAbove}
-use Rattle.upper_bounds.proofs.Sides.{run_beside, upper_there, of_the_part}
-use Rattle.upper_bounds.proofs.States.{executing_beside}
-use Rattle.upper_bounds.proofs.Executions.{IsOfExecutions, core_execution, of_system, tick_tells, tick_one}
+use Rattle.same_future.specs.Spans.{is_wait_of}
+use Rattle.upper_bounds.specs.Above.{IsUpperTask, AreOneAbove}
+use Rattle.upper_bounds.proofs.Sides.{upper_there, of_the_part}
+use Rattle.upper_bounds.proofs.ToldAbove.{told, GoesByUpper, executions_same, told_same}
 
 -- ---- refused activations
-
-refused_only : (t : ℕ) → IsOfExecutions (refused_to t)
-refused_only t =
-    record {
-      pre = λ u. refl;
-      post = λ u. refl;
-      error = λ who what status. refl;
-      shutdown = λ n. refl;
-    }
 
 activates_up : (S : System) (p t : ℕ) (what : Instr)
     → activates t (renumbered S p what) ≡ activates t what
@@ -78,178 +57,118 @@ tells_none : (t : ℕ) (who : Owner) (place : ℕ) (what : Instr) (outcome : Out
 tells_none t who place what (Outcome.Answer Status.Limit found) none = none
 tells_none t who place what outcome none = refl
 
--- the same is told of what the upper part executes
-abbrev pub again : {X : Type 0} → (TraceEvent → Option X) → Option TraceEvent → Option X
-again f None = None
-again f (Some e) = f e
+lower_not : (S : System) (p t : ℕ) → is_upper_task S p t ≡ true → (what : Instr)
+    → names_upper S p what ≡ false → activates t what ≡ false
+lower_not S p t high (Instr.Plain x) low = refl
+lower_not S p t high (Instr.Control x) low = refl
+lower_not S p t high (Instr.Service (Service.ActivateTask None)) low = refl
+lower_not S p t high (Instr.Service (Service.ActivateTask (Some u))) low =
+    ne_eqb u t (λ e. true≢false (sym high ∙ ap (is_upper_task S p) (sym e) ∙ low))
+lower_not S p t high (Instr.Service (Service.ChainTask None)) low = refl
+lower_not S p t high (Instr.Service (Service.ChainTask (Some u))) low =
+    ne_eqb u t (λ e. true≢false (sym high ∙ ap (is_upper_task S p) (sym e) ∙ low))
+lower_not S p t high (Instr.Service call) low = refl
 
--- one record of a list
-none_more : {X : Type 0} (f : TraceEvent → Option X) (e : TraceEvent) (es : List TraceEvent)
-    → f e ≡ None → filter_map f (e ∷ es) ≡ filter_map f es
-none_more f e es h = rw h refl
-
-some_more : {X : Type 0} (f : TraceEvent → Option X) (e : TraceEvent) (es : List TraceEvent) (x : X)
-    → f e ≡ Some x → filter_map f (e ∷ es) ≡ x ∷ filter_map f es
-some_more f e es x h = rw h refl
-
-both_more : {X : Type 0} (f : TraceEvent → Option X) (e d : TraceEvent) (es ds : List TraceEvent)
-    (o : Option X) → f e ≡ o → f d ≡ o → filter_map f es ≡ filter_map f ds
-    → filter_map f (e ∷ es) ≡ filter_map f (d ∷ ds)
-both_more f e d es ds None h k rest = none_more f e es h ∙ rest ∙ sym (none_more f d ds k)
-both_more f e d es ds (Some x) h k rest =
-    some_more f e es x h ∙ ap (λ xs. x ∷ xs) rest ∙ sym (some_more f d ds x k)
-
-module _ (S : System) (p t : ℕ) (high : is_upper_task S p t ≡ true) where
-  abbrev pub IsToldAbove : TraceEvent → Type 0
-  IsToldAbove e = refused_to t e ≡ again (refused_to t) (upper_execution S p e)
-
-  all_told : (events : List TraceEvent) → AllByRecursion IsToldAbove events
-      → refusals_of t events ≡ refusals_of t (upper_executions S p events)
-  all_told [] all = refl
-  all_told (e ∷ events) all = go (upper_execution S p e) refl all.0 (all_told events all.1)
-    where
-      go : (o : Option TraceEvent) → upper_execution S p e ≡ o
-          → refused_to t e ≡ again (refused_to t) o
-          → refusals_of t events ≡ refusals_of t (upper_executions S p events)
-          → refusals_of t (e ∷ events) ≡ refusals_of t (upper_executions S p (e ∷ events))
-      go None is h rest =
-          none_more (refused_to t) e events h ∙ rest
-          ∙ ap (refusals_of t) (sym (none_more (upper_execution S p) e events is))
-      go (Some d) is h rest =
-          both_more (refused_to t) e d events (upper_executions S p events)
-          (refused_to t d) h refl rest
-          ∙ ap (refusals_of t) (sym (some_more (upper_execution S p) e events d is))
-
-  lower_not : (what : Instr) → names_upper S p what ≡ false → activates t what ≡ false
-  lower_not (Instr.Plain x) low = refl
-  lower_not (Instr.Control x) low = refl
-  lower_not (Instr.Service (Service.ActivateTask None)) low = refl
-  lower_not (Instr.Service (Service.ActivateTask (Some u))) low =
-      ne_eqb u t (λ e. true≢false (sym high ∙ ap (is_upper_task S p) (sym e) ∙ low))
-  lower_not (Instr.Service (Service.ChainTask None)) low = refl
-  lower_not (Instr.Service (Service.ChainTask (Some u))) low =
-      ne_eqb u t (λ e. true≢false (sym high ∙ ap (is_upper_task S p) (sym e) ∙ low))
-  lower_not (Instr.Service call) low = refl
-
-  told_upper : (who : Owner) (place : ℕ) (what : Instr) (outcome : Outcome)
-      → is_upper_owner S p who ≡ true → IsToldAbove (TraceEvent.Executed who place what outcome)
-  told_upper who place what outcome upper =
-      rw upper (ap (λ b. cond b (Some who) None) (sym (tells_up S p t who place what outcome)))
-
-  told_lower : (who : Owner) (place : ℕ) (what : Instr) (outcome : Outcome)
-      → is_upper_owner S p who ≡ false → names_upper S p what ≡ false
-      → IsToldAbove (TraceEvent.Executed who place what outcome)
-  told_lower who place what outcome low named =
-      rw (low, tells_none t who place what outcome (lower_not what named)) refl
-
-  error_told : (who : Source) (what : Instr) (status : Status)
-      → AllByRecursion IsToldAbove (error_record S who what status)
-  error_told who what Status.Ok = tt
-  error_told who what status = go S.hooks.error
-    where
-      go : (b : Bool) → AllByRecursion IsToldAbove (hooked b (TraceEvent.Error who what status))
-      go true = (refl, tt)
-      go false = tt
-
-  shutdown_told : (control : Control ℕ) → AllByRecursion IsToldAbove (shutdown_record S control)
-  shutdown_told (Control.ShutdownOs n) = go S.hooks.shutdown
-    where
-      go : (b : Bool) → AllByRecursion IsToldAbove (hooked b (TraceEvent.Shutdown n))
-      go true = (refl, tt)
-      go false = tt
-  shutdown_told _ = tt
-
-  executed_told : (who : Owner) (c : Caller) (x : Context) (what : Instr) (s : State)
-      → ((outcome : Outcome) → IsToldAbove (TraceEvent.Executed who x.place what outcome))
-      → AllByRecursion IsToldAbove (executed S who c x what s).events
-  executed_told who c x (Instr.Plain act) s each =
-      (each (Outcome.Plain (plain act x (s.words who)).effect), tt)
-  executed_told who c x (Instr.Control control) s each =
-      (each Outcome.Control, shutdown_told control)
-  executed_told who c x (Instr.Service call) s each =
-      let mine : Reply = service S c s (at_values x call) in (
-        each (Outcome.Answer mine.status mine.results),
-        error_told (Source.Owner who)
-            (Instr.Service call) mine.status,
-      )
-
-  module _ (proper : IsProper S) (separable : Separable S p) (s : State)
-      (layered : IsLayered S p s) where
-    job_told : (j : Job) → IsLayeredJob S p j
-        → AllByRecursion IsToldAbove (caller_executes S (JobCalls j) s).events
-    job_told j laid =
-        let what : Instr = instruction_at S (Owner.Task j.id.task) j.context.place in
-        executed_told (Owner.Task j.id.task) (JobCalls j) j.context what s
-        (λ outcome. go outcome (is_upper_job S p j) refl)
-      where
-        go : (outcome : Outcome) (b : Bool) → is_upper_job S p j ≡ b
-            → IsToldAbove (TraceEvent.Executed (Owner.Task j.id.task) j.context.place
-            (instruction_at S (Owner.Task j.id.task) j.context.place) outcome)
-        go outcome true h =
-            told_upper (Owner.Task j.id.task) j.context.place
-            (instruction_at S (Owner.Task j.id.task) j.context.place) outcome h
-        go outcome false h =
-            told_lower (Owner.Task j.id.task) j.context.place
-            (instruction_at S (Owner.Task j.id.task) j.context.place) outcome h
-            (lower_instr S p proper separable j.id.task j.context.place laid.task h).names
-
-    found_told : (r : JobId) (o : Option Job) → job_of r s.jobs ≡ o
-        → AllByRecursion IsToldAbove (caller_executes S (job_caller o) s).events
-    found_told r None e = (refl, tt)
-    found_told r (Some j) e =
-        job_told j (found (IsLayeredJob S p) (λ k. same_id k.id r) s.jobs j layered.jobs e).0
-
-    caller_told : (active : Option Active) (running : Option JobId)
-        → AllByRecursion IsToldAbove (caller_executes S (caller_of active running s.jobs) s).events
-    caller_told (Some a) running =
-        executed_told (Owner.Routine a.routine) (RoutineCalls a) a.context
-        (instruction_at S (Owner.Routine a.routine) a.context.place) s
-        (λ outcome. told_upper (Owner.Routine a.routine) a.context.place
-        (instruction_at S (Owner.Routine a.routine) a.context.place) outcome refl)
-    caller_told None None = (refl, tt)
-    caller_told None (Some r) = found_told r (job_of r s.jobs) refl
-
-    pub phase_told : AllByRecursion IsToldAbove (execute_phase S s).events
-    unfolding execute_phase
-    phase_told = caller_told s.active s.running
-
--- refusals are told by what the upper part executes
-refusals_above : (S : System) (p t : ℕ) (proper : IsProper S) (separable : Separable S p)
-    → is_upper_task S p t ≡ true
-    → (mode : ℕ) (arrivals : List Arrival) (n : ℕ)
-    → refusals_of t (records_at S mode arrivals n)
-    ≡ refusals_of t (upper_executions S p (records_at S mode arrivals n))
-refusals_above S p t proper separable high mode arrivals n =
-    let arrived : List ℕ = arriving arrivals n in
-    let s : State = (run S mode arrivals n).state in
-    let beside = executing_beside S p proper separable arrived s
-    (run (upper_core S p) mode arrivals n).state
-    (run_beside S p proper separable mode arrivals n) in
-    tick_tells (refused_to t) (refused_only t) S arrived s
-    ∙ all_told S p t high (execute_phase S (tick S arrived s).executing).events
-    (phase_told S p t high proper separable (tick S arrived s).executing beside.layered)
-    ∙ ap (refusals_of t) (sym (tick_tells (upper_execution S p) (of_system S p) S arrived s))
-
-executions_same : (S B : System) (p : ℕ) → AreOneAbove S B p
-    → (mode : ℕ) (arrivals : List Arrival) (n : ℕ)
-    → upper_executions S p (records_at S mode arrivals n)
-    ≡ upper_executions B p (records_at B mode arrivals n)
-executions_same S B p pair mode arrivals n =
-    tick_one S p pair.proper pair.separable mode arrivals n
-    ∙ ap (λ C. filter_map core_execution (records_at C mode arrivals n))
-    (Agree-core S B p pair.agree)
-    ∙ sym (tick_one B p pair.proper_there pair.separable_there mode arrivals n)
+pub refusals_upper : (S : System) (p t : ℕ) → is_upper_task S p t ≡ true
+    → GoesByUpper (refused_to t) S p
+refusals_upper S p t high =
+    record {
+      only =
+          record {
+            pre = λ u. refl;
+            post = λ u. refl;
+            error = λ who what status. refl;
+            shutdown = λ n. refl;
+          };
+      idle = refl;
+      upper = λ who place what outcome is.
+          ap (λ b. cond b (Some who) None) (sym (tells_up S p t who place what outcome));
+      lower = λ who place what outcome low named.
+          ap (λ b. cond b (Some who) None)
+          (tells_none t who place what outcome (lower_not S p t high what named));
+    }
 
 execute_the_same : (S B : System) (p : ℕ) → AreOneAbove S B p → ExecuteTheSame S B p
 execute_the_same S B p pair =
     record {
       executions = executions_same S B p pair;
       refusals = λ mode arrivals n t mine.
-          refusals_above S p t pair.proper pair.separable mine.upper mode arrivals n
-          ∙ ap (refusals_of t) (executions_same S B p pair mode arrivals n)
-          ∙ sym (refusals_above B p t pair.proper_there pair.separable_there
-          (upper_there S B p pair t mine).upper mode arrivals n);
+          told_same (refused_to t) S B p pair (refusals_upper S p t mine.upper)
+          (refusals_upper B p t (upper_there S B p pair t mine).upper) mode arrivals n;
     }
 
 pub executions_are_the_same : ExecutionsAreTheSame
 executions_are_the_same = of_the_part ExecuteTheSame execute_the_same
+
+-- ---- waits
+
+abbrev pub told_if : (TraceEvent → Bool) → TraceEvent → Option ℕ
+told_if test e = cond (test e) (Some 0) None
+
+abbrev pub is_any : List ℕ → Bool
+is_any [] = false
+is_any (n ∷ ns) = true
+
+any_told : (test : TraceEvent → Bool) (events : List TraceEvent)
+    → list_any test events ≡ is_any (told (told_if test) events)
+any_told test [] = refl
+any_told test (e ∷ events) = go (test e) refl (any_told test events)
+  where
+    go : (b : Bool) → test e ≡ b → list_any test events ≡ is_any (told (told_if test) events)
+        → list_any test (e ∷ events) ≡ is_any (told (told_if test) (e ∷ events))
+    go true is rest = rw is refl
+    go false is rest = rw is rest
+
+wait_up : (S : System) (p t : ℕ) (who : Owner) (place : ℕ) (what : Instr) (outcome : Outcome)
+    → is_wait_of t (TraceEvent.Executed who place what outcome)
+    ≡ is_wait_of t (TraceEvent.Executed who place (renumbered S p what) outcome)
+wait_up S p t (Owner.Routine i) place what outcome = refl
+wait_up S p t (Owner.Task u) place (Instr.Plain x) outcome = refl
+wait_up S p t (Owner.Task u) place (Instr.Control x) outcome = refl
+wait_up S p t (Owner.Task u) place (Instr.Service (Service.GetResource r)) outcome = refl
+wait_up S p t (Owner.Task u) place (Instr.Service (Service.ReleaseResource r)) outcome = refl
+wait_up S p t (Owner.Task u) place (Instr.Service (Service.LoadShared r x)) outcome = refl
+wait_up S p t (Owner.Task u) place (Instr.Service (Service.StoreShared r x y)) outcome = refl
+wait_up S p t (Owner.Task u) place (Instr.Service (Service.SetRelAlarm a x y)) outcome = refl
+wait_up S p t (Owner.Task u) place (Instr.Service (Service.SetAbsAlarm a x y)) outcome = refl
+wait_up S p t (Owner.Task u) place (Instr.Service (Service.CancelAlarm a)) outcome = refl
+wait_up S p t (Owner.Task u) place (Instr.Service (Service.GetAlarm a)) outcome = refl
+wait_up S p t (Owner.Task u) place (Instr.Service (Service.GetAlarmBase a)) outcome = refl
+wait_up S p t (Owner.Task u) place (Instr.Service call) outcome = refl
+
+wait_none : (S : System) (p t : ℕ) → is_upper_task S p t ≡ true → (who : Owner) (place : ℕ)
+    (what : Instr) (outcome : Outcome) → is_upper_owner S p who ≡ false
+    → is_wait_of t (TraceEvent.Executed who place what outcome) ≡ false
+wait_none S p t high (Owner.Task u) place (Instr.Service (Service.WaitEvent m))
+    (Outcome.Answer Status.Ok answer) low =
+    ne_eqb u t (λ e. true≢false (sym high ∙ ap (is_upper_task S p) (sym e) ∙ low))
+wait_none S p t high who place what outcome low = refl
+
+waits_upper : (S : System) (p t : ℕ) → is_upper_task S p t ≡ true
+    → GoesByUpper (told_if (is_wait_of t)) S p
+waits_upper S p t high =
+    record {
+      only =
+          record {
+            pre = λ u. refl;
+            post = λ u. refl;
+            error = λ who what status. refl;
+            shutdown = λ n. refl;
+          };
+      idle = refl;
+      upper = λ who place what outcome is.
+          ap (λ (b : Bool). cond b (Some 0) None) (wait_up S p t who place what outcome);
+      lower = λ who place what outcome low named.
+          ap (λ (b : Bool). cond b (Some 0) None) (wait_none S p t high who place what outcome low);
+    }
+
+-- a task calls WaitEvent in both or in neither
+pub waits_same : (S B : System) (p : ℕ) → AreOneAbove S B p → (t : ℕ) → IsUpperTask S p t
+    → (mode : ℕ) (arrivals : List Arrival) (n : ℕ)
+    → list_any (is_wait_of t) (records_at S mode arrivals n)
+    ≡ list_any (is_wait_of t) (records_at B mode arrivals n)
+waits_same S B p pair t mine mode arrivals n =
+    any_told (is_wait_of t) (records_at S mode arrivals n)
+    ∙ ap is_any (told_same (told_if (is_wait_of t)) S B p pair (waits_upper S p t mine.upper)
+    (waits_upper B p t (upper_there S B p pair t mine).upper) mode arrivals n)
+    ∙ sym (any_told (is_wait_of t) (records_at B mode arrivals n))

@@ -18,8 +18,8 @@ pub fn tasks_are_seen_the_same()
     ensures { TasksAreSeenTheSame }
 {}
 
-/// Interrupts pend there for as many ticks, and upper resources and RES_SCHEDULER are held for as
-/// many.
+/// There jobs of upper tasks are ready, interrupts pend, and upper resources and RES_SCHEDULER are
+/// held for as many ticks.
 pub fn spans_are_as_old()
     ensures { SpansAreAsOld }
 {}
