@@ -1,11 +1,15 @@
 -- Bounds of the upper part are the same in systems that agree, and are found in the part by itself.
-use Rattle.std.proofs.Common.{◌≡◌, ℕ, ◌<◌, List, length, sym, ap, subst, arith}
-use Rattle.std.specs.Prelude.{slice_index_or, false, true}
+use Rattle.std.proofs.Common.{suc, ◌≡◌, ℕ, ◌<◌, List, length, sym, ap, subst, arith, ◌∙◌}
+use Rattle.std.specs.Prelude.{slice_index_or, false, true, Option, IfSome}
 use Rattle.osek_base.specs.declared.arrivals.Arrival.{Arrival}
 use Rattle.osek_base.specs.System.{System}
 use Rattle.osek_base.specs.Agree.{rank, is_upper_declared, upper_part}
 use Rattle.run_laws.specs.Jobs.{EndsAfter}
-use Rattle.same_future.specs.Spans.{Holds, things}
+use Rattle.std.specs.List.{AllByRecursion}
+use Rattle.same_future.specs.Spans.{Readiness, Holds, Age, IsAtMost, things}
+use Rattle.same_future.proofs.Bounded.{no_longer, none_older}
+use Rattle.upper_bounds.specs.SpansAbove.{AreAsOld}
+use Rattle.upper_bounds.proofs.Lasting.{same_spans}
 use Rattle.same_future.specs.Paths.{IsLongest}
 use Rattle.same_future.specs.Latencies.{StartsAfter}
 use Rattle.same_future.specs.Holds.{IsHeldFor}
@@ -17,7 +21,7 @@ use Rattle.upper_bounds.specs.BoundsAbove.{HaveTheSameBounds, BoundsAreThoseOfTh
 use Rattle.upper_bounds.proofs.Sides.{routine_count, upper_there, with_part, of_the_part}
 use Rattle.upper_bounds.proofs.Counted.{same_tasks}
 use Rattle.upper_bounds.proofs.States.{same_states, part_resource}
-use Rattle.upper_bounds.proofs.Longest.{IsCounted, turned, GoesOver, longest_there, none_there, response_there, AreOverTogether, PendTogether, latency_there, AreHeldTogether, hold_there}
+use Rattle.upper_bounds.proofs.Longest.{spaced_there, IsCounted, turned, GoesOver, longest_there, none_there, response_there, AreOverTogether, PendTogether, latency_there, AreHeldTogether, hold_there}
 
 -- ---- systems that agree
 
@@ -102,6 +106,10 @@ bounds_are_those_of_the_part = of_the_part HaveTheSameBounds same_bounds
 
 -- ---- what is found in the part
 
+ready_same : (S B : System) (p : ℕ) → AreOneAbove S B p → (mode : ℕ) (arrivals : List Arrival)
+    (n t : ℕ) → IsUpperTask S p t → AreAsOld S B mode arrivals n Readiness t t
+ready_same S B p pair = (same_spans S B p pair).readiness
+
 is_thing : (T : System) (q : ℕ) → q < length T.resources → q < things T Holds
 is_thing T q inside = omega (arith, inside)
 
@@ -114,6 +122,8 @@ bounds_are_found_in_the_part S p need mode distance table proper separable enoug
     let pair : AreOneAbove S T p = with_part S p proper separable in
     let same : HaveTheSameBounds S T p = same_bounds S T p pair in
     let own = pair.proper_there in
+    let routines = routine_count S T p pair in
+    let over = over_together S T p pair mode in
     record {
       response = λ t most mine.
           let there : IsUpperTask T p t = upper_there S T p pair t mine in
@@ -128,10 +138,26 @@ bounds_are_found_in_the_part S p need mode distance table proper separable enoug
                 no_job_older T need mode distance table t most arrivals n k u own enough there.known
                 closed none spaced going made first last);
           };
+      readiness = λ t most mine.
+          let there : IsUpperTask T p t = upper_there S T p pair t mine in
+          record {
+            ending = λ none arrivals n spaced going.
+                subst (λ (o : Option Age). IfSome o (IsAtMost most))
+                (sym (ready_same S T p pair mode arrivals n t mine).ending)
+                (no_longer T need mode distance table Readiness t most arrivals n own enough closed
+                there.known none (spaced_there S T routines distance arrivals spaced)
+                (sym (over arrivals n) ∙ going));
+            left = λ none arrivals n spaced going.
+                subst (λ ages. AllByRecursion (IsAtMost most) ages)
+                (sym (ready_same S T p pair mode arrivals (suc n) t mine).ages)
+                (none_older T need mode distance table Readiness t most arrivals n own enough closed
+                there.known none (spaced_there S T routines distance arrivals spaced)
+                (sym (over arrivals n) ∙ going));
+          };
       latency = λ i most inside path chosen none allowed has.
           (same.latency mode distance i most).1
           (finds_latency T need mode distance table i most path chosen own enough
-          (subst (λ m. i < m) (routine_count S T p pair) inside) closed none allowed has);
+          (subst (λ m. i < m) routines inside) closed none allowed has);
       hold = λ r most inside high path chosen none allowed has.
           let new : ℕ = rank (is_upper_declared S p) r in
           let one = part_resource S p proper separable r inside high in

@@ -66,7 +66,7 @@ module _ (S B : System) (p : ℕ) (pair : AreOneAbove S B p) (mode : ℕ)
       holds_up n (length S.resources) (length B.resources)
       (λ m. (is_before m).scheduler) (λ m. (is_after m).scheduler)
 
-same_spans : (S B : System) (p : ℕ) → AreOneAbove S B p → HaveTheSameSpans S B p
+pub same_spans : (S B : System) (p : ℕ) → AreOneAbove S B p → HaveTheSameSpans S B p
 same_spans S B p pair =
     record {
       readiness = λ mode arrivals n t mine. readiness_up S B p pair mode arrivals t mine n;

@@ -16,7 +16,7 @@ use Rattle.upper_bounds.specs.BoundsAbove.{NoneStaysLonger}
 
 -- ---- the longest goes over where what takes long does
 
-spaced_there : (S B : System) → length S.routines ≡ length B.routines → (distance : ℕ → ℕ)
+pub spaced_there : (S B : System) → length S.routines ≡ length B.routines → (distance : ℕ → ℕ)
     (arrivals : List Arrival) → AreSpaced S distance arrivals → AreSpaced B distance arrivals
 spaced_there S B routines distance arrivals h i u v known =
     h i u v (subst (λ m. i < m) (sym routines) known)

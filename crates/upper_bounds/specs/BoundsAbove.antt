@@ -1,6 +1,7 @@
 -- Partitions, no part of the standards. How long upper tasks take at the most is the same in
 -- systems that agree, and is found in the upper part by itself.
-use Rattle.std.specs.Prelude.{ℕ, suc, ◌≡◌, ◌<◌, ◌≤◌, ◌+◌, ◌↔◌, false, IsTrue, List, [], ◌∷◌, length, Bool, Some}
+use Rattle.std.specs.Prelude.{ℕ, suc, ◌≡◌, ◌<◌, ◌≤◌, ◌+◌, ◌↔◌, false, IsTrue, List, [], ◌∷◌, length, Bool, Some, IfSome}
+use Rattle.std.specs.List.{AllByRecursion}
 use Rattle.osek_base.specs.declared.arrivals.Arrival.{Arrival}
 use Rattle.osek_base.specs.System.{System}
 use Rattle.osek_base.specs.Trace.{run}
@@ -9,9 +10,9 @@ use Rattle.osek_base.specs.Proper.{IsProper}
 use Rattle.osek_base.specs.Separable.{Separable}
 use Rattle.run_laws.specs.Jobs.{made_by, ended_by, IsMadeIn, EndsAfter}
 use Rattle.needed_data.specs.Need.{Need, Suffices}
-use Rattle.same_future.specs.Spans.{Jobs, Pending, Holds, Ticks}
+use Rattle.same_future.specs.Spans.{Jobs, Readiness, Pending, Holds, Ticks, IsAtMost}
 use Rattle.same_future.specs.Covering.{AreSpaced, Entry, IsClosed}
-use Rattle.same_future.specs.Ages.{Ages, age_labels, HasNoLonger, HasNoOlder, ending_age_from}
+use Rattle.same_future.specs.Ages.{Ages, age_labels, HasNoLonger, HasNoOlder, ending_age_from, ending_age_at, ages_after}
 use Rattle.same_future.specs.Paths.{Path, entry_on, IsAllowed, IsLongest}
 use Rattle.same_future.specs.Latencies.{StartsAfter}
 use Rattle.same_future.specs.Holds.{IsHeldFor}
@@ -81,10 +82,23 @@ HoldIsFound S T mode distance table r q most =
     → (entry_on age_labels T mode distance (chosen ∷ path)).label Holds q ≡ Ticks most ∷ []
     → IsLongest S distance (IsHeldFor S mode r) most
 
+-- one in which no readiness of a task ends older bounds each that ends in a run of the whole whose
+-- arrivals keep the distances, and one that has none older each that is there after a tick
+pub record ReadinessIsBounded (S T : System) (mode : ℕ) (distance : ℕ → ℕ)
+    (table : List (Entry Ages)) (t most : ℕ) : Type 0 where
+  pub ending : HasNoLonger T table Readiness t most → (arrivals : List Arrival) (n : ℕ)
+      → AreSpaced S distance arrivals → (run S mode arrivals n).state.over ≡ false
+      → IfSome (ending_age_at S mode arrivals n Readiness t) (IsAtMost most)
+  pub left : HasNoOlder table Readiness t most → (arrivals : List Arrival) (n : ℕ)
+      → AreSpaced S distance arrivals → (run S mode arrivals n).state.over ≡ false
+      → AllByRecursion (IsAtMost most) (ages_after S mode arrivals (suc n) Readiness t)
+
 pub record AreFoundInThePart (S : System) (p mode : ℕ) (distance : ℕ → ℕ)
     (table : List (Entry Ages)) : Type 0 where
   pub response : (t most : ℕ) → IsUpperTask S p t
       → ResponseIsFound S (upper_part S p) mode distance table t most
+  pub readiness : (t most : ℕ) → IsUpperTask S p t
+      → ReadinessIsBounded S (upper_part S p) mode distance table t most
   pub latency : (i most : ℕ) → i < length S.routines
       → LatencyIsFound S (upper_part S p) mode distance table i most
   pub hold : (r most : ℕ) → r < length S.resources → IsTrue (is_upper_declared S p r)

@@ -43,7 +43,7 @@ pub fn bounds_are_those_of_the_part()
 {}
 
 /// A closed table of the upper part by itself, and a path of it, find each of these in the whole
-/// system.
+/// system; and it bounds there for how many ticks jobs of an upper task are ready.
 pub fn bounds_are_found_in_the_part()
     ensures { BoundsAreFoundInThePart }
 {}
