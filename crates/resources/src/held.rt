@@ -1,7 +1,8 @@
 //! The resources of one job.
 
 ghost use Rattle.osek_base.specs.declared.status.Status.{Status};
-ghost use Rattle.std.specs.Prelude.{if◌then◌else◌, ◌≡◌, ◌<◌, ◌≤◌, [], ◌∷◌, ◌++◌, IsFalse, length, map};
+ghost use Rattle.std.specs.Prelude.{if◌then◌else◌, ◌≡◌, ◌<◌, ◌≤◌, ◌+◌, [], ◌∷◌, ◌++◌, IsFalse, length, map};
+ghost use Rattle.osek_base.specs.declared.limits.TheConstants.{MAX_RESOURCES};
 ghost use Rattle.osek_base.specs.Lists.{is_empty, greatest, same_resource, without_last};
 ghost use Rattle.osek_base.specs.Ceiling.{ceiling};
 ghost use Rattle.resources.specs.Held.{is_held, is_last, IsLow, number_of, priority_with};
@@ -59,7 +60,8 @@ impl Held {
 
     /// What is held, in the order got.
     pub fn list(&self) -> &[ResId]
-        ensures { result.now ≡ self.now }
+        ensures value { result.now ≡ self.now }
+        ensures few { length result.now ≤ MAX_RESOURCES + 1 }
     {
         self.resources.as_slice()
     }

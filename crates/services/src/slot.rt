@@ -1,6 +1,7 @@
 //! OSEK/VDX OS: task management, task state model. The control block of a task.
 
-ghost use Rattle.std.specs.Prelude.{if◌then◌else◌, ◌≡◌, ◌<◌, ◌+◌, ◌-◌, ℕ, IsFalse, is_some, length, true};
+ghost use Rattle.osek_base.specs.declared.limits.TheConstants.{MAX_RESOURCES};
+ghost use Rattle.std.specs.Prelude.{if◌then◌else◌, ◌≡◌, ◌<◌, ◌≤◌, ◌+◌, ◌-◌, ℕ, IsFalse, is_some, length, true};
 ghost use Rattle.osek_base.specs.Lists.{is_empty};
 ghost use Rattle.osek_base.specs.Service.{is_met, is_resource};
 ghost use Rattle.osek_base.specs.Lists.{last_of};
@@ -117,7 +118,8 @@ impl Slot {
 
     /// What the oldest job holds, in the order got, the internal resource aside.
     pub fn held(&self) -> &[ResId]
-        ensures { result.now ≡ self.now.held }
+        ensures value { result.now ≡ self.now.held }
+        ensures few { length result.now ≤ MAX_RESOURCES + 1 }
     {
         self.held.list()
     }
