@@ -1,0 +1,7 @@
+use Rattle.state_bytes.proofs.CounterLemmas.{some_ticks}
+use Rattle.state_bytes.proofs.times.ticks_per_base.Goals as goal
+
+pub returns-clause-some : goal.returns-clause-some
+returns-clause-some c =
+    let base = some_ticks _ _ c.alarm_count-proper.ensures.proper c.requires in
+    rw c.counter_of.ensures base

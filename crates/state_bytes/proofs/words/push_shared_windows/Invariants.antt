@@ -1,0 +1,9 @@
+use Rattle.std.proofs.Common.{◌≡◌, ◌++◌}
+use Rattle.state_keys.specs.Bytes.{each}
+use Rattle.state_keys.specs.Key.{shared_key}
+use Rattle.kernel.specs.Machine.{picture}
+use Rattle.needs.specs.Table.{need_of}
+use Rattle.state_bytes.proofs.words.push_shared_windows.Given as goal
+
+abbrev pub invariant-loop-number : goal.invariant-loop-number
+invariant-loop-number g l = l.out.items ≡ l.fn.out.items ++ each l.number (shared_key (need_of l.needs) (picture l.machine))

@@ -1,0 +1,62 @@
+//! Numbers and flags as bytes.
+
+ghost use Rattle.std.specs.Prelude.{◌≡◌, ◌<◌, ◌∷◌, ◌++◌, [], OnOk};
+ghost use Rattle.state_keys.specs.Bytes.{digits, flag, number, optional};
+ghost use Rattle.state_bytes.specs.Limit.{limit};
+
+use std::alloc::AllocError;
+
+/// Adds a byte.
+pub fn push_byte(out: &mut Vec<u8>, byte: u8) -> Result<(), AllocError>
+    ensures { OnOk result (out.new.items ≡ out.old.items ++ byte ∷ []) }
+{
+    out.push(byte)?;
+    Ok(())
+}
+
+/// Adds a number in base 128, lowest digit first, with at most `more` digits before the last one.
+#[tactic(auto, using(crate::proofs::DigitLemmas::digits_zero, crate::proofs::DigitLemmas::digits_last, crate::proofs::DigitLemmas::digits_step, crate::proofs::DigitLemmas::limit_step, crate::proofs::DigitLemmas::limit_zero))]
+fn push_digits(out: &mut Vec<u8>, more: u8, n: u32) -> Result<(), AllocError>
+    requires { n < limit more }
+    ensures { OnOk result (out.new.items ≡ out.old.items ++ digits more n) }
+{
+    if more == 0 {
+        out.push(n as u8)?;
+        return Ok(());
+    }
+    if n < 128 {
+        out.push(n as u8)?;
+        return Ok(());
+    }
+    out.push((128 + n % 128) as u8)?;
+    push_digits(out, more - 1, n / 128)
+}
+
+/// Adds a number: one to five bytes.
+#[tactic(auto, unfolding(state_keys::specs::Bytes::number, crate::specs::Limit::limit))]
+pub fn push_number(out: &mut Vec<u8>, n: u32) -> Result<(), AllocError>
+    ensures { OnOk result (out.new.items ≡ out.old.items ++ number n) }
+{
+    push_digits(out, 4, n)
+}
+
+/// Adds a flag.
+pub fn push_flag(out: &mut Vec<u8>, is_set: bool) -> Result<(), AllocError>
+    ensures { OnOk result (out.new.items ≡ out.old.items ++ flag is_set) }
+{
+    push_byte(out, if is_set { 1 } else { 0 })
+}
+
+/// Adds a number, where there is one.
+#[tactic(auto, using(crate::proofs::Steps::joined))]
+pub fn push_optional(out: &mut Vec<u8>, n: Option<u32>) -> Result<(), AllocError>
+    ensures { OnOk result (out.new.items ≡ out.old.items ++ optional number n) }
+{
+    match n {
+        None => push_byte(out, 0),
+        Some(n) => {
+            push_byte(out, 1)?;
+            push_number(out, n)
+        }
+    }
+}

@@ -1,0 +1,61 @@
+//! The ready queues.
+
+ghost use Rattle.std.specs.Prelude.{◌≡◌, ◌<◌, ◌++◌, suc, OnOk};
+ghost use Rattle.osek_base.specs.declared.limits.TheConstants.{MAX_TASK_PRIORITY};
+ghost use Rattle.services.specs.CompactQueues.{tasks_at};
+ghost use Rattle.state_keys.specs.Bytes.{each};
+ghost use Rattle.state_keys.specs.Key.{level_key, ready_key};
+ghost use Rattle.state_bytes.specs.Parts.{entry_key};
+
+use crate::numbers::push_number;
+use ready_queues::LEVELS;
+use services::{CompactQueues, ReadyEntry};
+use std::alloc::AllocError;
+
+/// Adds a ready task with its level, if it stands at that one.
+#[tactic(auto, using(crate::proofs::Steps::joined))]
+fn push_entry(out: &mut Vec<u8>, level: u8, entry: &ReadyEntry) -> Result<(), AllocError>
+    requires { level < 255 }
+    ensures { OnOk result (out.new.items ≡ out.old.items ++ entry_key level entry.now) }
+{
+    if entry.level != level {
+        return Ok(());
+    }
+    push_number(out, level as u32 + 1)?;
+    push_number(out, entry.task.number() as u32)
+}
+
+/// Adds the tasks that are ready at a level, oldest first.
+#[tactic(auto, using(crate::proofs::Steps::joined, crate::proofs::ReadyLemmas::level_step))]
+fn push_level(out: &mut Vec<u8>, level: u8, entries: &[ReadyEntry]) -> Result<(), AllocError>
+    requires { level < 255 }
+    ensures { OnOk result (out.new.items ≡ out.old.items ++ level_key level (tasks_at entries.now level)) }
+{
+    match entries.split_first() {
+        None => Ok(()),
+        Some((first, rest)) => {
+            push_entry(out, level, first)?;
+            push_level(out, level, rest)
+        }
+    }
+}
+
+/// Adds the tasks that are ready, from the lowest level up.
+#[tactic(auto, using(crate::proofs::Steps::none_yet))]
+fn push_levels(out: &mut Vec<u8>, entries: &[ReadyEntry]) -> Result<(), AllocError>
+    ensures { OnOk result (out.new.items ≡ out.old.items ++ each (suc MAX_TASK_PRIORITY) (λ l. level_key l (tasks_at entries.now l))) }
+{
+    for level in 0..LEVELS {
+        push_level(out, level, entries)?;
+    }
+    Ok(())
+}
+
+/// Adds the ready queues, and 0 at their end.
+#[tactic(auto, using(crate::proofs::Steps::joined))]
+pub fn push_ready(out: &mut Vec<u8>, queues: &CompactQueues) -> Result<(), AllocError>
+    ensures { OnOk result (out.new.items ≡ out.old.items ++ ready_key (suc MAX_TASK_PRIORITY) (tasks_at queues.now.entries)) }
+{
+    push_levels(out, queues.entries())?;
+    push_number(out, 0)
+}

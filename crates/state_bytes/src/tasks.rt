@@ -1,0 +1,107 @@
+//! Tasks: how many jobs each has, its oldest job, and its events.
+
+ghost use Rattle.std.specs.Prelude.{◌≡◌, ◌<◌, ◌≤◌, ◌+◌, ◌++◌, OnOk, length};
+ghost use Rattle.osek_base.specs.declared.limits.TheConstants.{MAX_RESOURCES};
+ghost use Rattle.osek_base.specs.declared.ids.Owner.{Owner as OwnerOf};
+ghost use Rattle.services.specs.Objects.{kept_in};
+ghost use Rattle.needs.specs.Table.{need_of};
+ghost use Rattle.state_keys.specs.Bytes.{each, number};
+ghost use Rattle.state_keys.specs.Key.{job_key, resource_key, resources_key, task_key};
+ghost use Rattle.state_bytes.specs.Parts.{first_of_job, jobs_key};
+
+use crate::executing::push_context;
+use crate::numbers::{push_flag, push_number, push_optional};
+use needs::Needs;
+use osek_base::{MAX_RESOURCES, Owner, ResId, System, TaskId};
+use services::{CompactQueues, Objects, Slot};
+use std::alloc::AllocError;
+
+/// Adds a resource.
+fn push_resource(out: &mut Vec<u8>, resource: &ResId) -> Result<(), AllocError>
+    ensures { OnOk result (out.new.items ≡ out.old.items ++ resource_key resource.now) }
+{
+    match resource {
+        ResId::Scheduler => push_number(out, 0),
+        ResId::Declared(number) => push_number(out, number.number() as u32 + 1),
+    }
+}
+
+/// Adds resources, one after another.
+#[tactic(auto, using(crate::proofs::Steps::joined))]
+fn push_resources(out: &mut Vec<u8>, resources: &[ResId]) -> Result<(), AllocError>
+    ensures { OnOk result (out.new.items ≡ out.old.items ++ resources_key resources.now) }
+{
+    match resources.split_first() {
+        None => Ok(()),
+        Some((first, rest)) => {
+            push_resource(out, first)?;
+            push_resources(out, rest)
+        }
+    }
+}
+
+/// Adds whether a job has begun and taken its internal resource, and which resources it holds.
+#[tactic(auto, using(crate::proofs::Steps::joined))]
+fn push_first_of_job(out: &mut Vec<u8>, slot: &Slot) -> Result<(), AllocError>
+    ensures { OnOk result (out.new.items ≡ out.old.items ++ first_of_job slot.now) }
+{
+    let held = slot.held();
+    push_flag(out, slot.is_begun())?;
+    push_flag(out, slot.is_taken())?;
+    push_number(out, held.len() as u32)?;
+    push_resources(out, held)
+}
+
+/// Adds the oldest job of a task.
+#[tactic(auto, using(crate::proofs::Steps::joined))]
+fn push_job(out: &mut Vec<u8>, needs: &Needs, task: TaskId, slot: &Slot) -> Result<(), AllocError>
+    ensures { OnOk result (out.new.items ≡ out.old.items ++ job_key ((need_of needs.now).registers (OwnerOf.Task task)) slot.now) }
+{
+    push_first_of_job(out, slot)?;
+    push_optional(out, slot.awaited())?;
+    push_context(out, needs, &Owner::Task(task), &slot.cpu())
+}
+
+/// Adds how many jobs a task has, and the oldest one, if there is one.
+#[tactic(auto, using(crate::proofs::Steps::joined))]
+fn push_jobs(out: &mut Vec<u8>, needs: &Needs, task: TaskId, slot: &Slot) -> Result<(), AllocError>
+    ensures { OnOk result (out.new.items ≡ out.old.items ++ jobs_key ((need_of needs.now).registers (OwnerOf.Task task)) slot.now) }
+{
+    push_number(out, slot.count() as u32)?;
+    if slot.count() == 0 {
+        return Ok(());
+    }
+    push_job(out, needs, task, slot)
+}
+
+/// Adds a task: its jobs, and the events that are set.
+#[tactic(auto, using(crate::proofs::Steps::joined))]
+fn push_task(
+    out: &mut Vec<u8>,
+    needs: &Needs,
+    objects: &Objects<'_, CompactQueues>,
+    task: TaskId,
+) -> Result<(), AllocError>
+    requires { task < length objects.now.system.tasks }
+    ensures { OnOk result (out.new.items ≡ out.old.items ++ task_key (need_of needs.now) (kept_in objects.now) task) }
+{
+    push_jobs(out, needs, task, objects.slot(task))?;
+    push_number(out, objects.events_of(task))
+}
+
+/// Adds each task.
+#[tactic(auto, using(crate::proofs::Steps::none_yet))]
+pub fn push_tasks(
+    out: &mut Vec<u8>,
+    system: &System,
+    needs: &Needs,
+    objects: &Objects<'_, CompactQueues>,
+) -> Result<(), AllocError>
+    requires { objects.now.system ≡ system.now }
+    ensures { OnOk result (out.new.items ≡ out.old.items ++ each (length system.now.tasks) (task_key (need_of needs.now) (kept_in objects.now))) }
+{
+    for number in 0..system.task_count() {
+        push_task(out, needs, objects, TaskId::new(number as u8))?;
+    }
+    Ok(())
+}

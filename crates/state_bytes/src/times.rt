@@ -1,0 +1,169 @@
+//! What alarms have left, and the counters.
+
+ghost use Rattle.std.specs.Prelude.{◌≡◌, ◌<◌, ◌≤◌, ◌-◌, ◌/◌, ◌^◌, ◌++◌, OnOk, length};
+ghost use Rattle.std.specs.Option.{option_map};
+ghost use Rattle.osek_base.specs.System.{counter, counter_of};
+ghost use Rattle.alarms.specs.Alarms.{cycle_of};
+ghost use Rattle.same_future.specs.Alike.{phase_at, value_at};
+ghost use Rattle.same_future.specs.Relative.{left_of};
+ghost use Rattle.services.specs.Objects.{kept_in};
+ghost use Rattle.state_keys.specs.Bytes.{each, number};
+ghost use Rattle.state_keys.specs.Key.{alarm_key, counter_key};
+ghost use Rattle.state_bytes.specs.Parts.{at_tick, count_of, left_key, less_by, times_key};
+
+use crate::numbers::{push_byte, push_number};
+use osek_base::{AlarmId, Counter, System};
+use services::{CompactQueues, Objects};
+use std::alloc::AllocError;
+
+/// How many ticks the counter of an alarm has a value.
+fn ticks_per_base(system: &System, alarm: AlarmId) -> u32
+    requires { alarm < length system.now.alarms }
+    ensures value { result ≡ (counter_of system.now alarm).ticks_per_base }
+    ensures some { 1 ≤ result }
+{
+    // Who asks for the count of alarms learns that the system is proper.
+    let _proper = system.alarm_count();
+    system.counter_of(alarm).ticks_per_base
+}
+
+/// How many counts pass when a tick comes: 1 where the counter grows, else 0.
+fn counts_passed(base: u32, tick: u32) -> u32
+    requires { 1 ≤ base }
+    ensures { result ≡ tick / base - (tick - 1) / base }
+{
+    (tick / base).saturating_sub(tick.saturating_sub(1) / base)
+}
+
+/// What is left once some counts have passed.
+fn less_by(passed: u32, left: Option<u32>) -> Option<u32>
+    ensures { result ≡ less_by passed left }
+{
+    match left {
+        None => None,
+        Some(left) => Some(left.saturating_sub(passed)),
+    }
+}
+
+/// How many counts an alarm has left at a tick, where the clock shows the one before; None while it is off.
+fn counts_left(
+    system: &System,
+    objects: &Objects<'_, CompactQueues>,
+    tick: u32,
+    alarm: AlarmId,
+) -> Option<u32>
+    requires system { objects.now.system ≡ system.now }
+    requires clock { objects.now.tick ≡ tick - 1 }
+    requires alarm { alarm < length system.now.alarms }
+    ensures { result ≡ option_map count_of (left_of system.now (at_tick tick (kept_in objects.now)) alarm) }
+{
+    let base = ticks_per_base(system, alarm);
+    less_by(counts_passed(base, tick), objects.counts_left(alarm))
+}
+
+/// Adds what an alarm has left, and its cycle.
+#[tactic(auto, using(crate::proofs::Steps::joined))]
+fn push_left(out: &mut Vec<u8>, left: Option<u32>, cycle: Option<u32>) -> Result<(), AllocError>
+    ensures { OnOk result (out.new.items ≡ out.old.items ++ left_key left cycle) }
+{
+    match left {
+        None => push_byte(out, 0),
+        Some(left) => match cycle {
+            None => push_byte(out, 0),
+            Some(cycle) => {
+                push_byte(out, 1)?;
+                push_number(out, left)?;
+                push_number(out, cycle)
+            }
+        },
+    }
+}
+
+/// Adds an alarm at a tick, where the clock shows the one before.
+fn push_alarm(
+    out: &mut Vec<u8>,
+    system: &System,
+    objects: &Objects<'_, CompactQueues>,
+    tick: u32,
+    alarm: AlarmId,
+) -> Result<(), AllocError>
+    requires system { objects.now.system ≡ system.now }
+    requires clock { objects.now.tick ≡ tick - 1 }
+    requires alarm { alarm < length system.now.alarms }
+    ensures { OnOk result (out.new.items ≡ out.old.items ++ alarm_key system.now (at_tick tick (kept_in objects.now)) alarm) }
+{
+    let left = counts_left(system, objects, tick, alarm);
+    push_left(out, left, objects.cycle(alarm))
+}
+
+/// Adds each alarm.
+#[tactic(auto, using(crate::proofs::Steps::none_yet))]
+fn push_alarms(
+    out: &mut Vec<u8>,
+    system: &System,
+    objects: &Objects<'_, CompactQueues>,
+    tick: u32,
+) -> Result<(), AllocError>
+    requires system { objects.now.system ≡ system.now }
+    requires clock { objects.now.tick ≡ tick - 1 }
+    ensures { OnOk result (out.new.items ≡ out.old.items ++ each (length system.now.alarms) (alarm_key system.now (at_tick tick (kept_in objects.now)))) }
+{
+    for number in 0..system.alarm_count() {
+        push_alarm(out, system, objects, tick, AlarmId::new(number as u8))?;
+    }
+    Ok(())
+}
+
+/// A counter, whose limits are those of a proper system.
+fn counter_at(system: &System, number: usize) -> Counter
+    requires { number < length system.now.counters }
+    ensures value { result ≡ counter system.now number }
+    ensures base { 1 ≤ result.ticks_per_base }
+    ensures round { result.max_allowed_value < 2 ^ 31 }
+{
+    let parts = system.parts();
+    parts.counters[number]
+}
+
+/// Adds the value that a counter has at a tick, and for how many ticks it has had it.
+#[tactic(auto, using(crate::proofs::Steps::joined))]
+fn push_counter(out: &mut Vec<u8>, counter: &Counter, tick: u32) -> Result<(), AllocError>
+    requires base { 1 ≤ counter.now.ticks_per_base }
+    requires round { counter.now.max_allowed_value < 2 ^ 31 }
+    ensures { OnOk result (out.new.items ≡ out.old.items ++ (number (value_at counter.now tick) ++ number (phase_at counter.now tick))) }
+{
+    push_number(
+        out,
+        tick / counter.ticks_per_base % (counter.max_allowed_value + 1),
+    )?;
+    push_number(out, tick % counter.ticks_per_base)
+}
+
+/// Adds each counter.
+#[tactic(auto, using(crate::proofs::Steps::none_yet))]
+fn push_counters(out: &mut Vec<u8>, system: &System, tick: u32) -> Result<(), AllocError>
+    ensures { OnOk result (out.new.items ≡ out.old.items ++ each (length system.now.counters) (λ c. number (value_at (counter system.now c) tick) ++ number (phase_at (counter system.now c) tick))) }
+{
+    let parts = system.parts();
+    for number in 0..parts.counters.len() {
+        let counter = counter_at(system, number);
+        push_counter(out, &counter, tick)?;
+    }
+    Ok(())
+}
+
+/// Adds each alarm and each counter at a tick, where the clock shows the one before.
+#[tactic(auto, using(crate::proofs::Steps::joined))]
+pub fn push_times(
+    out: &mut Vec<u8>,
+    system: &System,
+    objects: &Objects<'_, CompactQueues>,
+    tick: u32,
+) -> Result<(), AllocError>
+    requires system { objects.now.system ≡ system.now }
+    requires clock { objects.now.tick ≡ tick - 1 }
+    ensures { OnOk result (out.new.items ≡ out.old.items ++ times_key system.now (at_tick tick (kept_in objects.now))) }
+{
+    push_alarms(out, system, objects, tick)?;
+    push_counters(out, system, tick)
+}
