@@ -67,10 +67,10 @@ fn leveled<'a>(tree: &SyntaxTree<'_>, kind: Kind, name: &'a str) -> [Piece<'a>; 
 }
 
 /// Explains a lower task that is NON.
-fn explain_schedule<W: Write>(
-    parsed: Parsed<'_, '_>,
-    cut: &Cut<'_>,
-    task: &Object<'_>,
+fn explain_schedule<'a, W: Write>(
+    parsed: Parsed<'_, 'a>,
+    cut: &Cut<'a>,
+    task: &Object<'a>,
     out: &mut W,
 ) -> io::Result<()> {
     let Some(schedule) = attribute(task, "SCHEDULE") else {
@@ -101,11 +101,11 @@ fn listed<'a>(tree: &SyntaxTree<'_>, task: &Object<'a>, p: u8) -> Option<Setting
 }
 
 /// Explains a lower task that lists a resource with an upper ceiling.
-fn explain_listed<W: Write>(
+fn explain_listed<'a, W: Write>(
     alloc: Global,
-    parsed: Parsed<'_, '_>,
-    cut: &Cut<'_>,
-    task: &Object<'_>,
+    parsed: Parsed<'_, 'a>,
+    cut: &Cut<'a>,
+    task: &Object<'a>,
     out: &mut W,
 ) -> io::Result<()> {
     let Some(setting) = listed(parsed.tree, task, cut.p) else {
