@@ -36,3 +36,11 @@ pub limit_zero : (k n : ℕ) → k ≡ 0 → n < limit k → n < 256
 unfolding limit
 limit_zero zero n none low = low
 limit_zero (suc k) n none low = absurd (omega (arith, none))
+
+pub ruleset digit_laws = (
+  digits_zero,
+  digits_last,
+  digits_step,
+  limit_step,
+  limit_zero,
+)

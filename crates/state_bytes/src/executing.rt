@@ -23,7 +23,8 @@ fn push_register(
     cpu: &Cpu,
     register: Register,
 ) -> Result<(), AllocError>
-    ensures { OnOk result (out.new.items ≡ out.old.items ++ needed ((need_of needs.now).registers owner.now register) (value cpu.now register)) }
+    ensures { OnOk result (out.new.items ≡ out.old.items
+        ++ needed ((need_of needs.now).registers owner.now register) (value cpu.now register)) }
 {
     if needs.needs_register(*owner, register) {
         push_number(out, cpu.value(register))?;
@@ -39,7 +40,9 @@ fn push_registers(
     owner: &Owner,
     cpu: &Cpu,
 ) -> Result<(), AllocError>
-    ensures { OnOk result (out.new.items ≡ out.old.items ++ each REGISTERS (λ r. needed ((need_of needs.now).registers owner.now r) (value cpu.now r))) }
+    ensures { OnOk result (out.new.items ≡ out.old.items
+        ++ each REGISTERS
+        (λ r. needed ((need_of needs.now).registers owner.now r) (value cpu.now r))) }
 {
     for number in 0..REGISTERS {
         let register = Register::new(number as u8);
@@ -56,7 +59,8 @@ pub fn push_context(
     owner: &Owner,
     cpu: &Cpu,
 ) -> Result<(), AllocError>
-    ensures { OnOk result (out.new.items ≡ out.old.items ++ context_key ((need_of needs.now).registers owner.now) cpu.now) }
+    ensures { OnOk result (out.new.items ≡ out.old.items
+        ++ context_key ((need_of needs.now).registers owner.now) cpu.now) }
 {
     push_number(out, cpu.place().number() as u32)?;
     push_registers(out, needs, owner, cpu)
@@ -65,7 +69,8 @@ pub fn push_context(
 /// Adds a routine with its registers and place.
 #[tactic(auto, using(crate::proofs::Steps::joined))]
 fn push_routine(out: &mut Vec<u8>, needs: &Needs, active: &Active) -> Result<(), AllocError>
-    ensures { OnOk result (out.new.items ≡ out.old.items ++ routine_key (need_of needs.now) active.now) }
+    ensures { OnOk result (out.new.items ≡ out.old.items
+        ++ routine_key (need_of needs.now) active.now) }
 {
     let routine = active.routine();
     push_number(out, routine.number() as u32)?;
@@ -75,7 +80,8 @@ fn push_routine(out: &mut Vec<u8>, needs: &Needs, active: &Active) -> Result<(),
 /// Adds the active routine, if there is one.
 #[tactic(auto, using(crate::proofs::Steps::joined))]
 fn push_active(out: &mut Vec<u8>, needs: &Needs, active: &Option<Active>) -> Result<(), AllocError>
-    ensures { OnOk result (out.new.items ≡ out.old.items ++ optional (routine_key (need_of needs.now)) active.now) }
+    ensures { OnOk result (out.new.items ≡ out.old.items
+        ++ optional (routine_key (need_of needs.now)) active.now) }
 {
     match active {
         None => push_byte(out, 0),
@@ -114,7 +120,8 @@ pub fn push_executing(
     needs: &Needs,
     objects: &Objects<'_, CompactQueues>,
 ) -> Result<(), AllocError>
-    ensures { OnOk result (out.new.items ≡ out.old.items ++ executing_key (need_of needs.now) (kept_in objects.now)) }
+    ensures { OnOk result (out.new.items ≡ out.old.items
+        ++ executing_key (need_of needs.now) (kept_in objects.now)) }
 {
     push_running(out, running(objects))?;
     push_flag(out, objects.is_gone())?;

@@ -18,7 +18,9 @@ fn push_pending(
     objects: &Objects<'_, CompactQueues>,
 ) -> Result<(), AllocError>
     requires { objects.now.system ≡ system.now }
-    ensures { OnOk result (out.new.items ≡ out.old.items ++ each (length system.now.routines) (λ i. flag (slice_index_or objects.now.pending i false))) }
+    ensures { OnOk result (out.new.items ≡ out.old.items
+        ++ each (length system.now.routines)
+        (λ i. flag (slice_index_or objects.now.pending i false))) }
 {
     for number in 0..system.routine_count() {
         let is_pending = objects.is_pending(IsrId::new(number as u8));
@@ -35,7 +37,8 @@ pub fn push_interrupts(
     objects: &Objects<'_, CompactQueues>,
 ) -> Result<(), AllocError>
     requires { objects.now.system ≡ system.now }
-    ensures { OnOk result (out.new.items ≡ out.old.items ++ interrupts_key system.now (kept_in objects.now)) }
+    ensures { OnOk result (out.new.items ≡ out.old.items
+        ++ interrupts_key system.now (kept_in objects.now)) }
 {
     push_pending(out, system, objects)?;
     push_flag(out, objects.is_disabled())?;

@@ -15,7 +15,7 @@ pub fn push_byte(out: &mut Vec<u8>, byte: u8) -> Result<(), AllocError>
 }
 
 /// Adds a number in base 128, lowest digit first, with at most `more` digits before the last one.
-#[tactic(auto, using(crate::proofs::DigitLemmas::digits_zero, crate::proofs::DigitLemmas::digits_last, crate::proofs::DigitLemmas::digits_step, crate::proofs::DigitLemmas::limit_step, crate::proofs::DigitLemmas::limit_zero))]
+#[tactic(auto, using(crate::proofs::DigitLemmas::digit_laws))]
 fn push_digits(out: &mut Vec<u8>, more: u8, n: u32) -> Result<(), AllocError>
     requires { n < limit more }
     ensures { OnOk result (out.new.items ≡ out.old.items ++ digits more n) }

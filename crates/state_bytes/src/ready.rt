@@ -29,7 +29,8 @@ fn push_entry(out: &mut Vec<u8>, level: u8, entry: &ReadyEntry) -> Result<(), Al
 #[tactic(auto, using(crate::proofs::Steps::joined, crate::proofs::ReadyLemmas::level_step))]
 fn push_level(out: &mut Vec<u8>, level: u8, entries: &[ReadyEntry]) -> Result<(), AllocError>
     requires { level < 255 }
-    ensures { OnOk result (out.new.items ≡ out.old.items ++ level_key level (tasks_at entries.now level)) }
+    ensures { OnOk result (out.new.items ≡ out.old.items
+        ++ level_key level (tasks_at entries.now level)) }
 {
     match entries.split_first() {
         None => Ok(()),
@@ -43,7 +44,8 @@ fn push_level(out: &mut Vec<u8>, level: u8, entries: &[ReadyEntry]) -> Result<()
 /// Adds the tasks that are ready, from the lowest level up.
 #[tactic(auto, using(crate::proofs::Steps::none_yet))]
 fn push_levels(out: &mut Vec<u8>, entries: &[ReadyEntry]) -> Result<(), AllocError>
-    ensures { OnOk result (out.new.items ≡ out.old.items ++ each (suc MAX_TASK_PRIORITY) (λ l. level_key l (tasks_at entries.now l))) }
+    ensures { OnOk result (out.new.items ≡ out.old.items
+        ++ each (suc MAX_TASK_PRIORITY) (λ l. level_key l (tasks_at entries.now l))) }
 {
     for level in 0..LEVELS {
         push_level(out, level, entries)?;
@@ -54,7 +56,8 @@ fn push_levels(out: &mut Vec<u8>, entries: &[ReadyEntry]) -> Result<(), AllocErr
 /// Adds the ready queues, and 0 at their end.
 #[tactic(auto, using(crate::proofs::Steps::joined))]
 pub fn push_ready(out: &mut Vec<u8>, queues: &CompactQueues) -> Result<(), AllocError>
-    ensures { OnOk result (out.new.items ≡ out.old.items ++ ready_key (suc MAX_TASK_PRIORITY) (tasks_at queues.now.entries)) }
+    ensures { OnOk result (out.new.items ≡ out.old.items
+        ++ ready_key (suc MAX_TASK_PRIORITY) (tasks_at queues.now.entries)) }
 {
     push_levels(out, queues.entries())?;
     push_number(out, 0)

@@ -55,7 +55,8 @@ fn push_first_of_job(out: &mut Vec<u8>, slot: &Slot) -> Result<(), AllocError>
 /// Adds the oldest job of a task.
 #[tactic(auto, using(crate::proofs::Steps::joined))]
 fn push_job(out: &mut Vec<u8>, needs: &Needs, task: TaskId, slot: &Slot) -> Result<(), AllocError>
-    ensures { OnOk result (out.new.items ≡ out.old.items ++ job_key ((need_of needs.now).registers (OwnerOf.Task task)) slot.now) }
+    ensures { OnOk result (out.new.items ≡ out.old.items
+        ++ job_key ((need_of needs.now).registers (OwnerOf.Task task)) slot.now) }
 {
     push_first_of_job(out, slot)?;
     push_optional(out, slot.awaited())?;
@@ -65,7 +66,8 @@ fn push_job(out: &mut Vec<u8>, needs: &Needs, task: TaskId, slot: &Slot) -> Resu
 /// Adds how many jobs a task has, and the oldest one, if there is one.
 #[tactic(auto, using(crate::proofs::Steps::joined))]
 fn push_jobs(out: &mut Vec<u8>, needs: &Needs, task: TaskId, slot: &Slot) -> Result<(), AllocError>
-    ensures { OnOk result (out.new.items ≡ out.old.items ++ jobs_key ((need_of needs.now).registers (OwnerOf.Task task)) slot.now) }
+    ensures { OnOk result (out.new.items ≡ out.old.items
+        ++ jobs_key ((need_of needs.now).registers (OwnerOf.Task task)) slot.now) }
 {
     push_number(out, slot.count() as u32)?;
     if slot.count() == 0 {
@@ -83,7 +85,8 @@ fn push_task(
     task: TaskId,
 ) -> Result<(), AllocError>
     requires { task < length objects.now.system.tasks }
-    ensures { OnOk result (out.new.items ≡ out.old.items ++ task_key (need_of needs.now) (kept_in objects.now) task) }
+    ensures { OnOk result (out.new.items ≡ out.old.items
+        ++ task_key (need_of needs.now) (kept_in objects.now) task) }
 {
     push_jobs(out, needs, task, objects.slot(task))?;
     push_number(out, objects.events_of(task))
@@ -98,7 +101,8 @@ pub fn push_tasks(
     objects: &Objects<'_, CompactQueues>,
 ) -> Result<(), AllocError>
     requires { objects.now.system ≡ system.now }
-    ensures { OnOk result (out.new.items ≡ out.old.items ++ each (length system.now.tasks) (task_key (need_of needs.now) (kept_in objects.now))) }
+    ensures { OnOk result (out.new.items ≡ out.old.items
+        ++ each (length system.now.tasks) (task_key (need_of needs.now) (kept_in objects.now))) }
 {
     for number in 0..system.task_count() {
         push_task(out, needs, objects, TaskId::new(number as u8))?;

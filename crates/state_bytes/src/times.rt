@@ -45,7 +45,8 @@ fn less_by(passed: u32, left: Option<u32>) -> Option<u32>
     }
 }
 
-/// How many counts an alarm has left at a tick, where the clock shows the one before; None while it is off.
+/// How many counts an alarm has left at a tick, where the clock shows the one before; None while it
+/// is off.
 fn counts_left(
     system: &System,
     objects: &Objects<'_, CompactQueues>,
@@ -90,7 +91,8 @@ fn push_alarm(
     requires system { objects.now.system ≡ system.now }
     requires clock { objects.now.tick ≡ tick - 1 }
     requires alarm { alarm < length system.now.alarms }
-    ensures { OnOk result (out.new.items ≡ out.old.items ++ alarm_key system.now (at_tick tick (kept_in objects.now)) alarm) }
+    ensures { OnOk result (out.new.items ≡ out.old.items
+        ++ alarm_key system.now (at_tick tick (kept_in objects.now)) alarm) }
 {
     let left = counts_left(system, objects, tick, alarm);
     push_left(out, left, objects.cycle(alarm))
@@ -106,7 +108,9 @@ fn push_alarms(
 ) -> Result<(), AllocError>
     requires system { objects.now.system ≡ system.now }
     requires clock { objects.now.tick ≡ tick - 1 }
-    ensures { OnOk result (out.new.items ≡ out.old.items ++ each (length system.now.alarms) (alarm_key system.now (at_tick tick (kept_in objects.now)))) }
+    ensures { OnOk result (out.new.items ≡ out.old.items
+        ++ each (length system.now.alarms) (alarm_key system.now
+        (at_tick tick (kept_in objects.now)))) }
 {
     for number in 0..system.alarm_count() {
         push_alarm(out, system, objects, tick, AlarmId::new(number as u8))?;
@@ -130,7 +134,8 @@ fn counter_at(system: &System, number: usize) -> Counter
 fn push_counter(out: &mut Vec<u8>, counter: &Counter, tick: u32) -> Result<(), AllocError>
     requires base { 1 ≤ counter.now.ticks_per_base }
     requires round { counter.now.max_allowed_value < 2 ^ 31 }
-    ensures { OnOk result (out.new.items ≡ out.old.items ++ (number (value_at counter.now tick) ++ number (phase_at counter.now tick))) }
+    ensures { OnOk result (out.new.items ≡ out.old.items
+        ++ (number (value_at counter.now tick) ++ number (phase_at counter.now tick))) }
 {
     push_number(
         out,
@@ -142,7 +147,10 @@ fn push_counter(out: &mut Vec<u8>, counter: &Counter, tick: u32) -> Result<(), A
 /// Adds each counter.
 #[tactic(auto, using(crate::proofs::Steps::none_yet))]
 fn push_counters(out: &mut Vec<u8>, system: &System, tick: u32) -> Result<(), AllocError>
-    ensures { OnOk result (out.new.items ≡ out.old.items ++ each (length system.now.counters) (λ c. number (value_at (counter system.now c) tick) ++ number (phase_at (counter system.now c) tick))) }
+    ensures { OnOk result (out.new.items ≡ out.old.items
+        ++ each (length system.now.counters)
+        (λ c. number (value_at (counter system.now c) tick)
+        ++ number (phase_at (counter system.now c) tick))) }
 {
     let parts = system.parts();
     for number in 0..parts.counters.len() {
@@ -162,7 +170,8 @@ pub fn push_times(
 ) -> Result<(), AllocError>
     requires system { objects.now.system ≡ system.now }
     requires clock { objects.now.tick ≡ tick - 1 }
-    ensures { OnOk result (out.new.items ≡ out.old.items ++ times_key system.now (at_tick tick (kept_in objects.now))) }
+    ensures { OnOk result (out.new.items ≡ out.old.items
+        ++ times_key system.now (at_tick tick (kept_in objects.now))) }
 {
     push_alarms(out, system, objects, tick)?;
     push_counters(out, system, tick)

@@ -25,7 +25,9 @@ fn push_word<B: Blockers>(
     index: u8,
 ) -> Result<(), AllocError>
     requires { index < WINDOW_WORDS }
-    ensures { OnOk result (out.new.items ≡ out.old.items ++ needed ((need_of needs.now).words owner.now index) ((picture machine.now).words owner.now index)) }
+    ensures { OnOk result (out.new.items ≡ out.old.items
+        ++ needed ((need_of needs.now).words owner.now index)
+        ((picture machine.now).words owner.now index)) }
 {
     if needs.needs_word(*owner, index) {
         push_number(out, machine.word(*owner, index as u32))?;
@@ -41,7 +43,8 @@ fn push_window<B: Blockers>(
     needs: &Needs,
     owner: &Owner,
 ) -> Result<(), AllocError>
-    ensures { OnOk result (out.new.items ≡ out.old.items ++ window_key (need_of needs.now) (picture machine.now) owner.now) }
+    ensures { OnOk result (out.new.items ≡ out.old.items
+        ++ window_key (need_of needs.now) (picture machine.now) owner.now) }
 {
     for index in 0..WINDOW_WORDS {
         push_word(out, machine, needs, owner, index as u8)?;
@@ -57,7 +60,9 @@ fn push_task_windows<B: Blockers>(
     machine: &Machine<'_, CompactQueues, B>,
     needs: &Needs,
 ) -> Result<(), AllocError>
-    ensures { OnOk result (out.new.items ≡ out.old.items ++ each (length system.now.tasks) (λ t. window_key (need_of needs.now) (picture machine.now) (OwnerOf.Task t))) }
+    ensures { OnOk result (out.new.items ≡ out.old.items
+        ++ each (length system.now.tasks)
+        (λ t. window_key (need_of needs.now) (picture machine.now) (OwnerOf.Task t))) }
 {
     for number in 0..system.task_count() {
         let owner = Owner::Task(TaskId::new(number as u8));
@@ -74,7 +79,9 @@ fn push_routine_windows<B: Blockers>(
     machine: &Machine<'_, CompactQueues, B>,
     needs: &Needs,
 ) -> Result<(), AllocError>
-    ensures { OnOk result (out.new.items ≡ out.old.items ++ each (length system.now.routines) (λ i. window_key (need_of needs.now) (picture machine.now) (OwnerOf.Routine i))) }
+    ensures { OnOk result (out.new.items ≡ out.old.items
+        ++ each (length system.now.routines)
+        (λ i. window_key (need_of needs.now) (picture machine.now) (OwnerOf.Routine i))) }
 {
     for number in 0..system.routine_count() {
         let owner = Owner::Routine(IsrId::new(number as u8));
@@ -91,7 +98,8 @@ fn push_shared_window<B: Blockers>(
     resource: ResourceNumber,
 ) -> Result<(), AllocError>
     requires { resource < length (system_of machine.now).resources }
-    ensures { OnOk result (out.new.items ≡ out.old.items ++ each SHARED_WORDS (λ i. number (shared_word (picture machine.now).shared resource i))) }
+    ensures { OnOk result (out.new.items ≡ out.old.items
+        ++ each SHARED_WORDS (λ i. number (shared_word (picture machine.now).shared resource i))) }
 {
     for index in 0..SHARED_WORDS {
         push_number(out, machine.shared_word(resource, index as u32))?;
@@ -107,7 +115,8 @@ fn push_shared<B: Blockers>(
     resource: ResourceNumber,
 ) -> Result<(), AllocError>
     requires { resource < length (system_of machine.now).resources }
-    ensures { OnOk result (out.new.items ≡ out.old.items ++ shared_key (need_of needs.now) (picture machine.now) resource) }
+    ensures { OnOk result (out.new.items ≡ out.old.items
+        ++ shared_key (need_of needs.now) (picture machine.now) resource) }
 {
     if needs.needs_shared(resource) {
         push_shared_window(out, machine, resource)?;
@@ -124,7 +133,9 @@ fn push_shared_windows<B: Blockers>(
     needs: &Needs,
 ) -> Result<(), AllocError>
     requires { system_of machine.now ≡ system.now }
-    ensures { OnOk result (out.new.items ≡ out.old.items ++ each (length system.now.resources) (shared_key (need_of needs.now) (picture machine.now))) }
+    ensures { OnOk result (out.new.items ≡ out.old.items
+        ++ each (length system.now.resources) (shared_key (need_of needs.now)
+        (picture machine.now))) }
 {
     for number in 0..system.resource_count() {
         push_shared(out, machine, needs, ResourceNumber::new(number as u8))?;
@@ -141,7 +152,8 @@ pub fn push_words<B: Blockers>(
     needs: &Needs,
 ) -> Result<(), AllocError>
     requires { system_of machine.now ≡ system.now }
-    ensures { OnOk result (out.new.items ≡ out.old.items ++ words_key system.now (need_of needs.now) (picture machine.now)) }
+    ensures { OnOk result (out.new.items ≡ out.old.items
+        ++ words_key system.now (need_of needs.now) (picture machine.now)) }
 {
     push_task_windows(out, system, machine, needs)?;
     push_routine_windows(out, system, machine, needs)?;

@@ -36,21 +36,23 @@ fn push_jobs(
     objects: &Objects<'_, CompactQueues>,
 ) -> Result<(), AllocError>
     requires { objects.now.system ≡ system.now }
-    ensures { OnOk result (out.new.items ≡ out.old.items ++ jobs_part system.now (need_of needs.now) (kept_in objects.now)) }
+    ensures { OnOk result (out.new.items ≡ out.old.items
+        ++ jobs_part system.now (need_of needs.now) (kept_in objects.now)) }
 {
     push_executing(out, needs, objects)?;
     push_interrupts(out, system, objects)?;
     push_tasks(out, system, needs, objects)
 }
 
-/// Adds the key of a machine: the bytes that tell all that is needed of its state but absolute time. Err is a growth that was
-/// refused; a beginning of the key may have been added then.
+/// Adds the key of a machine: the bytes that tell all that is needed of its state but absolute time.
+/// Err is a growth that was refused; a beginning of the key may have been added then.
 pub fn write_key<B: Blockers>(
     machine: &Machine<'_, CompactQueues, B>,
     needs: &Needs,
     out: &mut Vec<u8>,
 ) -> Result<(), AllocError>
-    ensures { OnOk result (out.new.items ≡ out.old.items ++ key (system_of machine.now) (need_of needs.now) (picture machine.now)) }
+    ensures { OnOk result (out.new.items ≡ out.old.items
+        ++ key (system_of machine.now) (need_of needs.now) (picture machine.now)) }
 {
     let objects = machine.objects();
     let system = system_of(objects);
