@@ -21,7 +21,8 @@ digits_zero (suc k) n none = absurd (omega (arith, none))
 pub digits_last : (k n : ℕ) → n < 128 → digits k n ≡ n ∷ []
 unfolding digits
 digits_last zero n low = refl
-digits_last (suc k) n low = ap (λ b. cond b (n ∷ []) ((128 + n % 128) ∷ digits k (n / 128))) (lt-ltb n 128 low)
+digits_last (suc k) n low =
+    ap (λ b. cond b (n ∷ []) ((128 + n % 128) ∷ digits k (n / 128))) (lt-ltb n 128 low)
 
 pub digits_step : (k n : ℕ) → (k ≡ 0 → ⊥) → (n < 128 → ⊥) → (old : List ℕ)
     → (old ++ (128 + n % 128) ∷ []) ++ digits (k - 1) (n / 128) ≡ old ++ digits k n
@@ -30,7 +31,8 @@ digits_step zero n some high old = absurd (some refl)
 digits_step (suc k) n some high old =
     append_assoc old ((128 + n % 128) ∷ []) (digits (suc k - 1) (n / 128))
     ∙ ap (λ j. old ++ (128 + n % 128) ∷ digits j (n / 128)) (less k)
-    ∙ ap (λ b. old ++ cond b (n ∷ []) ((128 + n % 128) ∷ digits k (n / 128))) (sym (le-ltb n 128 (omega (arith, high))))
+    ∙ ap (λ b. old ++ cond b (n ∷ []) ((128 + n % 128) ∷ digits k (n / 128)))
+    (sym (le-ltb n 128 (omega (arith, high))))
 
 pub limit_zero : (k n : ℕ) → k ≡ 0 → n < limit k → n < 256
 unfolding limit

@@ -7,7 +7,8 @@ use Rattle.needs.specs.Within.{IsWithin}
 use Rattle.state_keys.specs.InRange.{IsInRange, KeysTell, NeedsOwnWords, RunsAreInRange}
 use Rattle.state_bytes.specs.Told.{MachineKeysTell}
 
-in_range : RunsAreInRange → (counted : Bool) (m : Machine) → IsOfRun counted m → IsInRange (system_of m) (picture m)
+in_range : RunsAreInRange → (counted : Bool) (m : Machine) → IsOfRun counted m
+    → IsInRange (system_of m) (picture m)
 in_range runs counted m k =
     subst (IsInRange (system_of m)) (sym k.come.at.same)
     (runs (system_of m) k.mode k.arrivals (next_tick m) k.proper)
@@ -19,4 +20,5 @@ pub machines_tell : KeysTell → RunsAreInRange → MachineKeysTell
 machines_tell tell runs counted need m n of_run of_run_too same within equal =
     tell (system_of m) need (picture m) (picture n) (own_words (system_of m) need within)
     (in_range runs counted m of_run)
-    (subst (λ (S : System). IsInRange S (picture n)) same (in_range runs counted n of_run_too)) equal
+    (subst (λ (S : System). IsInRange S (picture n)) same
+    (in_range runs counted n of_run_too)) equal

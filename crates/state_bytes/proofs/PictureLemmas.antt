@@ -24,10 +24,12 @@ each_same (suc n) part other same =
 
 -- queues by level and by their lists have one key
 pub ready_same : (q : Queues)
-    → ready_key (suc MAX_TASK_PRIORITY) q ≡ ready_key (suc MAX_TASK_PRIORITY) (by_level (level_lists q))
+    → ready_key (suc MAX_TASK_PRIORITY) q
+    ≡ ready_key (suc MAX_TASK_PRIORITY) (by_level (level_lists q))
 ready_same q =
     ap (λ xs. xs ++ number 0)
-    (each_same (suc MAX_TASK_PRIORITY) (λ l. level_key l (q l)) (λ l. level_key l (by_level (level_lists q) l))
+    (each_same (suc MAX_TASK_PRIORITY) (λ l. level_key l (q l))
+    (λ l. level_key l (by_level (level_lists q) l))
     (λ l low. ap (level_key l) (sym (by_level-below q l (omega (arith, low))))))
 
 -- the parts of a key in the groups in which they are written
@@ -47,7 +49,8 @@ module _ (S T : System) (need : Need) (r : Objects) (p : Kept) (t now : ℕ) (sa
       ∙ ap₂ (λ (R : System) (o : Kept). times_key R o) same pictured
 
   -- the steps in which a key is written
-  pub record AreSteps (q : Queues) (over : Bool) (old jobs ready times words all : List ℕ) : Type 0 where
+  pub record AreSteps (q : Queues) (over : Bool)
+      (old jobs ready times words all : List ℕ) : Type 0 where
     pub jobs_step : jobs ≡ old ++ jobs_part T need (kept_in r)
     pub ready_step : ready ≡ jobs ++ ready_key (suc MAX_TASK_PRIORITY) q
     pub times_step : times ≡ ready ++ times_key T (at_tick now (kept_in r))
@@ -61,12 +64,14 @@ module _ (S T : System) (need : Need) (r : Objects) (p : Kept) (t now : ℕ) (sa
   key_written q over old jobs ready times words all is_now is_queues is_over k =
       let jobs_are : jobs ≡ old ++ jobs_part S need p =
       k.jobs_step ∙ ap (λ xs. old ++ xs) jobs_same in
-      let ready_is : ready ≡ (old ++ jobs_part S need p) ++ ready_key (suc MAX_TASK_PRIORITY) p.queues =
+      let ready_is : ready ≡ (old ++ jobs_part S need p)
+      ++ ready_key (suc MAX_TASK_PRIORITY) p.queues =
       k.ready_step ∙ ap₂ (λ xs ys. xs ++ ys) jobs_are
       (ready_same q ∙ ap (ready_key (suc MAX_TASK_PRIORITY)) is_queues) in
       let times_are = k.times_step ∙ ap₂ (λ xs ys. xs ++ ys) ready_is (times_same is_now) in
       let words_are =
-      k.words_step ∙ ap₂ (λ xs ys. xs ++ ys) times_are (ap (λ (R : System). words_key R need p) same) in
+      k.words_step
+      ∙ ap₂ (λ xs ys. xs ++ ys) times_are (ap (λ (R : System). words_key R need p) same) in
       k.over_step ∙ ap₂ (λ xs ys. xs ++ ys) words_are (ap flag is_over)
       ∙ regrouped old (jobs_part S need p) (ready_key (suc MAX_TASK_PRIORITY) p.queues) _ _
       (words_key S need p) (flag p.over)

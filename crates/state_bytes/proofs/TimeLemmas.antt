@@ -42,7 +42,9 @@ left_later S T o tick base a passed left same clock some is_base is_left is_pass
     let left_is : left ≡ counts_from ((tick - 1) / b) e =
     is_left ∙ ap (λ (R : System). counts_left R (bare o) a) same
     ∙ ap (λ (t : ℕ). counts_from (t / b) e) clock in
-    ap₂ less_by passed_is left_is ∙ later e ((tick - 1) / b) (tick / b) (grows b tick (subst (λ (k : ℕ). 1 ≤ k) is_base some))
+    let some_ticks : 1 ≤ b = subst (λ (k : ℕ). 1 ≤ k) is_base some in
+    ap₂ less_by passed_is left_is
+    ∙ later e ((tick - 1) / b) (tick / b) (grows b tick some_ticks)
 
 left_bytes : (e : Option Expiry) (n : ℕ)
     → left_key (option_map count_of (counted_from n e)) (cycle_of e)

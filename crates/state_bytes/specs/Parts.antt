@@ -18,7 +18,8 @@ jobs_key need a = number a.count ++ (if a.count == 0 then [] else job_key need a
 
 -- who executes, interrupts, and tasks
 abbrev pub jobs_part : System → Need → Kept → List ℕ
-jobs_part S need o = executing_key need o ++ interrupts_key S o ++ each (length S.tasks) (task_key need o)
+jobs_part S need o =
+    executing_key need o ++ interrupts_key S o ++ each (length S.tasks) (task_key need o)
 
 -- a ready task with its level, if it stands at that one
 abbrev pub entry_key : ℕ → ReadyEntry → List ℕ

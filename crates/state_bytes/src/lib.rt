@@ -1,7 +1,7 @@
 //! The key of a machine's state, written as bytes.
 //!
-//! The key is defined in `state_keys`, part by part; here stands a function for each part. Machines of
-//! one system whose keys are equal are alike in what is needed, so that a table of states can be
+//! The key is defined in `state_keys`, part by part; here stands a function for each part. Machines
+//! of one system whose keys are equal are alike in what is needed, so that a table of states can be
 //! looked through by its keys.
 #![tactic(auto)]
 

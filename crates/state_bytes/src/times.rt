@@ -56,7 +56,8 @@ fn counts_left(
     requires system { objects.now.system ≡ system.now }
     requires clock { objects.now.tick ≡ tick - 1 }
     requires alarm { alarm < length system.now.alarms }
-    ensures { result ≡ option_map count_of (left_of system.now (at_tick tick (kept_in objects.now)) alarm) }
+    ensures { result ≡ option_map count_of
+        (left_of system.now (at_tick tick (kept_in objects.now)) alarm) }
 {
     let base = ticks_per_base(system, alarm);
     less_by(counts_passed(base, tick), objects.counts_left(alarm))

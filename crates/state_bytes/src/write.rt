@@ -44,8 +44,8 @@ fn push_jobs(
     push_tasks(out, system, needs, objects)
 }
 
-/// Adds the key of a machine: the bytes that tell all that is needed of its state but absolute time.
-/// Err is a growth that was refused; a beginning of the key may have been added then.
+/// Adds the key of a machine: the bytes that tell all that is needed of its state but absolute
+/// time. Err is a growth that was refused; a beginning of the key may have been added then.
 pub fn write_key<B: Blockers>(
     machine: &Machine<'_, CompactQueues, B>,
     needs: &Needs,

@@ -8,5 +8,6 @@ use Rattle.state_bytes.proofs.executing.push_registers.Goals as goal
 pub loop-number-preserved : goal.loop-number-preserved
 loop-number-preserved c =
     written_as _ c.loop-number.out.items _ _ _ c.loop-number.number _ c.in_ok-push_register.ensures
-    (ap (λ (r : ℕ). needed ((need_of c.args.needs.now).registers c.args.owner.now r) (value c.args.cpu.now r)) c.new-register.ensures)
+    (ap (λ (r : ℕ). needed ((need_of c.args.needs.now).registers c.args.owner.now r)
+    (value c.args.cpu.now r)) c.new-register.ensures)
     c.loop-number.invariant (omega arith)

@@ -5,4 +5,7 @@ use Rattle.needs.specs.Table.{need_of}
 use Rattle.state_bytes.proofs.executing.push_registers.Given as goal
 
 abbrev pub invariant-loop-number : goal.invariant-loop-number
-invariant-loop-number l = l.out.items ≡ l.fn.out.items ++ each l.number (λ r. needed ((need_of l.needs).registers l.owner r) (value l.cpu r))
+invariant-loop-number l =
+    l.out.items ≡ l.fn.out.items
+    ++ each l.number (λ r. needed ((need_of l.needs).registers l.owner r)
+    (value l.cpu r))

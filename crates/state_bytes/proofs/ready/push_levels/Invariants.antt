@@ -5,4 +5,6 @@ use Rattle.services.specs.CompactQueues.{tasks_at}
 use Rattle.state_bytes.proofs.ready.push_levels.Given as goal
 
 abbrev pub invariant-loop-level : goal.invariant-loop-level
-invariant-loop-level l = l.out.items ≡ l.fn.out.items ++ each l.level (λ n. level_key n (tasks_at l.entries n))
+invariant-loop-level l =
+    l.out.items ≡ l.fn.out.items
+    ++ each l.level (λ n. level_key n (tasks_at l.entries n))

@@ -6,4 +6,6 @@ use Rattle.needs.specs.Table.{need_of}
 use Rattle.state_bytes.proofs.tasks.push_tasks.Given as goal
 
 abbrev pub invariant-loop-number : goal.invariant-loop-number
-invariant-loop-number l = l.out.items ≡ l.fn.out.items ++ each l.number (task_key (need_of l.needs) (kept_in l.objects))
+invariant-loop-number l =
+    l.out.items ≡ l.fn.out.items
+    ++ each l.number (task_key (need_of l.needs) (kept_in l.objects))

@@ -5,6 +5,7 @@ use Rattle.state_bytes.proofs.times.push_alarm.Goals as goal
 
 pub returns : goal.returns
 returns c =
-    let same = alarm_bytes c.args.system.now (at_tick c.args.tick (kept_in c.args.objects.now)) c.args.alarm
+    let same = alarm_bytes c.args.system.now (at_tick c.args.tick (kept_in c.args.objects.now))
+    c.args.alarm
     c.counts_left-left.result c.cycle.result c.counts_left-left.ensures c.cycle.ensures in
     rw same at c.push_left.ensures

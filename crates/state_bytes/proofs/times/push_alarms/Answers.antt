@@ -8,5 +8,6 @@ use Rattle.state_bytes.proofs.times.push_alarms.Goals as goal
 pub loop-number-preserved : goal.loop-number-preserved
 loop-number-preserved c =
     written_as _ c.loop-number.out.items _ _ _ c.loop-number.number _ c.in_ok-push_alarm.ensures
-    (ap (alarm_key c.args.system.now (at_tick c.args.tick (kept_in c.args.objects.now))) c.new.ensures)
+    (ap (alarm_key c.args.system.now (at_tick c.args.tick (kept_in c.args.objects.now)))
+    c.new.ensures)
     c.loop-number.invariant (omega arith)

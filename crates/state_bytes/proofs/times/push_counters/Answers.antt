@@ -8,5 +8,6 @@ use Rattle.state_bytes.proofs.times.push_counters.Goals as goal
 pub loop-number-preserved : goal.loop-number-preserved
 loop-number-preserved c =
     written_as _ c.loop-number.out.items _ _ _ c.loop-number.number _ c.in_ok-push_counter.ensures
-    (ap (λ (k : Counter). number (value_at k c.args.tick) ++ number (phase_at k c.args.tick)) c.counter_at-counter.ensures.value)
+    (ap (λ (k : Counter). number (value_at k c.args.tick) ++ number (phase_at k c.args.tick))
+    c.counter_at-counter.ensures.value)
     c.loop-number.invariant (omega arith)

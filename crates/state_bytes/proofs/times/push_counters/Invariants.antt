@@ -5,4 +5,7 @@ use Rattle.same_future.specs.Alike.{phase_at, value_at}
 use Rattle.state_bytes.proofs.times.push_counters.Given as goal
 
 abbrev pub invariant-loop-number : goal.invariant-loop-number
-invariant-loop-number l = l.out.items ≡ l.fn.out.items ++ each l.number (λ c. number (value_at (counter l.system c) l.tick) ++ number (phase_at (counter l.system c) l.tick))
+invariant-loop-number l =
+    l.out.items ≡ l.fn.out.items
+    ++ each l.number (λ c. number (value_at (counter l.system c) l.tick)
+    ++ number (phase_at (counter l.system c) l.tick))

@@ -5,4 +5,6 @@ use Rattle.kernel.specs.Machine.{picture}
 use Rattle.state_bytes.proofs.words.push_shared_window.Given as goal
 
 abbrev pub invariant-loop-index : goal.invariant-loop-index
-invariant-loop-index g l = l.out.items ≡ l.fn.out.items ++ each l.index (λ i. number (shared_word (picture l.machine).shared l.resource i))
+invariant-loop-index g l =
+    l.out.items ≡ l.fn.out.items
+    ++ each l.index (λ i. number (shared_word (picture l.machine).shared l.resource i))

@@ -6,4 +6,6 @@ use Rattle.needs.specs.Table.{need_of}
 use Rattle.state_bytes.proofs.words.push_shared_windows.Given as goal
 
 abbrev pub invariant-loop-number : goal.invariant-loop-number
-invariant-loop-number g l = l.out.items ≡ l.fn.out.items ++ each l.number (shared_key (need_of l.needs) (picture l.machine))
+invariant-loop-number g l =
+    l.out.items ≡ l.fn.out.items
+    ++ each l.number (shared_key (need_of l.needs) (picture l.machine))

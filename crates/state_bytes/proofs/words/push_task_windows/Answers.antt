@@ -9,5 +9,6 @@ use Rattle.state_bytes.proofs.words.push_task_windows.Goals as goal
 pub loop-number-preserved : goal.loop-number-preserved
 loop-number-preserved g c =
     written_as _ c.loop-number.out.items _ _ _ c.loop-number.number _ c.in_ok-push_window.ensures
-    (ap (λ (t : ℕ). window_key (need_of c.args.needs.now) (picture c.args.machine.now) (Owner.Task t)) c.new.ensures)
+    (ap (λ (t : ℕ). window_key (need_of c.args.needs.now) (picture c.args.machine.now)
+    (Owner.Task t)) c.new.ensures)
     c.loop-number.invariant (omega arith)

@@ -7,4 +7,7 @@ use Rattle.needs.specs.Table.{need_of}
 use Rattle.state_bytes.proofs.words.push_task_windows.Given as goal
 
 abbrev pub invariant-loop-number : goal.invariant-loop-number
-invariant-loop-number g l = l.out.items ≡ l.fn.out.items ++ each l.number (λ t. window_key (need_of l.needs) (picture l.machine) (Owner.Task t))
+invariant-loop-number g l =
+    l.out.items ≡ l.fn.out.items
+    ++ each l.number (λ t. window_key (need_of l.needs)
+    (picture l.machine) (Owner.Task t))

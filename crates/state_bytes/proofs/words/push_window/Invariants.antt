@@ -5,4 +5,7 @@ use Rattle.needs.specs.Table.{need_of}
 use Rattle.state_bytes.proofs.words.push_window.Given as goal
 
 abbrev pub invariant-loop-index : goal.invariant-loop-index
-invariant-loop-index g l = l.out.items ≡ l.fn.out.items ++ each l.index (λ i. needed ((need_of l.needs).words l.owner i) ((picture l.machine).words l.owner i))
+invariant-loop-index g l =
+    l.out.items ≡ l.fn.out.items
+    ++ each l.index (λ i. needed ((need_of l.needs).words l.owner i)
+    ((picture l.machine).words l.owner i))

@@ -8,9 +8,11 @@ use Rattle.state_bytes.proofs.write.write_key.Goals as goal
 pub returns : goal.returns
 returns g c =
     let m = c.args.machine.now in
-    key_written (system_of m) c.system_of-system.result.now (need_of c.args.needs.now) c.objects-objects.result.now
+    key_written (system_of m) c.system_of-system.result.now (need_of c.args.needs.now)
+    c.objects-objects.result.now
     (picture m) (next_tick m) c.next_tick.result
-    (c.system_of-system.ensures ∙ c.objects-objects.ensures.system) c.objects-objects.ensures.picture
+    (c.system_of-system.ensures ∙ c.objects-objects.ensures.system)
+    c.objects-objects.ensures.picture
     (tasks_at c.queues.result.now.entries) c.is_shut_down.result c.args.out.now.items _ _ _ _ _
     c.next_tick.ensures.value c.queues.ensures c.is_shut_down.ensures
     (record {
