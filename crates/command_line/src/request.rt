@@ -264,7 +264,7 @@ fn trace<'a>(matches: &ArgMatches<'a>) -> Question<'a> {
 }
 
 /// What a subcommand asks for.
-fn asked<'a>(subcommand: &str, matches: &ArgMatches<'a>) -> Question<'a> {
+fn question_of<'a>(subcommand: &str, matches: &ArgMatches<'a>) -> Question<'a> {
     match subcommand {
         "upper" => Question::Lines {
             line: run_line(matches),
@@ -338,7 +338,7 @@ pub fn read_line<'a, S: AsStr>(
     if name == "import" {
         return Ok(Asked::Import(imported(alloc, found)?));
     }
-    let question = asked(name, found);
+    let question = question_of(name, found);
     if let Some(fault) = shown_fault(&question).or(folder_fault(found)) {
         return Err(line.error(ErrorKind::ValueValidation, fault)?);
     }
