@@ -20,6 +20,17 @@ use std::io::Write;
 use system_gen::class_of;
 use tracer::RunFault;
 
+/// Writes the conformance class of a system.
+fn write_class<O: Write>(
+    alloc: Global,
+    texts: &Texts,
+    out: &mut O,
+) -> Result<Verdict<'static>, RunFault> {
+    let class = class_of(&system_of(alloc, texts)?);
+    writeln!(out, "{}", class.name())?;
+    Ok(Verdict::Done)
+}
+
 /// Writes the answer to a question.
 fn write_answer<'q, O: Write, E: Write>(
     alloc: Global,
@@ -42,11 +53,7 @@ fn write_answer<'q, O: Write, E: Write>(
         Question::Partitions { are_joined } => {
             write_cuts(alloc, &system_of(alloc, texts)?, are_joined, out)
         }
-        Question::Class => {
-            let class = class_of(&system_of(alloc, texts)?);
-            writeln!(out, "{}", class.name())?;
-            Ok(Verdict::Done)
-        }
+        Question::Class => write_class(alloc, texts, out),
         Question::Show => write_shown(alloc, request, texts, out),
     }
 }
@@ -146,6 +153,23 @@ fn answer_asked<F: Files, O: Write, E: Write>(
     }
 }
 
+/// Reads a line, or another one without the mode where a word is missing in it, and in that none is.
+fn read_either<'a>(
+    alloc: Global,
+    whole: &'a [String],
+    short: &'a [String],
+) -> Result<Asked<'a>, LineError> {
+    let asked = read_line(alloc, whole, true);
+    if !is_short(&asked) {
+        return asked;
+    }
+    let without_mode = read_line(alloc, short, false);
+    if is_short(&without_mode) {
+        return asked;
+    }
+    without_mode
+}
+
 /// Answers a line that names a folder. Where a word is missing in it, it is tried without the mode.
 fn answer_folder<S: AsStr, F: Files, O: Write, E: Write>(
     alloc: Global,
@@ -158,13 +182,7 @@ fn answer_folder<S: AsStr, F: Files, O: Write, E: Write>(
 ) -> Result<u8, AllocError> {
     let whole = with_files(alloc, words, folder, true)?;
     let short = with_files(alloc, words, folder, false)?;
-    let mut asked = read_line(alloc, &whole, true);
-    if is_short(&asked) {
-        let without_mode = read_line(alloc, &short, false);
-        if !is_short(&without_mode) {
-            asked = without_mode;
-        }
-    }
+    let asked = read_either(alloc, whole.as_slice(), short.as_slice());
     Ok(answer_asked(alloc, asked, files, out, err, shows_progress))
 }
 

@@ -184,8 +184,9 @@ fn explain_joined<E: Write>(
 ) -> Result<(), RunFault> {
     let system = system_of(alloc, texts)?;
     for stretch in stretches(alloc, &system)? {
-        if let Some(denial) = stretch.denial {
-            explain_stretch(alloc, request, texts, stretch, denial.named(&system), err)?;
+        if let Err(denial) = check_partition(&system, stretch.first) {
+            let denial = denial.named(&system);
+            explain_stretch(alloc, request, texts, stretch, denial, err)?;
         }
     }
     Ok(())

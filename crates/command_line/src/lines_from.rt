@@ -1,6 +1,6 @@
 //! The end of a trace. No part of the standards.
 
-use osek_base::words::{line_len, number_at};
+use osek_base::words::number_at;
 use std::io::{self, Write};
 
 /// A stream of a trace, of which the lines of the ticks before one are left out. What is written by one call begins with a
@@ -26,28 +26,19 @@ fn is_before(lines: &[u8], from: u32) -> bool {
     }
 }
 
-/// How many bytes the lines at the front have that are of ticks before one.
-fn earlier_len(lines: &[u8], from: u32) -> usize {
-    let mut len = 0;
-    while len < lines.len() && is_before(&lines[len..], from) {
-        let line = line_len(&lines[len..]);
-        len = (len + line + 1).min(lines.len());
-    }
-    len
-}
-
 impl<O: Write> Write for LinesFrom<O> {
+    /// Of lines that begin with one to be left out it takes that one alone.
     fn write(&mut self, lines: &[u8]) -> io::Result<usize> {
-        if self.from == 0 {
-            return self.out.write(lines);
-        }
-        let earlier = earlier_len(lines, self.from);
-        if earlier == lines.len() {
-            return Ok(earlier);
+        if is_before(lines, self.from) {
+            for place in 0..lines.len() {
+                if lines[place] == b'\n' {
+                    return Ok(place + 1);
+                }
+            }
+            return Ok(lines.len());
         }
         self.from = 0;
-        let written = self.out.write(&lines[earlier..])?;
-        Ok(earlier + written)
+        self.out.write(lines)
     }
 
     fn flush(&mut self) -> io::Result<()> {

@@ -214,23 +214,24 @@ fn limit_of(text: &str) -> Option<Limit<'_>> {
     (ticks <= MAX_TICKS).then_some(Limit { name, ticks })
 }
 
-/// Reads the limits of a line, and gives whether each is one.
-fn read_limits<'a>(texts: &[&'a str], limits: &mut Vec<Limit<'a>>) -> Result<bool, AllocError> {
-    for text in texts {
-        match limit_of(text) {
-            Some(limit) => limits.push(limit)?,
-            None => return Ok(false),
+/// Reads the limits of a line, where its subcommand takes limits, and gives whether each is one.
+fn read_limits<'a>(
+    subcommand: &str,
+    matches: &ArgMatches<'a>,
+    limits: &mut Vec<Limit<'a>>,
+) -> Result<bool, AllocError> {
+    if subcommand != "stats" {
+        return Ok(true);
+    }
+    if let Some(texts) = matches.get_strs("limit") {
+        for text in texts {
+            match limit_of(text) {
+                Some(limit) => limits.push(limit)?,
+                None => return Ok(false),
+            }
         }
     }
     Ok(true)
-}
-
-/// The texts of the limits, where the subcommand takes limits.
-fn limit_texts<'m, 'a>(subcommand: &str, matches: &'m ArgMatches<'a>) -> &'m [&'a str] {
-    match subcommand {
-        "stats" => matches.get_strs("limit").unwrap_or(&[]),
-        _ => &[],
-    }
 }
 
 /// Why nothing is shown, where the first tick lies behind the last, or a picture has too many.
@@ -343,7 +344,7 @@ pub fn read_line<'a, S: AsStr>(
         return Err(line.error(ErrorKind::ValueValidation, fault)?);
     }
     let mut limits = Vec::new(alloc);
-    if !read_limits(limit_texts(name, found), &mut limits)? {
+    if !read_limits(name, found, &mut limits)? {
         return Err(line.error(ErrorKind::ValueValidation, help::NO_LIMIT)?);
     }
     Ok(Asked::System(Request {
