@@ -138,6 +138,15 @@ static int is_usual_but_explained(void)
            && (usual->status != 1 || strchr(tried->err, '\n'));
 }
 
+/* Whether the usual answer was given where that may be: of a line that is refused, the text of which is put together as far
+   as memory goes; and once while the words of the line are taken over, before any file is opened. */
+static int is_passed_over(void)
+{
+    enum { WORDS_TAKEN = 40 };
+    static int passed_over;
+    return is_usual() && (usual->status == 2 || (growths <= WORDS_TAKEN && passed_over++ == 0));
+}
+
 static int refused(void)
 {
     if (role != JUDGE)
@@ -147,8 +156,8 @@ static int refused(void)
         return 0;
     if (in_child(tried))
         return 1;
-    judge((is_refused("memory\n") || is_usual() || is_usual_but_explained()) && tried->live == 0, "growth %ld", growths,
-          0);
+    judge((is_refused("memory\n") || is_usual_but_explained() || is_passed_over()) && tried->live == 0, "growth %ld",
+          growths, 0);
     return 0;
 }
 
