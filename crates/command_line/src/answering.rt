@@ -1,5 +1,6 @@
 //! Answers to command lines: what is asked is written, and then how it ended.
 
+use crate::bounding::write_searched;
 use crate::explaining::{explain_fault, explain_unread, explain_verdict};
 use crate::folder::{Folder, folder_of, with_files};
 use crate::host_files::Files;
@@ -55,6 +56,9 @@ fn write_answer<'q, O: Write, E: Write>(
         }
         Question::Class => write_class(alloc, texts, out),
         Question::Show => write_shown(alloc, request, texts, out),
+        Question::Bounds(line) => {
+            write_searched(alloc, texts, line, request.distances.as_slice(), out)
+        }
     }
 }
 
@@ -196,9 +200,10 @@ fn is_short(asked: &Result<Asked<'_>, LineError>) -> bool {
 
 /// Answers a command line, of which the first word is the program's name, and gives the exit status: 0, also after help;
 /// 1 for a refused input, an unreadable file or want of memory; 2 for a refused line; 3 for a denied partition; 4 for a
-/// failed write; 6 where a run breaks a limit. For 1 and 4 one line says on `err` what it was, for 6 and of a refused import a
-/// line for each limit and refusal. Where the line asks for it, an explanation of the refusal or of the denial follows on
-/// `err`. With `shows_progress` a long run says on `err`, on one line that is written over and taken away, how far it is.
+/// failed write; 5 for an undecided search; 6 where a run breaks a limit. For 1 and 4 one line says on `err` what it was,
+/// for 6 and of a refused import a line for each limit and refusal. Where the line asks for it, an explanation of the
+/// refusal, of the denial or of what is undecided follows on `err`. With `shows_progress` a long run says on `err`, on one
+/// line that is written over and taken away, how far it is.
 pub fn command<S: AsStr, F: Files, O: Write, E: Write>(
     alloc: Global,
     words: &[S],

@@ -32,17 +32,17 @@ pub(crate) fn asm<'t>(request: &Request<'t>, texts: &'t Texts) -> Source<'t> {
     }
 }
 
-/// The arrival list of a request, and the mode that it names. Both are empty where no run is asked for.
+/// The arrival list of a request, empty where none is asked for, and the mode that it names.
 fn run_of<'t>(request: &Request<'t>, texts: &'t Texts) -> (Source<'t>, Option<&'t str>) {
-    let (name, mode) = match request.question.run_line() {
-        Some(RunLine { irq, mode, .. }) => (irq, mode),
-        None => ("", None),
+    let name = match request.question.run_line() {
+        Some(RunLine { irq, .. }) => irq,
+        None => "",
     };
     let irq = Source {
         name,
         text: &texts.irq,
     };
-    (irq, mode)
+    (irq, request.question.mode())
 }
 
 /// What is said of a file that can't be read.

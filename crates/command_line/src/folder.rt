@@ -10,7 +10,7 @@ pub(crate) const NAMES: [&str; 3] = ["system.oil", "programs.asm", "arrivals.irq
 fn file_count(subcommand: &str) -> usize {
     match subcommand {
         "trace" | "upper" | "vcd" | "timeline" | "stats" => 3,
-        "check" | "partitions" | "class" | "show" => 2,
+        "check" | "partitions" | "class" | "show" | "bounds" => 2,
         _ => 0,
     }
 }

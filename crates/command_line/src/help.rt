@@ -120,6 +120,30 @@ error: a line for each mistake, as an event that a task waits for and doesn't li
 Example:
   osek_run show system.oil programs.asm";
 
+pub(crate) const APART: &str =
+    "Interrupts of the routine come at least so many ticks apart, 1 to 1000000; 1 unless it is said";
+
+pub(crate) const STATES: &str =
+    "How many states may be kept, 1 to 100000000; 1000000 unless it is said";
+
+pub(crate) const LONGEST: &str =
+    "The time from which on none is told, 1 to 65535 ticks; 10000 unless it is said";
+
+pub(crate) const BOUNDS_UPPER: &str =
+    "Of the part from priority P upward by itself: they hold whatever runs below it";
+
+pub(crate) const BOUNDS_CSV: &str =
+    "Prints comma-separated values, a line a figure, and whether it is a bound";
+
+pub(crate) const NO_DISTANCE: &str = "a distance is ROUTINE=TICKS, with TICKS from 1 to 1000000";
+
+pub(crate) const BOUNDS_EXAMPLE: &str =
+    "Whatever interrupts arrive that keep their distances, and for however many ticks, no run shows more. Where more states
+would have to be kept, `undecided:` is printed, and the exit status is 5.
+
+Example, interrupts of Crank at least 20 ticks apart:
+  osek_run bounds system.oil programs.asm Normal --apart Crank=20";
+
 pub(crate) const FILE: &str = "The description, in TOML: tasks, interrupts and alarms";
 
 pub(crate) const FOLDER: &str =
@@ -150,6 +174,7 @@ pub(crate) const STATUSES: &str = "Exit status:
   2  a refused command line
   3  a denied partition; standard output has the denial
   4  a failed write
+  5  an undecided search of `bounds`; standard output has how far it came
   6  a limit of `stats` is broken; standard error has a line for each
 
 `osek_run SUBCOMMAND --help` tells the words of a subcommand.";

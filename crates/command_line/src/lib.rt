@@ -2,6 +2,8 @@
 #![tactic(auto)]
 
 mod answering;
+mod bounding;
+mod bounds_line;
 mod explaining;
 mod folder;
 mod help;
@@ -20,4 +22,4 @@ mod status;
 
 pub use answering::command;
 pub use host_files::{FileFault, Files, HostFiles, Refusal};
-pub use status::{BROKEN, DENIED, DONE, REFUSED, REFUSED_LINE, WRITE_FAILED};
+pub use status::{BROKEN, DENIED, DONE, REFUSED, REFUSED_LINE, UNDECIDED, WRITE_FAILED};

@@ -1,5 +1,6 @@
 //! The lines that are understood, with their help.
 
+use crate::bounds_line::{MAX_LONGEST, MAX_STATES};
 use crate::help;
 use clap::{Arg, ArgAction, Command, value_parser};
 use osek_base::{MAX_TASK_PRIORITY, MAX_TICKS};
@@ -148,6 +149,50 @@ fn show_line<'a>(alloc: Global) -> Result<Command<'a>, AllocError> {
     of_system(alloc, line)
 }
 
+/// A number that is at least 1.
+fn number<'a>(
+    alloc: Global,
+    name: &'a str,
+    value: &'a str,
+    most: u32,
+    meaning: &'a str,
+) -> Arg<'a> {
+    Arg::new(alloc, name)
+        .long(name)
+        .value_name(value)
+        .action(ArgAction::Set)
+        .help(meaning)
+        .value_parser(value_parser!(u32).range(1..=most as i64))
+}
+
+/// The priority from which on a part is looked at by itself.
+fn upper_from<'a>(alloc: Global) -> Arg<'a> {
+    Arg::new(alloc, "upper")
+        .long("upper")
+        .value_name("P")
+        .action(ArgAction::Set)
+        .help(help::BOUNDS_UPPER)
+        .value_parser(value_parser!(u8).range(0..=MAX_TASK_PRIORITY as i64))
+}
+
+fn bounds_line<'a>(alloc: Global) -> Result<Command<'a>, AllocError> {
+    let line = Command::new(alloc, "bounds")
+        .about("Searches all runs for the greatest times of tasks, routines and resources")
+        .after_help(help::BOUNDS_EXAMPLE);
+    let apart = Arg::new(alloc, "apart")
+        .long("apart")
+        .value_name("ROUTINE=TICKS")
+        .action(ArgAction::Append)
+        .help(help::APART);
+    of_system(alloc, line)?
+        .arg(word(alloc, "MODE", help::MODE))?
+        .arg(apart)?
+        .arg(number(alloc, "states", "N", MAX_STATES, help::STATES))?
+        .arg(number(alloc, "longest", "TICKS", MAX_LONGEST, help::LONGEST))?
+        .arg(upper_from(alloc))?
+        .arg(flag(alloc, "csv", help::BOUNDS_CSV))
+}
+
 fn make_line<'a>(alloc: Global) -> Result<Command<'a>, AllocError> {
     let folder = Arg::new(alloc, "output")
         .short('o')
@@ -191,6 +236,7 @@ pub(crate) fn lines<'a>(alloc: Global) -> Result<Command<'a>, AllocError> {
         .subcommand(partitions_line(alloc)?)?
         .subcommand(class_line(alloc)?)?
         .subcommand(show_line(alloc)?)?
+        .subcommand(bounds_line(alloc)?)?
         .subcommand(make_line(alloc)?)?
         .subcommand(import_line(alloc)?)
 }

@@ -1,5 +1,6 @@
 //! What a command line asks for.
 
+use crate::bounds_line::{BoundsLine, Distance, read_distances, searched};
 use crate::help;
 use crate::lines::lines;
 use clap::error::ErrorKind;
@@ -88,6 +89,8 @@ pub enum Question<'a> {
     Class,
     /// What generation made, and what is surely a mistake.
     Show,
+    /// The greatest times of all runs.
+    Bounds(BoundsLine<'a>),
 }
 
 impl<'a> Question<'a> {
@@ -106,7 +109,16 @@ impl<'a> Question<'a> {
             Question::Check { .. }
             | Question::Partitions { .. }
             | Question::Class
-            | Question::Show => None,
+            | Question::Show
+            | Question::Bounds(_) => None,
+        }
+    }
+
+    /// The mode that is named, where runs are asked for; None for the only one.
+    pub fn mode(&self) -> Option<&'a str> {
+        match *self {
+            Question::Bounds(line) => line.mode,
+            _ => self.run_line()?.mode,
         }
     }
 }
@@ -120,6 +132,8 @@ pub struct Request<'a> {
     pub question: Question<'a>,
     /// The limits that figures are held to.
     pub limits: Vec<Limit<'a>>,
+    /// The distances that interrupts keep.
+    pub distances: Vec<Distance<'a>>,
     pub is_explained: bool,
 }
 
@@ -234,13 +248,32 @@ fn read_limits<'a>(
     Ok(true)
 }
 
+/// Reads the limits and the distances of a line. Where one is none, it is said why.
+fn read_lists<'a>(
+    subcommand: &str,
+    matches: &ArgMatches<'a>,
+    limits: &mut Vec<Limit<'a>>,
+    distances: &mut Vec<Distance<'a>>,
+) -> Result<Option<&'static str>, AllocError> {
+    if !read_limits(subcommand, matches, limits)? {
+        return Ok(Some(help::NO_LIMIT));
+    }
+    if !read_distances(subcommand, matches, distances)? {
+        return Ok(Some(help::NO_DISTANCE));
+    }
+    Ok(None)
+}
+
 /// Why nothing is shown, where the first tick lies behind the last, or a picture has too many.
 fn shown_fault(question: &Question<'_>) -> Option<&'static str> {
     let (line, from) = match question {
         Question::Lines { line, from, .. } => (line, *from),
         Question::View { line, view } => (line, view.first_tick()),
-        Question::Check { .. } | Question::Partitions { .. } | Question::Class | Question::Show =>
-            return None,
+        Question::Check { .. }
+        | Question::Partitions { .. }
+        | Question::Class
+        | Question::Show
+        | Question::Bounds(_) => return None,
     };
     let Some(shown) = line.ticks.checked_sub(from) else {
         return Some(help::NO_TICK_SHOWN);
@@ -287,6 +320,7 @@ fn question_of<'a>(subcommand: &str, matches: &ArgMatches<'a>) -> Question<'a> {
         },
         "class" => Question::Class,
         "show" => Question::Show,
+        "bounds" => Question::Bounds(searched(matches)),
         _ => trace(matches),
     }
 }
@@ -314,6 +348,7 @@ fn without_mode<'a>(question: Question<'a>) -> Question<'a> {
             line: RunLine { mode: None, ..line },
             view,
         },
+        Question::Bounds(line) => Question::Bounds(BoundsLine { mode: None, ..line }),
         question => question,
     }
 }
@@ -344,8 +379,9 @@ pub fn read_line<'a, S: AsStr>(
         return Err(line.error(ErrorKind::ValueValidation, fault)?);
     }
     let mut limits = Vec::new(alloc);
-    if !read_limits(name, found, &mut limits)? {
-        return Err(line.error(ErrorKind::ValueValidation, help::NO_LIMIT)?);
+    let mut distances = Vec::new(alloc);
+    if let Some(fault) = read_lists(name, found, &mut limits, &mut distances)? {
+        return Err(line.error(ErrorKind::ValueValidation, fault)?);
     }
     Ok(Asked::System(Request {
         oil: text(found, "OIL"),
@@ -356,6 +392,7 @@ pub fn read_line<'a, S: AsStr>(
             without_mode(question)
         },
         limits,
+        distances,
         is_explained: found.get_flag("explain"),
     }))
 }

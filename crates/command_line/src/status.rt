@@ -1,6 +1,8 @@
 //! How a command line ends: its exit status.
 
 use partition_check::NamedDenial;
+use search::Obstacle;
+use std::fmt;
 use std::io::{self, Write};
 use tracer::RunFault;
 
@@ -19,8 +21,29 @@ pub const DENIED: u8 = 3;
 /// Exit status: a write failed.
 pub const WRITE_FAILED: u8 = 4;
 
+/// Exit status: a search for bounds stopped before its end.
+pub const UNDECIDED: u8 = 5;
+
 /// Exit status: a run breaks a limit.
 pub const BROKEN: u8 = 6;
+
+/// What is wrong with a distance.
+#[derive(Clone, Copy, Debug)]
+pub(crate) enum DistanceFault<'a> {
+    /// No routine has the name.
+    Unknown(&'a str),
+    /// The routine of that name has another one.
+    Twice(&'a str),
+}
+
+impl fmt::Display for DistanceFault<'_> {
+    fn fmt<W: fmt::Write>(&self, f: &mut fmt::Formatter<W>) -> fmt::Result {
+        match self {
+            DistanceFault::Unknown(name) => write!(f, "apart: {name}"),
+            DistanceFault::Twice(name) => write!(f, "apart: {name} twice"),
+        }
+    }
+}
 
 /// What becomes of a request whose texts and run aren't refused.
 #[derive(Debug, Drop)]
@@ -38,6 +61,10 @@ pub(crate) enum Verdict<'a> {
     NoLimit(&'a str),
     /// The system is shown: a line for each mistake.
     Warned(Vec<u8>),
+    /// A distance is wrong: nothing is written.
+    NoDistance(DistanceFault<'a>),
+    /// How far the search came is written, and not the bounds.
+    Undecided(Obstacle),
 }
 
 impl Verdict<'_> {
@@ -48,7 +75,9 @@ impl Verdict<'_> {
             Verdict::NoLimit(name) => writeln!(err, "limit: {name}"),
             Verdict::Broken(lines) => err.write_all(lines.as_bytes()),
             Verdict::Warned(lines) => err.write_all(lines),
-            Verdict::Done | Verdict::Denied(..) | Verdict::AllDenied(..) => Ok(()),
+            Verdict::NoDistance(fault) => writeln!(err, "{fault}"),
+            Verdict::Done | Verdict::Denied(..) | Verdict::AllDenied(..) | Verdict::Undecided(_) =>
+                Ok(()),
         }
     }
 
@@ -58,7 +87,8 @@ impl Verdict<'_> {
             Verdict::NoRow(_) => REFUSED,
             Verdict::Denied(..) | Verdict::AllDenied(..) => DENIED,
             Verdict::Broken(_) => BROKEN,
-            Verdict::NoLimit(_) => REFUSED,
+            Verdict::NoLimit(_) | Verdict::NoDistance(_) => REFUSED,
+            Verdict::Undecided(_) => UNDECIDED,
         }
     }
 }

@@ -1,17 +1,20 @@
 //! OSEK/VDX OS: system start-up; application modes. A booted system that does tick by tick, each with the interrupts that arrive
 //! in it.
 
-ghost use Rattle.std.specs.Prelude.{◌≡◌, ◌<◌, ◌≤◌, ◌+◌, ◌-◌, ◌∷◌, ◌++◌, [], IfOk, IfSome, None, false, true, slice_index, length};
+ghost use Rattle.std.specs.Prelude.{◌≡◌, ◌<◌, ◌≤◌, ◌+◌, ◌-◌, ◌∷◌, ◌++◌, [], IfOk, IfSome, None, false, true, map, slice_index, length};
 ghost use Rattle.std.specs.List.{All};
 ghost use Rattle.osek_base.specs.Executed.{StandsIn, idle_or_executed};
+ghost use Rattle.osek_base.specs.Lists.{below};
 ghost use Rattle.osek_base.specs.State.{shared_window};
 ghost use Rattle.kept_state.specs.KeptTick.{before_execution_in};
 ghost use Rattle.ready_queues.specs.LevelLists.{level_lists, by_level};
 ghost use Rattle.services.specs.Objects.{kept_of};
 ghost use Rattle.kernel.specs.Looking.{number_told};
 ghost use Rattle.kernel.specs.Machine.{GoesOn, IsBooted, IsOfRun, Ticks, next_tick, picture, system_of};
+ghost use Rattle.kernel.specs.Told.{acted_in, task_at_in};
 
 use crate::acted::Acted;
+use crate::at_instruction::AtInstruction;
 use crate::blockers::{Blockers, Counted};
 use crate::blocking::Blocking;
 use crate::kernel::push_all;
@@ -123,14 +126,14 @@ impl<'s, Q: ReadyQueues, B: Blockers> Machine<'s, Q, B> {
     }
 
     /// The alarms that were due in the last tick, in declaration order; none before the first.
-    pub(crate) fn last_due(&self) -> &DueList
+    pub fn last_due(&self) -> &DueList
         ensures { result.now ≡ self.now.acted.due }
     {
         &self.acted.due
     }
 
     /// Those of them whose action was refused.
-    pub(crate) fn last_refused(&self) -> &DueList
+    pub fn last_refused(&self) -> &DueList
         ensures { result.now ≡ self.now.acted.refused }
     {
         &self.acted.refused
@@ -178,6 +181,30 @@ impl<'s, Q: ReadyQueues, B: Blockers> Machine<'s, Q, B> {
         self.tick_with(arrived, &mut Unseen, before, behind)
     }
 
+    /// As [`tick`](Machine::tick), and leaves what the tasks are when the instruction is executed: that is behind phases 1 to 4
+    /// of the tick, in which alarms act, interrupts arrive, a task is dispatched and a routine starts.
+    pub fn tick_seen(
+        &mut self,
+        arrived: &[IsrId],
+        before: &mut TickRecord,
+        behind: &mut TickRecord,
+        at: &mut AtInstruction,
+    ) -> Option<Executed>
+        requires on { (picture self.old).over ≡ false }
+        requires limit { next_tick self.old < MAX_TICKS }
+        requires known { All (λ i. i < length (system_of self.old).routines) arrived.now }
+        ensures ticks { Ticks arrived.now self.old self.new (before.new ++ idle_or_executed (system_of self.old) result ∷ behind.new) }
+        ensures goes_on { GoesOn B.are_counted arrived.now self.old self.new }
+        ensures was_of_run { IsOfRun B.are_counted self.old }
+        ensures of_run { IsOfRun B.are_counted self.new }
+        ensures there { IfSome result (StandsIn (system_of self.old)) }
+        ensures few { length before.new + length behind.new < MAX_RECORDS }
+        ensures seen { at.new.tasks.items ≡ map (task_at_in (system_of self.old) (before_execution_in (system_of self.old) arrived.now (picture self.old)).state) (below (length (system_of self.old).tasks)) }
+        ensures acted { self.new.acted ≡ acted_in (system_of self.old) (picture self.old) }
+    {
+        self.tick_with(arrived, at, before, behind)
+    }
+
     /// As `tick`, with a look at the system when the instruction is executed.
     #[inline(always)]
     pub(crate) fn tick_with<L: Looker>(
@@ -192,8 +219,10 @@ impl<'s, Q: ReadyQueues, B: Blockers> Machine<'s, Q, B> {
         requires known { All (λ i. i < length (system_of self.old).routines) arrived.now }
         ensures ticks { Ticks arrived.now self.old self.new (before.new ++ idle_or_executed (system_of self.old) result ∷ behind.new) }
         ensures goes_on { GoesOn B.are_counted arrived.now self.old self.new }
+        ensures was_of_run { IsOfRun B.are_counted self.old }
         ensures of_run { IsOfRun B.are_counted self.new }
         ensures seen { L.HasSeen looker.new (system_of self.old) (before_execution_in (system_of self.old) arrived.now (picture self.old)).state }
+        ensures acted { self.new.acted ≡ acted_in (system_of self.old) (picture self.old) }
         ensures parts { IfSome result (StandsIn (system_of self.old)) × (length before.new + length behind.new < MAX_RECORDS) }
     {
         put_first(&mut self.opening, self.ticks, before);

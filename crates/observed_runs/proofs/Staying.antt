@@ -64,7 +64,7 @@ pending_last : (S : System) (over : Bool) (s : State)
 pending_last S true s = refl
 pending_last S false s = pending_reschedule S s
 
-pending_tick : (S : System) (arrived : List ℕ) (s : State) → (tick S arrived s).after.pending ≡ (tick S arrived s).executing.pending
+pub pending_tick : (S : System) (arrived : List ℕ) (s : State) → (tick S arrived s).after.pending ≡ (tick S arrived s).executing.pending
 unfolding tick
 pending_tick S arrived s =
     let done : State = (execute_phase S (before_execution S arrived s).state).state in
@@ -79,7 +79,7 @@ pending_stays S mode arrivals n =
 -- ---- holders
 
 -- each task's job holds the same
-abbrev HoldSame : Kept → Kept → Type 0
+abbrev pub HoldSame : Kept → Kept → Type 0
 HoldSame o e = (t : ℕ) → (e.slots t).held ≡ (o.slots t).held
 
 then_same : (o e f : Kept) → HoldSame o e → HoldSame e f → HoldSame o f
@@ -164,7 +164,7 @@ alarm_phase_same : (S : System) (o : Kept) → HoldSame o (alarm_phase_in S o).s
 unfolding alarm_phase_in
 alarm_phase_same S o = alarms_same S (due_alarms S (bare o)) (record o { alarms = alarms_advanced S (bare o) })
 
-before_same : (S : System) (arrived : List ℕ) (o : Kept) → HoldSame o (before_execution_in S arrived o).state
+pub before_same : (S : System) (arrived : List ℕ) (o : Kept) → HoldSame o (before_execution_in S arrived o).state
 before_same S arrived o =
     let acted : Kept = (alarm_phase_in S o).state in
     let ready : Kept = (rescheduled S (arrival_phase_in arrived acted)).state in

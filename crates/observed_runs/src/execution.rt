@@ -24,18 +24,18 @@ use osek_base::{Executed, Instr, IsrId, Outcome, Owner, Service, Status, System,
 
 /// What a tick executed, and the tasks that it concerns.
 #[derive(Clone, Copy, Debug)]
-pub(crate) struct Execution {
+pub struct Execution {
     /// What was executed; None in an idle tick.
-    pub(crate) executed: Option<Executed>,
+    pub executed: Option<Executed>,
     /// The task of which a job ends.
-    pub(crate) ending: Option<TaskId>,
+    pub ending: Option<TaskId>,
     /// The task of which an activation is refused.
-    pub(crate) refusing: Option<TaskId>,
+    pub refusing: Option<TaskId>,
 }
 
 impl Execution {
     /// Nothing, as in an idle tick.
-    pub(crate) fn nothing() -> Self {
+    pub fn nothing() -> Self {
         Execution {
             executed: None,
             ending: None,
@@ -44,7 +44,7 @@ impl Execution {
     }
 
     /// What the system's instruction at its place is to tasks.
-    pub(crate) fn of(system: &System, executed: Option<Executed>) -> Self
+    pub fn of(system: &System, executed: Option<Executed>) -> Self
         requires { IfSome executed (StandsIn system.now) }
         ensures executed { result.executed ≡ executed }
         ensures ending { result.ending ≡ ending system.now executed }
@@ -136,7 +136,7 @@ fn refusing(system: &System, executed: &Option<Executed>) -> Option<TaskId>
 }
 
 /// Whose the instruction is.
-pub(crate) fn executor(executed: &Option<Executed>) -> Option<Owner>
+pub fn executor(executed: &Option<Executed>) -> Option<Owner>
     ensures { result ≡ option_map owner_of executed.now }
 {
     match executed {
@@ -155,7 +155,7 @@ fn status_of(outcome: &Outcome) -> Option<Status>
 }
 
 /// What the instruction is answered, if it is a service with a status.
-pub(crate) fn answered(executed: &Option<Executed>) -> Option<Status>
+pub fn answered(executed: &Option<Executed>) -> Option<Status>
     ensures { result ≡ answered executed.now }
 {
     match executed {
@@ -165,7 +165,7 @@ pub(crate) fn answered(executed: &Option<Executed>) -> Option<Status>
 }
 
 /// Whether the instruction is of that task or routine.
-pub(crate) fn is_by(who: Owner, executed: &Option<Executed>) -> bool
+pub fn is_by(who: Owner, executed: &Option<Executed>) -> bool
     ensures { result ≡ is_by who executed.now }
 {
     match executed {

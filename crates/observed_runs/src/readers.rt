@@ -32,7 +32,8 @@ use osek_base::{
 };
 use ready_queues::LevelQueues;
 
-fn is_task(task: TaskId, other: Option<TaskId>) -> bool
+/// Whether there is another task, and it is that one.
+pub fn is_task(task: TaskId, other: Option<TaskId>) -> bool
     ensures { result ≡ is_number task other }
 {
     match other {
@@ -41,7 +42,8 @@ fn is_task(task: TaskId, other: Option<TaskId>) -> bool
     }
 }
 
-fn is_routine(routine: IsrId, other: Option<IsrId>) -> bool
+/// Whether there is another routine, and it is that one.
+pub fn is_routine(routine: IsrId, other: Option<IsrId>) -> bool
     ensures { result ≡ is_number routine other }
 {
     match other {
@@ -50,8 +52,8 @@ fn is_routine(routine: IsrId, other: Option<IsrId>) -> bool
     }
 }
 
-/// How often a routine stands in a list of arrivals.
-fn times(routine: IsrId, arrived: &[IsrId]) -> u32
+/// How often a routine stands in a list of those whose interrupts arrive.
+pub fn times(routine: IsrId, arrived: &[IsrId]) -> u32
     requires { length arrived.now ≤ MAX_ARRIVALS }
     ensures { result ≡ times routine arrived.now }
 {
@@ -65,7 +67,7 @@ fn times(routine: IsrId, arrived: &[IsrId]) -> u32
 }
 
 /// Whether an alarm is one of some alarms.
-fn is_among(alarms: &DueList, alarm: AlarmId) -> bool
+pub fn is_among(alarms: &DueList, alarm: AlarmId) -> bool
     ensures { result ≡ is_among alarms.now alarm }
 {
     for place in 0..alarms.len() {
@@ -86,7 +88,7 @@ fn is_activation(task: TaskId, action: &Action) -> bool
 }
 
 /// How many of some alarms are to activate a task.
-fn activations_by(system: &System, task: TaskId, alarms: &DueList) -> u8
+pub fn activations_by(system: &System, task: TaskId, alarms: &DueList) -> u8
     requires { AllByRecursion (λ a. a < length system.now.alarms) alarms.now }
     ensures value { result ≡ activations_by system.now task alarms.now }
     ensures few { result ≤ MAX_ALARMS }

@@ -12,7 +12,7 @@ use observations::RoutineSeen;
 use osek_base::{IsrId, MAX_ROUTINES, Owner};
 
 /// How many of the interrupts of a routine are lost, all but the first, and that one too where one is pending.
-fn lost_of(was_pending: bool, arrived: u32) -> u32
+pub fn lost_of(was_pending: bool, arrived: u32) -> u32
     ensures { result ≡ lost_of was_pending arrived }
 {
     if was_pending {

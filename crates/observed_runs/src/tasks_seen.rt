@@ -12,7 +12,7 @@ use observations::TaskSeen;
 use osek_base::{MAX_ACTIVATION, MAX_TASKS, Owner, TaskId, TaskState};
 
 /// RUNNING for a task that executes, and READY for one that a routine interrupts.
-fn state_seen(executes: bool, state: TaskState) -> TaskState
+pub fn state_seen(executes: bool, state: TaskState) -> TaskState
     ensures { result ≡ state_seen executes state }
 {
     match state {
@@ -22,14 +22,16 @@ fn state_seen(executes: bool, state: TaskState) -> TaskState
     }
 }
 
-fn is_waiting(state: TaskState) -> bool
+/// Whether a state is WAITING.
+pub fn is_waiting(state: TaskState) -> bool
     ensures { result ≡ is_waiting state }
 {
     matches!(state, TaskState::Waiting)
 }
 
-/// How many jobs of a task were made in a tick, of which it has some behind the tick and had others before.
-fn made(jobs: u8, ended: bool, before: u8) -> u8
+/// How many jobs of a task were made in a tick, where it has `jobs` behind the tick and had `before` before it, and one of them
+/// `ended`.
+pub fn made(jobs: u8, ended: bool, before: u8) -> u8
     requires { jobs ≤ MAX_ACTIVATION }
     ensures { result ≡ jobs + one_if ended - before }
 {

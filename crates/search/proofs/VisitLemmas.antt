@@ -1,6 +1,6 @@
 -- A visit: what stays true while choices are tried, and how far it has come.
 use Rattle.std.proofs.Common.{ℕ, suc, ◌+◌, ◌≡◌, ◌<◌, ◌≤◌, true, false, List, length, sym, ap, ◌∙◌, arith, add-one, ◌⊎◌, inl, inr, subst}
-use Rattle.std.specs.Prelude.{Some, Any, Contains, slice_get}
+use Rattle.std.specs.Prelude.{Option, Some, None, IfNone, Any, Contains, slice_get}
 use Rattle.std.proofs.lemmas.Bool.{cases_eq, cases_lt, false≢true}
 use Rattle.std.proofs.lemmas.Option.{same_Some}
 use Rattle.search.specs.Rules.{Rules, AreKept, NoneMay, NoMoreMay, StaysNoted}
@@ -129,3 +129,26 @@ ends {N} r is_noted start nodes numbers number from visiting x is none = record 
         let at = subst (λ j. slice_get nodes j ≡ Some y) same closed.here in
         all y (same_Some x y (sym is ∙ at)) at
     go k y closed (inr other) = visiting.others k y other closed
+
+-- what was noted stays noted: a visit that went well stays one
+tried_stays : {N : Type 0} (r : Rules N) {X : Type 0} (is_noted : X → N → ℕ → Type 0) (s t : X) → StaysNoted is_noted s t
+    → (nodes : List N) (x : N) → IsVisited r (is_noted s) nodes x → IsVisited r (is_noted t) nodes x
+tried_stays r is_noted s t stays nodes x visited choice may = record {
+  next = (visited choice may).next;
+  noted = stays x choice (visited choice may).noted;
+}
+
+visits_stays : {N : Type 0} (r : Rules N) {X : Type 0} (is_noted : X → N → ℕ → Type 0) (s t : X) → StaysNoted is_noted s t
+    → (start nodes : List N) (numbers : List ℕ) → Visits r (is_noted s) start nodes numbers → Visits r (is_noted t) start nodes numbers
+visits_stays r is_noted s t stays start nodes numbers visits = record {
+  first = visits.first;
+  visited = λ k x closed. tried_stays r is_noted s t stays nodes x (visits.visited k x closed);
+}
+
+pub stays_visited : {N : Type 0} (r : Rules N) {X : Type 0} (is_noted : X → N → ℕ → Type 0) (s t : X) → StaysNoted is_noted s t
+    → (start nodes more : List N) (numbers left : List ℕ) → more ≡ nodes → left ≡ numbers → {O : Type 0} (o : Option O)
+    → IfNone o (Visits r (is_noted s) start nodes numbers) → IfNone o (Visits r (is_noted t) start more left)
+stays_visited r is_noted s t stays start nodes more numbers left same alike None visits =
+    subst (λ xs. Visits r (is_noted t) start xs left) (sym same)
+    (subst (λ ks. Visits r (is_noted t) start nodes ks) (sym alike) (visits_stays r is_noted s t stays start nodes numbers visits))
+stays_visited r is_noted s t stays start nodes more numbers left same alike (Some x) visits = visits

@@ -1,7 +1,8 @@
 -- Nodes by number, some of them open.
-use Rattle.std.specs.Prelude.{ℕ, ◌≡◌, ◌≤◌, length, false, List, Some, Any, Contains, slice_get, slice_set, ◌⊎◌}
+use Rattle.std.specs.Prelude.{ℕ, ◌≡◌, ◌<◌, ◌≤◌, length, false, List, Some, Any, Contains, slice_get, slice_set, ◌⊎◌}
 use Rattle.search.specs.Rules.{Rules}
 use Rattle.search.specs.Numbers.{is_in}
+use Rattle.search.specs.declared.table.Admitted.{Admitted}
 use Rattle.search.specs.declared.joining.Joined.{Joined}
 use Rattle.search.specs.declared.joining.Joined.TheVariants.{At, Apart}
 
@@ -33,3 +34,9 @@ pub record IsJoinedAt {N : Type 0} (r : Rules N) (before after : List N) (y : N)
 abbrev pub IsJoined : {N : Type 0} → Rules N → List N → List N → N → Joined N → Type 0
 IsJoined r before after y (At number) = IsJoinedAt r before after y number
 IsJoined r before after y (Apart same) = (same ≡ y) × (after ≡ before)
+
+-- where a number of a node is told, there are more nodes
+abbrev pub IsAt : ℕ → Admitted → Type 0
+IsAt count Admitted.Covered = Unit {0}
+IsAt count (Admitted.At number) = number < count
+IsAt count Admitted.Full = Unit {0}

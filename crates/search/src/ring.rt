@@ -20,7 +20,6 @@ struct Walk {
 
 impl Steps for Walk {
     ghost use Rattle.std.specs.Prelude.{◌≡◌, ◌+◌, ◌-◌, ◌%◌, ◌<◌, ◌≤◌, if◌then◌else◌, nat_lt};
-    ghost use Rattle.std.proofs.Common.{rules as found};
 
     type Node = Place;
 
@@ -82,11 +81,17 @@ impl Steps for Walk {
         Ok(None)
     }
 
+    fn keep(&mut self, _alloc: Global, _node: &mut Place) -> Result<(), AllocError> {
+        Ok(())
+    }
+
+    fn settle(&mut self, _node: &mut Place) {}
+
     fn hash(&self, node: &Place) -> u64 {
         u64::from(node.number)
     }
 
-    ghost kept = { Prim.search found };
+    fn kept(&self) {}
 }
 
 /// How the search ends within limits, and the longest round.

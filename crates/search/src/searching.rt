@@ -1,14 +1,15 @@
 //! The search: it visits nodes until none is open.
 
-ghost use Rattle.std.specs.Prelude.{◌≡◌, ◌≢◌, ℕ, ◌<◌, ◌≤◌, false, length, Any, Some, IfOk, IfNone, IfSome, slice_get};
+ghost use Rattle.std.specs.Prelude.{◌≡◌, ◌≢◌, ℕ, ◌<◌, ◌≤◌, false, length, Any, Some, IsTrue, IfOk, IfNone, IfSome, slice_get};
 ghost use Rattle.search.specs.Rules.{StaysNoted};
 ghost use Rattle.search.specs.Numbers.{is_in};
+ghost use Rattle.search.specs.Admitted.{Admits};
 ghost use Rattle.search.specs.Visited.{AreVisited, AreVisitedBut, Tries, Visits};
 ghost use Rattle.search.specs.Outcomes.{IsOutcome};
 
 use crate::outcome::{Limits, Obstacle, Outcome, Progress};
 use crate::steps::Steps;
-use crate::table::Table;
+use crate::table::{Admitted, Table};
 use std::alloc::{AllocError, Global};
 
 /// Searches all that can come of the first node, whatever is chosen.
@@ -30,7 +31,8 @@ pub fn search<S: Steps>(alloc: Global, steps: &mut S, limits: Limits) -> Result<
     let Some(first) = steps.first(alloc)? else {
         return Ok(Outcome::Undecided(Obstacle::NoPlace, progress(&table, 0, 0)));
     };
-    if !table.admit(alloc, steps, first, limits.nodes)? {
+    steps.kept();
+    if !admit(alloc, steps, &mut table, first, limits.nodes)? {
         return Ok(Outcome::Undecided(Obstacle::Nodes, progress(&table, 0, 0)));
     }
     explore(alloc, steps, &mut table, limits)
@@ -93,8 +95,8 @@ struct Visited {
     obstacle: Option<Obstacle>,
 }
 
-/// Tries the choices that may be made in the node of a number, the only one that is closed and may
-/// not have been visited. If it is opened, it's to be visited again, and the others wait.
+/// Visits the node of a number, the only one that is closed and may not have been visited. If it is
+/// opened, it's to be visited again.
 fn visit<S: Steps>(
     alloc: Global,
     steps: &mut S,
@@ -115,6 +117,34 @@ fn visit<S: Steps>(
         visited.obstacle ≡ Some Obstacle.Nodes → limit ≤ length table.new.nodes.items) }
     ensures going { IfOk result (λ visited. visited.obstacle ≢ Some Obstacle.Visits) }
 {
+    let visited = try_choices(alloc, steps, table, number, limit)?;
+    table.settle(steps, number);
+    Ok(visited)
+}
+
+/// Tries the choices that may be made in the node of a number, until it is opened; then the others
+/// wait.
+fn try_choices<S: Steps>(
+    alloc: Global,
+    steps: &mut S,
+    table: &mut Table<S::Node>,
+    number: usize,
+    limit: usize,
+) -> Result<Visited, AllocError>
+    requires inside { number < length table.old.nodes.items }
+    requires closed { is_in number table.old.agenda ≡ false }
+    requires others { AreVisitedBut (S.rules (S.setting steps.old)) (S.is_noted steps.old)
+        table.old.nodes.items table.old.agenda number }
+    ensures setting { S.setting steps.new ≡ S.setting steps.old }
+    ensures notes { StaysNoted S.is_noted steps.old steps.new }
+    ensures visits { IfOk result (λ visited. IfNone visited.obstacle
+        (Visits (S.rules (S.setting steps.old)) (S.is_noted steps.new)
+        table.old.nodes.items table.new.nodes.items table.new.agenda)) }
+    ensures full { IfOk result (λ visited.
+        visited.obstacle ≡ Some Obstacle.Nodes → limit ≤ length table.new.nodes.items) }
+    ensures going { IfOk result (λ visited. visited.obstacle ≢ Some Obstacle.Visits) }
+{
+    steps.kept();
     let mut made = 0u64;
     let mut from = 0;
     'choices: while let Some(choice) = steps.choice_from(table.node(number), from) {
@@ -163,8 +193,33 @@ fn try_choice<S: Steps>(
     let Some(next) = steps.next(alloc, table.node(number), choice)? else {
         return Ok(Some(Obstacle::NoPlace));
     };
-    if !table.admit(alloc, steps, next, limit)? {
+    if !admit(alloc, steps, table, next, limit)? {
         return Ok(Some(Obstacle::Nodes));
     }
     Ok(None)
+}
+
+/// Sees to it that some node covers another, unless there are as many nodes as a limit allows. A
+/// node that is open since is given what its visit needs.
+fn admit<S: Steps>(
+    alloc: Global,
+    steps: &mut S,
+    table: &mut Table<S::Node>,
+    node: S::Node,
+    limit: usize,
+) -> Result<bool, AllocError>
+    ensures setting { S.setting steps.new ≡ S.setting steps.old }
+    ensures notes { StaysNoted S.is_noted steps.old steps.new }
+    ensures admits { IfOk result (λ done. IsTrue done → Admits (S.rules (S.setting steps.old))
+        table.old.nodes.items table.old.agenda table.new.nodes.items table.new.agenda node) }
+    ensures full { IfOk result (λ done. done ≡ false → limit ≤ length table.new.nodes.items) }
+{
+    match table.admit(alloc, steps, node, limit)? {
+        Admitted::Covered => Ok(true),
+        Admitted::At(number) => {
+            table.keep(alloc, steps, number)?;
+            Ok(true)
+        }
+        Admitted::Full => Ok(false),
+    }
 }

@@ -72,10 +72,26 @@ pub trait Steps: Drop {
         ensures apart { IfOk result (λ back.
             IfSome back (λ same. (same ≡ other) × (node.new ≡ node.old))) };
 
+    /// Gives a node that is kept, and is still to be visited, what a visit needs and its clauses
+    /// don't see. It is the node that the last [`first`](Steps::first) or [`next`](Steps::next)
+    /// answered, or one with which that was joined.
+    fn keep(&mut self, alloc: Global, node: &mut Self::Node) -> Result<(), AllocError>
+        ensures setting { setting self.new ≡ setting self.old }
+        ensures notes { StaysNoted is_noted self.old self.new }
+        ensures same { node.new ≡ node.old };
+
+    /// Takes that back from a node that was visited.
+    fn settle(&mut self, node: &mut Self::Node)
+        ensures setting { setting self.new ≡ setting self.old }
+        ensures notes { StaysNoted is_noted self.old self.new }
+        ensures same { node.new ≡ node.old };
+
     /// A number that nodes share which cover each other or can be joined, as far as may be: a node
     /// is compared with those of its number alone. Nothing else depends on it.
     fn hash(&self, node: &Self::Node) -> u64;
 
-    /// Where a node stands for something, so does each that covers it.
-    ghost kept: { (s : Setting) → AreKept (rules s) };
+    /// Where a node stands for something, so does each that covers it. It does nothing: its clause
+    /// is the law.
+    fn kept(&self)
+        ensures { AreKept (rules (setting self.now)) };
 }

@@ -9,6 +9,17 @@ use crate::joining::{Joined, is_covered, join_among};
 use crate::steps::Steps;
 use std::alloc::{AllocError, Global};
 
+/// What became of a node that was to be admitted.
+#[derive(Clone, Copy, Debug, PartialEq, Eq)]
+pub enum Admitted {
+    /// A node covers it.
+    Covered,
+    /// The node of this number, which is open, covers it: it is that one, or was joined with it.
+    At(usize),
+    /// There are as many nodes as may be.
+    Full,
+}
+
 /// Nodes by number, in the order in which they were found. Those are open that are still to be
 /// visited.
 #[derive(Drop)]
@@ -20,9 +31,11 @@ pub struct Table<N> {
 }
 
 impl<N: Drop> Table<N> {
-    ghost use Rattle.std.specs.Prelude.{◌≡◌, ℕ, ◌<◌, false, List, [], ◌∷◌, Some, IsTrue, IfOk, IfNone, IfSome, OnOk, true, ◌++◌, ◌≤◌, length, slice_get};
+    ghost use Rattle.std.specs.Prelude.{◌≡◌, ◌≢◌, ℕ, ◌<◌, false, List, [], ◌∷◌, Some, IfOk, IfNone, IfSome, OnOk, true, ◌++◌, ◌≤◌, length, slice_get};
     ghost use Rattle.search.specs.Numbers.{is_in, put_in};
-    ghost use Rattle.search.specs.Admitted.{Admits};
+    ghost use Rattle.search.specs.declared.table.Admitted.TheVariants.{Full};
+    ghost use Rattle.search.specs.Admitted.{Admits, IsAt};
+    ghost use Rattle.search.specs.Rules.{StaysNoted};
 
     /// No node.
     pub fn new(alloc: Global) -> Self
@@ -86,34 +99,67 @@ impl<N: Drop> Table<N> {
         Ok(())
     }
 
-    /// Sees to it that some node covers another, and answers whether that could be done with as
-    /// many nodes as a limit allows. One that covers it stays as it is; one that can be joined with
-    /// it is joined and opened; else it is added, and is open.
+    /// Sees to it that some node covers another, unless there are as many nodes as a limit allows.
+    /// One that covers it stays as it is; one that can be joined with it is joined and opened; else
+    /// it is added, and is open.
     pub fn admit<S: Steps<Node = N>>(
         &mut self,
         alloc: Global,
         steps: &S,
         node: N,
         limit: usize,
-    ) -> Result<bool, AllocError>
-        ensures admits { IfOk result (λ done. IsTrue done → Admits (S.rules (S.setting steps.now))
+    ) -> Result<Admitted, AllocError>
+        ensures admits { IfOk result (λ done. done ≢ Full → Admits (S.rules (S.setting steps.now))
             self.old.nodes.items self.old.agenda self.new.nodes.items self.new.agenda node) }
-        ensures full { IfOk result (λ done. done ≡ false → limit ≤ length self.new.nodes.items) }
+        ensures inside { IfOk result (λ done. IsAt (length self.new.nodes.items) done) }
+        ensures full { IfOk result (λ done. done ≡ Full → limit ≤ length self.new.nodes.items) }
     {
         let hash = steps.hash(&node);
         if is_covered(&self.nodes, &self.index, steps, hash, &node) {
-            return Ok(true);
+            return Ok(Admitted::Covered);
         }
         match join_among(alloc, &mut self.nodes, &self.index, steps, hash, node)? {
-            Joined::At(number) => self.agenda.put(number)?,
+            Joined::At(number) => {
+                self.agenda.put(number)?;
+                Ok(Admitted::At(number))
+            }
             Joined::Apart(apart) => {
-                if self.nodes.len() >= limit {
-                    return Ok(false);
+                let number = self.nodes.len();
+                if number >= limit {
+                    return Ok(Admitted::Full);
                 }
                 self.add(hash, apart)?;
+                Ok(Admitted::At(number))
             }
         }
-        Ok(true)
+    }
+
+    /// Gives the node of a number what a visit needs.
+    pub fn keep<S: Steps<Node = N>>(
+        &mut self,
+        alloc: Global,
+        steps: &mut S,
+        number: usize,
+    ) -> Result<(), AllocError>
+        requires { number < length self.old.nodes.items }
+        ensures setting { S.setting steps.new ≡ S.setting steps.old }
+        ensures notes { StaysNoted S.is_noted steps.old steps.new }
+        ensures nodes { self.new.nodes.items ≡ self.old.nodes.items }
+        ensures agenda { self.new.agenda ≡ self.old.agenda }
+    {
+        steps.keep(alloc, &mut self.nodes[number])
+    }
+
+    /// Takes that back, if the node of a number is closed.
+    pub fn settle<S: Steps<Node = N>>(&mut self, steps: &mut S, number: usize)
+        ensures setting { S.setting steps.new ≡ S.setting steps.old }
+        ensures notes { StaysNoted S.is_noted steps.old steps.new }
+        ensures nodes { self.new.nodes.items ≡ self.old.nodes.items }
+        ensures agenda { self.new.agenda ≡ self.old.agenda }
+    {
+        if number < self.nodes.len() && !self.is_open(number) {
+            steps.settle(&mut self.nodes[number]);
+        }
     }
 
     /// Adds a node, which is open.

@@ -4,7 +4,7 @@ use Rattle.std.proofs.lemmas.List.Elements.{recursion_from_All}
 use Rattle.osek_base.specs.declared.limits.TheConstants.{MAX_TICKS}
 use Rattle.osek_base.specs.Executed.{idle_or_executed}
 use Rattle.osek_base.specs.Trace.{arriving}
-use Rattle.kernel.specs.Machine.{IsRun, Machine, Ticks, between, next_tick, picture, system_of}
+use Rattle.kernel.specs.Machine.{IsOfRun, IsRun, Machine, Ticks, between, next_tick, picture, system_of}
 use Rattle.kernel.specs.Processor.{system_of as system_in}
 use Rattle.kernel.proofs.TickLemmas.{before_tick, has_begun, may_act, ticked}
 use Rattle.kernel.proofs.ticking.Machine.tick_with.Goals as goal
@@ -46,6 +46,9 @@ invariant_of-self g c =
     (subst (λ (x : Machine). All (λ i. i < length (system_of x).routines) c.args.arrived.now) (sym c.self.view_is) c.requires.known))
     c.put_first.ensures.value c.put_first.ensures.after c.early_phases.ensures.acted
     (record { one = c.early_phases.ensures.does; two = c.begin.ensures; three = r.ensures.does; four = c.last_phase.ensures.does })).keeps
+
+pub returns-clause-was_of_run : goal.returns-clause-was_of_run
+returns-clause-was_of_run g c = subst (IsOfRun g.B.Blockers.are_counted) c.self.view_is c.self.invariant.of_run
 
 pub returns-clause-of_run : goal.returns-clause-of_run
 returns-clause-of_run g c =

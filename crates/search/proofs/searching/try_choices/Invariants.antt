@@ -1,7 +1,7 @@
 use Rattle.std.proofs.Common.{◌≡◌, ◌-◌}
 use Rattle.search.specs.Rules.{StaysNoted}
 use Rattle.search.proofs.VisitLemmas.{IsVisiting}
-use Rattle.search.proofs.searching.visit.Given as goal
+use Rattle.search.proofs.searching.try_choices.Given as goal
 
 abbrev pub invariant-choices : goal.invariant-choices
 invariant-choices g l = record {

@@ -1,0 +1,71 @@
+-- Ages of jobs as lists.
+use Rattle.std.proofs.Common.{ℕ, zero, suc, ◌≡◌, ◌<◌, ◌≤◌, ◌+◌, max, min, List, [], ◌∷◌, ◌++◌, length, get_or, map, replicate, take, refl, sym, ◌∙◌, ap, subst, arith}
+use Rattle.std.proofs.Math.ListN.{set}
+use Rattle.std.proofs.lemmas.List.{length-take-le, take_more}
+use Rattle.figure_laws.specs.Ages.{AreOlder}
+use Rattle.figure_laws.specs.Merging.{merged_ages}
+
+-- ages that are older one by one
+pub older_each : (xs ys : List ℕ) → length ys ≤ length xs
+    → ((i : ℕ) → i < length ys → get_or ys i 0 ≤ get_or xs i 0) → AreOlder xs ys
+older_each xs [] long each = tt
+older_each [] (y ∷ ys) long each = absurd (omega (arith, long))
+older_each (x ∷ xs) (y ∷ ys) long each = (
+  each 0 (omega arith),
+  older_each xs ys (omega (arith, long)) (λ i low. each (suc i) (omega (arith, low))),
+)
+
+-- those that had ages before
+pub older_before : (cap : ℕ) (old : List ℕ)
+    → map (λ n. min cap (suc n)) old ≡ map (min cap) (map suc old ++ replicate 0 1)
+older_before cap [] = refl
+older_before cap (n ∷ old) = ap (λ v. min cap (suc n) ∷ v) (older_before cap old)
+
+-- ---- merged one by one
+
+merged_none : (xs : List ℕ) → merged_ages xs [] ≡ xs
+merged_none [] = refl
+merged_none (x ∷ xs) = refl
+
+-- one more is the greater
+merged_set : (xs ys : List ℕ) (i : ℕ) → i < length ys
+    → i < length (merged_ages xs (take i ys))
+    → set (merged_ages xs (take i ys)) i
+    (max (get_or (merged_ages xs (take i ys)) i 0) (get_or ys i 0))
+    ≡ merged_ages xs (take (suc i) ys)
+merged_set xs [] i low long = absurd (omega (arith, low))
+merged_set [] (y ∷ ys) i low long =
+    let e = length-take-le i (y ∷ ys) (omega (arith, low)) in absurd (omega (arith, e, long))
+merged_set (x ∷ xs) (y ∷ ys) zero low long = ap (λ v. max x y ∷ v) (sym (merged_none xs))
+merged_set (x ∷ xs) (y ∷ ys) (suc i) low long =
+    ap (λ v. max x y ∷ v) (merged_set xs ys i (omega (arith, low)) (omega (arith, long)))
+
+-- and one more behind the last
+merged_push : (xs ys : List ℕ) (i : ℕ) → i < length ys
+    → length (merged_ages xs (take i ys)) ≤ i
+    → merged_ages xs (take i ys) ++ get_or ys i 0 ∷ [] ≡ merged_ages xs (take (suc i) ys)
+merged_push xs [] i low short = absurd (omega (arith, low))
+merged_push [] (y ∷ ys) i low short =
+    let e : suc i ≡ i + 1 = omega arith in
+    sym (take_more (y ∷ ys) i 0 low) ∙ ap (λ n. take n (y ∷ ys)) (sym e)
+merged_push (x ∷ xs) (y ∷ ys) zero low short = absurd (omega (arith, short))
+merged_push (x ∷ xs) (y ∷ ys) (suc i) low short =
+    ap (λ v. max x y ∷ v) (merged_push xs ys i (omega (arith, low)) (omega (arith, short)))
+
+pub merged_set_at : (xs ys ages : List ℕ) (i n : ℕ) → i < length ys → i < length ages
+    → ages ≡ merged_ages xs (take i ys) → n ≡ max (get_or ages i 0) (get_or ys i 0)
+    → set ages i n ≡ merged_ages xs (take (i + 1) ys)
+merged_set_at xs ys ages i n low long is e =
+    let one : suc i ≡ i + 1 = omega arith in
+    ap (set ages i) e ∙ ap (λ v. set v i (max (get_or v i 0) (get_or ys i 0))) is
+    ∙ merged_set xs ys i low (subst (λ v. i < length v) is long)
+    ∙ ap (λ k. merged_ages xs (take k ys)) one
+
+pub merged_push_at : (xs ys ages : List ℕ) (i n : ℕ) → i < length ys → length ages ≤ i
+    → ages ≡ merged_ages xs (take i ys) → n ≡ get_or ys i 0
+    → ages ++ n ∷ [] ≡ merged_ages xs (take (i + 1) ys)
+merged_push_at xs ys ages i n low short is e =
+    let one : suc i ≡ i + 1 = omega arith in
+    ap (λ k. ages ++ k ∷ []) e ∙ ap (λ v. v ++ get_or ys i 0 ∷ []) is
+    ∙ merged_push xs ys i low (subst (λ v. length v ≤ i) is short)
+    ∙ ap (λ k. merged_ages xs (take k ys)) one

@@ -1,0 +1,6 @@
+pub mod AgeLemmas
+pub mod LabelLemmas
+pub mod MapLemmas
+pub mod PairLemmas
+pub mod PeakLemmas
+pub mod SetLemmas

@@ -1,0 +1,10 @@
+use Rattle.std.proofs.Common.{◌≡◌, map}
+use Rattle.osek_base.specs.Lists.{below}
+use Rattle.observations.specs.Seen.{seen_of}
+use Rattle.bound_labels.specs.Parts.{ages_behind}
+use Rattle.bound_labels.proofs.ages.next_ages.Given as goal
+
+-- the ages of those gone over
+abbrev pub invariant-loop-task : goal.invariant-loop-task
+invariant-loop-task l =
+    l.next.items ≡ map (ages_behind l.cap (seen_of l.seen) l.ages) (below l.task)

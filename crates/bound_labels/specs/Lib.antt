@@ -1,0 +1,5 @@
+pub mod Ticks
+pub mod Labels
+pub mod Joining
+pub mod Parts
+pub mod Peaks

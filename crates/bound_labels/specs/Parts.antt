@@ -1,0 +1,55 @@
+-- What labels tell, list by list, and what they show in a tick.
+use Rattle.std.specs.Prelude.{ℕ, if◌then◌else◌, ◌-◌, min, List, [], map, length, Option, None, slice_index_or}
+use Rattle.std.specs.Option.{option_map}
+use Rattle.osek_base.specs.Lists.{below}
+use Rattle.figure_laws.specs.Ages.{ages_next, oldest_age}
+use Rattle.figure_laws.specs.Holding.{Hold, held_ticks, hold_next}
+use Rattle.figure_laws.specs.Pending.{pending_next}
+use Rattle.figure_laws.specs.Times.{waited}
+use Rattle.observations.specs.Seen.{Seen}
+use Rattle.bound_labels.specs.Labels.{Labels, ages_of, arrives_in, capped_hold, distance_of, hold_of, no_hold, pending_of}
+use Rattle.bound_labels.specs.Ticks.{holder_tick, routine_tick, task_tick}
+
+abbrev pub wait_at : List ℕ → ℕ → ℕ
+wait_at waits i = slice_index_or waits i 0
+
+abbrev pub ages_at : List (List ℕ) → ℕ → List ℕ
+ages_at ages k = slice_index_or ages k []
+
+abbrev pub pending_at : List (Option ℕ) → ℕ → Option ℕ
+pending_at pending i = slice_index_or pending i None
+
+abbrev pub hold_at : List Hold → ℕ → Hold
+hold_at holds r = slice_index_or holds r no_hold
+
+-- ---- behind a tick
+
+abbrev pub wait_behind : List ℕ → ℕ → List ℕ → ℕ → ℕ
+wait_behind distances set waits i =
+    (if arrives_in set i then distance_of distances i else wait_at waits i) - 1
+
+abbrev pub ages_behind : ℕ → Seen → List (List ℕ) → ℕ → List ℕ
+ages_behind cap seen ages k = map (min cap) (ages_next (task_tick seen k) (ages_at ages k))
+
+abbrev pub pending_behind : ℕ → Seen → List (Option ℕ) → ℕ → Option ℕ
+pending_behind cap seen pending i =
+    option_map (min cap) (pending_next (routine_tick seen i) (pending_at pending i))
+
+abbrev pub hold_behind : ℕ → Seen → List Hold → ℕ → Hold
+hold_behind cap seen holds r =
+    capped_hold cap (hold_next (holder_tick seen r) (hold_at holds r))
+
+-- of each number of a list
+abbrev pub each_of : {X Y : Type 0} → (List X → ℕ → Y) → List X → List Y
+each_of f xs = map (f xs) (below (length xs))
+
+-- ---- shown in a tick
+
+abbrev pub shown_age : ℕ → Seen → Labels → ℕ → Option ℕ
+shown_age cap seen l k = option_map (min cap) (oldest_age (task_tick seen k) (ages_of l k))
+
+abbrev pub shown_wait : ℕ → Seen → Labels → ℕ → Option ℕ
+shown_wait cap seen l i = option_map (min cap) (waited (routine_tick seen i) (pending_of l i))
+
+abbrev pub shown_hold : ℕ → Seen → Labels → ℕ → Option ℕ
+shown_hold cap seen l r = option_map (min cap) (held_ticks (holder_tick seen r) (hold_of l r))

@@ -1,0 +1,56 @@
+-- What is seen of things in a tick, one by one, and as ticks of figures.
+use Rattle.std.specs.Prelude.{ℕ, false, None, slice_index_or}
+use Rattle.osek_base.specs.declared.status.TaskState.{TaskState}
+use Rattle.observations.specs.declared.alarm_seen.AlarmSeen.{AlarmSeen}
+use Rattle.observations.specs.declared.routine_seen.RoutineSeen.{RoutineSeen}
+use Rattle.observations.specs.declared.task_seen.TaskSeen.{TaskSeen}
+use Rattle.observations.specs.Seen.{Seen}
+use Rattle.figures.specs.declared.task_tick.TaskTick.{TaskTick}
+use Rattle.figures.specs.declared.routine_figures.RoutineTick.{RoutineTick}
+use Rattle.figures.specs.declared.resource_figures.HolderTick.{HolderTick}
+
+-- a task without a job, to which nothing comes, and the like; what is beyond the lists is seen so
+abbrev pub no_task : TaskSeen
+no_task =
+    record {
+      state = TaskState.Suspended;
+      priority = None;
+      jobs = 0;
+      made = 0;
+      refused = 0;
+      ended = false;
+      waits = false;
+    }
+
+abbrev pub no_routine : RoutineSeen
+no_routine =
+    record { executes = false; is_pending = false; is_started = false; arrived = 0; lost = 0 }
+
+abbrev pub no_alarm : AlarmSeen
+no_alarm = record { has_expired = false; is_refused = false }
+
+abbrev pub task_in : Seen → ℕ → TaskSeen
+task_in seen k = slice_index_or seen.tasks k no_task
+
+abbrev pub routine_in : Seen → ℕ → RoutineSeen
+routine_in seen i = slice_index_or seen.routines i no_routine
+
+abbrev pub alarm_in : Seen → ℕ → AlarmSeen
+alarm_in seen a = slice_index_or seen.alarms a no_alarm
+
+-- as ticks of figures, whose labels go by what is seen alone
+abbrev pub task_tick : Seen → ℕ → TaskTick
+task_tick seen k =
+    record {
+      tick = 0;
+      seen = task_in seen k;
+      lower_executes = false;
+      has_failed = false;
+      blockers = None;
+    }
+
+abbrev pub routine_tick : Seen → ℕ → RoutineTick
+routine_tick seen i = record { tick = 0; seen = routine_in seen i; has_failed = false }
+
+abbrev pub holder_tick : Seen → ℕ → HolderTick
+holder_tick seen r = record { tick = 0; holder = slice_index_or seen.holders r None }

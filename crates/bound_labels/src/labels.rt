@@ -1,0 +1,188 @@
+//! Labels of a state that may come in many runs.
+
+ghost use Rattle.std.specs.Prelude.{ℕ, ◌≡◌, ◌<◌, ◌≤◌, ◌^◌, IfOk, IsTrue, length, min};
+ghost use Rattle.std.specs.Int.{bit_at};
+ghost use Rattle.std.specs.Option.{option_map};
+ghost use Rattle.osek_base.specs.declared.limits.TheConstants.{MAX_ROUTINES};
+ghost use Rattle.figure_laws.specs.Ages.{oldest_age};
+ghost use Rattle.figure_laws.specs.Holding.{held_ticks};
+ghost use Rattle.figure_laws.specs.Times.{waited};
+ghost use Rattle.observations.specs.Seen.{seen_of};
+ghost use Rattle.bound_labels.specs.Labels.{
+  IsAtLeast,
+  ages_of,
+  first_labels,
+  hold_of,
+  next_labels,
+  pending_of,
+  wait_of,
+};
+ghost use Rattle.bound_labels.specs.Joining.{AreOfAsMany, Joins};
+
+use crate::ages::{Ages, are_older as are_jobs_older, first_ages, join_ages, next_ages, oldest_of};
+use crate::holds::{Hold, are_joinable, are_longer, first_holds, hold_of, join_holds, next_holds};
+use crate::pending::{are_older, first_pending, join_pending, next_pending, pending_of, waited};
+use crate::waits::{are_sooner, first_waits, free_routines, join_waits, next_waits, wait_of};
+use figures::{HolderTick, RoutineTick, TaskTick};
+use observations::Observation;
+use std::alloc::{AllocError, Global};
+use std::marker::Model;
+
+/// For how many ticks yet interrupts can't arrive, and for how many ticks jobs stand ready or run,
+/// interrupts are pending and resources are held at most, each up to a cap.
+#[derive(Drop)]
+pub struct Labels {
+    /// By routine, for how many ticks yet it can't arrive.
+    waits: Vec<u32>,
+    /// By task.
+    ages: Vec<Ages>,
+    /// By routine, the age of its interrupt, if one is pending.
+    pending: Vec<Option<u32>>,
+    /// By resource.
+    holds: Vec<Hold>,
+}
+
+impl Model for Labels {
+    ghost use Rattle.std.specs.Prelude.{◌≤◌, length};
+    ghost use Rattle.osek_base.specs.declared.limits.TheConstants.{MAX_ROUTINES};
+    ghost use Rattle.bound_labels.specs.Labels.{Labels as Told};
+
+    ghost Value = { Told };
+
+    ghost view = { λ l. record {
+      waits = l.waits.items;
+      ages = l.ages.items;
+      pending = l.pending.items;
+      holds = l.holds.items;
+    } };
+
+    ghost invariant = { λ l. length l.waits.items ≤ MAX_ROUTINES };
+}
+
+impl Labels {
+    /// Those after boot, of so many tasks, routines and resources that can be held. An error is
+    /// that there is no memory.
+    pub fn first(
+        alloc: Global,
+        tasks: usize,
+        routines: usize,
+        held: usize,
+    ) -> Result<Labels, AllocError>
+        requires { routines ≤ MAX_ROUTINES }
+        ensures { IfOk result (λ l. l ≡ first_labels tasks routines held) }
+    {
+        Ok(Labels {
+            waits: first_waits(alloc, routines)?,
+            ages: first_ages(alloc, tasks)?,
+            pending: first_pending(alloc, routines)?,
+            holds: first_holds(alloc, held)?,
+        })
+    }
+
+    /// Those behind a tick in which the routines of a set arrive. Distances are in ticks, and so is
+    /// the cap, up to which ages go. An error is that there is no memory.
+    pub fn next(
+        &self,
+        alloc: Global,
+        cap: u32,
+        distances: &[u32],
+        set: u64,
+        seen: &Observation,
+    ) -> Result<Labels, AllocError>
+        ensures { IfOk result
+            (λ l. l ≡ next_labels cap distances.now set (seen_of seen.now) self.now) }
+    {
+        Ok(Labels {
+            waits: next_waits(alloc, distances, set, &self.waits)?,
+            ages: next_ages(alloc, cap, seen, &self.ages)?,
+            pending: next_pending(alloc, cap, seen, &self.pending)?,
+            holds: next_holds(alloc, cap, seen, &self.holds)?,
+        })
+    }
+
+    /// For how many ticks yet a routine can't arrive; 0 beyond the last routine.
+    pub fn wait(&self, routine: usize) -> u32
+        ensures { result ≡ wait_of self.now routine }
+    {
+        wait_of(&self.waits, routine)
+    }
+
+    /// The routines that need not wait, of so many that there are, as a set: bit i is set where
+    /// routine i is in it.
+    pub fn free_routines(&self, count: usize) -> u64
+        requires { count ≤ MAX_ROUTINES }
+        ensures free { (i : ℕ) → i < count → wait_of self.now i ≡ 0 → bit_at result i ≡ 1 }
+        ensures others { (i : ℕ) → bit_at result i ≡ 1 → wait_of self.now i ≡ 0 }
+        ensures low { result < 2 ^ count }
+    {
+        free_routines(&self.waits, count)
+    }
+
+    /// Whether interrupts can arrive as soon as with other labels.
+    pub fn has_same_waits(&self, other: &Labels) -> bool
+        ensures { IsTrue result → self.now.waits ≡ other.now.waits }
+    {
+        self.waits.as_slice() == other.waits.as_slice()
+    }
+
+    /// The age of a task's oldest job in a tick, up to a cap.
+    pub(crate) fn oldest_age(&self, cap: u32, tick: &TaskTick, task: usize) -> Option<u32>
+        ensures { result ≡ option_map (min cap) (oldest_age tick.now (ages_of self.now task)) }
+    {
+        oldest_of(&self.ages, cap, tick, task)
+    }
+
+    /// What an interrupt of a routine has waited in a tick, up to a cap.
+    pub(crate) fn waited(&self, cap: u32, tick: &RoutineTick, routine: usize) -> Option<u32>
+        ensures { result ≡ option_map (min cap) (waited tick.now (pending_of self.now routine)) }
+    {
+        waited(cap, tick, pending_of(&self.pending, routine))
+    }
+
+    /// For how long a resource is held in a tick, up to a cap.
+    pub(crate) fn held_ticks(&self, cap: u32, tick: &HolderTick, resource: usize) -> Option<u32>
+        ensures { result ≡ option_map (min cap) (held_ticks tick.now (hold_of self.now resource)) }
+    {
+        hold_of(&self.holds, resource).held_ticks(cap, tick)
+    }
+
+    /// Whether two are of as many things.
+    fn is_of_as_many(&self, other: &Labels) -> bool
+        ensures { IsTrue result → AreOfAsMany self.now other.now }
+    {
+        self.waits.len() == other.waits.len()
+            && self.ages.len() == other.ages.len()
+            && self.pending.len() == other.pending.len()
+            && self.holds.len() == other.holds.len()
+    }
+
+    /// Whether what may arrive with others may with these, and nothing is older there; at true it
+    /// is so.
+    pub fn is_at_least(&self, other: &Labels) -> bool
+        ensures { IsTrue result → IsAtLeast self.now other.now }
+    {
+        if !self.is_of_as_many(other) {
+            return false;
+        }
+        are_sooner(&self.waits, &other.waits)
+            && are_jobs_older(&self.ages, &other.ages)
+            && are_older(&self.pending, &other.pending)
+            && are_longer(&self.holds, &other.holds)
+    }
+
+    /// Makes of these labels the least that are at least these and others, and answers whether that
+    /// could be done: not where the two are of different numbers of things, or where two tasks have
+    /// held a resource. An error is that there is no memory; the labels may have any values then.
+    pub fn join(&mut self, other: &Labels) -> Result<bool, AllocError>
+        ensures { IfOk result (Joins self.old other.now self.new) }
+    {
+        if !self.is_of_as_many(other) || !are_joinable(&self.holds, &other.holds) {
+            return Ok(false);
+        }
+        join_ages(&mut self.ages, &other.ages)?;
+        join_waits(&mut self.waits, &other.waits);
+        join_pending(&mut self.pending, &other.pending);
+        join_holds(&mut self.holds, &other.holds);
+        Ok(true)
+    }
+}

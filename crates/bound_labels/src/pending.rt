@@ -1,0 +1,133 @@
+//! OSEK/VDX OS: interrupt processing. Ages of pending interrupts.
+
+ghost use Rattle.std.specs.Prelude.{ℕ, ◌≡◌, ◌<◌, ◌≤◌, IfOk, IsTrue, None, length, map, min, replicate, slice_index_or};
+ghost use Rattle.std.specs.Option.{option_map};
+ghost use Rattle.figure_laws.specs.Merging.{merged_age};
+ghost use Rattle.figure_laws.specs.Pending.{IsOlder, pending_in, pending_next};
+ghost use Rattle.figure_laws.specs.Times.{waited};
+ghost use Rattle.observations.specs.Seen.{seen_of};
+ghost use Rattle.bound_labels.specs.Parts.{each_of, pending_at, pending_behind};
+
+use crate::counting::older;
+use crate::ticks::routine_tick;
+use figures::RoutineTick;
+use observations::Observation;
+use std::alloc::{AllocError, Global};
+
+/// No interrupt is pending.
+pub(crate) fn first_pending(alloc: Global, routines: usize) -> Result<Vec<Option<u32>>, AllocError>
+    ensures { IfOk result (λ pending. pending.items ≡ replicate routines None) }
+{
+    let mut pending = Vec::with_capacity(alloc, routines)?;
+    for _made in 0..routines {
+        pending.push(None)?;
+    }
+    Ok(pending)
+}
+
+/// The age in a tick, up to a cap, before a start clears the flag.
+fn pending_in(cap: u32, tick: &RoutineTick, age: Option<u32>) -> Option<u32>
+    ensures { result ≡ option_map (min cap) (pending_in tick.now age) }
+{
+    match age {
+        Some(age) => Some(older(age, cap)),
+        None if tick.seen.is_pending || tick.seen.is_started => Some(older(0, cap)),
+        None => None,
+    }
+}
+
+fn next_age(cap: u32, tick: &RoutineTick, age: Option<u32>) -> Option<u32>
+    ensures { result ≡ option_map (min cap) (pending_next tick.now age) }
+{
+    if tick.seen.is_started {
+        None
+    } else {
+        pending_in(cap, tick, age)
+    }
+}
+
+/// What an interrupt has waited in a tick, up to a cap, where its routine starts without that tick.
+pub(crate) fn waited(cap: u32, tick: &RoutineTick, age: Option<u32>) -> Option<u32>
+    ensures { result ≡ option_map (min cap) (waited tick.now age) }
+{
+    if tick.seen.is_started {
+        Some(cap.min(age.unwrap_or(0)))
+    } else {
+        pending_in(cap, tick, age)
+    }
+}
+
+/// The age of the interrupt of a routine; none beyond the list.
+pub(crate) fn pending_of(pending: &[Option<u32>], routine: usize) -> Option<u32>
+    ensures { result ≡ pending_at pending.now routine }
+{
+    match pending.get(routine) {
+        Some(age) => *age,
+        None => None,
+    }
+}
+
+/// The ages behind a tick.
+#[tactic(auto, using(crate::proofs::MapLemmas::one_more))]
+pub(crate) fn next_pending(
+    alloc: Global,
+    cap: u32,
+    seen: &Observation,
+    pending: &[Option<u32>],
+) -> Result<Vec<Option<u32>>, AllocError>
+    ensures { IfOk result (λ next. next.items ≡
+        each_of (pending_behind cap (seen_of seen.now)) pending.now) }
+{
+    let mut next = Vec::with_capacity(alloc, pending.len())?;
+    for routine in 0..pending.len() {
+        let age = pending_of(pending, routine);
+        next.push(next_age(cap, &routine_tick(seen, routine), age))?;
+    }
+    Ok(next)
+}
+
+fn is_older(age: Option<u32>, other: Option<u32>) -> bool
+    ensures { IsTrue result → IsOlder age other }
+{
+    match (age, other) {
+        (_, None) => true,
+        (None, Some(_)) => false,
+        (Some(age), Some(other)) => age >= other,
+    }
+}
+
+/// Whether each age is at least that of the same routine among others; at true they are.
+pub(crate) fn are_older(pending: &[Option<u32>], others: &[Option<u32>]) -> bool
+    requires { length pending.now ≡ length others.now }
+    ensures { IsTrue result → (i : ℕ) →
+        IsOlder (pending_at pending.now i) (pending_at others.now i) }
+{
+    for routine in 0..pending.len() {
+        if !is_older(pending_of(pending, routine), pending_of(others, routine)) {
+            return false;
+        }
+    }
+    true
+}
+
+fn merged_age(age: Option<u32>, other: Option<u32>) -> Option<u32>
+    ensures { result ≡ merged_age age other }
+{
+    match (age, other) {
+        (None, other) => other,
+        (age, None) => age,
+        (Some(age), Some(other)) => Some(age.max(other)),
+    }
+}
+
+/// Each age is the greater of its own and that of the same routine among others.
+pub(crate) fn join_pending(pending: &mut [Option<u32>], others: &[Option<u32>])
+    requires { length pending.old ≡ length others.now }
+    ensures count { length pending.new ≡ length pending.old }
+    ensures each { (i : ℕ) → pending_at pending.new i
+        ≡ merged_age (pending_at pending.old i) (pending_at others.now i) }
+{
+    for (routine, age) in pending.iter_mut().enumerate() {
+        *age = merged_age(*age, pending_of(others, routine));
+    }
+}

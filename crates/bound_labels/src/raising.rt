@@ -1,0 +1,46 @@
+//! Greatest numbers and marks by number, which only rise.
+
+ghost use Rattle.std.specs.Prelude.{ℕ, ◌≡◌, ◌<◌, ◌≤◌, false, length};
+ghost use Rattle.figure_laws.specs.Labels.{IsAtMost};
+ghost use Rattle.bound_labels.specs.Peaks.{has_come, peak};
+
+/// Raises the peak of a number to what is shown, where that is greater.
+pub(crate) fn raise(peaks: &mut [u32], number: usize, shown: Option<u32>)
+    requires { number < length peaks.old }
+    ensures count { length peaks.new ≡ length peaks.old }
+    ensures noted { IsAtMost (peak peaks.new number) shown }
+    ensures rises { (k : ℕ) → peak peaks.old k ≤ peak peaks.new k }
+{
+    if let Some(shown) = shown {
+        peaks[number] = peaks[number].max(shown);
+    }
+}
+
+/// Marks a number, where something has come.
+pub(crate) fn mark(marks: &mut [bool], number: usize, comes: bool)
+    requires { number < length marks.old }
+    ensures count { length marks.new ≡ length marks.old }
+    ensures noted { has_come marks.new number ≡ false → comes ≡ false }
+    ensures rises { (k : ℕ) → has_come marks.new k ≡ false → has_come marks.old k ≡ false }
+{
+    if comes {
+        marks[number] = true;
+    }
+}
+
+/// The peak of a number; 0 beyond the list.
+pub(crate) fn peak(peaks: &[u32], number: usize) -> u32
+    ensures { result ≡ peak peaks.now number }
+{
+    match peaks.get(number) {
+        Some(peak) => *peak,
+        None => 0,
+    }
+}
+
+/// Whether a number is marked; not beyond the list.
+pub(crate) fn has_come(marks: &[bool], number: usize) -> bool
+    ensures { result ≡ has_come marks.now number }
+{
+    number < marks.len() && marks[number]
+}

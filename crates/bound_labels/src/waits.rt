@@ -1,0 +1,118 @@
+//! OSEK/VDX OS: interrupt processing. For how many ticks yet a routine can't arrive.
+
+ghost use Rattle.std.specs.Prelude.{ℕ, ◌≡◌, ◌<◌, ◌≤◌, ◌-◌, ◌^◌, IfOk, IsTrue, if◌then◌else◌, length, map, min, replicate, slice_index_or};
+ghost use Rattle.std.specs.Int.{bit_at};
+ghost use Rattle.bound_labels.specs.Labels.{arrives_in, distance_of};
+ghost use Rattle.bound_labels.specs.Parts.{each_of, wait_at, wait_behind};
+
+use std::alloc::{AllocError, Global};
+
+/// No routine waits.
+pub(crate) fn first_waits(alloc: Global, routines: usize) -> Result<Vec<u32>, AllocError>
+    ensures { IfOk result (λ waits. waits.items ≡ replicate routines 0) }
+{
+    let mut waits = Vec::with_capacity(alloc, routines)?;
+    for _made in 0..routines {
+        waits.push(0)?;
+    }
+    Ok(waits)
+}
+
+/// For how many ticks yet a routine can't arrive; 0 beyond the list.
+pub(crate) fn wait_of(waits: &[u32], routine: usize) -> u32
+    ensures { result ≡ wait_at waits.now routine }
+{
+    match waits.get(routine) {
+        Some(wait) => *wait,
+        None => 0,
+    }
+}
+
+/// Whether a routine arrives with a set.
+fn arrives_in(set: u64, routine: usize) -> bool
+    requires { routine < 64 }
+    ensures { result ≡ arrives_in set routine }
+{
+    (set >> routine) % 2 == 1
+}
+
+/// How many ticks apart two arrivals of a routine are at least.
+fn distance_of(distances: &[u32], routine: usize) -> u32
+    ensures { result ≡ distance_of distances.now routine }
+{
+    match distances.get(routine) {
+        Some(distance) => *distance,
+        None => 1,
+    }
+}
+
+fn next_wait(waits: &[u32], distances: &[u32], set: u64, routine: usize) -> u32
+    requires { routine < 64 }
+    ensures { result ≡ wait_behind distances.now set waits.now routine }
+{
+    if arrives_in(set, routine) {
+        distance_of(distances, routine).saturating_sub(1)
+    } else {
+        wait_of(waits, routine).saturating_sub(1)
+    }
+}
+
+/// The waits behind a tick in which the routines of a set arrive.
+#[tactic(auto, using(crate::proofs::MapLemmas::one_more))]
+pub(crate) fn next_waits(
+    alloc: Global,
+    distances: &[u32],
+    set: u64,
+    waits: &[u32],
+) -> Result<Vec<u32>, AllocError>
+    requires { length waits.now ≤ 64 }
+    ensures { IfOk result (λ next. next.items ≡ each_of (wait_behind distances.now set) waits.now) }
+{
+    let mut next = Vec::with_capacity(alloc, waits.len())?;
+    for routine in 0..waits.len() {
+        next.push(next_wait(waits, distances, set, routine))?;
+    }
+    Ok(next)
+}
+
+/// Whether each wait is no longer than that of the same routine among others; at true they are.
+pub(crate) fn are_sooner(waits: &[u32], others: &[u32]) -> bool
+    requires { length waits.now ≡ length others.now }
+    ensures { IsTrue result → (i : ℕ) → wait_at waits.now i ≤ wait_at others.now i }
+{
+    for routine in 0..waits.len() {
+        if waits[routine] > others[routine] {
+            return false;
+        }
+    }
+    true
+}
+
+/// Each wait is the shorter of its own and that of the same routine among others.
+pub(crate) fn join_waits(waits: &mut [u32], others: &[u32])
+    requires { length waits.old ≡ length others.now }
+    ensures count { length waits.new ≡ length waits.old }
+    ensures each { (i : ℕ) →
+        wait_at waits.new i ≡ min (wait_at waits.old i) (wait_at others.now i) }
+{
+    for (routine, wait) in waits.iter_mut().enumerate() {
+        *wait = (*wait).min(others[routine]);
+    }
+}
+
+/// The routines that need not wait, of so many that there are, as a set.
+pub(crate) fn free_routines(waits: &[u32], count: usize) -> u64
+    requires { count ≤ 64 }
+    ensures free { (i : ℕ) → i < count → wait_at waits.now i ≡ 0 → bit_at result i ≡ 1 }
+    ensures others { (i : ℕ) → bit_at result i ≡ 1 → wait_at waits.now i ≡ 0 }
+    ensures low { result < 2 ^ count }
+{
+    let mut free = 0;
+    for routine in 0..count {
+        let wait = wait_of(waits, routine);
+        if wait == 0 {
+            free |= 1 << routine;
+        }
+    }
+    free
+}

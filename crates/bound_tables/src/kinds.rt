@@ -1,0 +1,130 @@
+//! The kinds of objects of which bounds are told, and the figures of each.
+
+use crate::cells::Cell;
+use bounds::Bounds;
+use osek_base::{Name, System};
+
+/// The name of the resource behind the declared ones.
+const RES_SCHEDULER: &str = "RES_SCHEDULER";
+
+/// A figure of an object.
+#[derive(Clone, Copy)]
+pub enum Figure {
+    /// The greatest response of a task.
+    Response,
+    /// Whether an activation of a task may be refused.
+    Refusal,
+    /// The greatest latency of a routine.
+    Latency,
+    /// Whether an interrupt of a routine may be lost.
+    Loss,
+    /// The longest hold of a resource.
+    Hold,
+    /// Whether the action of an alarm may be refused.
+    RefusedAction,
+}
+
+impl Figure {
+    /// Its word, that of the same figure of one run.
+    pub fn word(self) -> &'static str {
+        match self {
+            Figure::Response => "greatest",
+            Figure::Latency => "latency",
+            Figure::Loss => "losses",
+            Figure::Hold => "longest",
+            Figure::Refusal | Figure::RefusedAction => "refused",
+        }
+    }
+
+    /// What is told of it, of the object of a number.
+    pub fn cell(self, bounds: &Bounds, number: usize) -> Cell {
+        let peaks = &bounds.peaks;
+        match self {
+            Figure::Response => Cell::of_time(peaks.response(number), bounds.cap),
+            Figure::Refusal => Cell::Coming(peaks.has_refusal(number)),
+            Figure::Latency => Cell::of_time(peaks.latency(number), bounds.cap),
+            Figure::Loss => Cell::Coming(peaks.has_loss(number)),
+            Figure::Hold => Cell::of_time(peaks.hold(number), bounds.cap),
+            Figure::RefusedAction => Cell::Coming(peaks.has_refused_action(number)),
+        }
+    }
+}
+
+/// A kind of objects of which bounds are told.
+#[derive(Clone, Copy)]
+pub enum Kind {
+    Task,
+    Routine,
+    Resource,
+    Alarm,
+}
+
+/// All of them, in the order in which they stand.
+pub const KINDS: [Kind; 4] = [Kind::Task, Kind::Routine, Kind::Resource, Kind::Alarm];
+
+impl Kind {
+    /// Its word.
+    pub fn word(self) -> &'static str {
+        match self {
+            Kind::Task => "task",
+            Kind::Routine => "routine",
+            Kind::Resource => "resource",
+            Kind::Alarm => "alarm",
+        }
+    }
+
+    /// What is told of each of its objects.
+    pub fn figures(self) -> &'static [Figure] {
+        match self {
+            Kind::Task => &[Figure::Response, Figure::Refusal],
+            Kind::Routine => &[Figure::Latency, Figure::Loss],
+            Kind::Resource => &[Figure::Hold],
+            Kind::Alarm => &[Figure::RefusedAction],
+        }
+    }
+
+    /// The names of its declared objects.
+    fn names(self, system: &System) -> &[Name] {
+        let names = system.names();
+        match self {
+            Kind::Task => names.tasks.as_slice(),
+            Kind::Routine => names.routines.as_slice(),
+            Kind::Resource => names.resources.as_slice(),
+            Kind::Alarm => names.alarms.as_slice(),
+        }
+    }
+
+    /// How many objects of it a system has, RES_SCHEDULER too.
+    pub fn count(self, system: &System) -> usize {
+        let has_scheduler = matches!(self, Kind::Resource) && system.has_res_scheduler();
+        self.names(system)
+            .len()
+            .saturating_add(usize::from(has_scheduler))
+    }
+
+    /// The name of an object of it; behind the declared ones RES_SCHEDULER.
+    pub fn name(self, system: &System, number: usize) -> &str {
+        match self.names(system).get(number) {
+            Some(name) => name.as_str(),
+            None => RES_SCHEDULER,
+        }
+    }
+
+    /// How many bytes the longest of its names and a least width have.
+    fn width(self, system: &System, least: usize) -> usize {
+        let mut width = least;
+        for name in self.names(system) {
+            width = width.max(name.as_str().len());
+        }
+        width
+    }
+}
+
+/// How many bytes the longest name has, no fewer than RES_SCHEDULER has.
+pub fn width_of(system: &System) -> usize {
+    let mut width = RES_SCHEDULER.len();
+    for kind in &KINDS {
+        width = kind.width(system, width);
+    }
+    width
+}

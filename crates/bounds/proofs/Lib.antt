@@ -1,0 +1,4 @@
+pub mod HeldLemmas
+pub mod SetLemmas
+pub mod Exploring
+pub mod Deciding

@@ -1,0 +1,59 @@
+use Rattle.std.proofs.Common.{◌≤◌, rules}
+use Rattle.run_bounds.specs.Nodes.{Node}
+use Rattle.bounds.specs.Exploring.{Explorer, setting_of}
+use Rattle.bounds.proofs.Exploring.{free_choices, next_choice, no_choice}
+use Rattle.bounds.proofs.explorer.ExplorerSteps.choice_from.Goals as goal
+
+pub returns-clause-next : goal.returns-clause-next
+returns-clause-next c =
+    let e : Explorer =
+    record {
+      ground = record { system = c.self.inside.system.now; needs = c.self.inside.needs.now };
+      mode = c.self.inside.mode;
+      distances = c.self.inside.distances.now;
+      cap = c.self.inside.cap;
+      peaks = c.self.inside.peaks;
+    } in
+    let x : Node =
+    record {
+      key = c.node.inside.key.items;
+      over = c.node.inside.is_over;
+      labels = c.node.inside.labels;
+    } in
+    let whole = c.free_routines-free.result in
+    let few : c.routine_count.result ≤ 16 = search rules in
+    next_choice (setting_of c.args.self.now) c.args.node.now whole c.args.from
+    c.routine_count.result
+    (free_choices c.args.self.now e c.args.node.now x c.routine_count.result whole
+    c.subsets_may.ensures c.self.view_is c.node.view_is
+    c.if-node.false c.routine_count.ensures.value c.free_routines-free.ensures.free
+    c.free_routines-free.ensures.others
+    c.free_routines-free.ensures.low)
+    c.free_routines-free.ensures.low few c.subset_from.result c.subset_from.ensures.from
+    c.subset_from.ensures.subset
+    c.subset_from.ensures.within c.subset_from.ensures.next
+
+pub returns-clause-none : goal.returns-clause-none
+returns-clause-none c =
+    let e : Explorer =
+    record {
+      ground = record { system = c.self.inside.system.now; needs = c.self.inside.needs.now };
+      mode = c.self.inside.mode;
+      distances = c.self.inside.distances.now;
+      cap = c.self.inside.cap;
+      peaks = c.self.inside.peaks;
+    } in
+    let x : Node =
+    record {
+      key = c.node.inside.key.items;
+      over = c.node.inside.is_over;
+      labels = c.node.inside.labels;
+    } in
+    let whole = c.free_routines-free.result in
+    no_choice (setting_of c.args.self.now) c.args.node.now whole c.args.from
+    (free_choices c.args.self.now e c.args.node.now x c.routine_count.result whole
+    c.subsets_may.ensures c.self.view_is c.node.view_is
+    c.if-node.false c.routine_count.ensures.value c.free_routines-free.ensures.free
+    c.free_routines-free.ensures.others
+    c.free_routines-free.ensures.low)
+    c.subset_from.result c.subset_from.ensures.none

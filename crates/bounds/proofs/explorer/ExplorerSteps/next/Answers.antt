@@ -1,0 +1,106 @@
+use Rattle.std.proofs.Common.{ℕ, ◌≡◌, false, List, refl, sym, ◌∙◌, ap, subst}
+use Rattle.std.specs.List.{filter}
+use Rattle.osek_base.specs.Lists.{below}
+use Rattle.kept_state.specs.KeptTick.{tick_in}
+use Rattle.kernel.specs.Machine.{picture, system_of}
+use Rattle.observations.specs.declared.observation.Observation.{Observation}
+use Rattle.observations.specs.Seen.{Seen, seen_of}
+use Rattle.shown_ticks.specs.Seen.{seen_in}
+use Rattle.bound_labels.specs.Labels.{arrives_in, next_labels}
+use Rattle.bound_labels.specs.Peaks.{IsNoted}
+use Rattle.run_bounds.specs.Nodes.{AreNoted, IsNext, Node, routines_of}
+use Rattle.bounds.specs.Exploring.{Explorer, setting_of}
+use Rattle.bounds.proofs.Exploring.{IsMade, Ticked, are_noted, is_in_of, is_next}
+use Rattle.bounds.proofs.explorer.ExplorerSteps.next.Goals as goal
+
+pub returns-clause-next : goal.returns-clause-next
+returns-clause-next c =
+    let e : Explorer =
+    record {
+      ground = record { system = c.self.inside.system.now; needs = c.self.inside.needs.now };
+      mode = c.self.inside.mode;
+      distances = c.self.inside.distances.now;
+      cap = c.self.inside.cap;
+      peaks = c.self.inside.peaks;
+    } in
+    let x : Node =
+    record {
+      key = c.from.inside.key.items;
+      over = c.from.inside.is_over;
+      labels = c.from.inside.labels;
+    } in
+    let m = c.in-Some.machine.now in
+    let n = c.tick_from.new.machine in
+    let set = c.args.choice in
+    let seen : Seen = seen_of c.tick_from.new.watcher in
+    let going : x.over ≡ false = ap (λ (z : Node). z.over) c.from.view_is ∙ c.requires.going in
+    let same : c.deref-2.result.now ≡ routines_of (setting_of e) set =
+    c.deref-2.ensures.value ∙ c.in_ok-put_routines.ensures.value
+    ∙ ap (λ k. filter (arrives_in set) (below k)) c.routine_count.ensures.value in
+    let ticked : Ticked e x set m n seen =
+    record {
+      is = is_in_of e.ground c.self.inside.machines x.key c.deref.result.now m
+          c.self.invariant.machines c.deref.ensures.value c.in-Some.ensures;
+      going = c.if-not-can_go_on.ensures.going refl ∙ sym going;
+      system = c.tick_from.ensures.system;
+      after = c.tick_from.ensures.after
+          ∙ ap (λ (r : List ℕ). (tick_in (system_of m) r (picture m)).after) same;
+      seen = c.tick_from.ensures.seen
+          ∙ ap (λ (r : List ℕ). seen_in (system_of m) r (picture m)) same;
+    } in
+    let y = c.in_ok-node.node in
+    let made : IsMade e x y set n seen =
+    record {
+      key = c.in_ok-node.ensures.key;
+      over = c.in_ok-node.ensures.over;
+      labels =
+          c.in_ok-node.ensures.labels ∙ c.in_ok-labels.ensures
+          ∙ ap (λ (o : Observation). next_labels e.cap e.distances set (seen_of o) x.labels)
+          c.seen-seen.ensures;
+    } in
+    subst (λ (f : Explorer). IsNext (setting_of f) c.args.from.now set y) c.self.view_is
+    (subst (λ (z : Node). IsNext (setting_of e) z set y) c.from.view_is
+    (is_next e x set m n seen ticked c.one_state_tells.ensures c.self.invariant.ground going y
+    made))
+
+pub returns-clause-noted : goal.returns-clause-noted
+returns-clause-noted c =
+    let e : Explorer =
+    record {
+      ground = record { system = c.self.inside.system.now; needs = c.self.inside.needs.now };
+      mode = c.self.inside.mode;
+      distances = c.self.inside.distances.now;
+      cap = c.self.inside.cap;
+      peaks = c.self.inside.peaks;
+    } in
+    let x : Node =
+    record {
+      key = c.from.inside.key.items;
+      over = c.from.inside.is_over;
+      labels = c.from.inside.labels;
+    } in
+    let m = c.in-Some.machine.now in
+    let n = c.tick_from.new.machine in
+    let set = c.args.choice in
+    let seen : Seen = seen_of c.tick_from.new.watcher in
+    let going : x.over ≡ false = ap (λ (z : Node). z.over) c.from.view_is ∙ c.requires.going in
+    let same : c.deref-2.result.now ≡ routines_of (setting_of e) set =
+    c.deref-2.ensures.value ∙ c.in_ok-put_routines.ensures.value
+    ∙ ap (λ k. filter (arrives_in set) (below k)) c.routine_count.ensures.value in
+    let ticked : Ticked e x set m n seen =
+    record {
+      is = is_in_of e.ground c.self.inside.machines x.key c.deref.result.now m
+          c.self.invariant.machines c.deref.ensures.value c.in-Some.ensures;
+      going = c.if-not-can_go_on.ensures.going refl ∙ sym going;
+      system = c.tick_from.ensures.system;
+      after = c.tick_from.ensures.after
+          ∙ ap (λ (r : List ℕ). (tick_in (system_of m) r (picture m)).after) same;
+      seen = c.tick_from.ensures.seen
+          ∙ ap (λ (r : List ℕ). seen_in (system_of m) r (picture m)) same;
+    } in
+    let peaks = c.note.new.self in
+    subst (λ (z : Node). AreNoted (setting_of e) peaks z set) c.from.view_is
+    (are_noted e x set m n seen ticked c.one_state_tells.ensures c.self.invariant.ground going
+    peaks
+    (subst (λ (o : Observation). IsNoted e.cap peaks (seen_of o) x.labels) c.seen-seen.ensures
+    c.note.ensures.noted))

@@ -1,0 +1,44 @@
+-- A search through the states of a system, by machines.
+use Rattle.std.specs.Prelude.{ℕ, ◌≡◌, false, List}
+use Rattle.osek_base.specs.Proper.{IsProper}
+use Rattle.needed_data.specs.Need.{Suffices}
+use Rattle.needs.specs.Table.{need_of}
+use Rattle.kernel.specs.Machine.{IsOfRun, Machine, system_of}
+use Rattle.state_keys.specs.InRange.{NeedsOwnWords}
+use Rattle.bound_labels.specs.Peaks.{Peaks}
+use Rattle.run_bounds.specs.Nodes.{AreNoted, Node, Setting}
+use Rattle.bounds.specs.Held.{Ground}
+
+-- what a search goes by, and the greatest times that it has noted
+pub record Explorer : Type 0 where
+  pub ground : Ground
+  pub mode : ℕ
+  pub distances : List ℕ
+  pub cap : ℕ
+  pub peaks : Peaks
+
+abbrev pub setting_of : Explorer → Setting
+setting_of e =
+    record {
+      system = e.ground.system;
+      mode = e.mode;
+      need = need_of e.ground.needs;
+      distances = e.distances;
+      cap = e.cap;
+    }
+
+abbrev pub AreNotedIn : Explorer → Node → ℕ → Type 0
+AreNotedIn e x set = AreNoted (setting_of e) e.peaks x set
+
+-- a system that a search can go through: its need suffices
+pub record IsGround (g : Ground) : Type 0 where
+  pub proper : IsProper g.system
+  pub suffices : Suffices g.system (need_of g.needs)
+  pub own : NeedsOwnWords g.system (need_of g.needs)
+
+-- the machines that are kept and the one that is ticked are of the system
+pub record IsExploring (g kept : Ground) (current : Machine) : Type 0 where
+  pub ground : IsGround g
+  pub machines : kept ≡ g
+  pub system : system_of current ≡ g.system
+  pub of_run : IsOfRun false current

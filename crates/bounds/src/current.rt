@@ -1,0 +1,105 @@
+//! The machine that a search ticks.
+
+ghost use Rattle.std.specs.Prelude.{◌≡◌, ◌<◌, ◌≤◌, IsTrue, IfOk, OnOk, false, length};
+ghost use Rattle.std.specs.List.{All};
+ghost use Rattle.kept_state.specs.KeptTick.{boot_in, tick_in};
+ghost use Rattle.observations.specs.Seen.{seen_of};
+ghost use Rattle.shown_ticks.specs.Seen.{seen_in};
+ghost use Rattle.kernel.specs.Machine.{IsOfRun, next_tick, picture, system_of};
+ghost use Rattle.needs.specs.Table.{need_of};
+ghost use Rattle.state_keys.specs.Key.{key};
+
+use crate::machines::StateMachine;
+use crate::node::Node;
+use bound_labels::Labels;
+use kernel::Machine;
+use needs::Needs;
+use osek_base::{IsrId, MAX_ROUTINES, MAX_TICKS, ModeId, System};
+use seen_machines::Watcher;
+use state_bytes::write_key;
+use std::alloc::{AllocError, Global};
+
+/// Boots a machine again, in a mode.
+pub(crate) fn boot_again<'s>(
+    alloc: Global,
+    system: &'s System,
+    mode: ModeId,
+    machine: &mut StateMachine<'s>,
+) -> Result<(), AllocError>
+    requires same { system_of machine.old ≡ system.now }
+    requires of_run { IsOfRun false machine.old }
+    ensures picture { OnOk result (picture machine.new ≡ (boot_in system.now mode).state) }
+    ensures system { system_of machine.new ≡ system.now }
+    ensures of_run { IsOfRun false machine.new }
+{
+    let booted = Machine::boot(alloc, system, mode)?;
+    machine.copy_from(&booted);
+    Ok(())
+}
+
+/// Whether a machine can be ticked: its run isn't over, and ticks are left.
+pub(crate) fn can_go_on(machine: &StateMachine<'_>) -> bool
+    ensures going { IsTrue result → (picture machine.now).over ≡ false }
+    ensures left { IsTrue result → next_tick machine.now < MAX_TICKS }
+{
+    !machine.is_shut_down() && machine.next_tick() < MAX_TICKS
+}
+
+/// A machine becomes what a tick makes of another one, in which the interrupts of some routines
+/// arrive.
+pub(crate) fn tick_from<'s>(
+    from: &StateMachine<'s>,
+    machine: &mut StateMachine<'s>,
+    arrived: &[IsrId],
+    watcher: &mut Watcher,
+)
+    requires same { system_of machine.old ≡ system_of from.now }
+    requires on { (picture from.now).over ≡ false }
+    requires left { next_tick from.now < MAX_TICKS }
+    requires known { All (λ i. i < length (system_of from.now).routines) arrived.now }
+    requires few { length arrived.now ≤ MAX_ROUTINES }
+    ensures system { system_of machine.new ≡ system_of from.now }
+    ensures after { picture machine.new
+        ≡ (tick_in (system_of from.now) arrived.now (picture from.now)).after }
+    ensures seen { seen_of watcher.new
+        ≡ seen_in (system_of from.now) arrived.now (picture from.now) }
+    ensures of_run { IsOfRun false machine.new }
+{
+    machine.copy_from(from);
+    watcher.tick(machine, arrived);
+}
+
+/// The key of a machine's state.
+pub(crate) fn key_of(
+    alloc: Global,
+    machine: &StateMachine<'_>,
+    needs: &Needs,
+) -> Result<Vec<u8>, AllocError>
+    ensures { IfOk result (λ bytes. bytes.items
+        ≡ key (system_of machine.now) (need_of needs.now) (picture machine.now)) }
+{
+    let mut bytes = Vec::new(alloc);
+    write_key(machine, needs, &mut bytes)?;
+    Ok(bytes)
+}
+
+/// What is kept of a machine's state, with labels.
+pub(crate) fn node_of(
+    alloc: Global,
+    machine: &StateMachine<'_>,
+    needs: &Needs,
+    labels: Labels,
+) -> Result<Node, AllocError>
+    ensures key { IfOk result (λ node. node.key
+        ≡ key (system_of machine.now) (need_of needs.now) (picture machine.now)) }
+    ensures over { IfOk result (λ node. node.over ≡ (picture machine.now).over) }
+    ensures labels { IfOk result (λ node. node.labels ≡ labels) }
+{
+    let key = key_of(alloc, machine, needs)?;
+    Ok(Node {
+        key,
+        is_over: machine.is_shut_down(),
+        labels,
+        place: None,
+    })
+}

@@ -1,0 +1,207 @@
+//! The search through all states that a system comes to in a mode, whatever interrupts arrive that
+//! keep their distances.
+
+ghost use Rattle.std.specs.Prelude.{◌≡◌, IfOk};
+ghost use Rattle.figures.specs.FigureSums.{held_count};
+ghost use Rattle.bounds.specs.Exploring.{IsGround};
+ghost use Rattle.bounds.specs.Held.{Ground};
+
+use crate::current::{boot_again, can_go_on, key_of, node_of, tick_from};
+use crate::machines::{Machines, StateMachine, are_equal};
+use crate::node::Node;
+use crate::routines::put_routines;
+use bound_labels::{Labels, Peaks};
+use kernel::Machine;
+use needs::Needs;
+use osek_base::{IsrId, ModeId, System};
+use run_bounds::{nodes_are_kept, notes_stay, one_state_tells, subsets_may};
+use search::{Steps, subset_from};
+use seen_machines::Watcher;
+use std::alloc::{AllocError, Global};
+use std::marker::Model;
+
+/// Ticks machines from state to state, and notes the greatest times that are seen.
+#[derive(Drop)]
+pub(crate) struct Explorer<'s> {
+    system: &'s System,
+    needs: &'s Needs,
+    mode: ModeId,
+    /// By routine, in ticks.
+    distances: &'s [u32],
+    /// The age up to which times are told, in ticks.
+    cap: u32,
+    machines: Machines<'s>,
+    /// The machine that is ticked.
+    current: StateMachine<'s>,
+    /// The routines whose interrupts arrive in a tick.
+    arrived: Vec<IsrId>,
+    watcher: Watcher,
+    peaks: Peaks,
+}
+
+impl<'s> Model for Explorer<'s> {
+    ghost use Rattle.bounds.specs.Exploring.{Explorer as Seen, IsExploring};
+
+    ghost Value = { Seen };
+
+    ghost view = { λ e. record {
+      ground = record { system = e.system.now; needs = e.needs.now };
+      mode = e.mode;
+      distances = e.distances.now;
+      cap = e.cap;
+      peaks = e.peaks;
+    } };
+
+    ghost invariant = { λ e.
+        IsExploring (record { system = e.system.now; needs = e.needs.now }) e.machines e.current };
+}
+
+impl<'s> Explorer<'s> {
+    /// Nothing was tried yet.
+    pub(crate) fn new(
+        alloc: Global,
+        system: &'s System,
+        needs: &'s Needs,
+        mode: ModeId,
+        distances: &'s [u32],
+        cap: u32,
+    ) -> Result<Self, AllocError>
+        requires { IsGround (record { system = system.now; needs = needs.now }) }
+        ensures system { IfOk result (λ e. e.ground.system ≡ system.now) }
+        ensures needs { IfOk result (λ e. e.ground.needs ≡ needs.now) }
+        ensures mode { IfOk result (λ e. e.mode ≡ mode) }
+        ensures distances { IfOk result (λ e. e.distances ≡ distances.now) }
+        ensures cap { IfOk result (λ e. e.cap ≡ cap) }
+    {
+        let current = Machine::boot(alloc, system, mode)?;
+        Ok(Explorer {
+            system,
+            needs,
+            mode,
+            distances,
+            cap,
+            machines: Machines::new(alloc, system, needs, mode),
+            current,
+            arrived: Vec::new(alloc),
+            watcher: Watcher::new(),
+            peaks: Peaks::new(),
+        })
+    }
+
+    /// The greatest times that were noted.
+    pub(crate) fn into_peaks(self) -> Peaks
+        ensures { result ≡ self.entry.peaks }
+    {
+        self.peaks
+    }
+
+    /// How many resources can be held.
+    fn held_count(&self) -> usize
+        ensures { result ≡ held_count self.now.ground.system }
+    {
+        let declared = self.system.resource_count();
+        if self.system.has_res_scheduler() {
+            declared + 1
+        } else {
+            declared
+        }
+    }
+}
+
+impl<'s> Steps for Explorer<'s> {
+    ghost use Rattle.run_bounds.specs.Nodes.{Setting as Rulings, rules_of};
+    ghost use Rattle.bounds.specs.Exploring.{AreNotedIn, setting_of};
+
+    type Node = Node;
+
+    ghost Setting = { Rulings };
+
+    ghost setting = { setting_of };
+
+    ghost rules = { rules_of };
+
+    ghost is_noted = { AreNotedIn };
+
+    fn first(&mut self, alloc: Global) -> Result<Option<Node>, AllocError> {
+        boot_again(alloc, self.system, self.mode, &mut self.current)?;
+        let tasks = self.system.task_count();
+        let routines = self.system.routine_count();
+        let labels = Labels::first(alloc, tasks, routines, self.held_count())?;
+        Ok(Some(node_of(alloc, &self.current, self.needs, labels)?))
+    }
+
+    fn choice_from(&self, node: &Node, from: u64) -> Option<u64> {
+        if node.is_over {
+            return None;
+        }
+        subsets_may();
+        let free = node.labels.free_routines(self.system.routine_count());
+        subset_from(free, from)
+    }
+
+    fn next(
+        &mut self,
+        alloc: Global,
+        from: &Node,
+        choice: u64,
+    ) -> Result<Option<Node>, AllocError> {
+        put_routines(choice, self.system.routine_count(), &mut self.arrived)?;
+        let Some(machine) = self.machines.at(from.place, &from.key) else {
+            return Ok(None);
+        };
+        if !can_go_on(machine) {
+            return Ok(None);
+        }
+        one_state_tells();
+        notes_stay();
+        tick_from(machine, &mut self.current, &self.arrived, &mut self.watcher);
+        let seen = self.watcher.seen();
+        let labels = from
+            .labels
+            .next(alloc, self.cap, self.distances, choice, seen)?;
+        let node = node_of(alloc, &self.current, self.needs, labels)?;
+        self.peaks.note(self.cap, seen, &from.labels);
+        Ok(Some(node))
+    }
+
+    fn covers(&self, one: &Node, other: &Node) -> bool {
+        one.covers(other)
+    }
+
+    fn join(
+        &self,
+        _alloc: Global,
+        node: &mut Node,
+        other: Node,
+    ) -> Result<Option<Node>, AllocError> {
+        if node.join(&other)? {
+            return Ok(None);
+        }
+        Ok(Some(other))
+    }
+
+    fn keep(&mut self, alloc: Global, node: &mut Node) -> Result<(), AllocError> {
+        if self.machines.at(node.place, &node.key).is_some() {
+            return Ok(());
+        }
+        let key = key_of(alloc, &self.current, self.needs)?;
+        if are_equal(&key, &node.key) {
+            node.place = Some(self.machines.keep(alloc, &self.current, &key)?);
+        }
+        Ok(())
+    }
+
+    fn settle(&mut self, node: &mut Node) {
+        if let Some(place) = node.place.take() {
+            self.machines.release(place);
+        }
+    }
+
+    fn hash(&self, node: &Node) -> u64 {
+        node.hash()
+    }
+
+    fn kept(&self) {
+        nodes_are_kept();
+    }
+}

@@ -1,0 +1,67 @@
+//! The bounds of all runs of a system.
+
+ghost use Rattle.std.specs.Prelude.{◌≡◌, IfOk};
+ghost use Rattle.bounds.specs.Found.{AreFound};
+
+use crate::explorer::Explorer;
+use bound_labels::Peaks;
+use needs::needed_data;
+use osek_base::{ModeId, System};
+use run_bounds::searches_bound;
+use search::{Limits, Outcome, search};
+use std::alloc::{AllocError, Global};
+
+/// How far a search goes, and up to which age it tells times.
+#[derive(Clone, Copy, Debug)]
+pub struct Extent {
+    /// How many states may be kept.
+    pub nodes: usize,
+    /// How many visits of states may be made.
+    pub visits: u64,
+    /// The age up to which times are told, in ticks: one that reaches it may be any.
+    pub cap: u32,
+}
+
+/// What a search has come to.
+#[derive(Drop)]
+pub struct Bounds {
+    /// Whether all states were visited, and how many.
+    pub outcome: Outcome,
+    /// The greatest times that were seen, and what has happened in any tick.
+    pub peaks: Peaks,
+    /// The age up to which times are told, in ticks.
+    pub cap: u32,
+}
+
+/// Searches all states that a system comes to in a mode, whatever interrupts arrive that come at
+/// least as many ticks apart as their routine's distance, 1 where none is given.
+///
+/// Where the search is decided, no run does worse than what it tells: after each number of ticks,
+/// each figure of it is at most the peak, where that is below the cap, and nothing is lost or
+/// refused that hasn't come. An error is want of memory.
+pub fn find_bounds(
+    alloc: Global,
+    system: &System,
+    mode: ModeId,
+    distances: &[u32],
+    extent: Extent,
+) -> Result<Bounds, AllocError>
+    ensures found { IfOk result (AreFound system.now mode distances.now) }
+    ensures cap { IfOk result (λ found. found.cap ≡ extent.cap) }
+{
+    // Who asks for the count of tasks learns that the system is proper.
+    let _proper = system.task_count();
+    let needs = needed_data(alloc, system)?;
+    let mut explorer = Explorer::new(alloc, system, &needs, mode, distances, extent.cap)?;
+    let limits = Limits {
+        nodes: extent.nodes,
+        visits: extent.visits,
+    };
+    searches_bound();
+    let outcome = search(alloc, &mut explorer, limits)?;
+    Ok(Bounds {
+        outcome,
+        peaks: explorer.into_peaks(),
+        cap: extent.cap,
+    })
+}

@@ -1,0 +1,12 @@
+//! OSEK/VDX OS: task management, interrupt processing, resource management, alarms. Bounds of what
+//! every run of a system shows.
+#![tactic(auto)]
+
+mod current;
+mod explorer;
+mod finding;
+mod machines;
+mod node;
+mod routines;
+
+pub use finding::{Bounds, Extent, find_bounds};

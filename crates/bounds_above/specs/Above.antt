@@ -1,0 +1,20 @@
+-- Partitions, no part of the standards. Bounds of an upper part that hold in every system that has
+-- it.
+use Rattle.std.specs.Prelude.{ℕ, List}
+use Rattle.osek_base.specs.System.{System}
+use Rattle.bounds.specs.declared.finding.Bounds.{Bounds}
+use Rattle.bounds.specs.Found.{IfDecided}
+use Rattle.bound_labels.specs.Peaks.{Peaks}
+use Rattle.upper_bounds.specs.Above.{AreOneAbove}
+use Rattle.upper_figures.specs.FiguresAbove.{AreBoundsAbove}
+
+-- in the system itself, and in each that is separable at p and agrees with it from p upward
+pub record BoundAll (S : System) (p mode : ℕ) (distances : List ℕ) (cap : ℕ)
+    (peaks : Peaks) : Type 0 where
+  pub whole : AreBoundsAbove S p mode distances cap peaks
+  pub others : (B : System) → AreOneAbove S B p → AreBoundsAbove B p mode distances cap peaks
+
+-- where the search is decided
+abbrev pub HoldAbove : System → ℕ → ℕ → List ℕ → Bounds → Type 0
+HoldAbove S p mode distances found =
+    IfDecided found.outcome (BoundAll S p mode distances found.cap found.peaks)

@@ -1,0 +1,49 @@
+//! The search through all states of an upper part by itself.
+
+ghost use Rattle.std.specs.Prelude.{◌≡◌, IfOk};
+ghost use Rattle.osek_base.specs.Separable.{Separable};
+ghost use Rattle.osek_base.specs.Agree.{upper_part};
+ghost use Rattle.bounds_above.specs.Above.{HoldAbove};
+
+use bounds::{Bounds, Extent, find_bounds};
+use osek_base::{ModeId, System};
+use std::alloc::{AllocError, Global};
+use upper_figures::bounds_of_the_part_hold;
+use upper_only::upper_only;
+
+/// An upper part by itself, and its bounds.
+#[derive(Drop)]
+pub struct UpperBounds {
+    /// The part, with names, numbers and modes of its own objects.
+    pub part: System,
+    /// What a search through all its states has come to.
+    pub bounds: Bounds,
+}
+
+/// Searches all states that the upper part of a system at p comes to by itself in a mode, whatever
+/// interrupts arrive whose distances, in ticks by routine, are kept; 1 where none is given.
+///
+/// Where the search is decided, the bounds hold inside the system, and inside every system that is
+/// separable at p and agrees with it from p upward, whatever runs below: of upper tasks, all
+/// routines, and upper resources and alarms. How long upper tasks are blocked from below is no part
+/// of them. An error is want of memory.
+pub fn find_upper_bounds(
+    alloc: Global,
+    system: &System,
+    p: u8,
+    mode: ModeId,
+    distances: &[u32],
+    extent: Extent,
+) -> Result<UpperBounds, AllocError>
+    requires { Separable system.now p }
+    ensures part { IfOk result (λ upper. upper.part ≡ upper_part system.now p) }
+    ensures found { IfOk result (λ upper.
+        HoldAbove system.now p mode distances.now upper.bounds) }
+{
+    // Who asks for the count of tasks learns that the system is proper.
+    let _proper = system.task_count();
+    bounds_of_the_part_hold();
+    let part = upper_only(alloc, system, p)?;
+    let bounds = find_bounds(alloc, &part, mode, distances, extent)?;
+    Ok(UpperBounds { part, bounds })
+}

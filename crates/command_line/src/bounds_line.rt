@@ -1,0 +1,79 @@
+//! The line of `bounds`.
+
+use bound_tables::Form;
+use clap::ArgMatches;
+use osek_base::MAX_TICKS;
+use std::alloc::AllocError;
+
+/// How many states may be kept at most, and how many where nothing is said.
+pub(crate) const MAX_STATES: u32 = 100_000_000;
+
+const USUAL_STATES: u32 = 1_000_000;
+
+/// The greatest time from which on none is told, in ticks, and the one where nothing is said.
+pub(crate) const MAX_LONGEST: u32 = 65_535;
+
+const USUAL_LONGEST: u32 = 10_000;
+
+/// The bounds that are asked for.
+#[derive(Clone, Copy, Debug)]
+pub struct BoundsLine<'a> {
+    /// None for the only one.
+    pub mode: Option<&'a str>,
+    /// How many states may be kept, 1 to 100,000,000.
+    pub states: u32,
+    /// The time from which on none is told, 1 to 65,535 ticks.
+    pub longest: u32,
+    /// The priority from which on the part by itself is searched; None for the whole system.
+    pub upper: Option<u8>,
+    pub form: Form,
+}
+
+/// How many ticks apart the interrupts of the routine of a name come at least, 1 to 1,000,000.
+#[derive(Clone, Copy, Debug)]
+pub struct Distance<'a> {
+    pub routine: &'a str,
+    pub ticks: u32,
+}
+
+pub(crate) fn searched<'a>(matches: &ArgMatches<'a>) -> BoundsLine<'a> {
+    BoundsLine {
+        mode: matches.get_str("MODE"),
+        states: matches.get_one::<u32>("states").unwrap_or(USUAL_STATES),
+        longest: matches.get_one::<u32>("longest").unwrap_or(USUAL_LONGEST),
+        upper: matches.get_one::<u8>("upper"),
+        form: if matches.get_flag("csv") {
+            Form::Csv
+        } else {
+            Form::Table
+        },
+    }
+}
+
+/// A distance of that text, ROUTINE=TICKS.
+fn distance_of(text: &str) -> Option<Distance<'_>> {
+    let (routine, ticks) = text.split_once('=')?;
+    let ticks = ticks.parse::<u32>().ok()?;
+    (1 <= ticks && ticks <= MAX_TICKS).then_some(Distance { routine, ticks })
+}
+
+/// Reads the distances of a line, where its subcommand takes distances, and gives whether each is
+/// one.
+pub(crate) fn read_distances<'a>(
+    subcommand: &str,
+    matches: &ArgMatches<'a>,
+    distances: &mut Vec<Distance<'a>>,
+) -> Result<bool, AllocError> {
+    if subcommand != "bounds" {
+        return Ok(true);
+    }
+    if let Some(texts) = matches.get_strs("apart") {
+        for text in texts {
+            match distance_of(text) {
+                Some(distance) => distances.push(distance)?,
+                None => return Ok(false),
+            }
+        }
+    }
+    Ok(true)
+}

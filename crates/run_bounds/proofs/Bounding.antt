@@ -1,0 +1,270 @@
+-- Where the nodes of a search stand for all that can come, what it has noted bounds each run.
+use Rattle.std.proofs.Common.{ℕ, zero, suc, ◌≡◌, ◌<◌, inl, inr, false, List, [], ◌∷◌, length, refl, sym, ◌∙◌, ap, subst, arith}
+use Rattle.std.specs.Prelude.{Contains}
+use Rattle.std.proofs.lemmas.Bool.{cases_lt}
+use Rattle.osek_base.specs.declared.arrivals.Arrival.{Arrival}
+use Rattle.osek_base.specs.Proper.{IsProper}
+use Rattle.osek_base.specs.System.{System}
+use Rattle.osek_base.specs.Trace.{run}
+use Rattle.run_laws.proofs.RunSteps.{going_before}
+use Rattle.kept_state.specs.Kept.{Kept}
+use Rattle.kept_state.specs.KeptTick.{KeptStep, boot_in, tick_in}
+use Rattle.observations.specs.Seen.{Seen}
+use Rattle.observations.specs.declared.alarm_seen.AlarmSeen.{AlarmSeen}
+use Rattle.observations.specs.declared.observation.Observation.{Observation}
+use Rattle.same_future.specs.Alike.{kept_after}
+use Rattle.same_future.proofs.Covered.{none_waits}
+use Rattle.same_future.proofs.Futures.{kept_more}
+use Rattle.figures.specs.FigureSums.{RunFigures, held_count}
+use Rattle.figure_laws.specs.Ages.{ages, oldest_age}
+use Rattle.figure_laws.specs.Counts.{one_if}
+use Rattle.figure_laws.specs.Holding.{held_ticks}
+use Rattle.figure_laws.specs.Labels.{IsAtMost}
+use Rattle.figure_laws.specs.Pending.{pending}
+use Rattle.figure_laws.specs.Times.{waited}
+use Rattle.run_figures.specs.RunFigures.{AreRunFigures, AreTicksOf, HaveNone, NoneMoreBefore, StayWithin, alarm_ticks, holder_ticks, routine_ticks, task_ticks}
+use Rattle.run_figures.proofs.Nothing.{runs_have_none}
+use Rattle.run_figures.proofs.Times.{runs_stay_within}
+use Rattle.search.specs.Searched.{AreAll, IsTried}
+use Rattle.bound_labels.specs.Labels.{ages_of, distance_of, hold_of, pending_of}
+use Rattle.bound_labels.specs.Peaks.{IsNoted, Peaks, has_come, peak}
+use Rattle.bound_labels.specs.Ticks.{holder_tick, routine_tick, task_tick}
+use Rattle.state_keys.specs.Key.{key}
+use Rattle.run_bounds.specs.Bounds.{AreWithin, KeepDistances, SearchesBound}
+use Rattle.run_bounds.specs.Nodes.{AreNoted, IsAfter, May, Node, Setting, StandsFor, routines_of, rules_of, seen_from}
+use Rattle.run_bounds.proofs.Arrived.{StandFor, in_set, set_at, set_is_low, set_stands}
+use Rattle.run_bounds.proofs.Capped.{held_within, latency_within, leaving_within, oldest_within, waited_within}
+use Rattle.run_bounds.proofs.Going.{boot_state}
+use Rattle.run_bounds.proofs.Seen.{ages_agree, alarm_same, holds_agree, lost_same, pending_agrees, refused_same, seen_alarms, seen_holders, seen_routines, seen_tasks}
+use Rattle.run_bounds.proofs.Standing.{AreBoundsAt, ages_at, at_least, boot_bounds, hold_at, pending_at, tick_bounds}
+
+module _ (s : Setting) (peaks : Peaks) (nodes : List Node) (proper : IsProper s.system)
+    (all : AreAll (rules_of s) (AreNoted s peaks) nodes) (arrivals : List Arrival)
+    (keep : KeepDistances s.system s.distances arrivals) where
+  abbrev S : System
+  S = s.system
+
+  abbrev after : ℕ → Kept
+  after n = kept_after S s.mode arrivals n
+
+  abbrev set : ℕ → ℕ
+  set n = set_at S arrivals n
+
+  -- ---- some node stands for what a run comes to
+
+  record HasNode (n : ℕ) : Type 0 where
+    node : Node
+    there : Contains nodes node
+    stands : StandsFor s node (after n)
+    bounds : AreBoundsAt s arrivals n node.labels
+
+  arrived : (n : ℕ) → StandFor S s.mode arrivals n (routines_of s (set n))
+  arrived n = set_stands S arrivals n s.mode proper (λ i. keep.once i n)
+
+  may : (n : ℕ) → (run S s.mode arrivals n).state.over ≡ false → (has : HasNode n)
+      → May s has.node (set n)
+  may n going has = record {
+    going = sym has.stands.over ∙ going;
+    low = set_is_low S arrivals n;
+    free = λ i low is.
+        let none = none_waits S (distance_of s.distances) arrivals keep.spaced n i low
+        (sym (in_set S arrivals n i low) ∙ is) in
+        let sooner = has.bounds.sooner i low in
+        omega (arith, none, sooner);
+  }
+
+  tried : (n : ℕ) → (run S s.mode arrivals n).state.over ≡ false → (has : HasNode n)
+      → IsTried (rules_of s) (AreNoted s peaks) nodes has.node (set n)
+  tried n going has = all.visited has.node has.there (set n) (may n going has)
+
+  first_node : HasNode 0
+  first_node =
+      let first = all.first in
+      let is = first.4 in
+      let state : (boot_in S s.mode).state ≡ after 0 = boot_state S s.mode arrivals proper in
+      record {
+        node = first.1;
+        there = (first.0, first.2, first.3);
+        stands = record {
+          comes = record { mode = s.mode; arrivals = arrivals; ticks = 0; same = refl };
+          key = subst (λ (o : Kept). key S s.need o ≡ first.1.key) state is.key;
+          over = subst (λ (o : Kept). o.over ≡ first.1.over) state is.over;
+        };
+        bounds = at_least s arrivals 0 first.1.labels _ is.labels (boot_bounds s arrivals);
+      }
+
+  next_node : (n : ℕ) → (run S s.mode arrivals n).state.over ≡ false → HasNode n
+      → HasNode (suc n)
+  next_node n going has =
+      let next = (tried n going has).next in
+      let is : IsAfter s has.node (set n) next.1 (after n) = next.4 (after n) has.stands in
+      let state : (tick_in S (routines_of s (set n)) (after n)).after ≡ after (suc n) =
+      ap (λ (t : KeptStep). t.after) (sym (arrived n).tick)
+      ∙ sym (kept_more S s.mode arrivals proper n going) in
+      record {
+        node = next.1;
+        there = (next.0, next.2, next.3);
+        stands = record {
+          comes = record { mode = s.mode; arrivals = arrivals; ticks = suc n; same = refl };
+          key = subst (λ (o : Kept). key S s.need o ≡ next.1.key) state is.key;
+          over = subst (λ (o : Kept). o.over ≡ next.1.over) state is.over;
+        };
+        bounds =
+            at_least s arrivals (suc n) next.1.labels _ is.labels
+            (tick_bounds s arrivals n has.node.labels has.bounds (arrived n));
+      }
+
+  node_at : (n : ℕ) → (run S s.mode arrivals n).state.over ≡ false → HasNode n
+  node_at zero going = first_node
+  node_at (suc n) going =
+      let before : (run S s.mode arrivals n).state.over ≡ false =
+      going_before S s.mode arrivals n going in
+      next_node n before (node_at n before)
+
+  -- ---- what a tick shows
+
+  module _ (n : ℕ) (going : (run S s.mode arrivals n).state.over ≡ false) where
+    abbrev has : HasNode n
+    has = node_at n going
+
+    abbrev seen : Seen
+    seen = seen_from s (set n) (after n)
+
+    noted : IsNoted s.cap peaks seen has.node.labels
+    noted = (tried n going has).noted (after n) has.stands
+
+    oldest_low : (k : ℕ) → k < length S.tasks → peak peaks.responses k < s.cap
+        → IsAtMost (peak peaks.responses k)
+        (oldest_age (task_ticks S s.mode arrivals k n) (ages_at s arrivals k n))
+    oldest_low k low below_cap =
+        let size = seen_tasks S (routines_of s (set n)) (after n) in
+        subst (IsAtMost (peak peaks.responses k))
+        (sym (ages_agree S s.mode arrivals n (routines_of s (set n)) (arrived n) k low
+        (ages_at s arrivals k n)).oldest)
+        (oldest_within s.cap (peak peaks.responses k) below_cap (task_tick seen k)
+        (ages_of has.node.labels k) (ages_at s arrivals k n) (has.bounds.ages k low)
+        (noted.responses k (omega (arith, low, size))))
+
+    waited_low : (i : ℕ) → i < length S.routines → peak peaks.latencies i < s.cap
+        → IsAtMost (peak peaks.latencies i)
+        (waited (routine_ticks S s.mode arrivals i n) (pending_at s arrivals i n))
+    waited_low i low below_cap =
+        let size = seen_routines S (routines_of s (set n)) (after n) in
+        subst (IsAtMost (peak peaks.latencies i))
+        (sym (pending_agrees S s.mode arrivals n (routines_of s (set n)) (arrived n) i low
+        (pending_at s arrivals i n)).waited)
+        (waited_within s.cap (peak peaks.latencies i) below_cap (routine_tick seen i)
+        (pending_of has.node.labels i) (pending_at s arrivals i n) (has.bounds.pending i low)
+        (noted.latencies i (omega (arith, low, size))))
+
+    held_low : (r : ℕ) → r < held_count S → peak peaks.holds r < s.cap
+        → IsAtMost (peak peaks.holds r)
+        (held_ticks (holder_ticks S s.mode arrivals r n) (hold_at s arrivals r n))
+    held_low r low below_cap =
+        let size = seen_holders S (routines_of s (set n)) (after n) in
+        subst (IsAtMost (peak peaks.holds r))
+        (sym (holds_agree S s.mode arrivals n (routines_of s (set n)) (arrived n) r
+        (hold_at s arrivals r n)).held)
+        (held_within s.cap (peak peaks.holds r) below_cap (holder_tick seen r)
+        (hold_of has.node.labels r) (hold_at s arrivals r n) (has.bounds.holds r low)
+        (noted.holds r (omega (arith, low, size))))
+
+    none_lost : (i : ℕ) → i < length S.routines → has_come peaks.losses i ≡ false
+        → (routine_ticks S s.mode arrivals i n).seen.lost ≡ 0
+    none_lost i low none =
+        let size = seen_routines S (routines_of s (set n)) (after n) in
+        lost_same S s.mode arrivals n (routines_of s (set n)) (arrived n) i low
+        ∙ noted.losses i (omega (arith, low, size)) none
+
+    none_refused : (k : ℕ) → k < length S.tasks → has_come peaks.refusals k ≡ false
+        → (task_ticks S s.mode arrivals k n).seen.refused ≡ 0
+    none_refused k low none =
+        let size = seen_tasks S (routines_of s (set n)) (after n) in
+        refused_same S s.mode arrivals n (routines_of s (set n)) (arrived n) k low
+        ∙ noted.refusals k (omega (arith, low, size)) none
+
+    none_acts : (a : ℕ) → a < length S.alarms → has_come peaks.actions a ≡ false
+        → one_if (alarm_ticks S s.mode arrivals a n).seen.is_refused ≡ 0
+    none_acts a low none =
+        let size = seen_alarms S (routines_of s (set n)) (after n) in
+        ap (λ (x : AlarmSeen). one_if x.is_refused)
+        (alarm_same S s.mode arrivals n (routines_of s (set n)) (arrived n) a low)
+        ∙ ap one_if (noted.actions a (omega (arith, low, size)) none)
+
+-- ---- the law
+
+-- a run isn't over before a tick that is observed
+going_at : (S : System) (mode : ℕ) (arrivals : List Arrival) (n : ℕ) (seen : List Observation)
+    → AreTicksOf S mode arrivals n seen → (i : ℕ) → i < n
+    → (run S mode arrivals i).state.over ≡ false
+going_at S mode arrivals zero seen are i low = absurd (omega (arith, low))
+going_at S mode arrivals (suc n) [] are i low = absurd are
+going_at S mode arrivals (suc n) (o ∷ before) are i low = elim (cases_lt i n) [
+  | inl less ↦ going_at S mode arrivals n before are.1 i less
+  | inr last ↦
+      let same : n ≡ i = omega (arith, low, last) in
+      subst (λ k. (run S mode arrivals k).state.over ≡ false) same are.0.going
+]
+
+module _ (s : Setting) (peaks : Peaks) (nodes : List Node) (proper : IsProper s.system)
+    (all : AreAll (rules_of s) (AreNoted s peaks) nodes) (arrivals : List Arrival) (n : ℕ)
+    (f : RunFigures) (keep : KeepDistances s.system s.distances arrivals)
+    (are : AreRunFigures s.system s.mode arrivals n f) where
+  going : (i : ℕ) → i < n → (run s.system s.mode arrivals i).state.over ≡ false
+  going i low = going_at s.system s.mode arrivals n are.seen are.ticks i low
+
+  stay : StayWithin s.system s.mode arrivals n f
+  stay = runs_stay_within s.system s.mode arrivals n f are
+
+  have : HaveNone s.system s.mode arrivals n f
+  have = runs_have_none s.system s.mode arrivals n f are
+
+  none_older : (k : ℕ) → k < length s.system.tasks → peak peaks.responses k < s.cap
+      → NoneMoreBefore ages oldest_age (task_ticks s.system s.mode arrivals k)
+      (peak peaks.responses k) n
+  none_older k low below_cap i inside =
+      oldest_low s peaks nodes proper all arrivals keep i (going i inside) k low below_cap
+
+  none_waits_longer : (k : ℕ) → k < length s.system.routines → peak peaks.latencies k < s.cap
+      → NoneMoreBefore pending waited (routine_ticks s.system s.mode arrivals k)
+      (peak peaks.latencies k) n
+  none_waits_longer k low below_cap i inside =
+      waited_low s peaks nodes proper all arrivals keep i (going i inside) k low below_cap
+
+  within : AreWithin s.system s.cap peaks f
+  within = record {
+    responses = λ k low below_cap.
+        stay.responses k (peak peaks.responses k) low
+        (λ i inside. leaving_within (peak peaks.responses k)
+        (task_ticks s.system s.mode arrivals k i) (ages_at s arrivals k i)
+        (none_older k low below_cap i inside));
+    times = λ k low below_cap.
+        stay.times k (peak peaks.responses k) low (none_older k low below_cap);
+    latencies = λ k low below_cap.
+        stay.latencies k (peak peaks.latencies k) low
+        (λ i inside. latency_within (peak peaks.latencies k)
+        (routine_ticks s.system s.mode arrivals k i) (pending_at s arrivals k i)
+        (none_waits_longer k low below_cap i inside));
+    waits = λ k low below_cap.
+        stay.waits k (peak peaks.latencies k) low (none_waits_longer k low below_cap);
+    holds = λ r low below_cap.
+        stay.holds r (peak peaks.holds r) low
+        (λ i inside. held_low s peaks nodes proper all arrivals keep i (going i inside) r low
+        below_cap);
+    losses = λ k low none.
+        have.losses k low
+        (λ i inside. none_lost s peaks nodes proper all arrivals keep i (going i inside) k low
+        none);
+    refusals = λ k low none.
+        have.refusals k low
+        (λ i inside. none_refused s peaks nodes proper all arrivals keep i (going i inside) k
+        low none);
+    actions = λ a low none.
+        have.actions a low
+        (λ i inside. none_acts s peaks nodes proper all arrivals keep i (going i inside) a low
+        none);
+  }
+
+pub searches_bound : SearchesBound
+searches_bound s peaks nodes proper enough own all arrivals n f keep are =
+    within s peaks nodes proper all arrivals n f keep are

@@ -1,0 +1,11 @@
+pub mod Notes
+pub mod Ordered
+pub mod Covering
+pub mod Capped
+pub mod Counted
+pub mod Arrived
+pub mod Going
+pub mod Seen
+pub mod Standing
+pub mod Bounding
+pub mod Trying

@@ -1,0 +1,73 @@
+-- Peaks that bound the figures of every run whose interrupts keep distances.
+use Rattle.std.specs.Prelude.{ℕ, ◌≡◌, ◌<◌, ◌≤◌, false, List, [], length, slice_index_or}
+use Rattle.osek_base.specs.declared.arrivals.Arrival.{Arrival}
+use Rattle.osek_base.specs.Proper.{IsProper}
+use Rattle.osek_base.specs.System.{System}
+use Rattle.osek_base.specs.Trace.{arriving}
+use Rattle.run_laws.specs.Arrived.{AreArrivals}
+use Rattle.needed_data.specs.Need.{Suffices}
+use Rattle.same_future.specs.Covering.{AreSpaced}
+use Rattle.observed_runs.specs.Observed.{times}
+use Rattle.figures.specs.AlarmSums.{alarm_figures}
+use Rattle.figures.specs.FigureSums.{RunFigures, held_count, task_figures}
+use Rattle.figures.specs.ResourceSums.{resource_figures}
+use Rattle.figures.specs.RoutineSums.{routine_figures}
+use Rattle.figure_laws.specs.Labels.{IsWithin}
+use Rattle.figure_laws.specs.Times.{response_time, routine_time}
+use Rattle.run_figures.specs.RunFigures.{AreRunFigures}
+use Rattle.state_keys.specs.InRange.{NeedsOwnWords}
+use Rattle.search.specs.Searched.{AreAll}
+use Rattle.search.specs.Rules.{AreKept}
+use Rattle.bound_labels.specs.Labels.{distance_of}
+use Rattle.bound_labels.specs.Peaks.{Peaks, has_come, peak}
+use Rattle.run_bounds.specs.Nodes.{AreNoted, Node, Setting, rules_of}
+
+-- interrupts of a routine come at least so many ticks apart, and one of it at most in a tick
+pub record KeepDistances (S : System) (distances : List ℕ) (arrivals : List Arrival) : Type 0 where
+  pub arrive : AreArrivals S arrivals
+  pub spaced : AreSpaced S (distance_of distances) arrivals
+  pub once : (i t : ℕ) → times i (arriving arrivals t) ≤ 1
+
+-- the figures of a run are within peaks that are below a cap, and what hasn't come isn't counted.
+-- The time of a task or routine counts what hasn't ended or started behind the last tick too
+pub record AreWithin (S : System) (cap : ℕ) (peaks : Peaks) (f : RunFigures) : Type 0 where
+  pub responses : (k : ℕ) → k < length S.tasks → peak peaks.responses k < cap
+      → IsWithin (peak peaks.responses k)
+      (slice_index_or f.tasks k (task_figures [])).responses.spread.greatest
+  pub times : (k : ℕ) → k < length S.tasks → peak peaks.responses k < cap
+      → IsWithin (peak peaks.responses k)
+      (response_time f.last (slice_index_or f.tasks k (task_figures [])).responses)
+  pub latencies : (i : ℕ) → i < length S.routines → peak peaks.latencies i < cap
+      → IsWithin (peak peaks.latencies i)
+      (slice_index_or f.routines i (routine_figures [])).latency
+  pub waits : (i : ℕ) → i < length S.routines → peak peaks.latencies i < cap
+      → IsWithin (peak peaks.latencies i)
+      (routine_time f.last (slice_index_or f.routines i (routine_figures [])))
+  pub holds : (r : ℕ) → r < held_count S → peak peaks.holds r < cap
+      → IsWithin (peak peaks.holds r) (slice_index_or f.resources r (resource_figures [])).longest
+  pub losses : (i : ℕ) → i < length S.routines → has_come peaks.losses i ≡ false
+      → (slice_index_or f.routines i (routine_figures [])).losses ≡ 0
+  pub refusals : (k : ℕ) → k < length S.tasks → has_come peaks.refusals k ≡ false
+      → (slice_index_or f.tasks k (task_figures [])).counts.refused ≡ 0
+  pub actions : (a : ℕ) → a < length S.alarms → has_come peaks.actions a ≡ false
+      → (slice_index_or f.alarms a (alarm_figures [])).refused ≡ 0
+
+-- whatever arrives that keeps the distances, and for however many ticks
+abbrev pub AreBounds : System → ℕ → List ℕ → ℕ → Peaks → Type 0
+AreBounds S mode distances cap peaks =
+    (arrivals : List Arrival) (n : ℕ) (f : RunFigures) → KeepDistances S distances arrivals
+    → AreRunFigures S mode arrivals n f → AreWithin S cap peaks f
+
+-- ---- the laws
+
+-- where the nodes of a search stand for all that can come, the peaks that it has noted are bounds
+abbrev pub SearchesBound : Type 0
+SearchesBound =
+    (s : Setting) (peaks : Peaks) (nodes : List Node) → IsProper s.system
+    → Suffices s.system s.need → NeedsOwnWords s.system s.need
+    → AreAll (rules_of s) (AreNoted s peaks) nodes
+    → AreBounds s.system s.mode s.distances s.cap peaks
+
+-- a node stands for what each node stands for that it covers
+abbrev pub NodesAreKept : Type 0
+NodesAreKept = (s : Setting) → AreKept (rules_of s)

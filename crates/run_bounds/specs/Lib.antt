@@ -1,0 +1,4 @@
+pub mod Nodes
+pub mod Going
+pub mod Bounds
+pub mod Trying

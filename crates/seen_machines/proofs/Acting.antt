@@ -1,0 +1,34 @@
+-- The alarms that are refused exist.
+use Rattle.std.proofs.Common.{ℕ, ◌<◌, List, [], ◌∷◌, length}
+use Rattle.std.specs.List.{AllByRecursion}
+use Rattle.osek_base.specs.declared.status.Status.{Status}
+use Rattle.osek_base.specs.Alarm.{due_alarms, is_due}
+use Rattle.osek_base.specs.Lists.{below}
+use Rattle.osek_base.specs.System.{System}
+use Rattle.run_laws.proofs.Known.{all_below}
+use Rattle.run_laws.proofs.Lists.{all_append, all_kept}
+use Rattle.kept_state.specs.Kept.{Kept}
+use Rattle.kept_state.specs.KeptService.{bare}
+use Rattle.kernel.specs.Does.{advanced_in}
+use Rattle.kernel.specs.Told.{acted_in, acting_in, if_refused, refused_of_in}
+
+module _ (S : System) where
+  abbrev Exists : ℕ → Type 0
+  Exists a = a < length S.alarms
+
+  one_known : (a : ℕ) (status : Status) → Exists a → AllByRecursion Exists (if_refused a status)
+  one_known a Status.Ok h = tt
+  one_known a _ h = (h, tt)
+
+  known_of : (due : List ℕ) (o : Kept) → AllByRecursion Exists due
+      → AllByRecursion Exists (refused_of_in S due o)
+  known_of [] o all = tt
+  known_of (a ∷ due) o all =
+      all_append Exists (if_refused a (acting_in S a o).status)
+      (refused_of_in S due (acting_in S a o).state)
+      (one_known a (acting_in S a o).status all.0) (known_of due (acting_in S a o).state all.1)
+
+  pub refused_known : (o : Kept) → AllByRecursion Exists (acted_in S o).refused
+  refused_known o =
+      known_of (due_alarms S (bare o)) (advanced_in S o)
+      (all_kept Exists (is_due S (bare o)) (below (length S.alarms)) (all_below (length S.alarms)))

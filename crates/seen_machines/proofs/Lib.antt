@@ -1,0 +1,5 @@
+pub mod Steps
+pub mod Acting
+pub mod Executing
+pub mod Stays
+pub mod Shows

@@ -1,0 +1,82 @@
+-- What is known of the tick that a machine did last, and what is seen by it and by the picture
+-- behind it.
+use Rattle.std.specs.Prelude.{ℕ, ◌≡◌, ◌+◌, ◌-◌, Bool, false, not, ◌&&◌, List, map, None, length, slice_index_or}
+use Rattle.std.specs.Option.{option_map}
+use Rattle.observations.specs.declared.alarm_seen.AlarmSeen.{AlarmSeen}
+use Rattle.observations.specs.declared.routine_seen.RoutineSeen.{RoutineSeen}
+use Rattle.observations.specs.declared.task_seen.TaskSeen.{TaskSeen}
+use Rattle.osek_base.specs.declared.ids.Owner.{Owner}
+use Rattle.osek_base.specs.declared.status.TaskState.{TaskState}
+use Rattle.osek_base.specs.Lists.{below}
+use Rattle.osek_base.specs.System.{System}
+use Rattle.kept_state.specs.Kept.{Kept}
+use Rattle.kept_state.specs.KeptService.{task_state_in}
+use Rattle.same_future.specs.Spans.{is_pending_in}
+use Rattle.services.specs.Seen.{routine_of}
+use Rattle.kernel.specs.declared.acted.Acted.{Acted}
+use Rattle.kernel.specs.declared.task_at.TaskAt.{TaskAt}
+use Rattle.kernel.specs.Told.{task_at_in}
+use Rattle.observed_runs.specs.Observed.{activations_by, ending, is_among, is_by, is_number, is_waiting, lost_of, one_if, refusing, state_seen, times}
+use Rattle.shown_ticks.specs.Shown.{KeptTicked}
+use Rattle.seen_machines.specs.declared.told.Told.{Told}
+
+-- what is known is that of a tick
+pub record IsTold (S : System) (k : KeptTicked) (w : Told) : Type 0 where
+  pub jobs : w.before.jobs.items ≡ map (λ t. (k.before.slots t).count) (below (length S.tasks))
+  pub pending : w.before.pending.items ≡ map (is_pending_in k.before) (below (length S.routines))
+  pub active : w.before.active ≡ option_map routine_of k.before.active
+  pub tasks : w.at.tasks.items ≡ map (task_at_in S k.at) (below (length S.tasks))
+  pub executed : w.execution.executed ≡ k.executed
+  pub ending : w.execution.ending ≡ ending S k.executed
+  pub refusing : w.execution.refusing ≡ refusing S k.executed
+
+-- it is known of all tasks and routines of a system
+pub record IsOfAll (S : System) (w : Told) : Type 0 where
+  pub jobs : length w.before.jobs.items ≡ length S.tasks
+  pub pending : length w.before.pending.items ≡ length S.routines
+  pub tasks : length w.at.tasks.items ≡ length S.tasks
+
+-- ---- of each object
+
+abbrev pub without_job : TaskAt
+without_job = record { state = TaskState.Suspended; priority = None; jobs = 0 }
+
+abbrev pub task_at_told : Told → ℕ → TaskAt
+task_at_told w t = slice_index_or w.at.tasks.items t without_job
+
+abbrev pub jobs_told : Told → ℕ → ℕ
+jobs_told w t = slice_index_or w.before.jobs.items t 0
+
+abbrev pub pending_told : Told → ℕ → Bool
+pending_told w i = slice_index_or w.before.pending.items i false
+
+-- ---- what is seen, where there is such a picture behind the tick and some alarms acted
+
+abbrev pub task_seen_by : System → Told → Kept → Acted → ℕ → TaskSeen
+task_seen_by S w o acted t =
+    record {
+      state = state_seen (is_by (Owner.Task t) w.execution.executed) (task_at_told w t).state;
+      priority = (task_at_told w t).priority;
+      jobs = (task_at_told w t).jobs;
+      made = (o.slots t).count + one_if (is_number t w.execution.ending) - jobs_told w t;
+      refused =
+          one_if (is_number t w.execution.refusing) + activations_by S t acted.refused;
+      ended = is_number t w.execution.ending;
+      waits =
+          is_by (Owner.Task t) w.execution.executed && is_waiting (task_state_in o t);
+    }
+
+abbrev pub routine_seen_by : Told → Kept → List ℕ → ℕ → RoutineSeen
+routine_seen_by w o arrived i =
+    record {
+      executes = is_by (Owner.Routine i) w.execution.executed;
+      is_pending = is_pending_in o i;
+      is_started =
+          is_by (Owner.Routine i) w.execution.executed && not (is_number i w.before.active);
+      arrived = times i arrived;
+      lost = lost_of (pending_told w i) (times i arrived);
+    }
+
+abbrev pub alarm_seen_by : Acted → ℕ → AlarmSeen
+alarm_seen_by acted a =
+    record { has_expired = is_among acted.due a; is_refused = is_among acted.refused a }

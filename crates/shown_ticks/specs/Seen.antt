@@ -1,0 +1,21 @@
+-- What is seen of things in a tick from a state, as plain lists.
+use Rattle.std.specs.Prelude.{ℕ, false, List, map, length}
+use Rattle.osek_base.specs.Lists.{below}
+use Rattle.osek_base.specs.System.{System}
+use Rattle.kept_state.specs.Kept.{Kept}
+use Rattle.observations.specs.Seen.{Seen}
+use Rattle.shown_ticks.specs.Shown.{KeptTicked, alarm_seen_in, holders_seen_in, routine_seen_in, task_seen_in, ticked_in}
+
+abbrev pub seen_by : System → KeptTicked → Seen
+seen_by S k =
+    record {
+      tasks = map (task_seen_in S k) (below (length S.tasks));
+      routines = map (routine_seen_in k) (below (length S.routines));
+      holders = holders_seen_in S k.at;
+      alarms = map (alarm_seen_in k) (below (length S.alarms));
+    }
+
+-- in a tick from a state in which the interrupts of some routines arrive; jobs that boot has made
+-- count as made before it
+unfoldable pub seen_in : System → List ℕ → Kept → Seen
+seen_in S arrived o = seen_by S (ticked_in S false arrived o)

@@ -1,0 +1,10 @@
+pub mod Executing
+pub mod Instructions
+pub mod AlarmsSeen
+pub mod Held
+pub mod Ticks
+pub mod Bare
+pub mod Observed
+pub mod Carried
+pub mod Within
+pub mod Part

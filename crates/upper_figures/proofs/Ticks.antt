@@ -1,0 +1,261 @@
+-- Each tick shows the same of the upper part in systems that agree.
+use Rattle.std.proofs.Common.{◌≡◌, ℕ, ◌+◌, ◌-◌, false, cond, not, ◌&&◌, List, length, sym, ◌∙◌, ap, ap₂}
+use Rattle.std.specs.Prelude.{◌==◌, slice_index_or}
+use Rattle.std.specs.List.{filter, list_any}
+use Rattle.std.specs.Option.{option_map}
+use Rattle.osek_base.specs.declared.arrivals.Arrival.{Arrival}
+use Rattle.osek_base.specs.declared.ids.Owner.{Owner}
+use Rattle.osek_base.specs.declared.ids.ResId.{ResId}
+use Rattle.osek_base.specs.Alarm.{alarms_advanced, due_alarms}
+use Rattle.osek_base.specs.Priority.{dynamic_priority}
+use Rattle.osek_base.specs.Proper.{IsProper}
+use Rattle.osek_base.specs.Service.{task_state}
+use Rattle.osek_base.specs.State.{State, jobs_of}
+use Rattle.osek_base.specs.System.{System}
+use Rattle.osek_base.specs.Tick.{Step, tick}
+use Rattle.osek_base.specs.Trace.{Run, arriving, run}
+use Rattle.run_laws.proofs.Further.{run_more, run_tick}
+use Rattle.kept_state.specs.KeptTick.{KeptStep}
+use Rattle.kept_state.proofs.Ticked.{ticks}
+use Rattle.services.specs.Seen.{routine_of}
+use Rattle.kernel.specs.Shown.{holder, oldest_job}
+use Rattle.same_future.specs.Alike.{records_at}
+use Rattle.shown_ticks.proofs.Shown.{runs_show}
+use Rattle.observed_runs.specs.Observed.{Ticked, activations_by, alarm_seen, ending, executed_in, is_among, is_by, is_number, is_waiting, lost_of, one_if, refusing, routine_seen, state_seen, task_seen, tick_at, times}
+use Rattle.upper_bounds.specs.Above.{IsUpperTask, IsTheSameAlarm, IsTheSameResource, AreOneAbove}
+use Rattle.upper_bounds.specs.AlarmsAbove.{AlarmsAreAnsweredTheSame}
+use Rattle.upper_bounds.specs.ExecutedAbove.{ExecuteTheSame}
+use Rattle.upper_bounds.specs.StatesAbove.{HaveTheSameStates, IsSeenTheSame, executes, executing_at, holder as kept_holder}
+use Rattle.upper_figures.specs.ShownAbove.{ShowTheSameAbove}
+use Rattle.upper_figures.proofs.AlarmsSeen.{activations_are, due_is, has_number, is_refusal, refused_is, refuses}
+use Rattle.upper_figures.proofs.Executing.{TickTells, executed_of_one, tick_tells_one}
+use Rattle.upper_figures.proofs.Held.{holder_declared, holder_scheduler}
+use Rattle.upper_figures.proofs.Instructions.{ending_is, ends_job, is_any, refusing_is}
+
+-- ---- a tick of one system
+
+module _ (S : System) (proper : IsProper S) (mode : ℕ) (arrivals : List Arrival) (n : ℕ)
+    (going : (run S mode arrivals n).state.over ≡ false) where
+  abbrev here : State
+  here = (run S mode arrivals n).state
+
+  abbrev step : Step
+  step = tick S (arriving arrivals n) here
+
+  pub at_is : (tick_at S mode arrivals n).at ≡ executing_at S mode arrivals n
+  at_is =
+      ap (λ t. (tick S (arriving arrivals t) here).executing) (run_tick S mode arrivals n going)
+
+  pub after_is : (tick_at S mode arrivals n).after ≡ (run S mode arrivals (n + 1)).state
+  after_is = sym (ap (λ (r : Run). r.state) (run_more S mode arrivals n going))
+
+  pub executed_is : (tick_at S mode arrivals n).executed
+      ≡ executed_in (records_at S mode arrivals n)
+  executed_is =
+      (runs_show S mode arrivals n proper going).executed
+      ∙ sym (ap (λ (u : KeptStep). executed_in u.events)
+      (ticks S mode arrivals n (arriving arrivals n) proper))
+
+  tells : TickTells S (arriving arrivals n) here
+  tells = tick_tells_one S (arriving arrivals n) here
+
+  pub by_is : (who : Owner) → is_by who (tick_at S mode arrivals n).executed
+      ≡ executes (executing_at S mode arrivals n) who
+  by_is who =
+      ap (is_by who) executed_is
+      ∙ ap (is_by who) (executed_of_one S step.events tells.one)
+      ∙ tells.caller who
+
+-- ---- of two systems that agree
+
+module _ (S B : System) (p : ℕ) (pair : AreOneAbove S B p) (states : HaveTheSameStates S B p)
+    (executions : ExecuteTheSame S B p) (answers : AlarmsAreAnsweredTheSame S B p)
+    (there : (t : ℕ) → IsUpperTask S p t → IsUpperTask B p t) (mode : ℕ)
+    (arrivals : List Arrival) (n : ℕ) (going : (run S mode arrivals n).state.over ≡ false) where
+  abbrev mine : Ticked
+  mine = tick_at S mode arrivals n
+
+  abbrev theirs : Ticked
+  theirs = tick_at B mode arrivals n
+
+  going_there : (run B mode arrivals n).state.over ≡ false
+  going_there = sym (states.between mode arrivals n).over ∙ going
+
+  before : IsSeenTheSame S B p mine.before theirs.before
+  before = states.between mode arrivals n
+
+  at : IsSeenTheSame S B p (executing_at S mode arrivals n) (executing_at B mode arrivals n)
+  at = states.executing mode arrivals n
+
+  after : IsSeenTheSame S B p (run S mode arrivals (n + 1)).state
+      (run B mode arrivals (n + 1)).state
+  after = states.between mode arrivals (n + 1)
+
+  here_at : mine.at ≡ executing_at S mode arrivals n
+  here_at = at_is S pair.proper mode arrivals n going
+
+  there_at : theirs.at ≡ executing_at B mode arrivals n
+  there_at = at_is B pair.proper_there mode arrivals n going_there
+
+  here_after : mine.after ≡ (run S mode arrivals (n + 1)).state
+  here_after = after_is S pair.proper mode arrivals n going
+
+  there_after : theirs.after ≡ (run B mode arrivals (n + 1)).state
+  there_after = after_is B pair.proper_there mode arrivals n going_there
+
+  -- what is the same where the instruction is executed, and behind the tick
+  at_same : {X : Type 0} (f g : State → X)
+      → f (executing_at S mode arrivals n) ≡ g (executing_at B mode arrivals n)
+      → f mine.at ≡ g theirs.at
+  at_same f g same = ap f here_at ∙ same ∙ sym (ap g there_at)
+
+  after_same : {X : Type 0} (f g : State → X)
+      → f (run S mode arrivals (n + 1)).state ≡ g (run B mode arrivals (n + 1)).state
+      → f mine.after ≡ g theirs.after
+  after_same f g same = ap f here_after ∙ same ∙ sym (ap g there_after)
+
+  by_same : (who : Owner)
+      → executes (executing_at S mode arrivals n) who
+      ≡ executes (executing_at B mode arrivals n) who
+      → is_by who mine.executed ≡ is_by who theirs.executed
+  by_same who same =
+      by_is S pair.proper mode arrivals n going who ∙ same
+      ∙ sym (by_is B pair.proper_there mode arrivals n going_there who)
+
+  told_here : TickTells S (arriving arrivals n) (run S mode arrivals n).state
+  told_here = tick_tells_one S (arriving arrivals n) (run S mode arrivals n).state
+
+  told_there : TickTells B (arriving arrivals n) (run B mode arrivals n).state
+  told_there = tick_tells_one B (arriving arrivals n) (run B mode arrivals n).state
+
+  -- ---- tasks
+
+  module _ (t : ℕ) (is : IsUpperTask S p t) where
+    ends_same : is_number t (ending S mine.executed) ≡ is_number t (ending B theirs.executed)
+    ends_same =
+        ap (λ e. is_number t (ending S e)) (executed_is S pair.proper mode arrivals n going)
+        ∙ ending_is S (records_at S mode arrivals n) told_here.one p t is.upper
+        ∙ ap (list_any (ends_job t)) (executions.executions mode arrivals n)
+        ∙ sym (ending_is B (records_at B mode arrivals n) told_there.one p t (there t is).upper)
+        ∙ sym (ap (λ e. is_number t (ending B e))
+        (executed_is B pair.proper_there mode arrivals n going_there))
+
+    limit_same : is_number t (refusing S mine.executed) ≡ is_number t (refusing B theirs.executed)
+    limit_same =
+        ap (λ e. is_number t (refusing S e)) (executed_is S pair.proper mode arrivals n going)
+        ∙ refusing_is S (records_at S mode arrivals n) told_here.one t
+        ∙ ap is_any (executions.refusals mode arrivals n t is)
+        ∙ sym (refusing_is B (records_at B mode arrivals n) told_there.one t)
+        ∙ sym (ap (λ e. is_number t (refusing B e))
+        (executed_is B pair.proper_there mode arrivals n going_there))
+
+    by_alarms : activations_by S t mine.refused ≡ activations_by B t theirs.refused
+    by_alarms =
+        activations_are S p t is.upper (due_alarms S mine.before)
+        (record mine.before { alarms = alarms_advanced S mine.before })
+        ∙ ap (λ xs. length (filter (refuses t) xs)) (answers mode arrivals n)
+        ∙ sym (activations_are B p t (there t is).upper (due_alarms B theirs.before)
+        (record theirs.before { alarms = alarms_advanced B theirs.before }))
+
+    executes_same : is_by (Owner.Task t) mine.executed ≡ is_by (Owner.Task t) theirs.executed
+    executes_same = by_same (Owner.Task t) (at.tasks t is).executes
+
+    state_same : task_state mine.at t ≡ task_state theirs.at t
+    state_same = at_same (λ s. task_state s t) (λ s. task_state s t) (at.tasks t is).state
+
+    jobs_at : length (jobs_of t mine.at.jobs) ≡ length (jobs_of t theirs.at.jobs)
+    jobs_at =
+        at_same (λ s. length (jobs_of t s.jobs)) (λ s. length (jobs_of t s.jobs))
+        (at.tasks t is).jobs
+
+    jobs_after : length (jobs_of t mine.after.jobs) ≡ length (jobs_of t theirs.after.jobs)
+    jobs_after =
+        after_same (λ s. length (jobs_of t s.jobs)) (λ s. length (jobs_of t s.jobs))
+        (after.tasks t is).jobs
+
+    waits_after : task_state mine.after t ≡ task_state theirs.after t
+    waits_after =
+        after_same (λ s. task_state s t) (λ s. task_state s t) (after.tasks t is).state
+
+    priority_same : option_map (dynamic_priority S) (oldest_job mine.at t)
+        ≡ option_map (dynamic_priority B) (oldest_job theirs.at t)
+    priority_same =
+        at_same (λ s. option_map (dynamic_priority S) (oldest_job s t))
+        (λ s. option_map (dynamic_priority B) (oldest_job s t)) (at.tasks t is).priority
+
+    task_same : task_seen S mine t ≡ task_seen B theirs t
+    task_same = λ i. record {
+      state = state_seen (executes_same i) (state_same i);
+      priority = priority_same i;
+      jobs = jobs_at i;
+      made =
+          jobs_after i + one_if (ends_same i)
+          - cond (n == 0) 0 ((before.tasks t is).jobs i);
+      refused = one_if (limit_same i) + by_alarms i;
+      ended = ends_same i;
+      waits = executes_same i && is_waiting (waits_after i);
+    }
+
+  -- ---- routines
+
+  flags_same : mine.at.pending ≡ theirs.at.pending
+  flags_same = at_same (λ s. s.pending) (λ s. s.pending) at.pending
+
+  routine_same : (r : ℕ) → routine_seen mine r ≡ routine_seen theirs r
+  routine_same r =
+      let executes : is_by (Owner.Routine r) mine.executed
+      ≡ is_by (Owner.Routine r) theirs.executed =
+      by_same (Owner.Routine r) (at.routine_executes r) in
+      λ i. record {
+        executes = executes i;
+        is_pending = slice_index_or (flags_same i) r false;
+        is_started =
+            executes i && not (is_number r (option_map routine_of (before.active i)));
+        arrived = times r (arriving arrivals n);
+        lost = lost_of (slice_index_or (before.pending i) r false) (times r (arriving arrivals n));
+      }
+
+  -- ---- resources and alarms
+
+  holders_same : (r q : ℕ) → IsTheSameResource S B p r q
+      → holder S mine.at (ResId.Declared r) ≡ holder B theirs.at (ResId.Declared q)
+  holders_same r q is =
+      sym (holder_declared S mine.at r is.known)
+      ∙ at_same (λ s. kept_holder S s r) (λ s. kept_holder B s q) (at.holders r q is)
+      ∙ holder_declared B theirs.at q is.known_there
+
+  scheduler_same : holder S mine.at ResId.Scheduler ≡ holder B theirs.at ResId.Scheduler
+  scheduler_same =
+      sym (holder_scheduler S mine.at)
+      ∙ at_same (λ s. kept_holder S s (length S.resources))
+      (λ s. kept_holder B s (length B.resources)) at.scheduler
+      ∙ holder_scheduler B theirs.at
+
+  module _ (a c : ℕ) (is : IsTheSameAlarm S B p a c) where
+    due_same : is_among mine.due a ≡ is_among theirs.due c
+    due_same =
+        due_is S p a is.upper (due_alarms S mine.before)
+        (record mine.before { alarms = alarms_advanced S mine.before })
+        ∙ ap₂ (λ m xs. list_any (has_number m) xs) is.number (answers mode arrivals n)
+        ∙ sym (due_is B p c is.upper_there (due_alarms B theirs.before)
+        (record theirs.before { alarms = alarms_advanced B theirs.before }))
+
+    refused_same : is_among mine.refused a ≡ is_among theirs.refused c
+    refused_same =
+        refused_is S p a is.upper (due_alarms S mine.before)
+        (record mine.before { alarms = alarms_advanced S mine.before })
+        ∙ ap₂ (λ m xs. list_any (is_refusal m) xs) is.number (answers mode arrivals n)
+        ∙ sym (refused_is B p c is.upper_there (due_alarms B theirs.before)
+        (record theirs.before { alarms = alarms_advanced B theirs.before }))
+
+    alarm_same : alarm_seen mine a ≡ alarm_seen theirs c
+    alarm_same = λ i. record { has_expired = due_same i; is_refused = refused_same i }
+
+  pub tick_shows_the_same : ShowTheSameAbove S B p mine theirs
+  tick_shows_the_same = record {
+    tasks = task_same;
+    routines = routine_same;
+    holders = holders_same;
+    scheduler = scheduler_same;
+    alarms = alarm_same;
+  }

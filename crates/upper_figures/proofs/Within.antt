@@ -1,0 +1,261 @@
+-- Where each tick shows the same of the upper part, bounds of one system hold in the other.
+use Rattle.std.proofs.Common.{◌≡◌, ℕ, zero, suc, ◌<◌, inl, inr, true, false, List, [], ◌∷◌, map, length, sym, ◌∙◌, ap, ap₂, subst, arith}
+use Rattle.std.specs.Prelude.{IsTrue, slice_index_or}
+use Rattle.std.specs.List.{AllByRecursion}
+use Rattle.std.proofs.lemmas.Bool.{cases_lt}
+use Rattle.osek_base.specs.declared.arrivals.Arrival.{Arrival}
+use Rattle.osek_base.specs.Agree.{is_upper_declared}
+use Rattle.osek_base.specs.Proper.{IsProper}
+use Rattle.osek_base.specs.System.{System}
+use Rattle.osek_base.specs.Trace.{run}
+use Rattle.osek_base.specs.Upper.{is_upper_alarm}
+use Rattle.observations.specs.declared.observation.Observation.{Observation}
+use Rattle.figures.specs.declared.alarm_figures.AlarmFigures.{AlarmFigures}
+use Rattle.figures.specs.declared.resource_figures.ResourceFigures.{ResourceFigures}
+use Rattle.figures.specs.declared.routine_figures.RoutineFigures.{RoutineFigures}
+use Rattle.figures.specs.declared.task_figures.TaskFigures.{TaskFigures}
+use Rattle.figures.specs.AlarmSums.{alarm_figures}
+use Rattle.figures.specs.FigureSums.{AreFigures, RunFigures, held_count, holder_tick, levels_of, routine_tick, task_figures, task_tick}
+use Rattle.figures.specs.ResourceSums.{resource_figures}
+use Rattle.figures.specs.ResponseSums.{Responses}
+use Rattle.figures.specs.RoutineSums.{pending_age, routine_figures}
+use Rattle.figures.specs.Reaching.{worse_of}
+use Rattle.figure_laws.specs.Labels.{IsWithin}
+use Rattle.figure_laws.specs.Times.{response_time}
+use Rattle.run_figures.specs.RunFigures.{AreRunFigures, AreTicksOf}
+use Rattle.bound_labels.specs.Peaks.{Peaks, peak}
+use Rattle.run_bounds.specs.Bounds.{AreBounds, AreWithin, KeepDistances}
+use Rattle.upper_bounds.specs.Above.{IsTheSameAlarm, IsTheSameResource, IsUpperTask}
+use Rattle.upper_figures.specs.FiguresAbove.{AreBoundsAbove, AreWithinAbove, alarm_in_part, resource_in_part}
+use Rattle.upper_figures.specs.ShownAbove.{TicksShowTheSame}
+use Rattle.upper_figures.proofs.Bare.{AreAlike, bare_task, routines_bare, task_refused_bare, task_responses_bare}
+use Rattle.upper_figures.proofs.Carried.{alarms_same, declared_same, last_same, routines_same, scheduler_same, tasks_same}
+use Rattle.upper_figures.proofs.Observed.{are_figures, are_run_figures, figures_of, observed_before}
+
+-- a run isn't over before a tick that is observed
+going_at : (S : System) (mode : ℕ) (arrivals : List Arrival) (n : ℕ) (seen : List Observation)
+    → AreTicksOf S mode arrivals n seen → (i : ℕ) → i < n
+    → (run S mode arrivals i).state.over ≡ false
+going_at S mode arrivals zero seen are i low = absurd (omega (arith, low))
+going_at S mode arrivals (suc n) [] are i low = absurd are
+going_at S mode arrivals (suc n) (o ∷ before) are i low = elim (cases_lt i n) [
+  | inl less ↦ going_at S mode arrivals n before are.1 i less
+  | inr last ↦
+      let same : n ≡ i = omega (arith, low, last) in
+      subst (λ k. (run S mode arrivals k).state.over ≡ false) same are.0.going
+]
+
+-- the things of one system's upper part have these numbers in the other, which is that part alone
+pub record AreNumbered (S B : System) (p : ℕ) : Type 0 where
+  pub tasks : (t : ℕ) → IsUpperTask S p t → IsUpperTask B p t
+  pub routines : length S.routines ≡ length B.routines
+  pub resources : (r : ℕ) → r < length S.resources → IsTrue (is_upper_declared S p r)
+      → IsTheSameResource S B p r (resource_in_part S p r)
+  pub held : resource_in_part S p (length S.resources) ≡ length B.resources
+  pub scheduler : S.use_res_scheduler ≡ B.use_res_scheduler
+  pub alarms : (a : ℕ) → a < length S.alarms → IsTrue (is_upper_alarm S p a)
+      → IsTheSameAlarm S B p a (alarm_in_part S p a)
+
+pub distances_there : (S B : System) (distances : List ℕ) (arrivals : List Arrival)
+    → length S.routines ≡ length B.routines → KeepDistances S distances arrivals
+    → KeepDistances B distances arrivals
+distances_there S B distances arrivals routines keep = record {
+  arrive = record {
+    known =
+        subst (λ m. AllByRecursion (λ (a : Arrival). a.routine < m) arrivals) routines
+        keep.arrive.known;
+    ordered = keep.arrive.ordered;
+  };
+  spaced = λ i u v known. keep.spaced i u v (subst (λ m. i < m) (sym routines) known);
+  once = keep.once;
+}
+
+-- ---- what can be held
+
+declared_held : (S : System) (r : ℕ) → r < length S.resources → r < held_count S
+declared_held S r low = omega (arith, low)
+
+scheduler_held : (S : System) → S.use_res_scheduler ≡ true → length S.resources < held_count S
+scheduler_held S used = rw used (omega arith)
+
+-- ---- two runs
+
+module _ (S B : System) (p : ℕ) (numbers : AreNumbered S B p) (shown : TicksShowTheSame S B p)
+    (mode cap : ℕ) (peaks : Peaks) (arrivals : List Arrival) (n : ℕ) (f : RunFigures)
+    (are : AreRunFigures S mode arrivals n f) where
+  abbrev others : List Observation
+  others = observed_before B mode arrivals n
+
+  -- the figures of the other system's run
+  abbrev pub figures_there : RunFigures
+  figures_there = figures_of B others
+
+  theirs : AreFigures B others figures_there
+  theirs = are_figures B others
+
+  last_is : f.last ≡ figures_there.last
+  last_is = are.figures.last ∙ last_same S B p mode arrivals shown n are.seen are.ticks
+
+  -- ---- each of the upper part is the same
+
+  module _ (t : ℕ) (is : IsUpperTask S p t) where
+    abbrev pub task : TaskFigures
+    task = slice_index_or f.tasks t (task_figures [])
+
+    abbrev pub task_there : TaskFigures
+    task_there = slice_index_or figures_there.tasks t (task_figures [])
+
+    inside : t < length B.tasks
+    inside = (numbers.tasks t is).known
+
+    ticks_alike : map bare_task (map (λ o. task_tick (levels_of S) o t) are.seen)
+        ≡ map bare_task (map (λ o. task_tick (levels_of B) o t) others)
+    ticks_alike =
+        tasks_same S B p mode arrivals shown t is (numbers.tasks t is) n are.seen are.ticks
+
+    responses_are : task.responses ≡ task_there.responses
+    responses_are =
+        ap (λ (g : TaskFigures). g.responses) (are.figures.tasks.each t is.known)
+        ∙ task_responses_bare (map (λ o. task_tick (levels_of S) o t) are.seen)
+        (map (λ o. task_tick (levels_of B) o t) others) ticks_alike
+        ∙ sym (ap (λ (g : TaskFigures). g.responses) (theirs.tasks.each t inside))
+
+    refused_are : task.counts.refused ≡ task_there.counts.refused
+    refused_are =
+        ap (λ (g : TaskFigures). g.counts.refused) (are.figures.tasks.each t is.known)
+        ∙ task_refused_bare (map (λ o. task_tick (levels_of S) o t) are.seen)
+        (map (λ o. task_tick (levels_of B) o t) others) ticks_alike
+        ∙ sym (ap (λ (g : TaskFigures). g.counts.refused) (theirs.tasks.each t inside))
+
+  module _ (i : ℕ) (low : i < length S.routines) where
+    abbrev pub routine : RoutineFigures
+    routine = slice_index_or f.routines i (routine_figures [])
+
+    abbrev pub routine_there : RoutineFigures
+    routine_there = slice_index_or figures_there.routines i (routine_figures [])
+
+    low_there : i < length B.routines
+    low_there = subst (λ m. i < m) numbers.routines low
+
+    alike : AreAlike (map (λ o. routine_tick o i) are.seen) (map (λ o. routine_tick o i) others)
+    alike =
+        routines_bare (map (λ o. routine_tick o i) are.seen) (map (λ o. routine_tick o i) others)
+        (routines_same S B p mode arrivals shown i low low_there n are.seen are.ticks)
+
+    mine_is : routine ≡ routine_figures (map (λ o. routine_tick o i) are.seen)
+    mine_is = are.figures.routines.each i low
+
+    other_is : routine_there ≡ routine_figures (map (λ o. routine_tick o i) others)
+    other_is = theirs.routines.each i low_there
+
+    latency_is : routine.latency ≡ routine_there.latency
+    latency_is =
+        ap (λ (g : RoutineFigures). g.latency) mine_is ∙ alike.latency
+        ∙ sym (ap (λ (g : RoutineFigures). g.latency) other_is)
+
+    pending_is : routine.pending_since ≡ routine_there.pending_since
+    pending_is =
+        ap (λ (g : RoutineFigures). g.pending_since) mine_is ∙ alike.pending
+        ∙ sym (ap (λ (g : RoutineFigures). g.pending_since) other_is)
+
+    losses_are : routine.losses ≡ routine_there.losses
+    losses_are =
+        ap (λ (g : RoutineFigures). g.losses) mine_is ∙ alike.losses
+        ∙ sym (ap (λ (g : RoutineFigures). g.losses) other_is)
+
+  held_is : (r q : ℕ) → r < held_count S → q < held_count B
+      → map (λ o. holder_tick o r) are.seen ≡ map (λ o. holder_tick o q) others
+      → slice_index_or f.resources r (resource_figures [])
+      ≡ slice_index_or figures_there.resources q (resource_figures [])
+  held_is r q low there same =
+      are.figures.resources.each r low ∙ ap resource_figures same
+      ∙ sym (theirs.resources.each q there)
+
+  declared_is : (r : ℕ) → r < length S.resources → IsTrue (is_upper_declared S p r)
+      → slice_index_or f.resources r (resource_figures [])
+      ≡ slice_index_or figures_there.resources (resource_in_part S p r) (resource_figures [])
+  declared_is r low high =
+      let one = numbers.resources r low high in
+      held_is r (resource_in_part S p r) (declared_held S r low)
+      (declared_held B (resource_in_part S p r) one.known_there)
+      (declared_same S B p mode arrivals shown r (resource_in_part S p r) one n are.seen are.ticks)
+
+  scheduler_is : S.use_res_scheduler ≡ true
+      → slice_index_or f.resources (length S.resources) (resource_figures [])
+      ≡ slice_index_or figures_there.resources (length B.resources) (resource_figures [])
+  scheduler_is used =
+      let there : B.use_res_scheduler ≡ true = sym numbers.scheduler ∙ used in
+      held_is (length S.resources) (length B.resources) (scheduler_held S used)
+      (scheduler_held B there)
+      (scheduler_same S B p mode arrivals shown used there n are.seen are.ticks)
+
+  alarm_is : (a : ℕ) → a < length S.alarms → IsTrue (is_upper_alarm S p a)
+      → slice_index_or f.alarms a (alarm_figures [])
+      ≡ slice_index_or figures_there.alarms (alarm_in_part S p a) (alarm_figures [])
+  alarm_is a low high =
+      let one = numbers.alarms a low high in
+      are.figures.alarms.each a low
+      ∙ ap alarm_figures
+      (alarms_same S B p mode arrivals shown a (alarm_in_part S p a) one n are.seen are.ticks)
+      ∙ sym (theirs.alarms.each (alarm_in_part S p a) one.known_there)
+
+  -- ---- so they are within the same bounds
+
+  pub within_above : AreWithin B cap peaks figures_there → AreWithinAbove S p cap peaks f
+  within_above within = record {
+    responses = λ t is below_cap.
+        subst (λ (r : Responses). IsWithin (peak peaks.responses t) r.spread.greatest)
+        (sym (responses_are t is)) (within.responses t (inside t is) below_cap);
+    times = λ t is below_cap.
+        subst (IsWithin (peak peaks.responses t))
+        (sym (ap₂ response_time last_is (responses_are t is)))
+        (within.times t (inside t is) below_cap);
+    latencies = λ i low below_cap.
+        subst (IsWithin (peak peaks.latencies i)) (sym (latency_is i low))
+        (within.latencies i (low_there i low) below_cap);
+    waits = λ i low below_cap.
+        subst (IsWithin (peak peaks.latencies i))
+        (sym (λ j. worse_of (latency_is i low j) (pending_age (last_is j) (pending_is i low j))))
+        (within.waits i (low_there i low) below_cap);
+    holds = λ r low high below_cap.
+        subst
+        (λ (g : ResourceFigures). IsWithin (peak peaks.holds (resource_in_part S p r)) g.longest)
+        (sym (declared_is r low high))
+        (within.holds (resource_in_part S p r)
+        (declared_held B (resource_in_part S p r) (numbers.resources r low high).known_there)
+        below_cap);
+    scheduler = λ used below_cap.
+        subst
+        (λ (g : ResourceFigures).
+        IsWithin (peak peaks.holds (resource_in_part S p (length S.resources))) g.longest)
+        (sym (scheduler_is used))
+        (subst
+        (λ q. IsWithin (peak peaks.holds (resource_in_part S p (length S.resources)))
+        (slice_index_or figures_there.resources q (resource_figures [])).longest)
+        numbers.held
+        (within.holds (resource_in_part S p (length S.resources))
+        (subst (λ q. q < held_count B) (sym numbers.held)
+        (scheduler_held B (sym numbers.scheduler ∙ used))) below_cap));
+    losses = λ i low none. losses_are i low ∙ within.losses i (low_there i low) none;
+    refusals = λ t is none. refused_are t is ∙ within.refusals t (inside t is) none;
+    actions = λ a low high none.
+        ap (λ (g : AlarmFigures). g.refused) (alarm_is a low high)
+        ∙ within.actions (alarm_in_part S p a) (numbers.alarms a low high).known_there none;
+  }
+
+-- ---- the law for two systems
+
+pub bounds_there : (S B : System) (p : ℕ) → AreNumbered S B p → IsProper B
+    → TicksShowTheSame S B p
+    → ((mode : ℕ) (arrivals : List Arrival) (n : ℕ)
+    → (run S mode arrivals n).state.over ≡ (run B mode arrivals n).state.over)
+    → (mode : ℕ) (distances : List ℕ) (cap : ℕ) (peaks : Peaks)
+    → AreBounds B mode distances cap peaks → AreBoundsAbove S p mode distances cap peaks
+bounds_there S B p numbers proper shown over mode distances cap peaks bounds arrivals n f keep are =
+    let going : (i : ℕ) → i < n → (run B mode arrivals i).state.over ≡ false =
+    λ i low. sym (over mode arrivals i)
+    ∙ going_at S mode arrivals n are.seen are.ticks i low in
+    within_above S B p numbers shown mode cap peaks arrivals n f are
+    (bounds arrivals n (figures_there S B p numbers shown mode cap peaks arrivals n f are)
+    (distances_there S B distances arrivals numbers.routines keep)
+    (are_run_figures B mode arrivals n proper are.small going))

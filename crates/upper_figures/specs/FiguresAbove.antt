@@ -1,0 +1,76 @@
+-- Partitions, no part of the standards. Bounds that are found in the upper part by itself hold in
+-- every system with that part.
+use Rattle.std.specs.Prelude.{ℕ, ◌≡◌, ◌<◌, false, IsTrue, List, [], length, slice_index_or}
+use Rattle.osek_base.specs.declared.arrivals.Arrival.{Arrival}
+use Rattle.osek_base.specs.System.{System}
+use Rattle.osek_base.specs.Agree.{is_upper_declared, rank, upper_part}
+use Rattle.osek_base.specs.Proper.{IsProper}
+use Rattle.osek_base.specs.Separable.{Separable}
+use Rattle.osek_base.specs.Upper.{is_upper_alarm}
+use Rattle.figures.specs.AlarmSums.{alarm_figures}
+use Rattle.figures.specs.FigureSums.{RunFigures, task_figures}
+use Rattle.figures.specs.ResourceSums.{resource_figures}
+use Rattle.figures.specs.RoutineSums.{routine_figures}
+use Rattle.figure_laws.specs.Labels.{IsWithin}
+use Rattle.figure_laws.specs.Times.{response_time, routine_time}
+use Rattle.run_figures.specs.RunFigures.{AreRunFigures}
+use Rattle.bound_labels.specs.Peaks.{Peaks, has_come, peak}
+use Rattle.run_bounds.specs.Bounds.{AreBounds, KeepDistances}
+use Rattle.upper_bounds.specs.Above.{AreOneAbove, IsUpperTask}
+
+-- the numbers that an upper resource and an upper alarm have in the upper part by itself. Upper
+-- tasks and routines keep theirs, and RES_SCHEDULER stands behind the declared resources there too
+abbrev pub resource_in_part : System → ℕ → ℕ → ℕ
+resource_in_part S p r = rank (is_upper_declared S p) r
+
+abbrev pub alarm_in_part : System → ℕ → ℕ → ℕ
+alarm_in_part S p a = rank (is_upper_alarm S p) a
+
+-- of the figures of a run those of the upper part are within peaks of it by itself that are below a
+-- cap, and what hasn't come there isn't counted
+pub record AreWithinAbove (S : System) (p cap : ℕ) (peaks : Peaks) (f : RunFigures) : Type 0 where
+  pub responses : (t : ℕ) → IsUpperTask S p t → peak peaks.responses t < cap
+      → IsWithin (peak peaks.responses t)
+      (slice_index_or f.tasks t (task_figures [])).responses.spread.greatest
+  pub times : (t : ℕ) → IsUpperTask S p t → peak peaks.responses t < cap
+      → IsWithin (peak peaks.responses t)
+      (response_time f.last (slice_index_or f.tasks t (task_figures [])).responses)
+  pub latencies : (i : ℕ) → i < length S.routines → peak peaks.latencies i < cap
+      → IsWithin (peak peaks.latencies i)
+      (slice_index_or f.routines i (routine_figures [])).latency
+  pub waits : (i : ℕ) → i < length S.routines → peak peaks.latencies i < cap
+      → IsWithin (peak peaks.latencies i)
+      (routine_time f.last (slice_index_or f.routines i (routine_figures [])))
+  pub holds : (r : ℕ) → r < length S.resources → IsTrue (is_upper_declared S p r)
+      → peak peaks.holds (resource_in_part S p r) < cap
+      → IsWithin (peak peaks.holds (resource_in_part S p r))
+      (slice_index_or f.resources r (resource_figures [])).longest
+  pub scheduler : IsTrue S.use_res_scheduler
+      → peak peaks.holds (resource_in_part S p (length S.resources)) < cap
+      → IsWithin (peak peaks.holds (resource_in_part S p (length S.resources)))
+      (slice_index_or f.resources (length S.resources) (resource_figures [])).longest
+  pub losses : (i : ℕ) → i < length S.routines → has_come peaks.losses i ≡ false
+      → (slice_index_or f.routines i (routine_figures [])).losses ≡ 0
+  pub refusals : (t : ℕ) → IsUpperTask S p t → has_come peaks.refusals t ≡ false
+      → (slice_index_or f.tasks t (task_figures [])).counts.refused ≡ 0
+  pub actions : (a : ℕ) → a < length S.alarms → IsTrue (is_upper_alarm S p a)
+      → has_come peaks.actions (alarm_in_part S p a) ≡ false
+      → (slice_index_or f.alarms a (alarm_figures [])).refused ≡ 0
+
+-- whatever arrives that keeps the distances, and for however many ticks
+abbrev pub AreBoundsAbove : System → ℕ → ℕ → List ℕ → ℕ → Peaks → Type 0
+AreBoundsAbove S p mode distances cap peaks =
+    (arrivals : List Arrival) (n : ℕ) (f : RunFigures) → KeepDistances S distances arrivals
+    → AreRunFigures S mode arrivals n f → AreWithinAbove S p cap peaks f
+
+-- bounds of the upper part of a system by itself hold in another one
+abbrev pub BoundsHoldIn : System → System → ℕ → Type 0
+BoundsHoldIn S B p =
+    (mode : ℕ) (distances : List ℕ) (cap : ℕ) (peaks : Peaks)
+    → AreBounds (upper_part S p) mode distances cap peaks
+    → AreBoundsAbove B p mode distances cap peaks
+
+-- in the whole system, and in each that agrees with it from p upward, whatever stands below
+pub record BoundsOfThePartHold : Type 0 where
+  pub whole : (S : System) (p : ℕ) → IsProper S → Separable S p → BoundsHoldIn S S p
+  pub others : (S B : System) (p : ℕ) → AreOneAbove S B p → BoundsHoldIn S B p

@@ -1,0 +1,2 @@
+pub mod ShownAbove
+pub mod FiguresAbove

@@ -1,0 +1,29 @@
+-- Partitions, no part of the standards. What each tick shows of the upper part is the same in
+-- systems that agree.
+use Rattle.std.specs.Prelude.{ℕ, ◌≡◌, false, List}
+use Rattle.osek_base.specs.declared.arrivals.Arrival.{Arrival}
+use Rattle.osek_base.specs.declared.ids.ResId.{ResId}
+use Rattle.osek_base.specs.System.{System}
+use Rattle.osek_base.specs.Trace.{run}
+use Rattle.kernel.specs.Shown.{holder}
+use Rattle.observed_runs.specs.Observed.{Ticked, alarm_seen, routine_seen, task_seen, tick_at}
+use Rattle.upper_bounds.specs.Above.{IsUpperTask, IsTheSameResource, IsTheSameAlarm, IsThatOfTheUpperPart}
+
+-- a tick of one system and one of another show the same of each upper task, of each routine, of who
+-- holds each upper resource and RES_SCHEDULER, and of each upper alarm
+pub record ShowTheSameAbove (S B : System) (p : ℕ) (k j : Ticked) : Type 0 where
+  pub tasks : (t : ℕ) → IsUpperTask S p t → task_seen S k t ≡ task_seen B j t
+  pub routines : (i : ℕ) → routine_seen k i ≡ routine_seen j i
+  pub holders : (r q : ℕ) → IsTheSameResource S B p r q
+      → holder S k.at (ResId.Declared r) ≡ holder B j.at (ResId.Declared q)
+  pub scheduler : holder S k.at ResId.Scheduler ≡ holder B j.at ResId.Scheduler
+  pub alarms : (a c : ℕ) → IsTheSameAlarm S B p a c → alarm_seen k a ≡ alarm_seen j c
+
+-- in each mode and under the same arrivals, each tick before which the run isn't over
+abbrev pub TicksShowTheSame : System → System → ℕ → Type 0
+TicksShowTheSame S B p =
+    (mode : ℕ) (arrivals : List Arrival) (n : ℕ) → (run S mode arrivals n).state.over ≡ false
+    → ShowTheSameAbove S B p (tick_at S mode arrivals n) (tick_at B mode arrivals n)
+
+abbrev pub UpperPartsShowTheSame : Type 0
+UpperPartsShowTheSame = IsThatOfTheUpperPart TicksShowTheSame

@@ -1,0 +1,18 @@
+//! The laws, one function each. The functions are empty: the clause is the law.
+
+ghost use Rattle.upper_figures.specs.FiguresAbove.{BoundsOfThePartHold};
+ghost use Rattle.upper_figures.specs.ShownAbove.{UpperPartsShowTheSame};
+
+/// Each tick shows the same of upper tasks, of routines, and of upper resources and alarms, in each
+/// system that agrees with a proper and separable one, and in its upper part by itself.
+pub fn upper_parts_show_the_same()
+    ensures { UpperPartsShowTheSame }
+{}
+
+/// Peaks that bound the figures of every run of the upper part by itself whose interrupts keep
+/// their distances bound those of its tasks, routines, resources and alarms in every such run of
+/// the whole system, and of each that agrees with it from that priority upward. How many blockers
+/// upper tasks have is no part of it.
+pub fn bounds_of_the_part_hold()
+    ensures { BoundsOfThePartHold }
+{}

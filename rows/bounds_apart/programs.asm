@@ -1,0 +1,8 @@
+.task A
+NOP
+NOP
+TERM
+z: JMP z
+.isr I
+NOP
+RETI
