@@ -1,3 +1,3 @@
-.task Low
+.task Show
         TERM
 end:    JMP end

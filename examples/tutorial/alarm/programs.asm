@@ -1,7 +1,8 @@
-.task Low
+.task Show
 again:  NOP
         JMP again
 
-.task High
+.task Sample
+        NOP
         TERM
 end:    JMP end

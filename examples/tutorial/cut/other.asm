@@ -1,0 +1,21 @@
+.task Show
+again:  ACT Show
+        JMP again
+
+.task Sample
+        GETR Bus
+        NOP
+        RELR Bus
+        SETE Control, Sampled
+        TERM
+end:    JMP end
+
+.task Control
+wait:   WAIT Sampled + Pressed
+        CLRE Sampled + Pressed
+        NOP
+        JMP wait
+
+.isr Key
+        SETE Control, Pressed
+        RETI

@@ -1,9 +1,0 @@
-.task Low
-        ACT High
-        NOP
-        TERM
-end:    JMP end
-
-.task High
-        TERM
-end:    JMP end
