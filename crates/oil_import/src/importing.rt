@@ -2,7 +2,7 @@
 
 ghost use Rattle.std.specs.Prelude.{IfOk, IfSome};
 ghost use Rattle.std.specs.String.{string_bytes};
-ghost use Rattle.oil_import.specs.Plain.{IsPlain};
+ghost use Rattle.oil_printer.specs.Plain.{IsPlain};
 
 use crate::files::import_items;
 use crate::includes::all_tokens;
@@ -10,8 +10,7 @@ use crate::items::items_of;
 use crate::messages::{Messages, Subject};
 use crate::reasons;
 use crate::sources::{Place, Source};
-use oil_printer::print_oil;
-use oil_reader::{OilFault, read_oil};
+use oil_printer::reprint_oil;
 use std::alloc::{AllocError, Global};
 
 /// What files become.
@@ -20,20 +19,6 @@ pub struct PlainOil<'a> {
     /// Plain OIL, unless something was refused.
     pub text: Option<String>,
     pub messages: Messages<'a>,
-}
-
-/// The printed text of a draft, unless the reader refuses it.
-fn plain(alloc: Global, draft: &[u8]) -> Result<Option<String>, AllocError>
-    ensures { IfOk result (λ printed. IfSome printed (λ text. IsPlain (string_bytes text))) }
-{
-    match read_oil(alloc, draft) {
-        Ok(file) => {
-            let text = print_oil(alloc, &file)?;
-            Ok(Some(text))
-        }
-        Err(OilFault::Memory) => Err(AllocError),
-        Err(_) => Ok(None),
-    }
 }
 
 /// Imports OIL files as they are used: the first one, and the others where they are included.
@@ -55,7 +40,7 @@ pub fn import<'a>(alloc: Global, sources: &[Source<'a>]) -> Result<PlainOil<'a>,
         });
     }
     let draft = importer.draft.into_text();
-    let text = plain(alloc, draft.as_bytes())?;
+    let text = reprint_oil(alloc, draft.as_bytes())?;
     if text.is_none() {
         let place = Place::first(0);
         messages.refuse(place, Subject::Word("CPU"), reasons::NOT_READ)?;

@@ -3,9 +3,9 @@
 use crate::described::{Body, Does, Step};
 use crate::fault::{Fault, Wrong};
 use crate::names::is_among;
-use crate::work::Work;
 use osek_base::MAX_INSTRUCTIONS;
 use std::alloc::{AllocError, Global};
+use work_ticks::Work;
 
 /// What is held at a step, and how much of it was held where each open repeat began.
 #[derive(Drop)]

@@ -21,7 +21,5 @@ mod sections;
 mod steps;
 mod tables;
 mod uses;
-mod work;
 
 pub use answer::{Answer, Made, Remark, make};
-pub use work::Work;

@@ -8,9 +8,9 @@ use crate::described::{Body, Described, Does, Release};
 use crate::lists::names;
 use crate::nodes::Node;
 use crate::routines::ROUTINE;
-use crate::work::Work;
 use std::alloc::Global;
 use std::io::{self, Write};
+use work_ticks::Work;
 
 /// The labels that a program has so far, and those of the repeats that are open.
 #[derive(Drop)]

@@ -1,7 +1,7 @@
 //! Work: the instructions that take just so many ticks.
 
 ghost use Rattle.std.specs.Prelude.{◌≡◌, ◌<◌};
-ghost use Rattle.system_maker.specs.Work.{work_ticks};
+ghost use Rattle.work_ticks.specs.Work.{work_ticks};
 
 /// The instructions of a piece of work: a loop of so many rounds, none where that is 0, and behind it so many `NOP`.
 #[derive(Clone, Copy, Debug, PartialEq, Eq)]
