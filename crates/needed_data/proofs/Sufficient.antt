@@ -48,6 +48,7 @@ all_suffices S = record {
   zero = λ who r. refl;
   beyond = λ who place r far. refl;
   each = λ who place. respects_any who place (instruction_at S who place);
+  counters = λ who place c is. refl;
 }
 
 -- ---- nothing is cleaned away

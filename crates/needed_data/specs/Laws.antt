@@ -52,6 +52,7 @@ all_needed =
       registers = λ who r. true;
       words = λ who i. true;
       shared = λ r. true;
+      counters = λ c. true;
       indices = λ who place r i. true;
     }
 

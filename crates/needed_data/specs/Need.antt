@@ -1,5 +1,6 @@
 -- The modelled processor, no part of the standards. Which data of the programs what a run does may depend on, word by word.
-use Rattle.std.specs.Prelude.{ℕ, suc, ◌<◌, ◌≤◌, ◌+◌, ◌%◌, ◌==◌, ◌≢◌, Bool, true, not, ◌&&◌, ◌||◌, IsTrue, Some, List, [], ◌∷◌, length, if◌then◌else◌}
+use Rattle.std.specs.Prelude.{ℕ, suc, ◌<◌, ◌≤◌, ◌+◌, ◌%◌, ◌==◌, ◌≢◌, Bool, true, not, ◌&&◌, ◌||◌, ◌≡◌, IsTrue, Option, Some, None, List, [], ◌∷◌, length, slice_get, if◌then◌else◌}
+use Rattle.std.specs.Option.{option_map}
 use Rattle.osek_base.specs.declared.limits.TheConstants.{WINDOW_WORDS, REGISTERS}
 use Rattle.osek_base.specs.declared.ids.ResId.{ResId}
 use Rattle.osek_base.specs.declared.ids.Owner.{Owner}
@@ -9,14 +10,15 @@ use Rattle.osek_base.specs.declared.instr.Instr.{Instr}
 use Rattle.osek_base.specs.Types.{PlainInstr, ServiceCall}
 use Rattle.osek_base.specs.Instruction.{Context}
 use Rattle.osek_base.specs.State.{fresh_context}
-use Rattle.osek_base.specs.System.{System, instruction_at}
+use Rattle.osek_base.specs.System.{System, Alarm, instruction_at}
 
--- which registers of each task and routine are needed, which words of its window, and which declared resource's window;
--- and which indices, numbers mod 64, each register may have at each place
+-- which registers of each task and routine are needed, which words of its window, which declared resource's window, and of
+-- which counters the value; and which indices, numbers mod 64, each register may have at each place
 pub record Need : Type 0 where
   pub registers : Owner → ℕ → Bool
   pub words : Owner → ℕ → Bool
   pub shared : ℕ → Bool
+  pub counters : ℕ → Bool
   pub indices : Owner → ℕ → ℕ → ℕ → Bool
 
 -- where a is needed, b is
@@ -78,12 +80,27 @@ Respects need who place (Instr.Service call) =
     × ((r : ℕ) → r < 4 → MayHoldAll (need.indices who (place + 1)) r)
 Respects need who place (Instr.Control control) = Passes (need.indices who place) (need.indices who (place + 1))
 
+-- the counter whose value a service asks for: that of an alarm which it sets to a value of it
+abbrev pub asked_by_service : System → ServiceCall → Option ℕ
+asked_by_service S (Service.SetAbsAlarm (Some a) start cycle) = option_map (λ (x : Alarm). x.counter) (slice_get S.alarms a)
+asked_by_service S _ = None
+
+abbrev pub asked_by : System → Instr → Option ℕ
+asked_by S (Instr.Service call) = asked_by_service S call
+asked_by S _ = None
+
+-- the counters whose values programs ask for are among these
+abbrev pub HaveAsked : System → (ℕ → Bool) → Type 0
+HaveAsked S counters =
+    (who : Owner) (place c : ℕ) → asked_by S (instruction_at S who place) ≡ Some c → IsTrue (counters c)
+
 -- a need suffices: at its first place each register may have 0, and each instruction of each program is respected. Beyond
--- r7 is none
+-- r7 is none. The values that programs ask for are needed
 pub record Suffices (S : System) (need : Need) : Type 0 where
   pub zero : (who : Owner) (r : ℕ) → IsTrue (need.indices who 0 r 0)
   pub beyond : (who : Owner) (place r : ℕ) → REGISTERS ≤ r → IsTrue (need.indices who place r 0)
   pub each : (who : Owner) (place : ℕ) → Respects need who place (instruction_at S who place)
+  pub counters : HaveAsked S need.counters
 
 -- registers have the indices that they may have
 abbrev pub are_allowed : (ℕ → ℕ → Bool) → List ℕ → Bool

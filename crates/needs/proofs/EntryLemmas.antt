@@ -10,7 +10,7 @@ use Rattle.osek_base.specs.declared.instr.Plain.{Plain}
 use Rattle.osek_base.specs.declared.instr.Instr.{Instr}
 use Rattle.osek_base.specs.System.{System, Task, Routine, no_task, no_routine, program, instruction_in, instruction_at}
 use Rattle.osek_base.specs.Separable.{IsOwner}
-use Rattle.needed_data.specs.Need.{Need, Respects, Suffices}
+use Rattle.needed_data.specs.Need.{HaveAsked, Need, Respects, Suffices}
 use Rattle.needs.specs.declared.table.OwnerNeeds.{OwnerNeeds}
 use Rattle.needs.specs.declared.table.Needs.{Needs}
 use Rattle.needs.specs.Table.{has, allows, entry, need_of, need_by}
@@ -71,6 +71,7 @@ as_entry needs who e =
       registers = λ x r. option_map_or (λ o. has o.registers r) e false;
       words = λ x i. option_map_or (λ o. has o.words i) e false;
       shared = has needs.shared;
+      counters = has needs.counters;
       indices = λ x p r i. option_map_or (λ o. allows o.indices.items p r i) e true;
     }
 
@@ -132,11 +133,12 @@ module _ (S : System) (needs : Needs) (tasks_long : length needs.tasks.items ≡
     each_there who place (Some own) is =
         by_entry needs who own is place (instruction_at S who place) ((in_table who own is).1.each who place)
 
-    pub closed_from : Suffices S (need_of needs)
-    closed_from = record {
+    pub closed_from : HaveAsked S (has needs.counters) → Suffices S (need_of needs)
+    closed_from asked = record {
       zero = λ who r. zero_there who r (entry needs who) refl;
       beyond = λ who place r past. beyond_there who place r (entry needs who) refl past;
       each = λ who place. each_there who place (entry needs who) refl;
+      counters = asked;
     }
 
     registers_there : (who : Owner) (r : ℕ) (e : Option OwnerNeeds) → entry needs who ≡ e → IsTrue ((need_of needs).registers who r)

@@ -1,4 +1,5 @@
 pub mod Table
 pub mod Within
 pub mod Entries
+pub mod Asked
 pub mod Everything

@@ -1,4 +1,4 @@
--- What is needed, as a table of a system's tasks, routines and resources.
+-- What is needed, as a table of a system's tasks, routines, resources and counters.
 use Rattle.std.specs.Prelude.{ℕ, ◌==◌, ◌||◌, nat_le, Bool, true, false, Option, Some, None, List, slice_get, slice_index}
 use Rattle.std.specs.Option.{option_map_or}
 use Rattle.std.specs.Int.{bit_at}
@@ -28,16 +28,18 @@ need_of needs =
       registers = λ who r. option_map_or (λ own. has own.registers r) (entry needs who) false;
       words = λ who i. option_map_or (λ own. has own.words i) (entry needs who) false;
       shared = has needs.shared;
+      counters = has needs.counters;
       indices = λ who place r i. option_map_or (λ own. allows own.indices.items place r i) (entry needs who) true;
     }
 
--- what is needed of one task or routine, as a need of each
+-- what is needed of one task or routine, as a need of each, and the value of each counter
 abbrev pub need_by : OwnerNeeds → ℕ → Need
 need_by own shared =
     record {
       registers = λ who. has own.registers;
       words = λ who. has own.words;
       shared = has shared;
+      counters = λ c. true;
       indices = λ who. allows own.indices.items;
     }
 

@@ -15,6 +15,7 @@ ghost use Rattle.needs.specs.Entries.{
 };
 ghost use Rattle.needs.specs.Within.{IsWithin};
 
+use crate::counters::all_among;
 use crate::data::{data_follows, service_follows};
 use crate::indices::{all_pass, answers_follow, indices_follow, may_hold};
 use crate::numbers::Numbers;
@@ -183,5 +184,8 @@ pub(crate) fn is_closed(system: &System, needs: &Needs) -> bool
     if !tasks_respect(system, needs) {
         return false;
     }
-    routines_respect(system, needs)
+    if !routines_respect(system, needs) {
+        return false;
+    }
+    all_among(system, needs.counters)
 }

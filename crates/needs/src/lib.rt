@@ -7,6 +7,7 @@
 #![tactic(auto)]
 
 mod closed;
+mod counters;
 mod data;
 mod indices;
 mod needed;

@@ -7,6 +7,7 @@ ghost use Rattle.needs.specs.Everything.{IsAll, AreAll};
 ghost use Rattle.needs.specs.Within.{IsWithin};
 
 use crate::closed::{declared_resources, is_closed};
+use crate::counters::all_counters;
 use crate::numbers::Numbers;
 use crate::passes::add_all;
 use crate::table::{Needs, OwnerNeeds};
@@ -47,6 +48,7 @@ fn nothing(alloc: Global, system: &System) -> Result<Needs, AllocError> {
         tasks,
         routines,
         shared: Numbers::below(0),
+        counters: Numbers::below(0),
     })
 }
 
@@ -81,15 +83,17 @@ fn everything(alloc: Global, system: &System) -> Result<Needs, AllocError>
     let tasks = all_of_owners(alloc, system.task_count())?;
     let routines = all_of_owners(alloc, system.routine_count())?;
     let shared = declared_resources(system);
+    let counters = all_counters(system);
     Ok(Needs {
         tasks,
         routines,
         shared,
+        counters,
     })
 }
 
-/// What a system needs: what its jumps compare and its alarms are set to, and what these are worked
-/// out from. Where that isn't found by as many passes as are made, all is needed.
+/// What a system needs: what its jumps compare and its alarms are set to, what these are worked out
+/// from, and the values of counters that an alarm is set to. Where that isn't found by as many passes as are made, all is needed.
 pub fn needed_data(alloc: Global, system: &System) -> Result<Needs, AllocError>
     ensures closed { IfOk result (λ needs. Suffices system.now (need_of needs)) }
     ensures within { IfOk result (λ needs. IsWithin system.now (need_of needs)) }

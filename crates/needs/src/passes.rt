@@ -4,6 +4,7 @@ ghost use Rattle.std.specs.Prelude.{◌<◌};
 ghost use Rattle.osek_base.specs.declared.limits.TheConstants.{MAX_INSTRUCTIONS};
 
 use crate::closed::{routine_lines, task_lines};
+use crate::counters::add_all_asked;
 use crate::data::declared;
 use crate::indices::indices_at;
 use crate::numbers::Numbers;
@@ -221,6 +222,7 @@ fn add_entry(owners: &mut [OwnerNeeds], number: usize, shared: &mut Numbers, lin
 
 /// One pass over all programs.
 pub(crate) fn add_all(system: &System, needs: &mut Needs) {
+    add_all_asked(system, &mut needs.counters);
     for number in 0..system.task_count() {
         let lines = task_lines(system, number);
         add_entry(&mut needs.tasks, number, &mut needs.shared, lines);

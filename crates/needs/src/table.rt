@@ -1,4 +1,4 @@
-//! What is needed, as a table of a system's tasks, routines and resources.
+//! What is needed, as a table of a system's tasks, routines, resources and counters.
 
 ghost use Rattle.std.specs.Prelude.{◌≡◌, ◌<◌};
 ghost use Rattle.osek_base.specs.declared.limits.TheConstants.{WINDOW_WORDS};
@@ -6,7 +6,7 @@ ghost use Rattle.std.specs.Option.{option_map};
 ghost use Rattle.needs.specs.Table.{entry, need_of};
 
 use crate::numbers::Numbers;
-use osek_base::{Owner, REGISTERS, Register, ResourceNumber};
+use osek_base::{CounterId, Owner, REGISTERS, Register, ResourceNumber};
 
 /// The indices, numbers mod 64, that each register may have at a place.
 pub(crate) type Row = [Numbers; REGISTERS];
@@ -20,12 +20,14 @@ pub struct OwnerNeeds {
     pub(crate) indices: Vec<Row>,
 }
 
-/// What is needed of each task and routine, and which declared resources' windows.
+/// What is needed of each task and routine, which declared resources' windows, and of which counters
+/// the value.
 #[derive(Debug, Drop)]
 pub struct Needs {
     pub(crate) tasks: Vec<OwnerNeeds>,
     pub(crate) routines: Vec<OwnerNeeds>,
     pub(crate) shared: Numbers,
+    pub(crate) counters: Numbers,
 }
 
 impl Needs {
@@ -65,5 +67,12 @@ impl Needs {
         ensures { result ≡ (need_of self.now).shared resource }
     {
         self.shared.has(resource.number())
+    }
+
+    /// Whether the value of a counter is needed.
+    pub fn needs_value(&self, counter: CounterId) -> bool
+        ensures { result ≡ (need_of self.now).counters counter }
+    {
+        self.counters.has(counter.number())
     }
 }

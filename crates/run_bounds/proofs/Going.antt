@@ -15,7 +15,7 @@ use Rattle.kept_state.proofs.Ticked.{boots, ticks}
 use Rattle.needed_data.specs.Need.{Need, Suffices}
 use Rattle.needed_data.specs.Same.{HasAllowedIndices, HaveSameNeeded}
 use Rattle.needed_data.proofs.Runs.{runs_keep_indices}
-use Rattle.same_future.specs.Alike.{AreAlike, kept_after}
+use Rattle.same_future.specs.Alike.{AreAlikeBy, kept_after}
 use Rattle.same_future.specs.AlikeIn.{AreAlikeIn, TicksAreAlikeIn}
 use Rattle.same_future.proofs.AlikeIn.{alike_in_ticks}
 use Rattle.shown_ticks.specs.Seen.{seen_by, seen_in}
@@ -44,7 +44,7 @@ at_time_of p o = record o { tick = p.tick; alarms = p.alarms }
 module _ (S : System) (need : Need) (proper : IsProper S) (enough : Suffices S need) (o p : Kept)
     (held : HasAllowedIndices need o) (held_too : HasAllowedIndices need p)
     (alike : AreAlikeIn S need o p) where
-  by_time : AreAlike S o (at_time_of p o)
+  by_time : AreAlikeBy S need.counters o (at_time_of p o)
   by_time = record {
     rest = refl;
     values = alike.values;
@@ -62,7 +62,7 @@ module _ (S : System) (need : Need) (proper : IsProper S) (enough : Suffices S n
   unfolding seen_in
   alike_seen arrived =
       seen_same S (ticked_in S false arrived o) (ticked_in S false arrived (at_time_of p o))
-      (alike_show S false arrived o (at_time_of p o) proper by_time)
+      (alike_show S need.counters false arrived o (at_time_of p o) proper enough.counters by_time)
       ∙ seen_same S (ticked_in S false arrived (at_time_of p o)) (ticked_in S false arrived p)
       (same_needed_show S need false arrived (at_time_of p o) p enough held_between held_too
       by_data)

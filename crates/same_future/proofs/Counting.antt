@@ -14,13 +14,14 @@ use Rattle.osek_base.specs.System.{instruction_at}
 use Rattle.osek_base.specs.Tick.{alarm_phase, start_phase, execute_phase, tick}
 use Rattle.osek_base.specs.Trace.{boot, run}
 use Rattle.osek_base.specs.Proper.{IsProper}
+use Rattle.run_laws.proofs.Lists.{none_some}
 use Rattle.run_laws.proofs.RunSteps.{state_more}
 use Rattle.ready_queues.specs.Moves.{highest}
 use Rattle.kept_state.specs.Kept.{kept, slot_of}
 use Rattle.kept_state.specs.Moves.{rescheduled}
 use Rattle.kept_state.specs.KeptService.{unmasked_in, service_in}
 use Rattle.kept_state.specs.KeptTick.{alarm_phase_in, start_phase_in, execute_phase_in, tick_in, boot_in}
-use Rattle.needed_data.specs.Need.{Respects, Suffices}
+use Rattle.needed_data.specs.Need.{HaveAsked, Respects, Suffices}
 use Rattle.needed_data.specs.Same.{cleaned, cleaned_slot, cleaned_slots}
 use Rattle.needed_data.proofs.Sufficient.{holds_all}
 use Rattle.same_future.specs.Alike.{untimed}
@@ -53,8 +54,21 @@ each (Owner.Task zero) (suc (suc (suc place))) = (tt, λ r i e. refl)
 each (Owner.Task (suc t)) place = (tt, λ r i e. refl)
 each (Owner.Routine i) place = (tt, λ r j e. refl)
 
+none_set : HaveAsked counting (λ c. false)
+none_set (Owner.Task zero) zero c is = absurd (none_some c is)
+none_set (Owner.Task zero) (suc zero) c is = absurd (none_some c is)
+none_set (Owner.Task zero) (suc (suc zero)) c is = absurd (none_some c is)
+none_set (Owner.Task zero) (suc (suc (suc place))) c is = absurd (none_some c is)
+none_set (Owner.Task (suc t)) place c is = absurd (none_some c is)
+none_set (Owner.Routine i) place c is = absurd (none_some c is)
+
 enough : Suffices counting none_needed
-enough = record { zero = λ who r. refl; beyond = λ who place r far. refl; each = each }
+enough = record {
+  zero = λ who r. refl;
+  beyond = λ who place r far. refl;
+  each = each;
+  counters = none_set;
+}
 
 -- ---- the table
 
@@ -139,7 +153,7 @@ work_alike m n now later = record {
       record (untimed (cleaned none_needed (kept counting (work_at 1 m now)))) {
         slots = fun_ext (slot_alike m n now later) i;
       };
-  values = λ c inside. absurd (omega (arith, inside));
+  values = λ c inside is. absurd (omega (arith, inside));
   phases = λ c inside. absurd (omega (arith, inside));
   alarms = λ a inside. absurd (omega (arith, inside));
 }

@@ -67,7 +67,7 @@ module _ (S : System) (need : Need) where
       → alarms_refused S o ≡ alarms_refused S p
   refused_same proper o p alike =
       sym (refused_plain (due_alarms S (bare o)) (record o { alarms = alarms_advanced S (bare o) }))
-      ∙ ap₂ (refused_in_turn S) (due_same S proper (cleaned need o) (cleaned need p) alike)
+      ∙ ap₂ (refused_in_turn S) (due_same S proper need.counters (cleaned need o) (cleaned need p) alike)
       alike.rest
       ∙ refused_plain (due_alarms S (bare p)) (record p { alarms = alarms_advanced S (bare p) })
 

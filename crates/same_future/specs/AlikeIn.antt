@@ -9,12 +9,12 @@ use Rattle.kept_state.specs.KeptTick.{before_execution_in, tick_in}
 use Rattle.needed_data.specs.Need.{Need, Suffices}
 use Rattle.needed_data.specs.Same.{cleaned, HaveSameNeeded, HasAllowedIndices, blanked}
 use Rattle.needed_data.specs.Laws.{all_needed}
-use Rattle.same_future.specs.Alike.{untimed, AreAlike}
+use Rattle.same_future.specs.Alike.{untimed, AreAlike, AreAlikeBy}
 
--- two states are alike in what is needed: between them only absolute time and data that isn't
--- needed differ
+-- two states are alike in what is needed: between them only absolute time, data that isn't needed
+-- and values of counters that aren't needed differ
 abbrev pub AreAlikeIn : System → Need → Kept → Kept → Type 0
-AreAlikeIn S need o p = AreAlike S (cleaned need o) (cleaned need p)
+AreAlikeIn S need o p = AreAlikeBy S need.counters (cleaned need o) (cleaned need p)
 
 pub record IsEquivalenceIn (S : System) (need : Need) : Type 0 where
   pub itself : (o : Kept) → AreAlikeIn S need o o

@@ -58,6 +58,7 @@ none_needed =
       registers = λ who r. false;
       words = λ who i. false;
       shared = λ r. false;
+      counters = λ c. false;
       indices = λ who place r i. true;
     }
 

@@ -1,4 +1,5 @@
--- States between which only absolute time differs show the same.
+-- States between which only absolute time differs, and values that no program asks for, show the
+-- same.
 use Rattle.std.proofs.Common.{◌≡◌, ℕ, ◌+◌, ◌-◌, Bool, false, not, ◌&&◌, List, [], ◌∷◌, ◌++◌, length, refl, sym, ◌∙◌, ap}
 use Rattle.std.specs.Prelude.{Option, slice_index_or}
 use Rattle.std.specs.Option.{option_map}
@@ -15,10 +16,11 @@ use Rattle.kept_state.specs.Moves.{KeptRecorded}
 use Rattle.services.specs.Seen.{routine_of}
 use Rattle.kernel.specs.Does.{advanced_in}
 use Rattle.kernel.specs.Told.{acted_in, acting_in, if_refused, refused_of_in, task_at_in}
-use Rattle.same_future.specs.Alike.{AreAlike, TicksAreAlike, untimed}
+use Rattle.needed_data.specs.Need.{HaveAsked}
+use Rattle.same_future.specs.Alike.{AreAlikeBy, TicksAreAlikeBy, untimed}
 use Rattle.same_future.proofs.Commutes.{alarms_act}
 use Rattle.same_future.proofs.Tables.{filter_same, one_due}
-use Rattle.same_future.proofs.Ticks.{alike_ticks}
+use Rattle.same_future.proofs.Ticks.{ticks_alike}
 use Rattle.same_future.proofs.Timed.{as_retimed, retimed}
 use Rattle.observed_runs.specs.Observed.{activations_by, answered, ending, executed_in, is_among, is_by, is_number, is_waiting, lost_of, one_if, owner_of, refusing, state_seen, times}
 use Rattle.shown_ticks.specs.Shown.{KeptTicked, ticked_in, jobs_before_in, task_seen_in, routine_seen_in, holders_seen_in, alarm_seen_in}
@@ -45,7 +47,7 @@ module _ (S : System) (u : ℕ) (bs : List (Option Expiry)) where
       ∙ ap (λ v. if_refused a (acting_in S a o).status ++ v)
       (refused_untimed due (acting_in S a o).state)
 
-module _ (S : System) (o p : Kept) (alike : AreAlike S o p) where
+module _ (S : System) (valued : ℕ → Bool) (o p : Kept) (alike : AreAlikeBy S valued o p) where
   due_same : due_alarms S (bare o) ≡ due_alarms S (bare p)
   due_same =
       filter_same (is_due S (bare o)) (is_due S (bare p)) (length S.alarms)
@@ -69,22 +71,22 @@ module _ (S : System) (o p : Kept) (alike : AreAlike S o p) where
 
 -- ---- a tick
 
-module _ (S : System) (proper : IsProper S) (first : Bool) (arrived : List ℕ) (o p : Kept)
-    (alike : AreAlike S o p) where
+module _ (S : System) (proper : IsProper S) (valued : ℕ → Bool) (asked : HaveAsked S valued)
+    (first : Bool) (arrived : List ℕ) (o p : Kept) (alike : AreAlikeBy S valued o p) where
   abbrev one : KeptTicked
   one = ticked_in S first arrived o
 
   abbrev other : KeptTicked
   other = ticked_in S first arrived p
 
-  both : TicksAreAlike S arrived o p
-  both = alike_ticks S arrived o p proper alike
+  both : TicksAreAlikeBy S valued arrived o p
+  both = ticks_alike S proper valued asked arrived o p alike
 
   executed : one.executed ≡ other.executed
   executed = ap executed_in both.events
 
   acted : one.acted ≡ other.acted
-  acted = acted_same S o p alike
+  acted = acted_same S valued o p alike
 
   at : untimed one.at ≡ untimed other.at
   at = both.executing
@@ -134,4 +136,5 @@ module _ (S : System) (proper : IsProper S) (first : Bool) (arrived : List ℕ) 
   }
 
 pub alike_show : AlikeShow
-alike_show S first arrived o p proper alike = shown S proper first arrived o p alike
+alike_show S valued first arrived o p proper asked alike =
+    shown S proper valued asked first arrived o p alike

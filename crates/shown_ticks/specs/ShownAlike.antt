@@ -4,8 +4,8 @@ use Rattle.std.specs.Option.{option_map}
 use Rattle.osek_base.specs.Proper.{IsProper}
 use Rattle.osek_base.specs.System.{System}
 use Rattle.kept_state.specs.Kept.{Kept}
-use Rattle.same_future.specs.Alike.{AreAlike}
-use Rattle.needed_data.specs.Need.{Need, Suffices}
+use Rattle.same_future.specs.Alike.{AreAlikeBy}
+use Rattle.needed_data.specs.Need.{HaveAsked, Need, Suffices}
 use Rattle.needed_data.specs.Same.{HasAllowedIndices, HaveSameNeeded}
 use Rattle.observations.specs.declared.observation.Observation.{Observation}
 use Rattle.observed_runs.specs.Observed.{answered, owner_of}
@@ -28,10 +28,11 @@ ShownByBoth =
 
 -- ---- laws, where the same routines arrive
 
--- between which only absolute time differs
+-- between which only absolute time differs, and values of counters that no program asks for
 abbrev pub AlikeShow : Type 0
 AlikeShow =
-    (S : System) (first : Bool) (arrived : List ℕ) (o p : Kept) → IsProper S → AreAlike S o p
+    (S : System) (valued : ℕ → Bool) (first : Bool) (arrived : List ℕ) (o p : Kept) → IsProper S
+    → HaveAsked S valued → AreAlikeBy S valued o p
     → AreShownAlike S (ticked_in S first arrived o) (ticked_in S first arrived p)
 
 -- that have the same needed data, and registers with indices that they may have

@@ -14,7 +14,8 @@ pub fn seen_is_shown()
     ensures { SeenIsShown }
 {}
 
-/// States between which only absolute time differs show the same, where the same routines arrive.
+/// States between which only absolute time differs, and values of counters that no program asks
+/// for, show the same, where the same routines arrive.
 pub fn alike_show()
     ensures { AlikeShow }
 {}

@@ -43,17 +43,17 @@ module _ (S T : System) (need : Need) (r : Objects) (p : Kept) (t now : ℕ) (sa
   jobs_same : jobs_part T need (kept_in r) ≡ jobs_part S need p
   jobs_same = ap₂ (λ (R : System) (o : Kept). jobs_part R need o) same pictured
 
-  times_same : now ≡ t → times_key T (at_tick now (kept_in r)) ≡ times_key S p
+  times_same : now ≡ t → times_key T need (at_tick now (kept_in r)) ≡ times_key S need p
   times_same is_now =
-      ap (λ (k : ℕ). times_key T (at_tick k (kept_in r))) is_now
-      ∙ ap₂ (λ (R : System) (o : Kept). times_key R o) same pictured
+      ap (λ (k : ℕ). times_key T need (at_tick k (kept_in r))) is_now
+      ∙ ap₂ (λ (R : System) (o : Kept). times_key R need o) same pictured
 
   -- the steps in which a key is written
   pub record AreSteps (q : Queues) (over : Bool)
       (old jobs ready times words all : List ℕ) : Type 0 where
     pub jobs_step : jobs ≡ old ++ jobs_part T need (kept_in r)
     pub ready_step : ready ≡ jobs ++ ready_key (suc MAX_TASK_PRIORITY) q
-    pub times_step : times ≡ ready ++ times_key T (at_tick now (kept_in r))
+    pub times_step : times ≡ ready ++ times_key T need (at_tick now (kept_in r))
     pub words_step : words ≡ times ++ words_key T need p
     pub over_step : all ≡ words ++ flag over
 

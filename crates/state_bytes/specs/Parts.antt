@@ -44,5 +44,6 @@ less_by passed None = None
 less_by passed (Some left) = Some (left - passed)
 
 -- alarms and counters
-abbrev pub times_key : System → Kept → List ℕ
-times_key S o = each (length S.alarms) (alarm_key S o) ++ each (length S.counters) (counter_key S o)
+abbrev pub times_key : System → Need → Kept → List ℕ
+times_key S need o =
+    each (length S.alarms) (alarm_key S o) ++ each (length S.counters) (counter_key S need o)

@@ -7,12 +7,14 @@ ghost use Rattle.alarms.specs.Alarms.{cycle_of};
 ghost use Rattle.same_future.specs.Alike.{phase_at, value_at};
 ghost use Rattle.same_future.specs.Relative.{left_of};
 ghost use Rattle.services.specs.Objects.{kept_in};
-ghost use Rattle.state_keys.specs.Bytes.{each, number};
-ghost use Rattle.state_keys.specs.Key.{alarm_key, counter_key};
+ghost use Rattle.needs.specs.Table.{need_of};
+ghost use Rattle.state_keys.specs.Bytes.{each, needed, number};
+ghost use Rattle.state_keys.specs.Key.{alarm_key};
 ghost use Rattle.state_bytes.specs.Parts.{at_tick, count_of, left_key, less_by, times_key};
 
 use crate::numbers::{push_byte, push_number};
-use osek_base::{AlarmId, Counter, System};
+use needs::Needs;
+use osek_base::{AlarmId, Counter, CounterId, System};
 use services::{CompactQueues, Objects};
 use std::alloc::AllocError;
 
@@ -130,33 +132,61 @@ fn counter_at(system: &System, number: usize) -> Counter
     parts.counters[number]
 }
 
-/// Adds the value that a counter has at a tick, and for how many ticks it has had it.
-#[tactic(auto, using(crate::proofs::Steps::joined))]
-fn push_counter(out: &mut Vec<u8>, counter: &Counter, tick: u32) -> Result<(), AllocError>
+/// Adds the value that a counter has at a tick, if it is needed.
+fn push_value(
+    out: &mut Vec<u8>,
+    counter: &Counter,
+    is_needed: bool,
+    tick: u32,
+) -> Result<(), AllocError>
     requires base { 1 ≤ counter.now.ticks_per_base }
     requires round { counter.now.max_allowed_value < 2 ^ 31 }
     ensures { OnOk result (out.new.items ≡ out.old.items
-        ++ (number (value_at counter.now tick) ++ number (phase_at counter.now tick))) }
+        ++ needed is_needed (value_at counter.now tick)) }
 {
-    push_number(
-        out,
-        tick / counter.ticks_per_base % (counter.max_allowed_value + 1),
-    )?;
+    if is_needed {
+        let count = tick / counter.ticks_per_base;
+        push_number(out, count % (counter.max_allowed_value + 1))?;
+    }
+    Ok(())
+}
+
+/// Adds the value that a counter has at a tick, if it is needed, and for how many ticks it has had
+/// it.
+#[tactic(auto, using(crate::proofs::Steps::joined))]
+fn push_counter(
+    out: &mut Vec<u8>,
+    counter: &Counter,
+    is_needed: bool,
+    tick: u32,
+) -> Result<(), AllocError>
+    requires base { 1 ≤ counter.now.ticks_per_base }
+    requires round { counter.now.max_allowed_value < 2 ^ 31 }
+    ensures { OnOk result (out.new.items ≡ out.old.items
+        ++ (needed is_needed (value_at counter.now tick) ++ number (phase_at counter.now tick))) }
+{
+    push_value(out, counter, is_needed, tick)?;
     push_number(out, tick % counter.ticks_per_base)
 }
 
 /// Adds each counter.
 #[tactic(auto, using(crate::proofs::Steps::none_yet))]
-fn push_counters(out: &mut Vec<u8>, system: &System, tick: u32) -> Result<(), AllocError>
+fn push_counters(
+    out: &mut Vec<u8>,
+    system: &System,
+    needs: &Needs,
+    tick: u32,
+) -> Result<(), AllocError>
     ensures { OnOk result (out.new.items ≡ out.old.items
         ++ each (length system.now.counters)
-        (λ c. number (value_at (counter system.now c) tick)
+        (λ c. needed ((need_of needs.now).counters c) (value_at (counter system.now c) tick)
         ++ number (phase_at (counter system.now c) tick))) }
 {
     let parts = system.parts();
     for number in 0..parts.counters.len() {
         let counter = counter_at(system, number);
-        push_counter(out, &counter, tick)?;
+        let is_needed = needs.needs_value(CounterId::new(number as u8));
+        push_counter(out, &counter, is_needed, tick)?;
     }
     Ok(())
 }
@@ -166,14 +196,15 @@ fn push_counters(out: &mut Vec<u8>, system: &System, tick: u32) -> Result<(), Al
 pub fn push_times(
     out: &mut Vec<u8>,
     system: &System,
+    needs: &Needs,
     objects: &Objects<'_, CompactQueues>,
     tick: u32,
 ) -> Result<(), AllocError>
     requires system { objects.now.system ≡ system.now }
     requires clock { objects.now.tick ≡ tick - 1 }
     ensures { OnOk result (out.new.items ≡ out.old.items
-        ++ times_key system.now (at_tick tick (kept_in objects.now))) }
+        ++ times_key system.now (need_of needs.now) (at_tick tick (kept_in objects.now))) }
 {
     push_alarms(out, system, objects, tick)?;
-    push_counters(out, system, tick)
+    push_counters(out, system, needs, tick)
 }

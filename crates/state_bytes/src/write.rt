@@ -58,7 +58,7 @@ pub fn write_key<B: Blockers>(
     let system = system_of(objects);
     push_jobs(out, system, needs, objects)?;
     push_ready(out, machine.queues())?;
-    push_times(out, system, objects, machine.next_tick())?;
+    push_times(out, system, needs, objects, machine.next_tick())?;
     push_words(out, system, machine, needs)?;
     push_flag(out, machine.is_shut_down())?;
     Ok(())

@@ -3,7 +3,7 @@ use Rattle.std.proofs.Common.{ℕ, zero, suc, ◌≡◌, ◌<◌, ◌%◌, Bool,
 use Rattle.std.specs.Prelude.{Option, Some, None, ◌==◌, slice_index}
 use Rattle.osek_base.specs.declared.limits.TheConstants.{MAX_TASK_PRIORITY, REGISTERS, WINDOW_WORDS, SHARED_WORDS}
 use Rattle.osek_base.specs.declared.ids.Owner.{Owner}
-use Rattle.osek_base.specs.System.{System}
+use Rattle.osek_base.specs.System.{System, counter}
 use Rattle.osek_base.specs.Instruction.{Context, value}
 use Rattle.osek_base.specs.State.{Active, shared_word}
 use Rattle.kept_state.specs.Kept.{Kept, Slot}
@@ -11,6 +11,7 @@ use Rattle.needed_data.specs.Need.{Need}
 use Rattle.needed_data.specs.Same.{cleaned}
 use Rattle.needed_data.specs.Meaning.{AreSameContexts, AreSameSlots, AreSameActive, HaveSameData}
 use Rattle.needed_data.proofs.Meanings.{same_means}
+use Rattle.same_future.specs.Alike.{value_at}
 use Rattle.same_future.specs.AlikeIn.{AreAlikeIn}
 use Rattle.same_future.specs.Relative.{left_of, relative, AreSame}
 use Rattle.same_future.proofs.Same.{same_is_alike}
@@ -133,10 +134,15 @@ module _ (S : System) (need : Need) (o p : Kept) where
         (λ r low. shared_same r))
 
   counters_same : AreAlikeIn S need o p
-      → each (length S.counters) (counter_key S o) ≡ each (length S.counters) (counter_key S p)
+      → each (length S.counters) (counter_key S need o)
+      ≡ each (length S.counters) (counter_key S need p)
   counters_same alike =
-      each_same (length S.counters) (counter_key S o) (counter_key S p)
-      (λ c low. ap₂ (λ m n. number m ++ number n) (alike.values c low) (alike.phases c low))
+      each_same (length S.counters) (counter_key S need o) (counter_key S need p)
+      (λ c low.
+      ap₂ (λ ms ns. ms ++ ns)
+      (needed_same (need.counters c) (value_at (counter S c) o.tick) (value_at (counter S c) p.tick)
+      (alike.values c low))
+      (ap number (alike.phases c low)))
 
   one_key : AreAlikeIn S need o p → HaveSameData need (relative S o) (relative S p)
       → key S need o ≡ key S need p
@@ -153,6 +159,6 @@ module _ (S : System) (need : Need) (o p : Kept) where
 
 pub alike_have_one_key : AlikeHaveOneKey
 alike_have_one_key S need o p first second alike =
-    let same : AreSame S (cleaned need o) (cleaned need p) =
-    (same_is_alike S (cleaned need o) (cleaned need p) first.ahead second.ahead).1 alike in
+    let same : AreSame S need.counters (cleaned need o) (cleaned need p) =
+    (same_is_alike S need.counters (cleaned need o) (cleaned need p) first.ahead second.ahead).1 alike in
     one_key S need o p alike ((same_means need (relative S o) (relative S p)).0 same.kept)

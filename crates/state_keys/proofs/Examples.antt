@@ -1,4 +1,4 @@
--- The worked key, by computation.
+-- The worked keys, by computation.
 use Rattle.std.proofs.Common.{refl}
 use Rattle.osek_base.specs.Activation.{activated, released}
 use Rattle.osek_base.specs.Reschedule.{reschedule}
@@ -12,4 +12,4 @@ use Rattle.state_keys.specs.Worked.{WorkedKeys}
 pub worked_keys : WorkedKeys
 unfolding key each number digits reschedule activated released service unmasked_service
     alarm_phase start_phase execute_phase tick boot run
-worked_keys = record { small = refl; large = refl; running = refl }
+worked_keys = record { small = refl; large = refl; running = refl; without_value = refl }

@@ -1,6 +1,6 @@
 -- States in range whose keys are equal are alike in what is needed.
 use Rattle.std.proofs.Math.Path.{fun_ext}
-use Rattle.std.proofs.Common.{ℕ, zero, suc, ◌≡◌, ◌<◌, inl, inr, [], ◌∷◌, ◌++◌, map, length, refl, sym, ◌∙◌, ap, ap₂, arith}
+use Rattle.std.proofs.Common.{ℕ, zero, suc, ◌≡◌, ◌<◌, inl, inr, true, [], ◌∷◌, ◌++◌, map, length, refl, sym, ◌∙◌, ap, ap₂, arith}
 use Rattle.std.specs.Prelude.{Option}
 use Rattle.std.proofs.lemmas.List.{ext_get_or, map-append}
 use Rattle.std.proofs.lemmas.Bool.{cases_lt}
@@ -21,7 +21,7 @@ use Rattle.same_future.proofs.Same.{same_is_alike}
 use Rattle.state_keys.specs.Bytes.{number}
 use Rattle.state_keys.specs.Key.{executing_key, interrupts_key, key}
 use Rattle.state_keys.specs.InRange.{IsInRange, NeedsOwnWords, KeysTell}
-use Rattle.state_keys.proofs.Codes.{Tells, weaker, ◌⨾◌, each_tells, number_tells, flag_tells, optional_tells}
+use Rattle.state_keys.proofs.Codes.{Tells, weaker, ◌⨾◌, each_tells, number_tells, needed_tells, flag_tells, optional_tells}
 use Rattle.state_keys.proofs.Parts.{active_tells, same_slots, IsToldTask, task_tells, flags_tell, alarm_tells}
 use Rattle.state_keys.proofs.Ready.{ready_tells}
 use Rattle.state_keys.proofs.Data.{HaveSameWords, words_tell, same_words, same_shared}
@@ -34,10 +34,10 @@ map_same f g (suc n) same =
     rw (map-append f (below n) (n ∷ []), map-append g (below n) (n ∷ []))
     (ap₂ (λ xs x. xs ++ x ∷ []) before (same n (omega arith)))
 
--- the value of a counter, and for how many ticks it has had it
-abbrev HasSameTime : System → ℕ → ℕ → ℕ → Type 0
-HasSameTime S t u c =
-    (value_at (counter S c) t ≡ value_at (counter S c) u)
+-- the value of a counter, if it is needed, and for how many ticks it has had it
+abbrev HasSameTime : System → Need → ℕ → ℕ → ℕ → Type 0
+HasSameTime S need t u c =
+    (need.counters c ≡ true → value_at (counter S c) t ≡ value_at (counter S c) u)
     × (phase_at (counter S c) t ≡ phase_at (counter S c) u)
 
 module _ (S : System) (need : Need) (o p : Kept)
@@ -54,7 +54,7 @@ module _ (S : System) (need : Need) (o p : Kept)
     tasks : (t : ℕ) → t < length S.tasks → IsToldTask need o p t
     queues : (l : ℕ) → l < suc MAX_TASK_PRIORITY → o.queues l ≡ p.queues l
     alarms : (a : ℕ) → a < length S.alarms → left_of S o a ≡ left_of S p a
-    counters : (c : ℕ) → c < length S.counters → HasSameTime S o.tick p.tick c
+    counters : (c : ℕ) → c < length S.counters → HasSameTime S need o.tick p.tick c
     words : HaveSameWords need o p S
     over : o.over ≡ p.over
 
@@ -84,7 +84,7 @@ module _ (S : System) (need : Need) (o p : Kept)
       ⨾ ready_tells (suc MAX_TASK_PRIORITY) o.queues p.queues
       ⨾ each_tells (length S.alarms) (λ a low. alarm_tells (left_of S o a) (left_of S p a))
       ⨾ each_tells (length S.counters) (λ c low.
-      number_tells (value_at (counter S c) o.tick) (value_at (counter S c) p.tick)
+      needed_tells (need.counters c) (value_at (counter S c) o.tick) (value_at (counter S c) p.tick)
       ⨾ number_tells (phase_at (counter S c) o.tick) (phase_at (counter S c) p.tick))
       ⨾ words_tell need o p S
       ⨾ flag_tells o.over p.over)
@@ -160,7 +160,7 @@ module _ (S : System) (need : Need) (o p : Kept)
 
     alike : NeedsOwnWords S need → AreAlikeIn S need o p
     alike own =
-        (same_is_alike S (cleaned need o) (cleaned need p) first.ahead second.ahead).0
+        (same_is_alike S need.counters (cleaned need o) (cleaned need p) first.ahead second.ahead).0
         (record {
           kept = (same_means need (relative S o) (relative S p)).1 (same_data own);
           values = λ c low. (same.counters c low).0;

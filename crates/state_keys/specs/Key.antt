@@ -77,9 +77,10 @@ expiry_key e = number e.count ++ number e.cycle
 abbrev pub alarm_key : System → Kept → ℕ → List ℕ
 alarm_key S o a = optional expiry_key (left_of S o a)
 
--- the value of a counter, and for how many ticks it has had it
-abbrev pub counter_key : System → Kept → ℕ → List ℕ
-counter_key S o c = number (value_at (counter S c) o.tick) ++ number (phase_at (counter S c) o.tick)
+-- the value of a counter, if it is needed, and for how many ticks it has had it
+abbrev pub counter_key : System → Need → Kept → ℕ → List ℕ
+counter_key S need o c =
+    needed (need.counters c) (value_at (counter S c) o.tick) ++ number (phase_at (counter S c) o.tick)
 
 -- ---- data
 
@@ -107,6 +108,6 @@ key S need o =
     ++ each (length S.tasks) (task_key need o)
     ++ ready_key (suc MAX_TASK_PRIORITY) o.queues
     ++ each (length S.alarms) (alarm_key S o)
-    ++ each (length S.counters) (counter_key S o)
+    ++ each (length S.counters) (counter_key S need o)
     ++ words_key S need o
     ++ flag o.over

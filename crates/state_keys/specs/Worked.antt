@@ -1,4 +1,4 @@
--- A worked key: of a task that runs, of which one register is needed.
+-- Worked keys: of a task that runs, of which one register is needed.
 use Rattle.std.specs.Prelude.{◌==◌, ◌≡◌, false, true, [], ◌∷◌}
 use Rattle.needed_data.specs.Need.{Need}
 use Rattle.same_future.specs.Alike.{kept_after}
@@ -6,15 +6,20 @@ use Rattle.same_future.specs.Worked.{cyclic}
 use Rattle.state_keys.specs.Bytes.{number}
 use Rattle.state_keys.specs.Key.{key}
 
--- r1 is needed of each task and routine, and no word
+-- r1 is needed of each task and routine, no word, and the value of each counter
 abbrev pub one_register : Need
 one_register =
     record {
       registers = λ who r. r == 1;
       words = λ who i. false;
       shared = λ r. false;
+      counters = λ c. true;
       indices = λ who place r i. true;
     }
+
+-- and no value
+abbrev pub no_value : Need
+no_value = record one_register { counters = λ c. false }
 
 pub record WorkedKeys : Type 0 where
   pub small : number 127 ≡ 127 ∷ []
@@ -30,4 +35,13 @@ pub record WorkedKeys : Type 0 where
       ∷ 0
       ∷ 1 ∷ 2 ∷ 2
       ∷ 1 ∷ 1
+      ∷ 0 ∷ []
+  -- where the value isn't needed, only for how long the counter has had it
+  pub without_value : key cyclic no_value (kept_after cyclic 0 [] 3)
+      ≡ 1 ∷ 0 ∷ 0 ∷ 0
+      ∷ 0 ∷ 0 ∷ 0
+      ∷ 1 ∷ 1 ∷ 0 ∷ 0 ∷ 0 ∷ 1 ∷ 2 ∷ 0
+      ∷ 0
+      ∷ 1 ∷ 2 ∷ 2
+      ∷ 1
       ∷ 0 ∷ []

@@ -4,7 +4,7 @@ ghost use Rattle.state_keys.specs.Bytes.{NumbersAreShort};
 ghost use Rattle.state_keys.specs.InRange.{AlikeHaveOneKey, KeysTell, RunsAreInRange};
 ghost use Rattle.state_keys.specs.Worked.{WorkedKeys};
 
-/// The key of a state of a run, worked out by hand.
+/// The keys of a state of a run, with the value of a counter and without, worked out by hand.
 pub fn worked_keys()
     ensures { WorkedKeys }
 {}

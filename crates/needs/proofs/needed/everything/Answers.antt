@@ -12,12 +12,14 @@ returns-clause-closed c =
       tasks = c.in_ok-tasks.tasks;
       routines = c.in_ok-routines.routines;
       shared = c.declared_resources-shared.result;
+      counters = c.all_counters-counters.result;
     } in
     let declared = c.declared_resources-shared.ensures in
     let proper = c.task_count.ensures.proper in
     closed_from S needs (c.in_ok-tasks.ensures.count ∙ c.task_count.ensures.value)
     (c.in_ok-routines.ensures.count ∙ c.routine_count.ensures.value)
     (tasks_all S needs proper c.in_ok-tasks.ensures.all declared) (routines_all S needs proper c.in_ok-routines.ensures.all declared)
+    c.all_counters-counters.ensures
 
 pub returns-clause-within : goal.returns-clause-within
 returns-clause-within c =
@@ -26,6 +28,7 @@ returns-clause-within c =
       tasks = c.in_ok-tasks.tasks;
       routines = c.in_ok-routines.routines;
       shared = c.declared_resources-shared.result;
+      counters = c.all_counters-counters.result;
     } in
     let declared = c.declared_resources-shared.ensures in
     let proper = c.task_count.ensures.proper in

@@ -1,13 +1,16 @@
-use Rattle.std.proofs.Common.{◌++◌, ap, arith}
+use Rattle.std.proofs.Common.{Bool, ◌++◌, ◌∙◌, ap, ap₂, arith}
 use Rattle.osek_base.specs.declared.task.Counter.{Counter}
+use Rattle.needs.specs.Table.{need_of}
 use Rattle.same_future.specs.Alike.{phase_at, value_at}
-use Rattle.state_keys.specs.Bytes.{number}
+use Rattle.state_keys.specs.Bytes.{needed, number}
 use Rattle.state_bytes.proofs.Steps.{written_as}
 use Rattle.state_bytes.proofs.times.push_counters.Goals as goal
 
 pub loop-number-preserved : goal.loop-number-preserved
 loop-number-preserved c =
     written_as _ c.loop-number.out.items _ _ _ c.loop-number.number _ c.in_ok-push_counter.ensures
-    (ap (λ (k : Counter). number (value_at k c.args.tick) ++ number (phase_at k c.args.tick))
-    c.counter_at-counter.ensures.value)
+    (ap₂ (λ (k : Counter) (b : Bool).
+    needed b (value_at k c.args.tick) ++ number (phase_at k c.args.tick))
+    c.counter_at-counter.ensures.value
+    (c.needs_value-is_needed.ensures ∙ ap (need_of c.args.needs.now).counters c.new.ensures))
     c.loop-number.invariant (omega arith)

@@ -1,5 +1,6 @@
 use Rattle.std.proofs.Common.{◌≡◌, ◌++◌}
-use Rattle.state_keys.specs.Bytes.{each, number}
+use Rattle.needs.specs.Table.{need_of}
+use Rattle.state_keys.specs.Bytes.{each, needed, number}
 use Rattle.osek_base.specs.System.{counter}
 use Rattle.same_future.specs.Alike.{phase_at, value_at}
 use Rattle.state_bytes.proofs.times.push_counters.Given as goal
@@ -7,5 +8,5 @@ use Rattle.state_bytes.proofs.times.push_counters.Given as goal
 abbrev pub invariant-loop-number : goal.invariant-loop-number
 invariant-loop-number l =
     l.out.items ≡ l.fn.out.items
-    ++ each l.number (λ c. number (value_at (counter l.system c) l.tick)
+    ++ each l.number (λ c. needed ((need_of l.needs).counters c) (value_at (counter l.system c) l.tick)
     ++ number (phase_at (counter l.system c) l.tick))

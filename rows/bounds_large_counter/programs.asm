@@ -1,0 +1,4 @@
+.task A
+NOP
+TERM
+z: JMP z
