@@ -1,6 +1,7 @@
 pub mod AlarmSums
 pub mod Counts
 pub mod FigureSums
+pub mod Quiet
 pub mod Reaching
 pub mod ResourceSums
 pub mod ResponseSums

@@ -14,6 +14,7 @@ mod limits;
 mod line;
 mod lists;
 mod new_lists;
+mod quiet;
 mod reached;
 mod resource_figures;
 mod response_figures;

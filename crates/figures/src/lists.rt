@@ -1,6 +1,10 @@
 //! A tick more of each list of figures.
 
-ghost use Rattle.std.specs.Prelude.{◌≡◌, ◌≤◌, length};
+ghost use Rattle.std.specs.Prelude.{List, ◌≡◌, ◌<◌, ◌≤◌, ◌∷◌, length};
+ghost use Rattle.figures.specs.declared.alarm_figures.AlarmTick.{AlarmTick};
+ghost use Rattle.figures.specs.declared.resource_figures.HolderTick.{HolderTick};
+ghost use Rattle.figures.specs.declared.routine_figures.RoutineTick.{RoutineTick};
+ghost use Rattle.figures.specs.declared.task_tick.TaskTick.{TaskTick};
 ghost use Rattle.figures.specs.FigureSums.{
   IsListStep,
   task_figures,
@@ -14,11 +18,92 @@ ghost use Rattle.figures.specs.ResourceSums.{resource_figures};
 ghost use Rattle.figures.specs.AlarmSums.{alarm_figures};
 
 use crate::alarm_figures::AlarmFigures;
+use crate::quiet::{is_free, is_quiet_alarm, is_quiet_routine, is_quiet_task};
 use crate::resource_figures::ResourceFigures;
 use crate::routine_figures::RoutineFigures;
 use crate::seen::{alarm_tick, holder_tick, routine_tick, task_tick};
 use crate::task_figures::TaskFigures;
 use observations::Observation;
+
+// A tick more of a task. In a quiet one nothing has to be counted.
+#[inline(always)]
+fn observe_task(figures: &mut TaskFigures, levels: &[u8], observation: &Observation, number: usize)
+    requires { number < length levels.now }
+    ensures { (before : List TaskTick) → figures.old ≡ task_figures before → figures.new ≡ task_figures (task_tick levels.now observation.now number ∷ before) }
+{
+    if is_quiet_task(observation, number) {
+        figures.pass();
+    } else {
+        note_task(figures, levels, observation, number);
+    }
+}
+
+// A tick more of a task that has a job, or to which something comes.
+#[inline(never)]
+fn note_task(figures: &mut TaskFigures, levels: &[u8], observation: &Observation, number: usize)
+    requires { number < length levels.now }
+    ensures { (before : List TaskTick) → figures.old ≡ task_figures before → figures.new ≡ task_figures (task_tick levels.now observation.now number ∷ before) }
+{
+    figures.observe(&task_tick(levels, observation, number));
+}
+
+// A tick more of a routine. In a quiet one nothing has to be counted.
+#[inline(always)]
+fn observe_routine(figures: &mut RoutineFigures, observation: &Observation, number: usize)
+    ensures { (before : List RoutineTick) → figures.old ≡ routine_figures before → figures.new ≡ routine_figures (routine_tick observation.now number ∷ before) }
+{
+    if is_quiet_routine(observation, number) {
+        return;
+    }
+    note_routine(figures, observation, number);
+}
+
+// A tick more of a routine that is asked for.
+#[inline(never)]
+fn note_routine(figures: &mut RoutineFigures, observation: &Observation, number: usize)
+    ensures { (before : List RoutineTick) → figures.old ≡ routine_figures before → figures.new ≡ routine_figures (routine_tick observation.now number ∷ before) }
+{
+    figures.observe(&routine_tick(observation, number));
+}
+
+// A tick more of a resource. While it is free nothing has to be counted.
+#[inline(always)]
+fn observe_resource(figures: &mut ResourceFigures, observation: &Observation, number: usize)
+    ensures { (before : List HolderTick) → figures.old ≡ resource_figures before → figures.new ≡ resource_figures (holder_tick observation.now number ∷ before) }
+{
+    if is_free(observation, number) {
+        figures.pass();
+    } else {
+        note_resource(figures, observation, number);
+    }
+}
+
+// A tick more of a resource that is held.
+#[inline(never)]
+fn note_resource(figures: &mut ResourceFigures, observation: &Observation, number: usize)
+    ensures { (before : List HolderTick) → figures.old ≡ resource_figures before → figures.new ≡ resource_figures (holder_tick observation.now number ∷ before) }
+{
+    figures.observe(&holder_tick(observation, number));
+}
+
+// A tick more of an alarm. In a quiet one nothing has to be counted.
+#[inline(always)]
+fn observe_alarm(figures: &mut AlarmFigures, observation: &Observation, number: usize)
+    ensures { (before : List AlarmTick) → figures.old ≡ alarm_figures before → figures.new ≡ alarm_figures (alarm_tick observation.now number ∷ before) }
+{
+    if is_quiet_alarm(observation, number) {
+        return;
+    }
+    note_alarm(figures, observation, number);
+}
+
+// A tick more of an alarm that expires.
+#[inline(never)]
+fn note_alarm(figures: &mut AlarmFigures, observation: &Observation, number: usize)
+    ensures { (before : List AlarmTick) → figures.old ≡ alarm_figures before → figures.new ≡ alarm_figures (alarm_tick observation.now number ∷ before) }
+{
+    figures.observe(&alarm_tick(observation, number));
+}
 
 /// A tick more of each task, by the static priorities of all tasks.
 pub fn observe_tasks(figures: &mut [TaskFigures], levels: &[u8], observation: &Observation)
@@ -26,7 +111,7 @@ pub fn observe_tasks(figures: &mut [TaskFigures], levels: &[u8], observation: &O
     ensures { IsListStep task_figures (task_tick levels.now observation.now) figures.old figures.new }
 {
     for (number, figures) in figures.iter_mut().enumerate() {
-        figures.observe(&task_tick(levels, observation, number));
+        observe_task(figures, levels, observation, number);
     }
 }
 
@@ -35,7 +120,7 @@ pub fn observe_routines(figures: &mut [RoutineFigures], observation: &Observatio
     ensures { IsListStep routine_figures (routine_tick observation.now) figures.old figures.new }
 {
     for (number, figures) in figures.iter_mut().enumerate() {
-        figures.observe(&routine_tick(observation, number));
+        observe_routine(figures, observation, number);
     }
 }
 
@@ -44,7 +129,7 @@ pub fn observe_resources(figures: &mut [ResourceFigures], observation: &Observat
     ensures { IsListStep resource_figures (holder_tick observation.now) figures.old figures.new }
 {
     for (number, figures) in figures.iter_mut().enumerate() {
-        figures.observe(&holder_tick(observation, number));
+        observe_resource(figures, observation, number);
     }
 }
 
@@ -53,6 +138,6 @@ pub fn observe_alarms(figures: &mut [AlarmFigures], observation: &Observation)
     ensures { IsListStep alarm_figures (alarm_tick observation.now) figures.old figures.new }
 {
     for (number, figures) in figures.iter_mut().enumerate() {
-        figures.observe(&alarm_tick(observation, number));
+        observe_alarm(figures, observation, number);
     }
 }

@@ -1,6 +1,6 @@
 //! OSEK/VDX OS: resource management. Figures of a resource.
 
-ghost use Rattle.std.specs.Prelude.{List, [], ◌∷◌, ◌≡◌};
+ghost use Rattle.std.specs.Prelude.{List, [], ◌∷◌, ◌≡◌, None};
 ghost use Rattle.figures.specs.declared.resource_figures.HolderTick.{HolderTick};
 ghost use Rattle.figures.specs.ResourceSums.{resource_figures, is_same, is_got, hold_on, hold_at};
 
@@ -87,6 +87,15 @@ impl ResourceFigures {
         } else {
             0
         }
+    }
+
+    /// A tick more is seen, in which nobody holds it.
+    #[inline(always)]
+    pub(crate) fn pass(&mut self)
+        ensures { self.new ≡ record self.old { holder = None; held = 0 } }
+    {
+        self.holder = Holder::new(None);
+        self.held = 0;
     }
 
     /// A tick more is seen.

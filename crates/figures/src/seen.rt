@@ -23,7 +23,9 @@ use crate::task_tick::TaskTick;
 use observations::{AlarmSeen, Holder, Observation, RoutineSeen, TaskSeen};
 use osek_base::{Owner, Status, TaskState};
 
-fn task_seen(tasks: &[TaskSeen], number: usize) -> TaskSeen
+/// What an observation has of a task; nothing where it has none of that number.
+#[inline(always)]
+pub fn task_seen(tasks: &[TaskSeen], number: usize) -> TaskSeen
     ensures { result ≡ slice_index_or tasks.now number unseen_task }
 {
     match tasks.get(number) {
@@ -40,7 +42,9 @@ fn task_seen(tasks: &[TaskSeen], number: usize) -> TaskSeen
     }
 }
 
-fn routine_seen(routines: &[RoutineSeen], number: usize) -> RoutineSeen
+/// What an observation has of a routine; nothing where it has none of that number.
+#[inline(always)]
+pub fn routine_seen(routines: &[RoutineSeen], number: usize) -> RoutineSeen
     ensures { result ≡ slice_index_or routines.now number unseen_routine }
 {
     match routines.get(number) {
@@ -55,7 +59,9 @@ fn routine_seen(routines: &[RoutineSeen], number: usize) -> RoutineSeen
     }
 }
 
-fn alarm_seen(alarms: &[AlarmSeen], number: usize) -> AlarmSeen
+/// What an observation has of an alarm; nothing where it has none of that number.
+#[inline(always)]
+pub fn alarm_seen(alarms: &[AlarmSeen], number: usize) -> AlarmSeen
     ensures { result ≡ slice_index_or alarms.now number unseen_alarm }
 {
     match alarms.get(number) {
@@ -67,7 +73,9 @@ fn alarm_seen(alarms: &[AlarmSeen], number: usize) -> AlarmSeen
     }
 }
 
-fn holder_seen(holders: &[Holder], number: usize) -> Holder
+/// Who holds a resource; nobody where an observation has none of that number.
+#[inline(always)]
+pub fn holder_seen(holders: &[Holder], number: usize) -> Holder
     ensures { result ≡ slice_index_or holders.now number None }
 {
     match holders.get(number) {
@@ -106,8 +114,9 @@ fn is_error(answered: &Option<Status>) -> bool
     }
 }
 
-// Whether a task executes.
-fn is_task(executor: &Option<Owner>, number: usize) -> bool
+/// Whether a task executes.
+#[inline(always)]
+pub fn is_task(executor: &Option<Owner>, number: usize) -> bool
     ensures { result ≡ is_task executor.now number }
 {
     match executor {
@@ -116,8 +125,9 @@ fn is_task(executor: &Option<Owner>, number: usize) -> bool
     }
 }
 
-// Whether a routine executes.
-fn is_routine(executor: &Option<Owner>, number: usize) -> bool
+/// Whether a routine executes.
+#[inline(always)]
+pub fn is_routine(executor: &Option<Owner>, number: usize) -> bool
     ensures { result ≡ is_routine executor.now number }
 {
     match executor {

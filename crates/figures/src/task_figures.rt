@@ -44,6 +44,14 @@ impl TaskFigures {
         }
     }
 
+    /// A tick more is seen, in which the task has no job, doesn't execute, and nothing comes to it.
+    #[inline(always)]
+    pub(crate) fn pass(&mut self)
+        ensures { self.new ≡ record self.old { counts = record self.old.counts { unfinished = 0 } } }
+    {
+        self.counts.unfinished = 0;
+    }
+
     /// A tick more is seen.
     pub fn observe(&mut self, tick: &TaskTick)
         ensures { (before : List TaskTick) → self.old ≡ task_figures before → self.new ≡ task_figures (tick.now ∷ before) }

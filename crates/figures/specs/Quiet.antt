@@ -1,0 +1,45 @@
+-- Ticks in which nothing comes to a thing, and it does nothing.
+use Rattle.std.specs.Prelude.{ℕ, Bool, true, false, not, ◌&&◌, ◌==◌, is_none, slice_index_or, None}
+use Rattle.osek_base.specs.declared.status.TaskState.{TaskState}
+use Rattle.osek_base.specs.declared.status.TaskState.TheVariants.{Running, Waiting, Ready, Suspended}
+use Rattle.observations.specs.declared.task_seen.TaskSeen.{TaskSeen}
+use Rattle.observations.specs.declared.routine_seen.RoutineSeen.{RoutineSeen}
+use Rattle.observations.specs.declared.alarm_seen.AlarmSeen.{AlarmSeen}
+use Rattle.observations.specs.declared.observation.Observation.{Observation}
+use Rattle.figures.specs.FigureSums.{unseen_task, unseen_routine, unseen_alarm, is_task, is_routine}
+
+abbrev pub is_suspended : TaskState → Bool
+is_suspended state = elim state [ Running ↦ false | Waiting ↦ false | Ready ↦ false | Suspended ↦ true ]
+
+-- a task has no job, and nothing comes to it
+abbrev pub has_nothing : TaskSeen → Bool
+has_nothing s = is_suspended s.state && (s.jobs == 0)
+
+-- no job of it is made, refused or left
+abbrev pub gets_nothing : TaskSeen → Bool
+gets_nothing s = (s.made == 0) && ((s.refused == 0) && (not s.ended && not s.waits))
+
+-- of task k nothing is seen, and it doesn't execute
+abbrev pub is_quiet_task : Observation → ℕ → Bool
+is_quiet_task o k =
+    has_nothing (slice_index_or o.tasks.items k unseen_task)
+    && (gets_nothing (slice_index_or o.tasks.items k unseen_task) && not (is_task o.executor k))
+
+-- no interrupt of a routine arrives or is pending, and it isn't started
+abbrev pub is_unasked : RoutineSeen → Bool
+is_unasked r = (not r.is_pending && not r.is_started) && ((r.arrived == 0) && (r.lost == 0))
+
+-- of routine k nothing is seen, and it doesn't execute
+abbrev pub is_quiet_routine : Observation → ℕ → Bool
+is_quiet_routine o k = is_unasked (slice_index_or o.routines.items k unseen_routine) && not (is_routine o.executor k)
+
+-- nobody holds resource k
+abbrev pub is_free : Observation → ℕ → Bool
+is_free o k = is_none (slice_index_or o.holders.items k None)
+
+-- alarm k doesn't expire
+abbrev pub is_unexpired : AlarmSeen → Bool
+is_unexpired a = not a.has_expired && not a.is_refused
+
+abbrev pub is_quiet_alarm : Observation → ℕ → Bool
+is_quiet_alarm o k = is_unexpired (slice_index_or o.alarms.items k unseen_alarm)

@@ -1,0 +1,91 @@
+//! Ticks in which nothing comes to a thing, and it does nothing: most ticks, of most things.
+
+ghost use Rattle.std.specs.Prelude.{◌≡◌};
+ghost use Rattle.figures.specs.Quiet.{
+  is_suspended,
+  has_nothing,
+  gets_nothing,
+  is_quiet_task,
+  is_unasked,
+  is_quiet_routine,
+  is_free,
+  is_unexpired,
+  is_quiet_alarm,
+};
+
+use crate::seen::{alarm_seen, holder_seen, is_routine, is_task, routine_seen, task_seen};
+use observations::{AlarmSeen, Observation, RoutineSeen, TaskSeen};
+use osek_base::TaskState;
+
+#[inline(always)]
+fn is_suspended(state: TaskState) -> bool
+    ensures { result ≡ is_suspended state }
+{
+    matches!(state, TaskState::Suspended)
+}
+
+// Whether a task has no job.
+#[inline(always)]
+fn has_nothing(seen: TaskSeen) -> bool
+    ensures { result ≡ has_nothing seen }
+{
+    is_suspended(seen.state) && seen.jobs == 0
+}
+
+// Whether no job of a task is made, refused or left.
+#[inline(always)]
+fn gets_nothing(seen: TaskSeen) -> bool
+    ensures { result ≡ gets_nothing seen }
+{
+    seen.made == 0 && seen.refused == 0 && !seen.ended && !seen.waits
+}
+
+/// Whether a task has no job in a tick and doesn't execute, and nothing comes to it.
+#[inline(always)]
+pub fn is_quiet_task(observation: &Observation, number: usize) -> bool
+    ensures { result ≡ is_quiet_task observation.now number }
+{
+    let seen = task_seen(observation.tasks.as_slice(), number);
+    has_nothing(seen) && gets_nothing(seen) && !is_task(&observation.executor, number)
+}
+
+// Whether no interrupt of a routine arrives or is pending, and it isn't started.
+#[inline(always)]
+fn is_unasked(seen: RoutineSeen) -> bool
+    ensures { result ≡ is_unasked seen }
+{
+    !seen.is_pending && !seen.is_started && seen.arrived == 0 && seen.lost == 0
+}
+
+/// Whether no interrupt of a routine arrives in a tick or is pending, and it doesn't execute.
+#[inline(always)]
+pub fn is_quiet_routine(observation: &Observation, number: usize) -> bool
+    ensures { result ≡ is_quiet_routine observation.now number }
+{
+    let seen = routine_seen(observation.routines.as_slice(), number);
+    is_unasked(seen) && !is_routine(&observation.executor, number)
+}
+
+/// Whether nobody holds a resource in a tick.
+#[inline(always)]
+pub fn is_free(observation: &Observation, number: usize) -> bool
+    ensures { result ≡ is_free observation.now number }
+{
+    let holder = holder_seen(observation.holders.as_slice(), number);
+    holder.task().is_none()
+}
+
+#[inline(always)]
+fn is_unexpired(seen: AlarmSeen) -> bool
+    ensures { result ≡ is_unexpired seen }
+{
+    !seen.has_expired && !seen.is_refused
+}
+
+/// Whether an alarm doesn't expire in a tick.
+#[inline(always)]
+pub fn is_quiet_alarm(observation: &Observation, number: usize) -> bool
+    ensures { result ≡ is_quiet_alarm observation.now number }
+{
+    is_unexpired(alarm_seen(observation.alarms.as_slice(), number))
+}
