@@ -7,9 +7,9 @@ use crate::status::{DistanceFault, Verdict};
 use bound_tables::write_bounds;
 use bounds::{Bounds, Extent, find_bounds};
 use bounds_above::find_upper_bounds;
+use isolation::check_isolation;
 use kernel::BootFault;
 use osek_base::{ModeId, System};
-use partition_check::check_partition;
 use search::Outcome;
 use std::alloc::{AllocError, Global};
 use std::io::Write;
@@ -120,7 +120,7 @@ fn write_upper<'v, O: Write>(
     distances: &[Distance<'_>],
     out: &mut O,
 ) -> Result<Verdict<'v>, RunFault> {
-    if let Err(denial) = check_partition(system, priority) {
+    if let Err(denial) = check_isolation(system, priority) {
         return write_denial(priority, denial.named(system), out);
     }
     let mode = mode_id(alloc, texts, system, line.mode)?;

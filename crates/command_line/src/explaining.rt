@@ -7,7 +7,8 @@ use crate::request::{Question, Request, RunLine};
 use crate::status::Verdict;
 use arrival_lists::IrqFault;
 use explanations::{explain_denial, explain_denials, explain_generation};
-use partition_check::{NamedDenial, check_partition};
+use isolation::check_isolation;
+use partition_check::NamedDenial;
 use std::alloc::Global;
 use std::io::{self, Write};
 use text_explanations::{
@@ -151,7 +152,7 @@ fn explain_partitions<E: Write>(
 ) -> Result<(), RunFault> {
     let system = system_of(alloc, texts)?;
     for priority in 0..=system.top_priority() {
-        if let Err(denial) = check_partition(&system, priority) {
+        if let Err(denial) = check_isolation(&system, priority) {
             let denial = denial.named(&system);
             write!(err, "{priority}: ")?;
             explain_cut(alloc, request, texts, priority, &denial, err)?;
@@ -184,7 +185,7 @@ fn explain_joined<E: Write>(
 ) -> Result<(), RunFault> {
     let system = system_of(alloc, texts)?;
     for stretch in stretches(alloc, &system)? {
-        if let Err(denial) = check_partition(&system, stretch.first) {
+        if let Err(denial) = check_isolation(&system, stretch.first) {
             let denial = denial.named(&system);
             explain_stretch(alloc, request, texts, stretch, denial, err)?;
         }

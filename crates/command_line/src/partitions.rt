@@ -2,8 +2,9 @@
 
 use crate::status::Verdict;
 use every_denial::every_denial;
+use isolation::check_isolation;
 use osek_base::System;
-use partition_check::{Denial, NamedDenial, check_partition};
+use partition_check::{Denial, NamedDenial};
 use std::alloc::{AllocError, Global};
 use std::fmt;
 use std::io::Write;
@@ -25,7 +26,7 @@ fn write_check<O: Write>(
     priority: u8,
     out: &mut O,
 ) -> Result<Verdict<'static>, RunFault> {
-    match check_partition(system, priority) {
+    match check_isolation(system, priority) {
         Ok(()) => {
             writeln!(out, "accepted")?;
             Ok(Verdict::Done)
@@ -50,7 +51,7 @@ fn write_full_check<O: Write>(
     priority: u8,
     out: &mut O,
 ) -> Result<Verdict<'static>, RunFault> {
-    let is_accepted = check_partition(system, priority).is_ok();
+    let is_accepted = check_isolation(system, priority).is_ok();
     let denials = every_denial(alloc, system, priority)?;
     if is_accepted || denials.is_empty() {
         return write_check(system, priority, out);
@@ -84,7 +85,7 @@ impl fmt::Display for Stretch {
 pub(crate) fn stretches(alloc: Global, system: &System) -> Result<Vec<Stretch>, AllocError> {
     let mut stretches: Vec<Stretch> = Vec::new(alloc);
     for priority in 0..=system.top_priority() {
-        let denial = check_partition(system, priority).err();
+        let denial = check_isolation(system, priority).err();
         match stretches.last_mut() {
             Some(stretch) if stretch.denial == denial => stretch.last = priority,
             _ => stretches.push(Stretch {

@@ -1,0 +1,6 @@
+pub mod ByTicks
+pub mod Answering
+pub mod Below
+pub mod Levels
+pub mod SameTicks
+pub mod Runs

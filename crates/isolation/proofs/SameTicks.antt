@@ -1,0 +1,224 @@
+-- In each tick of systems that agree services of the upper part fail alike; and while an upper task
+-- stands ready, none executes but one of the upper part.
+use Rattle.std.proofs.Common.{◌≡◌, ℕ, Bool, true, false, ◌&&◌, List, refl, sym, ◌∙◌, ap, subst, true≢false, ne_eqb}
+use Rattle.std.specs.Prelude.{Option, Some, None}
+use Rattle.std.specs.List.{list_any}
+use Rattle.std.specs.Option.{option_map}
+use Rattle.osek_base.specs.declared.arrivals.Arrival.{Arrival}
+use Rattle.osek_base.specs.declared.executed.Executed.{Executed}
+use Rattle.osek_base.specs.declared.ids.Owner.{Owner}
+use Rattle.osek_base.specs.Lists.{same_owner}
+use Rattle.osek_base.specs.Proper.{IsProper}
+use Rattle.osek_base.specs.Separable.{Separable}
+use Rattle.osek_base.specs.Service.{task_state}
+use Rattle.osek_base.specs.System.{System}
+use Rattle.osek_base.specs.Trace.{arriving, run}
+use Rattle.osek_base.specs.Upper.{is_upper_owner, is_upper_task}
+use Rattle.run_laws.proofs.Foremost.{equal, self_equal}
+use Rattle.partition_check.proofs.Shared.{IsLayered}
+use Rattle.observations.specs.declared.task_seen.TaskSeen.{TaskSeen}
+use Rattle.observed_runs.specs.Observed.{Ticked, is_by, owner_of, state_seen, task_seen, tick_at}
+use Rattle.same_future.specs.Alike.{records_at}
+use Rattle.figures.specs.FigureSums.{is_routine, is_task, levels_of, lower_executes}
+use Rattle.upper_bounds.specs.Above.{AreOneAbove, IsUpperTask}
+use Rattle.upper_bounds.specs.ExecutedAbove.{ExecuteTheSame}
+use Rattle.upper_bounds.specs.StatesAbove.{HaveTheSameStates, executes, executing_at}
+use Rattle.upper_bounds.proofs.Refused.{executions_are_the_same}
+use Rattle.upper_bounds.proofs.Sides.{run_beside, upper_back}
+use Rattle.upper_bounds.proofs.States.{states_are_seen_the_same}
+use Rattle.upper_figures.specs.ShownAbove.{ShowTheSameAbove}
+use Rattle.upper_figures.proofs.Executing.{TellsOne, tick_tells_one}
+use Rattle.upper_figures.proofs.Part.{upper_parts_show_the_same}
+use Rattle.upper_figures.proofs.Ticks.{at_is, by_is, executed_is}
+use Rattle.isolation.proofs.Answering.{failed_is, fails, has_failed}
+use Rattle.isolation.proofs.Below.{known, none_ready}
+use Rattle.isolation.proofs.ByTicks.{stands_ready}
+use Rattle.isolation.proofs.Levels.{lower_same}
+
+-- ---- one system
+
+module _ (S : System) (p : ℕ) (proper : IsProper S) (separable : Separable S p) (mode : ℕ)
+    (arrivals : List Arrival) (n : ℕ) (going : (run S mode arrivals n).state.over ≡ false) where
+  abbrev here : Ticked
+  here = tick_at S mode arrivals n
+
+  layered : IsLayered S p (run S mode arrivals n).state
+  layered = (run_beside S p proper separable mode arrivals n).layered
+
+  pub told_one : TellsOne S (records_at S mode arrivals n)
+  told_one = (tick_tells_one S (arriving arrivals n) (run S mode arrivals n).state).one
+
+  -- who executes while an upper task stands ready is of the upper part
+  pub upper_runs : (u t : ℕ) → is_by (Owner.Task u) here.executed ≡ true → IsUpperTask S p t
+      → stands_ready (task_seen S here t).state ≡ true → IsUpperTask S p u
+  upper_runs u t by is stands =
+      record {
+        known =
+            known S p proper separable (arriving arrivals n) (run S mode arrivals n).state layered
+            u runs;
+        upper = go (is_upper_task S p u) refl;
+      }
+    where
+      runs : executes (executing_at S mode arrivals n) (Owner.Task u) ≡ true
+      runs = sym (by_is S proper mode arrivals n going (Owner.Task u)) ∙ by
+
+      state_is : stands_ready (task_seen S here t).state
+          ≡ stands_ready (state_seen (is_by (Owner.Task t) here.executed)
+          (task_state (executing_at S mode arrivals n) t))
+      state_is =
+          ap (λ s. stands_ready (state_seen (is_by (Owner.Task t) here.executed) (task_state s t)))
+          (at_is S proper mode arrivals n going)
+
+      go : (b : Bool) → is_upper_task S p u ≡ b → is_upper_task S p u ≡ true
+      go true h = h
+      go false h =
+          absurd (true≢false (sym stands ∙ state_is
+          ∙ none_ready S p proper separable (arriving arrivals n) (run S mode arrivals n).state
+          layered u t runs h is.known is.upper (is_by (Owner.Task t) here.executed)))
+
+-- ---- who executes in two systems
+
+-- whether an owner is that one
+abbrev runs_as : Owner → Option Owner → Bool
+runs_as who None = false
+runs_as who (Some other) = same_owner who other
+
+runs_is : (who : Owner) (told : Option Executed)
+    → is_by who told ≡ runs_as who (option_map owner_of told)
+runs_is who None = refl
+runs_is who (Some e) = refl
+
+module _ (S B : System) (p : ℕ) (pair : AreOneAbove S B p) where
+  abbrev AreUpper : System → Option Owner → Type 0
+  AreUpper T o = (u : ℕ) → runs_as (Owner.Task u) o ≡ true → IsUpperTask T p u
+
+  abbrev RunAlike : Option Owner → Option Owner → Type 0
+  RunAlike o other =
+      (u : ℕ) → IsUpperTask S p u → runs_as (Owner.Task u) o ≡ runs_as (Owner.Task u) other
+
+  nobody_there : (o : Option Owner) (u : ℕ) → AreUpper B (Some (Owner.Task u))
+      → RunAlike o (Some (Owner.Task u)) → runs_as (Owner.Task u) o ≡ false → ⊥
+  nobody_there o u upper same none =
+      let is : IsUpperTask S p u = upper_back S B p pair u (upper u (self_equal u)) in
+      true≢false (sym (self_equal u) ∙ sym (same u is) ∙ none)
+
+  lower_of : (t : ℕ) → IsUpperTask S p t → (o other : Option Owner)
+      → AreUpper S o → AreUpper B other → RunAlike o other
+      → lower_executes (levels_of S) o t ≡ lower_executes (levels_of B) other t
+  lower_of t is None None upper there same = refl
+  lower_of t is None (Some (Owner.Routine i)) upper there same = refl
+  lower_of t is None (Some (Owner.Task u)) upper there same =
+      absurd (nobody_there None u there same refl)
+  lower_of t is (Some (Owner.Routine j)) None upper there same = refl
+  lower_of t is (Some (Owner.Routine j)) (Some (Owner.Routine i)) upper there same = refl
+  lower_of t is (Some (Owner.Routine j)) (Some (Owner.Task u)) upper there same =
+      absurd (nobody_there (Some (Owner.Routine j)) u there same refl)
+  lower_of t is (Some (Owner.Task u)) None upper there same =
+      absurd (true≢false (sym (self_equal u) ∙ same u (upper u (self_equal u))))
+  lower_of t is (Some (Owner.Task u)) (Some (Owner.Routine i)) upper there same =
+      absurd (true≢false (sym (self_equal u) ∙ same u (upper u (self_equal u))))
+  lower_of t is (Some (Owner.Task u)) (Some (Owner.Task v)) upper there same =
+      let is_u : IsUpperTask S p u = upper u (self_equal u) in
+      let one : u ≡ v = equal u v (sym (same u is_u) ∙ self_equal u) in
+      subst (λ w. lower_executes (levels_of S) (Some (Owner.Task u)) t
+      ≡ lower_executes (levels_of B) (Some (Owner.Task w)) t) one
+      (lower_same S B p pair u t is_u is)
+
+-- ---- a tick of both
+
+module _ (S B : System) (p : ℕ) (pair : AreOneAbove S B p) (mode : ℕ)
+    (arrivals : List Arrival) (n : ℕ) (going : (run S mode arrivals n).state.over ≡ false) where
+  abbrev mine : Ticked
+  mine = tick_at S mode arrivals n
+
+  abbrev theirs : Ticked
+  theirs = tick_at B mode arrivals n
+
+  states : HaveTheSameStates S B p
+  states = states_are_seen_the_same.states.others S B p pair
+
+  executions : ExecuteTheSame S B p
+  executions = executions_are_the_same.others S B p pair
+
+  going_there : (run B mode arrivals n).state.over ≡ false
+  going_there = sym (states.between mode arrivals n).over ∙ going
+
+  pub shown : ShowTheSameAbove S B p mine theirs
+  shown = upper_parts_show_the_same.others S B p pair mode arrivals n going
+
+  -- ---- services that fail
+
+  failing_same : (test : Option Owner → Bool) → test None ≡ false
+      → ((who : Owner) → is_upper_owner S p who ≡ false → test (Some who) ≡ false)
+      → ((who : Owner) → is_upper_owner B p who ≡ false → test (Some who) ≡ false)
+      → has_failed test mine.executed ≡ has_failed test theirs.executed
+  failing_same test nobody only there =
+      ap (has_failed test) (executed_is S pair.proper mode arrivals n going)
+      ∙ failed_is S p test nobody only (records_at S mode arrivals n)
+      (told_one S p pair.proper pair.separable mode arrivals n going)
+      ∙ ap (list_any (fails test)) (executions.executions mode arrivals n)
+      ∙ sym (failed_is B p test nobody there (records_at B mode arrivals n)
+      (told_one B p pair.proper_there pair.separable_there mode arrivals n going_there))
+      ∙ sym (ap (has_failed test) (executed_is B pair.proper_there mode arrivals n going_there))
+
+  other_task : (T : System) (t : ℕ) → is_upper_task T p t ≡ true
+      → (who : Owner) → is_upper_owner T p who ≡ false → is_task (Some who) t ≡ false
+  other_task T t high (Owner.Task u) is_low =
+      ne_eqb u t (λ e. true≢false (sym high ∙ ap (is_upper_task T p) (sym e) ∙ is_low))
+  other_task T t high (Owner.Routine i) is_low = refl
+
+  pub task_fails_same : (t : ℕ) → IsUpperTask S p t → IsUpperTask B p t
+      → has_failed (λ o. is_task o t) mine.executed ≡ has_failed (λ o. is_task o t) theirs.executed
+  task_fails_same t is there =
+      failing_same (λ o. is_task o t) refl (other_task S t is.upper) (other_task B t there.upper)
+
+  other_routine : (T : System) (i : ℕ) (who : Owner) → is_upper_owner T p who ≡ false
+      → is_routine (Some who) i ≡ false
+  other_routine T i (Owner.Task u) is_low = refl
+  other_routine T i (Owner.Routine j) is_low = absurd (true≢false is_low)
+
+  pub routine_fails_same : (i : ℕ)
+      → has_failed (λ o. is_routine o i) mine.executed
+      ≡ has_failed (λ o. is_routine o i) theirs.executed
+  routine_fails_same i =
+      failing_same (λ o. is_routine o i) refl (other_routine S i) (other_routine B i)
+
+  -- ---- lower tasks that execute
+
+  runs_alike : (u : ℕ) → IsUpperTask S p u
+      → runs_as (Owner.Task u) (option_map owner_of mine.executed)
+      ≡ runs_as (Owner.Task u) (option_map owner_of theirs.executed)
+  runs_alike u is =
+      sym (runs_is (Owner.Task u) mine.executed)
+      ∙ by_is S pair.proper mode arrivals n going (Owner.Task u)
+      ∙ ((states.executing mode arrivals n).tasks u is).executes
+      ∙ sym (by_is B pair.proper_there mode arrivals n going_there (Owner.Task u))
+      ∙ runs_is (Owner.Task u) theirs.executed
+
+  module _ (t : ℕ) (is : IsUpperTask S p t) (there : IsUpperTask B p t) where
+    abbrev lower_here : Bool
+    lower_here = lower_executes (levels_of S) (option_map owner_of mine.executed) t
+
+    abbrev lower_there : Bool
+    lower_there = lower_executes (levels_of B) (option_map owner_of theirs.executed) t
+
+    ready_same : stands_ready (task_seen S mine t).state ≡ stands_ready (task_seen B theirs t).state
+    ready_same = ap (λ (x : TaskSeen). stands_ready x.state) (shown.tasks t is)
+
+    pub lower_ready_same : (stands_ready (task_seen S mine t).state && lower_here)
+        ≡ (stands_ready (task_seen B theirs t).state && lower_there)
+    lower_ready_same =
+        ap (λ (b : Bool). b && lower_here) ready_same
+        ∙ go (stands_ready (task_seen B theirs t).state) refl
+      where
+        go : (b : Bool) → stands_ready (task_seen B theirs t).state ≡ b
+            → (b && lower_here) ≡ (b && lower_there)
+        go false e = refl
+        go true e =
+            lower_of S B p pair t is (option_map owner_of mine.executed)
+            (option_map owner_of theirs.executed)
+            (λ u runs. upper_runs S p pair.proper pair.separable mode arrivals n going u t
+            (runs_is (Owner.Task u) mine.executed ∙ runs) is (ready_same ∙ e))
+            (λ u runs. upper_runs B p pair.proper_there pair.separable_there mode arrivals n
+            going_there u t (runs_is (Owner.Task u) theirs.executed ∙ runs) there e)
+            runs_alike

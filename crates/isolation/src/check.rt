@@ -1,0 +1,39 @@
+//! The check, and what is the same where it accepts.
+
+ghost use Rattle.std.specs.Prelude.{◌≡◌, ◌↔◌, IsOk, OnOk, IfErr};
+ghost use Rattle.osek_base.specs.Laws.{IsIsolated, IsItsUpperPart};
+ghost use Rattle.osek_base.specs.Names.{HasOwner};
+ghost use Rattle.osek_base.specs.Separable.{Separable, first_denial};
+ghost use Rattle.partition_check.specs.Partition.{denied};
+ghost use Rattle.upper_figures.specs.ShownAbove.{TicksShowTheSame};
+ghost use Rattle.isolation.specs.Everywhere.{IsTheSameEverywhere};
+ghost use Rattle.isolation.specs.SameFigures.{FiguresAreTheSame};
+
+use osek_base::System;
+use partition_check::{Denial, check_partition};
+use upper_figures::upper_parts_show_the_same;
+
+/// Checks that the upper part of a system at p, 0 to the highest task priority, is separable from
+/// the lower one. What is upper and which denial is told, `check_partition` says.
+///
+/// Where the answer is Ok, whatever stands below can neither delay nor disturb the upper part. The
+/// system's upper part run by itself, and every proper system that is separable at p and agrees with
+/// this one from p upward, has the same view at p, in every mode, under every arrival list and for
+/// every number of ticks. Each tick shows the same of upper tasks (their states, priorities, jobs
+/// and refusals), of routines (what arrives, is lost and starts), of who holds upper resources, and
+/// of upper alarms. So all figures of these are the same: of upper tasks all but the number of
+/// blockers.
+pub fn check_isolation(system: &System, p: u8) -> Result<(), Denial>
+    ensures denies { denied result ≡ first_denial system.now p }
+    ensures accepts { IsOk result ↔ Separable system.now p }
+    ensures subject { IfErr result (λ d. HasOwner system.now.names d.subject) }
+    ensures isolated { OnOk result (IsIsolated system.now p) }
+    ensures by_itself { OnOk result (IsItsUpperPart system.now p) }
+    ensures shown { OnOk result (IsTheSameEverywhere TicksShowTheSame system.now p) }
+    ensures figures { OnOk result (IsTheSameEverywhere FiguresAreTheSame system.now p) }
+{
+    // Who asks for the count of tasks learns that the system is proper.
+    let _proper = system.task_count();
+    upper_parts_show_the_same();
+    check_partition(system, p)
+}

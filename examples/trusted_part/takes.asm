@@ -1,0 +1,37 @@
+; Word 0 of Motor's window is what drives the motor, 0 nothing. Word 0 of Control's window is what is wanted.
+
+.isr Trip
+        ACT Stop
+        RETI
+
+.task Stop
+        GETR Motor
+        STR Motor, r4, r4       ; the motor stops
+        RELR Motor
+        TERM
+end:    JMP end
+
+.task Control
+        GETR Motor
+        SAI
+        LD r5, r4               ; no interrupt comes in here
+        RAI
+        STR Motor, r4, r5       ; the motor gets what is wanted
+        RELR Motor
+        TERM
+end:    JMP end
+
+; The lower part.
+
+.task App
+        GETR Buffer
+        GETR Log
+keep:   JMP keep
+
+.task Reader
+        GETR Buffer
+        GETR Log
+        RELR Log
+        RELR Buffer
+        TERM
+end:    JMP end
