@@ -186,6 +186,16 @@ pub(crate) fn next_ages(
     Ok(next)
 }
 
+/// Whether the ages of a task are at least those of the same task among others; at true they are.
+pub(crate) fn is_task_older(ages: &[Ages], others: &[Ages], task: usize) -> bool
+    ensures { IsTrue result → AreOlder (ages_at ages.now task) (ages_at others.now task) }
+{
+    match (ages.get(task), others.get(task)) {
+        (Some(ages), Some(others)) => ages.is_older(others),
+        _ => false,
+    }
+}
+
 /// Whether the ages of each task are at least those of the same task among others; at true they
 /// are.
 pub(crate) fn are_older(ages: &[Ages], others: &[Ages]) -> bool

@@ -104,7 +104,7 @@ impl Hold {
     }
 
     /// Whether each task has held it at least as long as in another hold; at true each has.
-    fn is_longer(self, other: Hold) -> bool
+    pub(crate) fn is_longer(self, other: Hold) -> bool
         ensures { IsTrue result → IsLonger self other }
     {
         !other.has_held() || (self.is_same_holder(other) && self.held >= other.held)

@@ -4,8 +4,9 @@ ghost use Rattle.std.specs.Prelude.{ℕ, ◌≡◌, ◌<◌, ◌≤◌, ◌^◌,
 ghost use Rattle.std.specs.Int.{bit_at};
 ghost use Rattle.std.specs.Option.{option_map};
 ghost use Rattle.osek_base.specs.declared.limits.TheConstants.{MAX_ROUTINES};
-ghost use Rattle.figure_laws.specs.Ages.{oldest_age};
-ghost use Rattle.figure_laws.specs.Holding.{held_ticks};
+ghost use Rattle.figure_laws.specs.Ages.{AreOlder, oldest_age};
+ghost use Rattle.figure_laws.specs.Holding.{IsLonger, held_ticks};
+ghost use Rattle.figure_laws.specs.Pending.{IsOlder};
 ghost use Rattle.figure_laws.specs.Times.{waited};
 ghost use Rattle.observations.specs.Seen.{seen_of};
 ghost use Rattle.bound_labels.specs.Labels.{
@@ -19,9 +20,13 @@ ghost use Rattle.bound_labels.specs.Labels.{
 };
 ghost use Rattle.bound_labels.specs.Joining.{AreOfAsMany, Joins};
 
-use crate::ages::{Ages, are_older as are_jobs_older, first_ages, join_ages, next_ages, oldest_of};
+use crate::ages::{
+    Ages, are_older as are_jobs_older, first_ages, is_task_older, join_ages, next_ages, oldest_of,
+};
 use crate::holds::{Hold, are_joinable, are_longer, first_holds, hold_of, join_holds, next_holds};
-use crate::pending::{are_older, first_pending, join_pending, next_pending, pending_of, waited};
+use crate::pending::{
+    are_older, first_pending, is_older, join_pending, next_pending, pending_of, waited,
+};
 use crate::waits::{are_sooner, first_waits, free_routines, join_waits, next_waits, wait_of};
 use figures::{HolderTick, RoutineTick, TaskTick};
 use observations::Observation;
@@ -154,6 +159,32 @@ impl Labels {
             && self.ages.len() == other.ages.len()
             && self.pending.len() == other.pending.len()
             && self.holds.len() == other.holds.len()
+    }
+
+    /// Whether the jobs of a task are at least as old as with other labels; at true they are.
+    pub fn has_older_jobs(&self, other: &Labels, task: usize) -> bool
+        ensures { IsTrue result → AreOlder (ages_of self.now task) (ages_of other.now task) }
+    {
+        is_task_older(&self.ages, &other.ages, task)
+    }
+
+    /// Whether an interrupt of a routine has waited at least as long as with other labels; at true
+    /// it has.
+    pub fn has_older_interrupt(&self, other: &Labels, routine: usize) -> bool
+        ensures { IsTrue result →
+            IsOlder (pending_of self.now routine) (pending_of other.now routine) }
+    {
+        is_older(
+            pending_of(&self.pending, routine),
+            pending_of(&other.pending, routine),
+        )
+    }
+
+    /// Whether a resource was held at least as long as with other labels; at true it was.
+    pub fn has_longer_hold(&self, other: &Labels, resource: usize) -> bool
+        ensures { IsTrue result → IsLonger (hold_of self.now resource) (hold_of other.now resource) }
+    {
+        hold_of(&self.holds, resource).is_longer(hold_of(&other.holds, resource))
     }
 
     /// Whether what may arrive with others may with these, and nothing is older there; at true it

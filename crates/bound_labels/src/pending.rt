@@ -86,7 +86,8 @@ pub(crate) fn next_pending(
     Ok(next)
 }
 
-fn is_older(age: Option<u32>, other: Option<u32>) -> bool
+/// Whether an age is at least another one; at true it is.
+pub(crate) fn is_older(age: Option<u32>, other: Option<u32>) -> bool
     ensures { IsTrue result → IsOlder age other }
 {
     match (age, other) {

@@ -1,3 +1,4 @@
 pub mod Held
 pub mod Exploring
+pub mod Figures
 pub mod Found

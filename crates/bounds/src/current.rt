@@ -101,5 +101,7 @@ pub(crate) fn node_of(
         is_over: machine.is_shut_down(),
         labels,
         place: None,
+        entry: None,
+        raised: None,
     })
 }

@@ -10,6 +10,7 @@ use crate::current::{boot_again, can_go_on, key_of, node_of, tick_from};
 use crate::machines::{Machines, StateMachine, are_equal};
 use crate::node::Node;
 use crate::routines::put_routines;
+use crate::trails::Trails;
 use bound_labels::{Labels, Peaks};
 use kernel::Machine;
 use needs::Needs;
@@ -37,6 +38,8 @@ pub(crate) struct Explorer<'s> {
     arrived: Vec<IsrId>,
     watcher: Watcher,
     peaks: Peaks,
+    /// How it came to all of these, of which contracts see nothing.
+    trails: Trails,
 }
 
 impl<'s> Model for Explorer<'s> {
@@ -85,14 +88,15 @@ impl<'s> Explorer<'s> {
             arrived: Vec::new(alloc),
             watcher: Watcher::new(),
             peaks: Peaks::new(),
+            trails: Trails::new(alloc, system)?,
         })
     }
 
-    /// The greatest times that were noted.
-    pub(crate) fn into_peaks(self) -> Peaks
-        ensures { result ≡ self.entry.peaks }
+    /// The greatest times that were noted, and how a search has come to them.
+    pub(crate) fn into_found(self) -> (Peaks, Trails)
+        ensures { result.0 ≡ self.entry.peaks }
     {
-        self.peaks
+        (self.peaks, self.trails)
     }
 
     /// How many resources can be held.
@@ -161,6 +165,8 @@ impl<'s> Steps for Explorer<'s> {
             .next(alloc, self.cap, self.distances, choice, seen)?;
         let node = node_of(alloc, &self.current, self.needs, labels)?;
         self.peaks.note(self.cap, seen, &from.labels);
+        self.trails.came(from.entry, choice);
+        self.trails.compare(&self.peaks);
         Ok(Some(node))
     }
 
@@ -181,6 +187,7 @@ impl<'s> Steps for Explorer<'s> {
     }
 
     fn keep(&mut self, alloc: Global, node: &mut Node) -> Result<(), AllocError> {
+        node.entry = Some(self.trails.enter(node.entry, node.raised.take())?);
         if self.machines.at(node.place, &node.key).is_some() {
             return Ok(());
         }

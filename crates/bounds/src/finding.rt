@@ -4,6 +4,7 @@ ghost use Rattle.std.specs.Prelude.{◌≡◌, IfOk};
 ghost use Rattle.bounds.specs.Found.{AreFound};
 
 use crate::explorer::Explorer;
+use crate::trails::Trails;
 use bound_labels::Peaks;
 use needs::needed_data;
 use osek_base::{ModeId, System};
@@ -31,6 +32,8 @@ pub struct Bounds {
     pub peaks: Peaks,
     /// The age up to which times are told, in ticks.
     pub cap: u32,
+    /// How the search has come to the peaks, for runs that may show them.
+    pub trails: Trails,
 }
 
 /// Searches all states that a system comes to in a mode, whatever interrupts arrive that come at
@@ -59,9 +62,11 @@ pub fn find_bounds(
     };
     searches_bound();
     let outcome = search(alloc, &mut explorer, limits)?;
+    let (peaks, trails) = explorer.into_found();
     Ok(Bounds {
         outcome,
-        peaks: explorer.into_peaks(),
+        peaks,
         cap: extent.cap,
+        trails,
     })
 }

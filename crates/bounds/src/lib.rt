@@ -4,9 +4,14 @@
 
 mod current;
 mod explorer;
+mod figure;
 mod finding;
 mod machines;
 mod node;
+mod raised;
 mod routines;
+mod trails;
 
+pub use figure::{Figure, figures_of};
 pub use finding::{Bounds, Extent, find_bounds};
+pub use trails::Trails;

@@ -4,6 +4,7 @@ ghost use Rattle.std.specs.Prelude.{◌≡◌, IfOk, IsFalse, IsTrue};
 ghost use Rattle.run_bounds.specs.Nodes.{Covers};
 
 use crate::machines::are_equal;
+use crate::raised::Raised;
 use bound_labels::Labels;
 use std::alloc::AllocError;
 use std::marker::Model;
@@ -17,6 +18,10 @@ pub(crate) struct Node {
     pub(crate) labels: Labels,
     /// Where the machine stands among those that are kept.
     pub(crate) place: Option<usize>,
+    /// The entry that tells how it came to be, of which contracts see nothing either.
+    pub(crate) entry: Option<usize>,
+    /// The labels that were raised when it was joined last, until that has an entry.
+    pub(crate) raised: Option<Raised>,
 }
 
 impl Model for Node {
@@ -55,7 +60,20 @@ impl Node {
         if !self.is_of_same(other) || !self.goes_with(other) {
             return Ok(false);
         }
-        self.labels.join(&other.labels)
+        let raised = self.raised_by(other);
+        let done = self.labels.join(&other.labels)?;
+        self.raised = raised;
+        Ok(done)
+    }
+
+    /// Which of its labels another one raises, where interrupts can arrive as soon in both. Else the
+    /// other one takes its place.
+    fn raised_by(&self, other: &Node) -> Option<Raised> {
+        if self.labels.has_same_waits(&other.labels) {
+            Some(Raised::by(&self.labels, &other.labels))
+        } else {
+            None
+        }
     }
 
     /// Whether the ages of two nodes of one state can stand beside each other.

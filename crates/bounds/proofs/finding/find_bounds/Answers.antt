@@ -16,10 +16,10 @@ returns-clause-found c =
     let e = c.in_ok-explorer.explorer in
     let f = c.search.new.steps in
     found_at c.args.system.now c.args.mode c.args.distances.now c.args.extent.cap
-    c.into_peaks.result e f c.in_ok-outcome.outcome
+    c.into_found-peaks.result.0 e f c.in_ok-outcome.outcome
     c.in_ok-outcome.ensures.setting c.in_ok-explorer.ensures.system c.in_ok-explorer.ensures.mode
     c.in_ok-explorer.ensures.distances
-    c.in_ok-explorer.ensures.cap (sym c.into_peaks.ensures)
+    c.in_ok-explorer.ensures.cap (sym c.into_found-peaks.ensures)
     (found c.searches_bound.ensures e f _ c.in_ok-outcome.outcome
     (subst (λ (x : Explorer). IsGround x.ground) c.explorer.view_is c.explorer.invariant.ground)
     c.in_ok-outcome.ensures.setting c.in_ok-outcome.ensures.outcome)

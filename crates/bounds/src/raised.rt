@@ -1,0 +1,62 @@
+//! Which labels of a node others have raised.
+
+use crate::figure::Figure;
+use bound_labels::Labels;
+
+/// How many things of a kind are told apart; of those beyond, nothing is raised.
+const MAX_THINGS: usize = 64;
+
+/// The things of which others raise the labels, as sets by number.
+#[derive(Clone, Copy, Debug)]
+pub(crate) struct Raised {
+    tasks: u64,
+    routines: u64,
+    resources: u64,
+}
+
+/// A set with one thing more.
+fn with(set: u64, thing: usize) -> u64 {
+    if thing < MAX_THINGS {
+        set | (1 << thing)
+    } else {
+        set
+    }
+}
+
+/// Whether a thing is in a set.
+fn has(set: u64, thing: usize) -> bool {
+    thing < MAX_THINGS && (set >> thing) % 2 == 1
+}
+
+impl Raised {
+    /// Those of which other labels tell longer times than labels do.
+    pub(crate) fn by(labels: &Labels, others: &Labels) -> Self {
+        let mut raised = Raised {
+            tasks: 0,
+            routines: 0,
+            resources: 0,
+        };
+        for thing in 0..MAX_THINGS {
+            if !labels.has_older_jobs(others, thing) {
+                raised.tasks = with(raised.tasks, thing);
+            }
+            if !labels.has_older_interrupt(others, thing) {
+                raised.routines = with(raised.routines, thing);
+            }
+            if !labels.has_longer_hold(others, thing) {
+                raised.resources = with(raised.resources, thing);
+            }
+        }
+        raised
+    }
+
+    /// Whether the label by which a figure goes is raised.
+    pub(crate) fn has(self, figure: Figure) -> bool {
+        match figure {
+            Figure::Response(task) => has(self.tasks, task),
+            Figure::Latency(routine) => has(self.routines, routine),
+            Figure::Hold(resource) => has(self.resources, resource),
+            Figure::Refusal(_) | Figure::Loss(_) | Figure::RefusedAction(_) => false,
+        }
+    }
+}

@@ -1,0 +1,168 @@
+//! How a search has come to what it tells, of which contracts see nothing: what is found by it is
+//! tried by a run.
+
+use crate::figure::{Figure, figures_of};
+use crate::raised::Raised;
+use bound_labels::Peaks;
+use osek_base::System;
+use std::alloc::{AllocError, Global};
+
+/// How a node became what it is.
+#[derive(Clone, Copy, Debug)]
+enum Entry {
+    /// It is the first.
+    First,
+    /// By a tick behind an earlier entry, in which the routines of a set arrive.
+    Tick { before: usize, set: u64 },
+    /// It was joined with the node of the entry before this one; until then it was as an older
+    /// entry says. The labels that were raised then have a number.
+    Joined { older: usize, raised: usize },
+}
+
+/// What a tick came from: the entry of its node, if there is one, and the routines that arrive.
+#[derive(Clone, Copy, Debug)]
+struct Step {
+    before: Option<usize>,
+    set: u64,
+}
+
+/// The tick in which a figure was greatest first.
+#[derive(Clone, Copy, Debug)]
+struct Origin {
+    figure: Figure,
+    value: u32,
+    step: Step,
+}
+
+/// How a search has come to each of its nodes, and to the greatest figures.
+#[derive(Drop)]
+pub struct Trails {
+    entries: Vec<Entry>,
+    raised: Vec<Raised>,
+    origins: Vec<Origin>,
+    last: Step,
+}
+
+/// No tick was made.
+const NO_STEP: Step = Step {
+    before: None,
+    set: 0,
+};
+
+impl Trails {
+    /// Nothing was searched yet.
+    pub(crate) fn new(alloc: Global, system: &System) -> Result<Self, AllocError> {
+        let mut origins = Vec::new(alloc);
+        for figure in &figures_of(alloc, system)? {
+            origins.push(Origin {
+                figure: *figure,
+                value: 0,
+                step: NO_STEP,
+            })?;
+        }
+        Ok(Trails {
+            entries: Vec::new(alloc),
+            raised: Vec::new(alloc),
+            origins,
+            last: NO_STEP,
+        })
+    }
+
+    /// A tick was made from the node of an entry, in which the routines of a set arrive.
+    pub(crate) fn came(&mut self, before: Option<usize>, set: u64) {
+        self.last = Step { before, set };
+    }
+
+    /// That tick may have shown more than was seen before.
+    pub(crate) fn compare(&mut self, peaks: &Peaks) {
+        let step = self.last;
+        for origin in self.origins.iter_mut() {
+            let value = origin.figure.told(peaks);
+            if value > origin.value {
+                origin.value = value;
+                origin.step = step;
+            }
+        }
+    }
+
+    /// One more entry, and its number.
+    fn push(&mut self, entry: Entry) -> Result<usize, AllocError> {
+        let number = self.entries.len();
+        self.entries.push(entry)?;
+        Ok(number)
+    }
+
+    /// The node that the last tick has made is kept. Where it was joined with one that had an entry,
+    /// it raised some labels of that. Answers the number of the entry that tells it.
+    pub(crate) fn enter(
+        &mut self,
+        older: Option<usize>,
+        raised: Option<Raised>,
+    ) -> Result<usize, AllocError> {
+        let step = self.last;
+        let entry = match step.before {
+            Some(before) => Entry::Tick {
+                before,
+                set: step.set,
+            },
+            None => Entry::First,
+        };
+        let number = self.push(entry)?;
+        match (older, raised) {
+            (Some(older), Some(raised)) => {
+                let place = self.raised.len();
+                self.raised.push(raised)?;
+                self.push(Entry::Joined {
+                    older,
+                    raised: place,
+                })
+            }
+            _ => Ok(number),
+        }
+    }
+
+    /// The tick in which a figure was greatest first; none where it is 0.
+    fn origin(&self, figure: Figure) -> Option<Step> {
+        for origin in &self.origins {
+            if origin.figure == figure && origin.value > 0 {
+                return Some(origin.step);
+            }
+        }
+        None
+    }
+
+    /// Which of two entries tells how the label of a figure came to be.
+    fn side(&self, number: usize, older: usize, raised: usize, figure: Figure) -> usize {
+        match self.raised.get(raised) {
+            Some(raised) if raised.has(figure) => number.saturating_sub(1),
+            _ => older,
+        }
+    }
+
+    /// The sets of routines that arrive in the ticks of a run that may show what is told of a
+    /// figure, the last tick first. An error is want of memory.
+    pub fn path(&self, alloc: Global, figure: Figure) -> Result<Vec<u64>, AllocError> {
+        let mut sets = Vec::new(alloc);
+        let Some(step) = self.origin(figure) else {
+            return Ok(sets);
+        };
+        sets.push(step.set)?;
+        let mut at = step.before;
+        for _entry in 0..self.entries.len() {
+            let Some(number) = at else {
+                return Ok(sets);
+            };
+            at = match self.entries.get(number) {
+                Some(Entry::Tick { before, set }) => {
+                    sets.push(*set)?;
+                    Some(*before)
+                }
+                Some(Entry::Joined { older, raised }) => {
+                    Some(self.side(number, *older, *raised, figure))
+                }
+                Some(Entry::First) | None => None,
+            };
+        }
+        Ok(sets)
+    }
+}
