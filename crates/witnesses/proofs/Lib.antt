@@ -1,0 +1,4 @@
+pub mod Spacing
+pub mod Keeping
+pub mod Watching
+pub mod Reaching

@@ -1,0 +1,199 @@
+-- Figures that are watched are those of the run.
+use Rattle.std.proofs.Common.{ℕ, suc, ◌≡◌, ◌<◌, ◌≤◌, ◌+◌, ◌-◌, ◌^◌, Bool, true, false, List, [], ◌∷◌, map, length, refl, sym, ◌∙◌, ap, subst, arith, add-one, true≢false}
+use Rattle.std.specs.Prelude.{◌||◌, IfSome, Option, Some, nat_le, nat_lt, not, slice_index_or}
+use Rattle.osek_base.specs.declared.arrivals.Arrival.{Arrival}
+use Rattle.osek_base.specs.declared.limits.TheConstants.{MAX_TICKS}
+use Rattle.osek_base.specs.Proper.{IsProper}
+use Rattle.osek_base.specs.System.{System}
+use Rattle.osek_base.specs.Trace.{run}
+use Rattle.observations.specs.declared.observation.Observation.{Observation}
+use Rattle.observed_runs.specs.Observed.{IsObserved}
+use Rattle.kernel.specs.Run.{Run, is_over, run_of}
+use Rattle.figures.specs.declared.alarm_figures.AlarmFigures.{AlarmFigures}
+use Rattle.figures.specs.declared.resource_figures.ResourceFigures.{ResourceFigures}
+use Rattle.figures.specs.declared.routine_figures.RoutineFigures.{RoutineFigures}
+use Rattle.figures.specs.declared.routine_figures.RoutineTick.{RoutineTick}
+use Rattle.figures.specs.declared.task_figures.TaskFigures.{TaskFigures}
+use Rattle.figures.specs.declared.task_tick.TaskTick.{TaskTick}
+use Rattle.figures.specs.FigureSums.{AreFigures, RunFigures, levels_of, routine_tick, task_figures, task_tick}
+use Rattle.figures.specs.Reaching.{worse_of}
+use Rattle.figures.specs.RoutineSums.{pending_age, routine_figures}
+use Rattle.figure_laws.specs.Times.{response_time, routine_time}
+use Rattle.upper_figures.proofs.Bare.{bare_routine, bare_task, routines_bare, task_refused_bare, task_responses_bare}
+use Rattle.upper_figures.proofs.Observed.{are_figures, figures_of}
+use Rattle.bounds.specs.declared.figure.Figure.{Figure}
+use Rattle.bounds.specs.declared.figure.Figure.TheVariants.{Hold, Latency, Loss, Refusal, RefusedAction, Response}
+use Rattle.bounds.specs.Figures.{one_if}
+use Rattle.witnesses.specs.declared.watched.Watched.{Watched}
+use Rattle.witnesses.specs.Running.{Watches, number_of}
+use Rattle.witnesses.specs.Shown.{IsOf, Shows, shown}
+use Rattle.witnesses.specs.Watched.{AreWatched, bare_routine_tick, bare_task_tick, shown_of, ticks_of}
+
+-- ---- tick by tick
+
+-- a run is n ticks behind another one, and the things of a number were watched up to there
+pub record IsWatched (first now : Run) (n k : ℕ) (w : Watched) : Type 0 where
+  pub same : now ≡ record first { ticks = n }
+  pub watches : Watches first.system first.mode first.arrivals n k w
+
+pub begun : (first : Run) (k : ℕ) (w : Watched) → first.ticks ≡ 0 → AreWatched k [] w
+    → IsWatched first first 0 k w
+begun first k w none are = record {
+  same = ap (λ n. record first { ticks = n }) none;
+  watches = record { seen = []; ticks = tt; are = are };
+}
+
+not_over : (b c : Bool) → true ≡ not (b || c) → c ≡ false
+not_over b false is = refl
+not_over true true is = absurd (true≢false is)
+not_over false true is = absurd (true≢false is)
+
+going : (first now : Run) (n : ℕ) → now ≡ record first { ticks = n } → true ≡ not (is_over now)
+    → (run first.system first.mode first.arrivals n).state.over ≡ false
+going first now n same goes =
+    ap (λ (r : Run). (run_of r).state.over) (sym same)
+    ∙ not_over (nat_le MAX_TICKS now.ticks) (run_of now).state.over goes
+
+pub one_more : (first old new : Run) (n k : ℕ) (v w : Watched) (o : Observation)
+    → IsWatched first old n k v → true ≡ not (is_over old)
+    → new ≡ record old { ticks = old.ticks + 1 }
+    → (1 ≤ new.ticks
+    → IsObserved false new.system new.mode new.arrivals (new.ticks - 1) o)
+    → ((before : List Observation) → AreWatched k before v → AreWatched k (o ∷ before) w)
+    → IsWatched first new (n + 1) k w
+one_more first old new n k v w o is goes step observed more =
+    let same : new ≡ record first { ticks = suc n } =
+    step ∙ ap (λ (r : Run). record r { ticks = r.ticks + 1 }) is.same
+    ∙ ap (λ m. record first { ticks = m }) (add-one n) in
+    let last : IsObserved false first.system first.mode first.arrivals (suc n - 1) o =
+    subst
+    (λ (r : Run). 1 ≤ r.ticks → IsObserved false r.system r.mode r.arrivals (r.ticks - 1) o) same
+    observed (omega arith) in
+    let before : suc n - 1 ≡ n = omega arith in
+    let at : IsObserved false first.system first.mode first.arrivals n o =
+    subst (λ m. IsObserved false first.system first.mode first.arrivals m o) before last in
+    subst (λ m. IsWatched first new m k w) (sym (add-one n))
+    (record {
+      same = same;
+      watches = record {
+        seen = o ∷ is.watches.seen;
+        ticks = (
+          record {
+            number = at.number;
+            going = going first old n is.same goes;
+            seen = at.seen;
+          },
+          is.watches.ticks,
+        );
+        are = more is.watches.seen is.watches.are;
+      };
+    })
+
+-- ---- what is shown
+
+tasks_same : (levels : List ℕ) (k : ℕ) (seen : List Observation)
+    → map bare_task (map (λ o. task_tick levels o k) seen)
+    ≡ map bare_task (map (λ o. bare_task_tick o k) seen)
+tasks_same levels k [] = refl
+tasks_same levels k (o ∷ before) =
+    ap (λ (ts : List TaskTick). bare_task (bare_task_tick o k) ∷ ts) (tasks_same levels k before)
+
+routines_same : (k : ℕ) (seen : List Observation)
+    → map bare_routine (map (λ o. routine_tick o k) seen)
+    ≡ map bare_routine (map (λ o. bare_routine_tick o k) seen)
+routines_same k [] = refl
+routines_same k (o ∷ before) =
+    ap (λ (rs : List RoutineTick). bare_routine (bare_routine_tick o k) ∷ rs)
+    (routines_same k before)
+
+module _ (S : System) (seen : List Observation) (f : RunFigures) (are : AreFigures S seen f)
+    (w : Watched) where
+  responses : (k : ℕ) → AreWatched k seen w → k < length S.tasks
+      → (slice_index_or f.tasks k (task_figures [])).responses ≡ w.task.responses
+  responses k watched low =
+      ap (λ (g : TaskFigures). g.responses) (are.tasks.each k low)
+      ∙ task_responses_bare (map (λ o. task_tick (levels_of S) o k) seen)
+      (map (λ o. bare_task_tick o k) seen) (tasks_same (levels_of S) k seen)
+      ∙ sym (ap (λ (g : TaskFigures). g.responses) watched.task)
+
+  refused : (k : ℕ) → AreWatched k seen w → k < length S.tasks
+      → (slice_index_or f.tasks k (task_figures [])).counts.refused ≡ w.task.counts.refused
+  refused k watched low =
+      ap (λ (g : TaskFigures). g.counts.refused) (are.tasks.each k low)
+      ∙ task_refused_bare (map (λ o. task_tick (levels_of S) o k) seen)
+      (map (λ o. bare_task_tick o k) seen) (tasks_same (levels_of S) k seen)
+      ∙ sym (ap (λ (g : TaskFigures). g.counts.refused) watched.task)
+
+  last : (k : ℕ) → AreWatched k seen w → f.last ≡ w.last
+  last k watched = are.last ∙ sym watched.last
+
+  shown_same : (figure : Figure) → AreWatched (number_of figure) seen w → IsOf S figure
+      → shown f figure ≡ shown_of w figure
+  shown_same (Response k) watched low = λ i.
+      ticks_of (response_time (last k watched i) (responses k watched low i))
+  shown_same (Refusal k) watched low = ap (λ n. one_if (nat_lt 0 n)) (refused k watched low)
+  shown_same (Latency k) watched low =
+      let each = are.routines.each k low in
+      let alike =
+      routines_bare (map (λ o. routine_tick o k) seen) (map (λ o. bare_routine_tick o k) seen)
+      (routines_same k seen) in
+      ap (λ (g : RoutineFigures). ticks_of (routine_time f.last g)) each
+      ∙ ap (λ n. ticks_of (routine_time n (routine_figures (map (λ o. routine_tick o k) seen))))
+      (last k watched)
+      ∙ (λ i. ticks_of (worse_of (alike.latency i) (pending_age w.last (alike.pending i))))
+      ∙ sym (ap (λ (g : RoutineFigures). ticks_of (routine_time w.last g)) watched.routine)
+  shown_same (Loss k) watched low =
+      let alike =
+      routines_bare (map (λ o. routine_tick o k) seen) (map (λ o. bare_routine_tick o k) seen)
+      (routines_same k seen) in
+      ap (λ (g : RoutineFigures). one_if (nat_lt 0 g.losses)) (are.routines.each k low)
+      ∙ ap (λ n. one_if (nat_lt 0 n)) alike.losses
+      ∙ sym (ap (λ (g : RoutineFigures). one_if (nat_lt 0 g.losses)) watched.routine)
+  shown_same (Hold k) watched low =
+      ap (λ (g : ResourceFigures). ticks_of g.longest)
+      (are.resources.each k low ∙ sym watched.resource)
+  shown_same (RefusedAction k) watched low =
+      ap (λ (g : AlarmFigures). one_if (nat_lt 0 g.refused))
+      (are.alarms.each k low ∙ sym watched.alarm)
+
+-- what was watched of a run is what its figures show
+pub shows : (S : System) (mode : ℕ) (arrivals : List Arrival) (n : ℕ) (figure : Figure)
+    (w : Watched) → IsProper S → n ≤ 2 ^ 32 → IsOf S figure
+    → Watches S mode arrivals n (number_of figure) w
+    → Shows S mode arrivals n figure (shown_of w figure)
+shows S mode arrivals n figure w proper small of watches = record {
+  figures = figures_of S watches.seen;
+  are = record {
+    seen = watches.seen;
+    proper = proper;
+    small = small;
+    ticks = watches.ticks;
+    figures = are_figures S watches.seen;
+  };
+  of = of;
+  shown =
+      shown_same S watches.seen (figures_of S watches.seen) (are_figures S watches.seen) w figure
+      watches.are of;
+}
+
+-- the same, of a run that was begun with this system, this mode and these arrivals
+pub begun_shows : (S : System) (mode : ℕ) (arrivals : List Arrival) (n : ℕ) (figure : Figure)
+    (first : Option Run) (r : Run) (k : ℕ) (w : Watched) (value : ℕ) → IsProper S → n < 2 ^ 32
+    → IsOf S figure
+    → IfSome first (λ (x : Run). (x.system ≡ S) × (x.mode ≡ mode) × (x.arrivals ≡ arrivals) × (x.ticks ≡ 0))
+    → first ≡ Some r → k ≡ number_of figure → Watches r.system r.mode r.arrivals n k w
+    → value ≡ shown_of w figure → Shows S mode arrivals n figure value
+begun_shows S mode arrivals n figure first r k w value proper small of made is number watches told =
+    let same : (r.system ≡ S) × (r.mode ≡ mode) × (r.arrivals ≡ arrivals) × (r.ticks ≡ 0) =
+    subst (λ o. IfSome o (λ (x : Run). (x.system ≡ S) × (x.mode ≡ mode) × (x.arrivals ≡ arrivals) × (x.ticks ≡ 0)))
+    is made in
+    let numbered : Watches r.system r.mode r.arrivals n (number_of figure) w =
+    subst (λ m. Watches r.system r.mode r.arrivals n m w) number watches in
+    let of_system : Watches S r.mode r.arrivals n (number_of figure) w =
+    subst (λ x. Watches x r.mode r.arrivals n (number_of figure) w) same.0 numbered in
+    let in_mode : Watches S mode r.arrivals n (number_of figure) w =
+    subst (λ x. Watches S x r.arrivals n (number_of figure) w) same.1 of_system in
+    let under : Watches S mode arrivals n (number_of figure) w =
+    subst (λ x. Watches S mode x n (number_of figure) w) same.2 in_mode in
+    subst (λ v. Shows S mode arrivals n figure v) (sym told)
+    (shows S mode arrivals n figure w proper (omega (arith, small)) of under)

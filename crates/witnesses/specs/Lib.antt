@@ -1,0 +1,4 @@
+pub mod Apart
+pub mod Watched
+pub mod Running
+pub mod Shown

@@ -1,0 +1,180 @@
+//! Figures of the things of one number, over the ticks that were seen.
+
+ghost use Rattle.std.specs.Prelude.{ℕ, List, [], ◌∷◌, ◌≡◌, None, nat_lt, slice_index_or};
+ghost use Rattle.figures.specs.FigureSums.{alarm_tick, holder_tick, unseen_alarm, unseen_routine, unseen_task};
+ghost use Rattle.figures.specs.declared.reached.Reached.{Reached};
+ghost use Rattle.observations.specs.declared.observation.Observation.{Observation};
+ghost use Rattle.bounds.specs.Figures.{one_if};
+ghost use Rattle.witnesses.specs.Watched.{AreWatched, bare_routine_tick, bare_task_tick, shown_of, ticks_of};
+
+use bounds::Figure;
+use figures::{
+    AlarmFigures, AlarmTick, HolderTick, Reached, ResourceFigures, RoutineFigures, RoutineTick,
+    TaskFigures, TaskTick,
+};
+use observations::{AlarmSeen, Holder, Observation, RoutineSeen, TaskSeen};
+use osek_base::TaskState;
+
+fn task_seen(tasks: &[TaskSeen], number: usize) -> TaskSeen
+    ensures { result ≡ slice_index_or tasks.now number unseen_task }
+{
+    match tasks.get(number) {
+        Some(seen) => *seen,
+        None => TaskSeen {
+            state: TaskState::Suspended,
+            priority: None,
+            jobs: 0,
+            made: 0,
+            refused: 0,
+            ended: false,
+            waits: false,
+        },
+    }
+}
+
+fn routine_seen(routines: &[RoutineSeen], number: usize) -> RoutineSeen
+    ensures { result ≡ slice_index_or routines.now number unseen_routine }
+{
+    match routines.get(number) {
+        Some(seen) => *seen,
+        None => RoutineSeen {
+            executes: false,
+            is_pending: false,
+            is_started: false,
+            arrived: 0,
+            lost: 0,
+        },
+    }
+}
+
+fn holder_seen(holders: &[Holder], number: usize) -> Holder
+    ensures { result ≡ slice_index_or holders.now number None }
+{
+    match holders.get(number) {
+        Some(holder) => *holder,
+        None => Holder::new(None),
+    }
+}
+
+fn alarm_seen(alarms: &[AlarmSeen], number: usize) -> AlarmSeen
+    ensures { result ≡ slice_index_or alarms.now number unseen_alarm }
+{
+    match alarms.get(number) {
+        Some(seen) => *seen,
+        None => AlarmSeen {
+            has_expired: false,
+            is_refused: false,
+        },
+    }
+}
+
+/// A task in a tick, without who executes and what the tick's instruction is answered.
+fn task_tick(seen: &Observation, number: usize) -> TaskTick
+    ensures { result ≡ bare_task_tick seen.now number }
+{
+    TaskTick {
+        tick: seen.tick,
+        seen: task_seen(seen.tasks.as_slice(), number),
+        lower_executes: false,
+        has_failed: false,
+        blockers: None,
+    }
+}
+
+/// A routine in a tick, without what the tick's instruction is answered.
+fn routine_tick(seen: &Observation, number: usize) -> RoutineTick
+    ensures { result ≡ bare_routine_tick seen.now number }
+{
+    RoutineTick {
+        tick: seen.tick,
+        seen: routine_seen(seen.routines.as_slice(), number),
+        has_failed: false,
+    }
+}
+
+fn holder_tick(seen: &Observation, number: usize) -> HolderTick
+    ensures { result ≡ holder_tick seen.now number }
+{
+    HolderTick {
+        tick: seen.tick,
+        holder: holder_seen(seen.holders.as_slice(), number),
+    }
+}
+
+fn alarm_tick(seen: &Observation, number: usize) -> AlarmTick
+    ensures { result ≡ alarm_tick seen.now number }
+{
+    AlarmTick {
+        tick: seen.tick,
+        seen: alarm_seen(seen.alarms.as_slice(), number),
+    }
+}
+
+/// Figures of the task, the routine, the resource and the alarm of one number, as far as such a
+/// thing was seen, and the last tick. What goes by who executes isn't counted.
+#[derive(Drop)]
+pub(crate) struct Watched {
+    pub(crate) task: TaskFigures,
+    pub(crate) routine: RoutineFigures,
+    pub(crate) resource: ResourceFigures,
+    pub(crate) alarm: AlarmFigures,
+    pub(crate) last: u32,
+}
+
+/// The ticks of a figure, 0 where there is none.
+fn ticks_of(reached: Option<Reached>) -> u32
+    ensures { result ≡ ticks_of reached }
+{
+    match reached {
+        Some(reached) => reached.ticks,
+        None => 0,
+    }
+}
+
+/// What is told of something that has come so often.
+fn coming(count: u32) -> u32
+    ensures { result ≡ one_if (nat_lt 0 count) }
+{
+    if count > 0 { 1 } else { 0 }
+}
+
+impl Watched {
+    /// Nothing was seen.
+    pub(crate) fn new() -> Self
+        ensures { (number : ℕ) → AreWatched number [] result }
+    {
+        Watched {
+            task: TaskFigures::new(),
+            routine: RoutineFigures::new(),
+            resource: ResourceFigures::new(),
+            alarm: AlarmFigures::new(),
+            last: 0,
+        }
+    }
+
+    /// A tick more is seen.
+    pub(crate) fn observe(&mut self, number: usize, seen: &Observation)
+        ensures { (before : List Observation) → AreWatched number before self.old
+            → AreWatched number (seen.now ∷ before) self.new }
+    {
+        self.task.observe(&task_tick(seen, number));
+        self.routine.observe(&routine_tick(seen, number));
+        self.resource.observe(&holder_tick(seen, number));
+        self.alarm.observe(&alarm_tick(seen, number));
+        self.last = seen.tick;
+    }
+
+    /// What is shown of a figure: ticks of a time, and of what comes or not 1 where it has come.
+    pub(crate) fn shown(&self, figure: Figure) -> u32
+        ensures { result ≡ shown_of self.now figure }
+    {
+        match figure {
+            Figure::Response(_) => ticks_of(self.task.worst(self.last)),
+            Figure::Refusal(_) => coming(self.task.counts.refused),
+            Figure::Latency(_) => ticks_of(self.routine.worst(self.last)),
+            Figure::Loss(_) => coming(self.routine.losses),
+            Figure::Hold(_) => ticks_of(self.resource.longest),
+            Figure::RefusedAction(_) => coming(self.alarm.refused),
+        }
+    }
+}

@@ -1,0 +1,102 @@
+//! Runs that show what bounds tell.
+
+ghost use Rattle.std.specs.Prelude.{◌≡◌, IfOk, IfSome, IsTrue};
+ghost use Rattle.run_bounds.specs.Bounds.{KeepDistances};
+ghost use Rattle.witnesses.specs.Shown.{IsBelow, IsWitness, Shows};
+
+use crate::apart::keep_distances;
+use crate::candidate::arrivals_of;
+use crate::running::shown_in_run;
+use bounds::{Bounds, Figure};
+use osek_base::{Arrival, Arrivals, ModeId, System};
+use std::alloc::{AllocError, Global};
+
+/// Arrivals that keep distances, and behind how many ticks their run shows a figure.
+#[derive(Debug, Drop)]
+pub struct Witness {
+    pub arrivals: Arrivals,
+    /// 0 to 1,000,000.
+    pub ticks: u32,
+}
+
+/// Whether a figure is told below the cap; so is all that isn't a time.
+fn is_below(found: &Bounds, figure: Figure) -> bool
+    ensures { IsTrue result → IsBelow found.now.cap found.now.peaks figure }
+{
+    match figure {
+        Figure::Response(_) | Figure::Latency(_) | Figure::Hold(_) => figure.told(&found.peaks)
+            < found.cap,
+        Figure::Refusal(_) | Figure::Loss(_) | Figure::RefusedAction(_) => true,
+    }
+}
+
+/// A copy of arrivals.
+fn copy_of(alloc: Global, arrivals: &[Arrival]) -> Result<Vec<Arrival>, AllocError>
+    ensures { IfOk result (λ copy. copy.items ≡ arrivals.now) }
+{
+    let mut copy = Vec::with_capacity(alloc, arrivals.len())?;
+    copy.extend_from_slice(arrivals)?;
+    Ok(copy)
+}
+
+/// Arrivals and a number of ticks, where they keep distances and their run shows so much of a
+/// figure.
+fn tried(
+    alloc: Global,
+    system: &System,
+    mode: ModeId,
+    distances: &[u32],
+    arrivals: Vec<Arrival>,
+    ticks: u32,
+    figure: Figure,
+    value: u32,
+) -> Result<Option<Witness>, AllocError>
+    ensures { IfOk result (λ found. IfSome found (λ w. KeepDistances system.now distances.now w.arrivals
+        × Shows system.now mode w.arrivals w.ticks figure value)) }
+{
+    let copy = copy_of(alloc, &arrivals)?;
+    let Some(arrivals) = Arrivals::new(arrivals) else {
+        return Ok(None);
+    };
+    let Some(copy) = Arrivals::new(copy) else {
+        return Ok(None);
+    };
+    if !keep_distances(system, distances, &arrivals) {
+        return Ok(None);
+    }
+    match shown_in_run(alloc, system, mode, copy, ticks, figure)? {
+        Some(shown) if shown == value => Ok(Some(Witness { arrivals, ticks })),
+        _ => Ok(None),
+    }
+}
+
+/// A run that shows what is told of a figure below the cap: exactly so many ticks, or that
+/// something is lost or refused, where that has come, and that nothing is, where it hasn't. Its
+/// interrupts keep the distances, in ticks by routine, 1 where none is given.
+///
+/// What a search has come by is tried by running it, so it may be that none is found. An error is
+/// want of memory.
+pub fn find_witness(
+    alloc: Global,
+    system: &System,
+    mode: ModeId,
+    distances: &[u32],
+    found: &Bounds,
+    figure: Figure,
+) -> Result<Option<Witness>, AllocError>
+    ensures { IfOk result (λ witness.
+        IfSome witness (IsWitness system.now mode distances.now found.now figure)) }
+{
+    if !is_below(found, figure) {
+        return Ok(None);
+    }
+    let path = found.trails.path(alloc, figure)?;
+    let Ok(ticks) = u32::try_from(path.len()) else {
+        return Ok(None);
+    };
+    let arrivals = arrivals_of(alloc, &path, system.routine_count())?;
+    let value = figure.told(&found.peaks);
+    tried(
+        alloc, system, mode, distances, arrivals, ticks, figure, value,
+    )
+}
