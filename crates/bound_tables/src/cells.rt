@@ -5,35 +5,39 @@ use std::fmt;
 /// What is told of a figure.
 #[derive(Clone, Copy)]
 pub enum Cell {
-    /// A time, in ticks.
-    Time(u32),
+    /// A time, in ticks, and whether a run shows it.
+    Time { ticks: u32, is_reached: bool },
     /// A time that reaches the cap.
     Above,
-    /// Whether something may come.
-    Coming(bool),
+    /// Whether something may come, and whether a run shows that it does or doesn't.
+    Coming { comes: bool, is_reached: bool },
 }
 
 impl Cell {
     /// A time that is told below a cap.
-    pub fn of_time(ticks: u32, cap: u32) -> Self {
+    pub fn of_time(ticks: u32, cap: u32, is_reached: bool) -> Self {
         if ticks < cap {
-            Cell::Time(ticks)
+            Cell::Time { ticks, is_reached }
         } else {
             Cell::Above
         }
     }
 
-    /// Whether no run shows more.
-    fn is_bound(self) -> bool {
-        match self {
-            Cell::Time(_) | Cell::Coming(false) => true,
-            Cell::Above | Cell::Coming(true) => false,
-        }
-    }
-
-    /// What is promised of the figure: `bound`, or `above` where nothing is.
+    /// What is promised of the figure: `reached` where a run shows it and none shows more, `bound`
+    /// where none shows more, or `above` where nothing is.
     pub fn standing(self) -> &'static str {
-        if self.is_bound() { "bound" } else { "above" }
+        match self {
+            Cell::Time {
+                is_reached: true,
+                ..
+            }
+            | Cell::Coming {
+                is_reached: true,
+                ..
+            } => "reached",
+            Cell::Time { .. } | Cell::Coming { comes: false, .. } => "bound",
+            Cell::Above | Cell::Coming { comes: true, .. } => "above",
+        }
     }
 }
 
@@ -41,9 +45,9 @@ impl Cell {
 impl fmt::Display for Cell {
     fn fmt<W: fmt::Write>(&self, f: &mut fmt::Formatter<W>) -> fmt::Result {
         match self {
-            Cell::Time(ticks) => write!(f, "{ticks}"),
+            Cell::Time { ticks, .. } => write!(f, "{ticks}"),
             Cell::Above => Ok(()),
-            Cell::Coming(comes) => write!(f, "{}", u8::from(*comes)),
+            Cell::Coming { comes, .. } => write!(f, "{}", u8::from(*comes)),
         }
     }
 }

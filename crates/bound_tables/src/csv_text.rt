@@ -1,32 +1,32 @@
 //! Bounds as comma-separated values, a line a figure. Names have no comma, so nothing is quoted.
 
 use crate::kinds::{KINDS, Kind};
-use bounds::Bounds;
+use crate::told::Told;
 use osek_base::System;
 use std::io::{self, Write};
 
 fn write_object<W: Write>(
     system: &System,
-    bounds: &Bounds,
+    told: Told<'_, '_>,
     kind: Kind,
     number: usize,
     out: &mut W,
 ) -> io::Result<()> {
     let name = kind.name(system, number);
-    for figure in kind.figures() {
-        let cell = figure.cell(bounds, number);
-        let (word, standing) = (figure.word(), cell.standing());
+    for column in kind.columns() {
+        let cell = column.cell(told, number);
+        let (word, standing) = (column.word(), cell.standing());
         writeln!(out, "{},{name},{word},{cell},{standing}", kind.word())?;
     }
     Ok(())
 }
 
 /// Writes the heading and the lines. An error is a failed write.
-pub fn write_lines<W: Write>(system: &System, bounds: &Bounds, out: &mut W) -> io::Result<()> {
+pub fn write_lines<W: Write>(system: &System, told: Told<'_, '_>, out: &mut W) -> io::Result<()> {
     out.write_all(b"kind,name,figure,value,standing\n")?;
     for kind in &KINDS {
         for number in 0..kind.count(system) {
-            write_object(system, bounds, *kind, number, out)?;
+            write_object(system, told, *kind, number, out)?;
         }
     }
     Ok(())

@@ -1,15 +1,16 @@
-//! The kinds of objects of which bounds are told, and the figures of each.
+//! The kinds of objects of which bounds are told, and what is told of each.
 
 use crate::cells::Cell;
-use bounds::Bounds;
+use crate::told::Told;
+use bounds::Figure;
 use osek_base::{Name, System};
 
 /// The name of the resource behind the declared ones.
 const RES_SCHEDULER: &str = "RES_SCHEDULER";
 
-/// A figure of an object.
+/// A column of a table: a figure of the objects of a kind.
 #[derive(Clone, Copy)]
-pub enum Figure {
+pub enum Column {
     /// The greatest response of a task.
     Response,
     /// Whether an activation of a task may be refused.
@@ -24,28 +25,45 @@ pub enum Figure {
     RefusedAction,
 }
 
-impl Figure {
+impl Column {
     /// Its word, that of the same figure of one run.
     pub fn word(self) -> &'static str {
         match self {
-            Figure::Response => "greatest",
-            Figure::Latency => "latency",
-            Figure::Loss => "losses",
-            Figure::Hold => "longest",
-            Figure::Refusal | Figure::RefusedAction => "refused",
+            Column::Response => "greatest",
+            Column::Latency => "latency",
+            Column::Loss => "losses",
+            Column::Hold => "longest",
+            Column::Refusal | Column::RefusedAction => "refused",
         }
     }
 
-    /// What is told of it, of the object of a number.
-    pub fn cell(self, bounds: &Bounds, number: usize) -> Cell {
-        let peaks = &bounds.peaks;
+    /// The figure of the object of a number.
+    pub fn figure(self, number: usize) -> Figure {
         match self {
-            Figure::Response => Cell::of_time(peaks.response(number), bounds.cap),
-            Figure::Refusal => Cell::Coming(peaks.has_refusal(number)),
-            Figure::Latency => Cell::of_time(peaks.latency(number), bounds.cap),
-            Figure::Loss => Cell::Coming(peaks.has_loss(number)),
-            Figure::Hold => Cell::of_time(peaks.hold(number), bounds.cap),
-            Figure::RefusedAction => Cell::Coming(peaks.has_refused_action(number)),
+            Column::Response => Figure::Response(number),
+            Column::Refusal => Figure::Refusal(number),
+            Column::Latency => Figure::Latency(number),
+            Column::Loss => Figure::Loss(number),
+            Column::Hold => Figure::Hold(number),
+            Column::RefusedAction => Figure::RefusedAction(number),
+        }
+    }
+
+    /// What is told of the object of a number.
+    pub fn cell(self, told: Told<'_, '_>, number: usize) -> Cell {
+        let figure = self.figure(number);
+        let value = figure.told(&told.bounds.peaks);
+        let is_reached = told.is_reached(figure);
+        match self {
+            Column::Response | Column::Latency | Column::Hold => Cell::of_time(
+                value,
+                told.bounds.cap,
+                is_reached,
+            ),
+            Column::Refusal | Column::Loss | Column::RefusedAction => Cell::Coming {
+                comes: value > 0,
+                is_reached,
+            },
         }
     }
 }
@@ -74,12 +92,12 @@ impl Kind {
     }
 
     /// What is told of each of its objects.
-    pub fn figures(self) -> &'static [Figure] {
+    pub fn columns(self) -> &'static [Column] {
         match self {
-            Kind::Task => &[Figure::Response, Figure::Refusal],
-            Kind::Routine => &[Figure::Latency, Figure::Loss],
-            Kind::Resource => &[Figure::Hold],
-            Kind::Alarm => &[Figure::RefusedAction],
+            Kind::Task => &[Column::Response, Column::Refusal],
+            Kind::Routine => &[Column::Latency, Column::Loss],
+            Kind::Resource => &[Column::Hold],
+            Kind::Alarm => &[Column::RefusedAction],
         }
     }
 

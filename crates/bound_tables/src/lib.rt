@@ -5,7 +5,11 @@
 mod cells;
 mod csv_text;
 mod kinds;
+mod naming;
 mod table;
+mod told;
 mod writing;
 
+pub use naming::{NamedFigure, figure_named, is_column};
+pub use told::Told;
 pub use writing::{Form, write_bounds};

@@ -2,7 +2,7 @@
 
 use crate::csv_text::write_lines;
 use crate::table::write_tables;
-use bounds::Bounds;
+use crate::told::Told;
 use osek_base::System;
 use search::{Obstacle, Outcome, Progress};
 use std::io::{self, Write};
@@ -28,25 +28,25 @@ fn reason(obstacle: Obstacle) -> &'static str {
 /// Writes how many states a system comes to, and the tables.
 fn write_decided<W: Write>(
     system: &System,
-    bounds: &Bounds,
+    told: Told<'_, '_>,
     progress: Progress,
     out: &mut W,
 ) -> io::Result<()> {
     writeln!(out, "decided: {} states", progress.nodes)?;
-    write_tables(system, bounds, out)
+    write_tables(system, told, out)
 }
 
 /// Writes the bounds of a system in a form, or how far the search for them came. An error is a
 /// failed write.
 pub fn write_bounds<W: Write>(
     system: &System,
-    bounds: &Bounds,
+    told: Told<'_, '_>,
     form: Form,
     out: &mut W,
 ) -> io::Result<()> {
-    match (bounds.outcome, form) {
-        (Outcome::Decided(progress), Form::Table) => write_decided(system, bounds, progress, out),
-        (Outcome::Decided(_), Form::Csv) => write_lines(system, bounds, out),
+    match (told.bounds.outcome, form) {
+        (Outcome::Decided(progress), Form::Table) => write_decided(system, told, progress, out),
+        (Outcome::Decided(_), Form::Csv) => write_lines(system, told, out),
         (Outcome::Undecided(obstacle, progress), _) => writeln!(
             out,
             "undecided: {} states, {} open: {}",

@@ -1,10 +1,11 @@
 //! What is written of all runs of a system: bounds, or how far the search for them came.
 
-use crate::bounds_line::{BoundsLine, Distance};
+use crate::bounds_line::{BoundsLine, Distance, Wanted};
 use crate::inputs::{Texts, mode_of, system_of};
 use crate::partitions::write_denial;
 use crate::status::{DistanceFault, Verdict};
-use bound_tables::write_bounds;
+use crate::witnessing::write_witness;
+use bound_tables::{Told, figure_named, write_bounds};
 use bounds::{Bounds, Extent, find_bounds};
 use bounds_above::find_upper_bounds;
 use isolation::check_isolation;
@@ -14,6 +15,7 @@ use search::Outcome;
 use std::alloc::{AllocError, Global};
 use std::io::Write;
 use tracer::RunFault;
+use witnesses::reached_figures;
 
 /// How many visits may be made for each state that may be kept.
 const VISITS_OF_STATE: u64 = 100;
@@ -89,17 +91,13 @@ fn distance_fault<'v>(system: &System, distances: &[Distance<'v>]) -> Option<Dis
     None
 }
 
-/// Searches all runs in a mode whose interrupts keep distances.
-fn search_bounds(
-    alloc: Global,
-    texts: &Texts,
-    system: &System,
-    line: BoundsLine<'_>,
-    distances: &[Distance<'_>],
-) -> Result<Bounds, RunFault> {
-    let mode = mode_id(alloc, texts, system, line.mode)?;
-    let distances = all_distances(alloc, system, distances)?;
-    Ok(find_bounds(alloc, system, mode, &distances, extent_of(line))?)
+/// The figure of which a run is wanted, where nothing of the system has it.
+fn unknown_figure<'v>(system: &System, line: BoundsLine<'v>) -> Option<Wanted<'v>> {
+    let wanted = line.witness?;
+    match figure_named(system, wanted.name, wanted.column) {
+        Some(_named) => None,
+        None => Some(wanted),
+    }
 }
 
 /// Whether a search has come to its end.
@@ -110,13 +108,43 @@ fn verdict_of<'v>(outcome: Outcome) -> Verdict<'v> {
     }
 }
 
+/// Writes what was found of a system: its bounds, or the run that is wanted.
+fn write_found<'v, O: Write>(
+    alloc: Global,
+    system: &System,
+    mode: ModeId,
+    distances: &[u32],
+    found: &Bounds,
+    line: BoundsLine<'v>,
+    out: &mut O,
+) -> Result<Verdict<'v>, RunFault> {
+    if let Outcome::Decided(_) = found.outcome {
+        if let Some(wanted) = line.witness {
+            return write_witness(alloc, system, mode, distances, found, wanted, out);
+        }
+        let reached = reached_figures(alloc, system, mode, distances, found)?;
+        let told = Told {
+            bounds: found,
+            reached: &reached,
+        };
+        write_bounds(system, told, line.form, out)?;
+        return Ok(Verdict::Done);
+    }
+    let told = Told {
+        bounds: found,
+        reached: &[],
+    };
+    write_bounds(system, told, line.form, out)?;
+    Ok(verdict_of(found.outcome))
+}
+
 /// Writes the bounds of the part from a priority upward by itself, or the denial.
 fn write_upper<'v, O: Write>(
     alloc: Global,
     texts: &Texts,
     system: &System,
     priority: u8,
-    line: BoundsLine<'_>,
+    line: BoundsLine<'v>,
     distances: &[Distance<'_>],
     out: &mut O,
 ) -> Result<Verdict<'v>, RunFault> {
@@ -127,15 +155,22 @@ fn write_upper<'v, O: Write>(
     let distances = all_distances(alloc, system, distances)?;
     let extent = extent_of(line);
     let found = find_upper_bounds(alloc, system, priority, mode, &distances, extent)?;
-    write_bounds(&found.part, &found.bounds, line.form, out)?;
-    Ok(verdict_of(found.bounds.outcome))
+    write_found(
+        alloc,
+        &found.part,
+        mode,
+        &distances,
+        &found.bounds,
+        line,
+        out,
+    )
 }
 
 /// Writes the bounds of all runs in a mode, or how far the search for them came.
 pub(crate) fn write_searched<'v, O: Write>(
     alloc: Global,
     texts: &Texts,
-    line: BoundsLine<'_>,
+    line: BoundsLine<'v>,
     distances: &[Distance<'v>],
     out: &mut O,
 ) -> Result<Verdict<'v>, RunFault> {
@@ -143,10 +178,14 @@ pub(crate) fn write_searched<'v, O: Write>(
     if let Some(fault) = distance_fault(&system, distances) {
         return Ok(Verdict::NoDistance(fault));
     }
+    if let Some(wanted) = unknown_figure(&system, line) {
+        return Ok(Verdict::NoFigure(wanted));
+    }
     if let Some(priority) = line.upper {
         return write_upper(alloc, texts, &system, priority, line, distances, out);
     }
-    let found = search_bounds(alloc, texts, &system, line, distances)?;
-    write_bounds(&system, &found, line.form, out)?;
-    Ok(verdict_of(found.outcome))
+    let mode = mode_id(alloc, texts, &system, line.mode)?;
+    let distances = all_distances(alloc, &system, distances)?;
+    let found = find_bounds(alloc, &system, mode, &distances, extent_of(line))?;
+    write_found(alloc, &system, mode, &distances, &found, line, out)
 }

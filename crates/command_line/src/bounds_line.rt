@@ -1,9 +1,11 @@
 //! The line of `bounds`.
 
-use bound_tables::Form;
+use crate::help;
+use bound_tables::{Form, is_column};
 use clap::ArgMatches;
 use osek_base::MAX_TICKS;
 use std::alloc::AllocError;
+use std::fmt;
 
 /// How many states may be kept at most, and how many where nothing is said.
 pub(crate) const MAX_STATES: u32 = 100_000_000;
@@ -27,6 +29,42 @@ pub struct BoundsLine<'a> {
     /// The priority from which on the part by itself is searched; None for the whole system.
     pub upper: Option<u8>,
     pub form: Form,
+    /// The figure of which a run is wanted in place of the tables, if one is.
+    pub witness: Option<Wanted<'a>>,
+}
+
+/// A figure of which a run is wanted that shows it.
+#[derive(Clone, Copy, Debug)]
+pub struct Wanted<'a> {
+    /// The name of a task, routine, resource or alarm.
+    pub name: &'a str,
+    /// The word of its column; None for the first.
+    pub column: Option<&'a str>,
+}
+
+impl<'a> Wanted<'a> {
+    /// That of a text, NAME or NAME=FIGURE.
+    fn of(text: &'a str) -> Self {
+        match text.split_once('=') {
+            Some((name, column)) => Wanted {
+                name,
+                column: Some(column),
+            },
+            None => Wanted {
+                name: text,
+                column: None,
+            },
+        }
+    }
+}
+
+impl fmt::Display for Wanted<'_> {
+    fn fmt<W: fmt::Write>(&self, f: &mut fmt::Formatter<W>) -> fmt::Result {
+        match self.column {
+            Some(column) => write!(f, "{}={column}", self.name),
+            None => write!(f, "{}", self.name),
+        }
+    }
 }
 
 /// How many ticks apart the interrupts of the routine of a name come at least, 1 to 1,000,000.
@@ -47,6 +85,28 @@ pub(crate) fn searched<'a>(matches: &ArgMatches<'a>) -> BoundsLine<'a> {
         } else {
             Form::Table
         },
+        witness: figure_wanted(matches),
+    }
+}
+
+/// The figure of which a run is wanted.
+fn figure_wanted<'a>(matches: &ArgMatches<'a>) -> Option<Wanted<'a>> {
+    match matches.get_str("witness") {
+        Some(text) => Some(Wanted::of(text)),
+        None => None,
+    }
+}
+
+/// Whether a run is wanted of a figure that no column has.
+fn has_unknown_column(matches: &ArgMatches<'_>) -> bool {
+    match figure_wanted(matches) {
+        Some(
+            Wanted {
+                column: Some(word),
+                ..
+            },
+        ) => !is_column(word),
+        _ => false,
     }
 }
 
@@ -57,23 +117,26 @@ fn distance_of(text: &str) -> Option<Distance<'_>> {
     (1 <= ticks && ticks <= MAX_TICKS).then_some(Distance { routine, ticks })
 }
 
-/// Reads the distances of a line, where its subcommand takes distances, and gives whether each is
-/// one.
+/// Reads the distances of a line, where its subcommand takes distances. Where one is none, or a run
+/// of no figure is wanted, it is said why.
 pub(crate) fn read_distances<'a>(
     subcommand: &str,
     matches: &ArgMatches<'a>,
     distances: &mut Vec<Distance<'a>>,
-) -> Result<bool, AllocError> {
+) -> Result<Option<&'static str>, AllocError> {
     if subcommand != "bounds" {
-        return Ok(true);
+        return Ok(None);
+    }
+    if has_unknown_column(matches) {
+        return Ok(Some(help::NO_FIGURE));
     }
     if let Some(texts) = matches.get_strs("apart") {
         for text in texts {
             match distance_of(text) {
                 Some(distance) => distances.push(distance)?,
-                None => return Ok(false),
+                None => return Ok(Some(help::NO_DISTANCE)),
             }
         }
     }
-    Ok(true)
+    Ok(None)
 }

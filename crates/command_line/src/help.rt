@@ -133,7 +133,13 @@ pub(crate) const BOUNDS_UPPER: &str =
     "Of the part from priority P upward by itself: they hold whatever runs below it";
 
 pub(crate) const BOUNDS_CSV: &str =
-    "Prints comma-separated values, a line a figure, and whether it is a bound";
+    "Prints comma-separated values, a line a figure, and whether it is reached or a bound";
+
+pub(crate) const WITNESS: &str =
+    "In place of the tables: the arrival list of a run that shows the figure; FIGURE greatest, refused, latency, losses or longest";
+
+pub(crate) const NO_FIGURE: &str =
+    "a witness is NAME or NAME=FIGURE, with FIGURE greatest, refused, latency, losses or longest";
 
 pub(crate) const NO_DISTANCE: &str = "a distance is ROUTINE=TICKS, with TICKS from 1 to 1000000";
 
@@ -142,7 +148,10 @@ pub(crate) const BOUNDS_EXAMPLE: &str =
 would have to be kept, `undecided:` is printed, and the exit status is 5.
 
 Example, interrupts of Crank at least 20 ticks apart:
-  osek_run bounds system.oil programs.asm Normal --apart Crank=20";
+  osek_run bounds system.oil programs.asm Normal --apart Crank=20
+
+A run in which a response of the task Inject takes as many ticks; their number stands on standard error:
+  osek_run bounds system.oil programs.asm Normal --apart Crank=20 --witness Inject > longest.irq";
 
 pub(crate) const FILE: &str = "The description, in TOML: tasks, interrupts and alarms";
 

@@ -19,6 +19,7 @@ mod request;
 mod runs;
 mod showing;
 mod status;
+mod witnessing;
 
 pub use answering::command;
 pub use host_files::{FileFault, Files, HostFiles, Refusal};

@@ -184,9 +184,16 @@ fn bounds_line<'a>(alloc: Global) -> Result<Command<'a>, AllocError> {
         .value_name("ROUTINE=TICKS")
         .action(ArgAction::Append)
         .help(help::APART);
+    let witness = Arg::new(alloc, "witness")
+        .long("witness")
+        .value_name("NAME[=FIGURE]")
+        .action(ArgAction::Set)
+        .help(help::WITNESS)
+        .conflicts_with("csv")?;
     of_system(alloc, line)?
         .arg(word(alloc, "MODE", help::MODE))?
         .arg(apart)?
+        .arg(witness)?
         .arg(number(alloc, "states", "N", MAX_STATES, help::STATES))?
         .arg(number(alloc, "longest", "TICKS", MAX_LONGEST, help::LONGEST))?
         .arg(upper_from(alloc))?

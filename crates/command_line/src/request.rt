@@ -258,10 +258,7 @@ fn read_lists<'a>(
     if !read_limits(subcommand, matches, limits)? {
         return Ok(Some(help::NO_LIMIT));
     }
-    if !read_distances(subcommand, matches, distances)? {
-        return Ok(Some(help::NO_DISTANCE));
-    }
-    Ok(None)
+    read_distances(subcommand, matches, distances)
 }
 
 /// Why nothing is shown, where the first tick lies behind the last, or a picture has too many.

@@ -1,5 +1,6 @@
 //! How a command line ends: its exit status.
 
+use crate::bounds_line::Wanted;
 use partition_check::NamedDenial;
 use search::Obstacle;
 use std::fmt;
@@ -65,6 +66,12 @@ pub(crate) enum Verdict<'a> {
     NoDistance(DistanceFault<'a>),
     /// How far the search came is written, and not the bounds.
     Undecided(Obstacle),
+    /// The arrivals of a run that shows a figure are written: a line tells its ticks and the figure.
+    Witnessed(String),
+    /// A run is wanted of a figure that no thing has: nothing is written.
+    NoFigure(Wanted<'a>),
+    /// No run is known that shows the figure that is wanted: nothing is written.
+    NoWitness(Wanted<'a>),
 }
 
 impl Verdict<'_> {
@@ -76,6 +83,9 @@ impl Verdict<'_> {
             Verdict::Broken(lines) => err.write_all(lines.as_bytes()),
             Verdict::Warned(lines) => err.write_all(lines),
             Verdict::NoDistance(fault) => writeln!(err, "{fault}"),
+            Verdict::Witnessed(line) => err.write_all(line.as_bytes()),
+            Verdict::NoFigure(wanted) => writeln!(err, "witness: {wanted}"),
+            Verdict::NoWitness(wanted) => writeln!(err, "witness: {wanted}: no run is known"),
             Verdict::Done | Verdict::Denied(..) | Verdict::AllDenied(..) | Verdict::Undecided(_) =>
                 Ok(()),
         }
@@ -83,11 +93,12 @@ impl Verdict<'_> {
 
     pub(crate) fn status(&self) -> u8 {
         match self {
-            Verdict::Done | Verdict::Warned(_) => DONE,
+            Verdict::Done | Verdict::Warned(_) | Verdict::Witnessed(_) => DONE,
             Verdict::NoRow(_) => REFUSED,
             Verdict::Denied(..) | Verdict::AllDenied(..) => DENIED,
             Verdict::Broken(_) => BROKEN,
             Verdict::NoLimit(_) | Verdict::NoDistance(_) => REFUSED,
+            Verdict::NoFigure(_) | Verdict::NoWitness(_) => REFUSED,
             Verdict::Undecided(_) => UNDECIDED,
         }
     }
