@@ -23,6 +23,17 @@ impl Cell {
         }
     }
 
+    /// Whether it is a time that a run shows, or says that something doesn't come.
+    pub fn is_plain(self) -> bool {
+        matches!(
+            self,
+            Cell::Time {
+                is_reached: true,
+                ..
+            } | Cell::Coming { comes: false, .. }
+        )
+    }
+
     /// What is promised of the figure: `reached` where a run shows it and none shows more, `bound`
     /// where none shows more, or `above` where nothing is.
     pub fn standing(self) -> &'static str {

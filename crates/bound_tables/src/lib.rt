@@ -1,15 +1,20 @@
-//! Bounds of every run of a system as texts, no part of the standards: tables for people, and
-//! comma-separated values.
+//! Bounds of every run of a system as texts, no part of the standards: tables for people,
+//! comma-separated values, JSON, and what the figures mean.
 #![tactic(auto)]
 
 mod cells;
 mod csv_text;
+mod json_text;
 mod kinds;
 mod naming;
+mod remarks;
 mod table;
 mod told;
 mod writing;
 
+pub use csv_text::write_lines;
+pub use json_text::json_text;
 pub use naming::{NamedFigure, figure_named, is_column};
+pub use remarks::write_remarks;
 pub use told::Told;
-pub use writing::{Form, write_bounds};
+pub use writing::{write_decided, write_undecided};

@@ -1,6 +1,6 @@
 //! Answers to command lines: what is asked is written, and then how it ended.
 
-use crate::bounding::write_searched;
+use crate::bounding::{BoundsAsked, write_searched};
 use crate::explaining::{explain_fault, explain_unread, explain_verdict};
 use crate::folder::{Folder, folder_of, with_files};
 use crate::host_files::Files;
@@ -57,7 +57,11 @@ fn write_answer<'q, O: Write, E: Write>(
         Question::Class => write_class(alloc, texts, out),
         Question::Show => write_shown(alloc, request, texts, out),
         Question::Bounds(line) => {
-            write_searched(alloc, texts, line, request.distances.as_slice(), out)
+            let asked = BoundsAsked {
+                line,
+                is_explained: request.is_explained,
+            };
+            write_searched(alloc, texts, asked, request.distances.as_slice(), out)
         }
     }
 }

@@ -5,17 +5,27 @@ use crate::inputs::{Texts, mode_of, system_of};
 use crate::partitions::write_denial;
 use crate::status::{DistanceFault, Verdict};
 use crate::witnessing::write_witness;
-use bound_tables::{Told, figure_named, write_bounds};
+use bound_tables::{
+    Told, figure_named, json_text, write_decided, write_lines, write_remarks, write_undecided,
+};
 use bounds::{Bounds, Extent, find_bounds};
 use bounds_above::find_upper_bounds;
 use isolation::check_isolation;
 use kernel::BootFault;
 use osek_base::{ModeId, System};
-use search::Outcome;
+use run_views::Form;
+use search::{Outcome, Progress};
 use std::alloc::{AllocError, Global};
 use std::io::Write;
 use tracer::RunFault;
 use witnesses::reached_figures;
+
+/// What is asked of bounds, and whether it is said what the figures mean.
+#[derive(Clone, Copy, Debug)]
+pub(crate) struct BoundsAsked<'v> {
+    pub(crate) line: BoundsLine<'v>,
+    pub(crate) is_explained: bool,
+}
 
 /// How many visits may be made for each state that may be kept.
 const VISITS_OF_STATE: u64 = 100;
@@ -100,42 +110,80 @@ fn unknown_figure<'v>(system: &System, line: BoundsLine<'v>) -> Option<Wanted<'v
     }
 }
 
-/// Whether a search has come to its end.
-fn verdict_of<'v>(outcome: Outcome) -> Verdict<'v> {
-    match outcome {
-        Outcome::Decided(_) => Verdict::Done,
-        Outcome::Undecided(obstacle, _) => Verdict::Undecided(obstacle),
+/// Writes the bounds of a system in a form.
+fn write_bounds<O: Write>(
+    alloc: Global,
+    system: &System,
+    told: Told<'_, '_>,
+    progress: Progress,
+    form: Form,
+    out: &mut O,
+) -> Result<(), RunFault> {
+    match form {
+        Form::Table => write_decided(system, told, progress, out)?,
+        Form::Csv => write_lines(system, told, out)?,
+        Form::Json => out.write_all(json_text(alloc, system, told)?.as_slice())?,
     }
+    Ok(())
 }
 
-/// Writes what was found of a system: its bounds, or the run that is wanted.
+/// What is said of figures where it is asked for. The only write that can fail there is for want of
+/// memory.
+fn remarks_of(
+    alloc: Global,
+    system: &System,
+    told: Told<'_, '_>,
+    is_explained: bool,
+) -> Result<Vec<u8>, RunFault> {
+    let mut remarks = Vec::new(alloc);
+    if is_explained {
+        match write_remarks(system, told, &mut remarks) {
+            Ok(()) => {}
+            Err(_) => return Err(RunFault::Memory),
+        }
+    }
+    Ok(remarks)
+}
+
+/// Writes what was found of a system: its bounds, or the run that is wanted, or how far the search
+/// came.
 fn write_found<'v, O: Write>(
     alloc: Global,
     system: &System,
     mode: ModeId,
     distances: &[u32],
     found: &Bounds,
-    line: BoundsLine<'v>,
+    asked: BoundsAsked<'v>,
     out: &mut O,
 ) -> Result<Verdict<'v>, RunFault> {
-    if let Outcome::Decided(_) = found.outcome {
-        if let Some(wanted) = line.witness {
-            return write_witness(alloc, system, mode, distances, found, wanted, out);
+    let BoundsAsked { line, is_explained } = asked;
+    let progress = match found.outcome {
+        Outcome::Decided(progress) => progress,
+        Outcome::Undecided(obstacle, progress) => {
+            write_undecided(obstacle, progress, out)?;
+            let told = Told {
+                bounds: found,
+                reached: &[],
+            };
+            return Ok(Verdict::Searched {
+                is_decided: false,
+                remarks: remarks_of(alloc, system, told, is_explained)?,
+            });
         }
-        let reached = reached_figures(alloc, system, mode, distances, found)?;
-        let told = Told {
-            bounds: found,
-            reached: &reached,
-        };
-        write_bounds(system, told, line.form, out)?;
-        return Ok(Verdict::Done);
+    };
+    if let Some(wanted) = line.witness {
+        return write_witness(alloc, system, mode, distances, found, wanted, out);
     }
+    let reached = reached_figures(alloc, system, mode, distances, found)?;
     let told = Told {
         bounds: found,
-        reached: &[],
+        reached: &reached,
     };
-    write_bounds(system, told, line.form, out)?;
-    Ok(verdict_of(found.outcome))
+    write_bounds(alloc, system, told, progress, line.form, out)?;
+    Ok(Verdict::Searched {
+        is_decided: true,
+        remarks: remarks_of(alloc, system, told, is_explained)?,
+    })
 }
 
 /// Writes the bounds of the part from a priority upward by itself, or the denial.
@@ -144,37 +192,31 @@ fn write_upper<'v, O: Write>(
     texts: &Texts,
     system: &System,
     priority: u8,
-    line: BoundsLine<'v>,
+    asked: BoundsAsked<'v>,
     distances: &[Distance<'_>],
     out: &mut O,
 ) -> Result<Verdict<'v>, RunFault> {
     if let Err(denial) = check_isolation(system, priority) {
         return write_denial(priority, denial.named(system), out);
     }
-    let mode = mode_id(alloc, texts, system, line.mode)?;
+    let mode = mode_id(alloc, texts, system, asked.line.mode)?;
     let distances = all_distances(alloc, system, distances)?;
-    let extent = extent_of(line);
+    let extent = extent_of(asked.line);
     let found = find_upper_bounds(alloc, system, priority, mode, &distances, extent)?;
-    write_found(
-        alloc,
-        &found.part,
-        mode,
-        &distances,
-        &found.bounds,
-        line,
-        out,
-    )
+    let (part, bounds) = (&found.part, &found.bounds);
+    write_found(alloc, part, mode, &distances, bounds, asked, out)
 }
 
 /// Writes the bounds of all runs in a mode, or how far the search for them came.
 pub(crate) fn write_searched<'v, O: Write>(
     alloc: Global,
     texts: &Texts,
-    line: BoundsLine<'v>,
+    asked: BoundsAsked<'v>,
     distances: &[Distance<'v>],
     out: &mut O,
 ) -> Result<Verdict<'v>, RunFault> {
     let system = system_of(alloc, texts)?;
+    let line = asked.line;
     if let Some(fault) = distance_fault(&system, distances) {
         return Ok(Verdict::NoDistance(fault));
     }
@@ -182,10 +224,10 @@ pub(crate) fn write_searched<'v, O: Write>(
         return Ok(Verdict::NoFigure(wanted));
     }
     if let Some(priority) = line.upper {
-        return write_upper(alloc, texts, &system, priority, line, distances, out);
+        return write_upper(alloc, texts, &system, priority, asked, distances, out);
     }
     let mode = mode_id(alloc, texts, &system, line.mode)?;
     let distances = all_distances(alloc, &system, distances)?;
     let found = find_bounds(alloc, &system, mode, &distances, extent_of(line))?;
-    write_found(alloc, &system, mode, &distances, &found, line, out)
+    write_found(alloc, &system, mode, &distances, &found, asked, out)
 }

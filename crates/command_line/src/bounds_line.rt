@@ -1,9 +1,11 @@
 //! The line of `bounds`.
 
 use crate::help;
-use bound_tables::{Form, is_column};
+use crate::request::form;
+use bound_tables::is_column;
 use clap::ArgMatches;
 use osek_base::MAX_TICKS;
+use run_views::Form;
 use std::alloc::AllocError;
 use std::fmt;
 
@@ -80,11 +82,7 @@ pub(crate) fn searched<'a>(matches: &ArgMatches<'a>) -> BoundsLine<'a> {
         states: matches.get_one::<u32>("states").unwrap_or(USUAL_STATES),
         longest: matches.get_one::<u32>("longest").unwrap_or(USUAL_LONGEST),
         upper: matches.get_one::<u8>("upper"),
-        form: if matches.get_flag("csv") {
-            Form::Csv
-        } else {
-            Form::Table
-        },
+        form: form(matches),
         witness: figure_wanted(matches),
     }
 }

@@ -135,6 +135,9 @@ pub(crate) const BOUNDS_UPPER: &str =
 pub(crate) const BOUNDS_CSV: &str =
     "Prints comma-separated values, a line a figure, and whether it is reached or a bound";
 
+pub(crate) const BOUNDS_JSON: &str =
+    "Prints JSON: an object by kinds, in each one by names, and in each of these one by columns";
+
 pub(crate) const WITNESS: &str =
     "In place of the tables: the arrival list of a run that shows the figure; FIGURE greatest, refused, latency, losses or longest";
 

@@ -189,7 +189,9 @@ fn bounds_line<'a>(alloc: Global) -> Result<Command<'a>, AllocError> {
         .value_name("NAME[=FIGURE]")
         .action(ArgAction::Set)
         .help(help::WITNESS)
-        .conflicts_with("csv")?;
+        .conflicts_with("csv")?
+        .conflicts_with("json")?;
+    let json = flag(alloc, "json", help::BOUNDS_JSON).conflicts_with("csv")?;
     of_system(alloc, line)?
         .arg(word(alloc, "MODE", help::MODE))?
         .arg(apart)?
@@ -197,7 +199,8 @@ fn bounds_line<'a>(alloc: Global) -> Result<Command<'a>, AllocError> {
         .arg(number(alloc, "states", "N", MAX_STATES, help::STATES))?
         .arg(number(alloc, "longest", "TICKS", MAX_LONGEST, help::LONGEST))?
         .arg(upper_from(alloc))?
-        .arg(flag(alloc, "csv", help::BOUNDS_CSV))
+        .arg(flag(alloc, "csv", help::BOUNDS_CSV))?
+        .arg(json)
 }
 
 fn make_line<'a>(alloc: Global) -> Result<Command<'a>, AllocError> {

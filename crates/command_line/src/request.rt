@@ -197,7 +197,8 @@ fn timeline<'a>(matches: &ArgMatches<'a>) -> Question<'a> {
     }
 }
 
-fn form(matches: &ArgMatches<'_>) -> Form {
+/// How figures are written.
+pub(crate) fn form(matches: &ArgMatches<'_>) -> Form {
     if matches.get_flag("csv") {
         Form::Csv
     } else if matches.get_flag("json") {

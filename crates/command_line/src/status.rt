@@ -2,7 +2,6 @@
 
 use crate::bounds_line::Wanted;
 use partition_check::NamedDenial;
-use search::Obstacle;
 use std::fmt;
 use std::io::{self, Write};
 use tracer::RunFault;
@@ -64,8 +63,8 @@ pub(crate) enum Verdict<'a> {
     Warned(Vec<u8>),
     /// A distance is wrong: nothing is written.
     NoDistance(DistanceFault<'a>),
-    /// How far the search came is written, and not the bounds.
-    Undecided(Obstacle),
+    /// What a search found is written, and whether it has come to its end: a line for each remark.
+    Searched { is_decided: bool, remarks: Vec<u8> },
     /// The arrivals of a run that shows a figure are written: a line tells its ticks and the figure.
     Witnessed(String),
     /// A run is wanted of a figure that no thing has: nothing is written.
@@ -86,8 +85,8 @@ impl Verdict<'_> {
             Verdict::Witnessed(line) => err.write_all(line.as_bytes()),
             Verdict::NoFigure(wanted) => writeln!(err, "witness: {wanted}"),
             Verdict::NoWitness(wanted) => writeln!(err, "witness: {wanted}: no run is known"),
-            Verdict::Done | Verdict::Denied(..) | Verdict::AllDenied(..) | Verdict::Undecided(_) =>
-                Ok(()),
+            Verdict::Searched { remarks, .. } => err.write_all(remarks),
+            Verdict::Done | Verdict::Denied(..) | Verdict::AllDenied(..) => Ok(()),
         }
     }
 
@@ -99,7 +98,11 @@ impl Verdict<'_> {
             Verdict::Broken(_) => BROKEN,
             Verdict::NoLimit(_) | Verdict::NoDistance(_) => REFUSED,
             Verdict::NoFigure(_) | Verdict::NoWitness(_) => REFUSED,
-            Verdict::Undecided(_) => UNDECIDED,
+            Verdict::Searched {
+                is_decided: true,
+                ..
+            } => DONE,
+            Verdict::Searched { .. } => UNDECIDED,
         }
     }
 }

@@ -58,16 +58,15 @@ pub record Shows (S : System) (mode : ℕ) (arrivals : List Arrival) (n : ℕ) (
   pub of : IsOf S figure
   pub shown : shown figures figure ≡ value
 
--- the arrivals of a witness keep distances, and its run shows what bounds tell of a figure below
--- their cap
+-- the arrivals of a witness keep distances, and its run shows what bounds tell of a figure
 pub record IsWitness (S : System) (mode : ℕ) (distances : List ℕ) (found : Bounds)
     (figure : Figure) (w : Witness) : Type 0 where
   pub keep : KeepDistances S distances w.arrivals
-  pub below : IsBelow found.cap found.peaks figure
   pub shows : Shows S mode w.arrivals w.ticks figure (told found.peaks figure)
 
--- some run is one
+-- the figure is below their cap, and some run is one
 pub record IsReached (S : System) (mode : ℕ) (distances : List ℕ) (found : Bounds)
     (figure : Figure) : Type 0 where
+  pub below : IsBelow found.cap found.peaks figure
   pub witness : Witness
   pub is : IsWitness S mode distances found figure witness

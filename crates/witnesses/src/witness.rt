@@ -1,8 +1,8 @@
 //! Runs that show what bounds tell.
 
-ghost use Rattle.std.specs.Prelude.{◌≡◌, IfOk, IfSome, IsTrue};
+ghost use Rattle.std.specs.Prelude.{◌≡◌, IfOk, IfSome};
 ghost use Rattle.run_bounds.specs.Bounds.{KeepDistances};
-ghost use Rattle.witnesses.specs.Shown.{IsBelow, IsWitness, Shows};
+ghost use Rattle.witnesses.specs.Shown.{IsWitness, Shows};
 
 use crate::apart::keep_distances;
 use crate::candidate::arrivals_of;
@@ -17,17 +17,6 @@ pub struct Witness {
     pub arrivals: Arrivals,
     /// 0 to 1,000,000.
     pub ticks: u32,
-}
-
-/// Whether a figure is told below the cap; so is all that isn't a time.
-fn is_below(found: &Bounds, figure: Figure) -> bool
-    ensures { IsTrue result → IsBelow found.now.cap found.now.peaks figure }
-{
-    match figure {
-        Figure::Response(_) | Figure::Latency(_) | Figure::Hold(_) => figure.told(&found.peaks)
-            < found.cap,
-        Figure::Refusal(_) | Figure::Loss(_) | Figure::RefusedAction(_) => true,
-    }
 }
 
 /// A copy of arrivals.
@@ -70,9 +59,9 @@ fn tried(
     }
 }
 
-/// A run that shows what is told of a figure below the cap: exactly so many ticks, or that
-/// something is lost or refused, where that has come, and that nothing is, where it hasn't. Its
-/// interrupts keep the distances, in ticks by routine, 1 where none is given.
+/// A run that shows what is told of a figure: exactly so many ticks, those of the cap where it is
+/// told no higher, or that something is lost or refused, where that has come, and that nothing is,
+/// where it hasn't. Its interrupts keep the distances, in ticks by routine, 1 where none is given.
 ///
 /// What a search has come by is tried by running it, so it may be that none is found. An error is
 /// want of memory.
@@ -87,9 +76,6 @@ pub fn find_witness(
     ensures { IfOk result (λ witness.
         IfSome witness (IsWitness system.now mode distances.now found.now figure)) }
 {
-    if !is_below(found, figure) {
-        return Ok(None);
-    }
     let path = found.trails.path(alloc, figure)?;
     let Ok(ticks) = u32::try_from(path.len()) else {
         return Ok(None);

@@ -1,0 +1,88 @@
+//! What figures mean that aren't times that a run shows, and what would change them.
+
+use crate::cells::Cell;
+use crate::kinds::{Column, KINDS, Kind};
+use crate::told::Told;
+use osek_base::System;
+use search::{Obstacle, Outcome};
+use std::io::{self, Write};
+
+/// What it means where a figure of a column may come, and what would change it.
+fn meaning(column: Column) -> &'static str {
+    match column {
+        Column::Refusal =>
+            "an activation finds as many jobs as ACTIVATION allows; a greater ACTIVATION or greater distances may change it",
+        Column::Loss => "an interrupt finds one pending; a greater distance may change it",
+        Column::RefusedAction =>
+            "its task has as many jobs as ACTIVATION allows, or none that its event could be set for",
+        Column::Response | Column::Latency | Column::Hold => "it lasts",
+    }
+}
+
+/// Writes what a figure means, unless it is a time that a run shows, or 0.
+fn write_remark<W: Write>(
+    system: &System,
+    told: Told<'_, '_>,
+    kind: Kind,
+    column: Column,
+    number: usize,
+    out: &mut W,
+) -> io::Result<()> {
+    let cell = column.cell(told, number);
+    if cell.is_plain() {
+        return Ok(());
+    }
+    let name = kind.name(system, number);
+    write!(out, "{} {name}: {} ", kind.word(), column.word())?;
+    match cell {
+        Cell::Above => writeln!(
+            out,
+            "above: some run may take {} ticks or more; what can be put off for ever has no bound",
+            told.bounds.cap
+        ),
+        Cell::Time { ticks, .. } => {
+            writeln!(
+                out,
+                "<={ticks}: no run takes longer, and none is known that takes as long"
+            )
+        }
+        Cell::Coming {
+            is_reached: true,
+            ..
+        } => writeln!(out, "1: {}", meaning(column)),
+        Cell::Coming { .. } => {
+            writeln!(
+                out,
+                "<=1: it may be, though no run is known: {}",
+                meaning(column)
+            )
+        }
+    }
+}
+
+/// What a search stopped at.
+fn why(obstacle: Obstacle) -> &'static str {
+    match obstacle {
+        Obstacle::Nodes => "as many states are kept as --states allows",
+        Obstacle::Visits => "100 times as many visits were made as --states allows to be kept",
+        Obstacle::NoPlace => "there is no place for a state that comes",
+    }
+}
+
+/// Writes a line for each figure that isn't a time that a run shows, or 0; or, where a search
+/// stopped before its end, at what it did. An error is a failed write.
+pub fn write_remarks<W: Write>(system: &System, told: Told<'_, '_>, out: &mut W) -> io::Result<()> {
+    if let Outcome::Undecided(obstacle, _) = told.bounds.outcome {
+        writeln!(out, "undecided: {}", why(obstacle))?;
+        let hint = b" more --states, greater distances or a shorter --longest may let it end\n";
+        return out.write_all(hint);
+    }
+    for kind in &KINDS {
+        for number in 0..kind.count(system) {
+            for column in kind.columns() {
+                write_remark(system, told, *kind, *column, number, out)?;
+            }
+        }
+    }
+    Ok(())
+}
