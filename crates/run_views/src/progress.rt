@@ -5,13 +5,19 @@ use std::io::Write;
 /// After how many ticks at least the number is shown anew: ten times a second or so.
 const TICKS_BETWEEN: u32 = 50_000;
 
-/// How far a run is: a line on a terminal, which is written over and over, and nothing where there is no terminal.
+/// After how many visits of states at least the numbers of a search are shown anew.
+const VISITS_BETWEEN: u64 = 10_000;
+
+/// How far a run or a search through all runs is: a line on a terminal, which is written over and over, and nothing where
+/// there is no terminal.
 #[derive(Debug, Drop)]
 pub struct Progress<'e, E> {
     err: &'e mut E,
     is_shown: bool,
     /// How many ticks have to be done before the number is shown anew.
     next: u32,
+    /// How many visits have to be made before the numbers are.
+    next_visit: u64,
 }
 
 impl<'e, E: Write> Progress<'e, E> {
@@ -21,6 +27,7 @@ impl<'e, E: Write> Progress<'e, E> {
             err,
             is_shown,
             next: TICKS_BETWEEN,
+            next_visit: VISITS_BETWEEN,
         }
     }
 
@@ -38,10 +45,20 @@ impl<'e, E: Write> Progress<'e, E> {
         }
     }
 
+    /// A search has made so many visits, keeps so many states, has so many of them open, and has tried all that can come up to
+    /// a tick. A failed write is forgotten.
+    pub fn note_search(&mut self, visits: u64, states: usize, open: usize, tick: u64) {
+        if self.is_shown && self.next_visit <= visits {
+            self.next_visit = visits.saturating_add(VISITS_BETWEEN);
+            let _ = write!(self.err, "\r{states} states, {open} open, tick {tick}    ");
+            let _ = self.err.flush();
+        }
+    }
+
     /// Takes the line away. A failed write is forgotten.
     pub fn end(&mut self) {
         if self.is_shown {
-            let _ = write!(self.err, "\r{:30}\r", "");
+            let _ = write!(self.err, "\r{:60}\r", "");
             let _ = self.err.flush();
         }
     }
