@@ -1,15 +1,24 @@
 -- From the first node to the last.
-use Rattle.std.proofs.Common.{ℕ, ◌≡◌, List, [], ◌∷◌, length, refl, sym, ap, ◌∙◌, arith, ◌||◌}
+use Rattle.std.proofs.Common.{ℕ, ◌≡◌, ◌≤◌, List, [], length, refl, ap, arith}
 use Rattle.std.specs.Prelude.{Any}
-use Rattle.std.proofs.lemmas.Bool.{ne_eqb}
-use Rattle.std.proofs.lemmas.Option.{slice_get_read, slice_get_within}
-use Rattle.std.proofs.lemmas.List.{nil_from_length}
+use Rattle.std.proofs.lemmas.Option.{slice_get_within}
+use Rattle.search.specs.declared.outcome.Limits.{Limits}
+use Rattle.search.specs.declared.outcome.Progress.{Progress}
+use Rattle.search.specs.declared.outcome.Obstacle.{Obstacle}
+use Rattle.search.specs.declared.outcome.Obstacle.TheVariants.{Nodes, Visits, NoPlace}
 use Rattle.search.specs.Rules.{Rules, AreKept}
 use Rattle.search.specs.Numbers.{is_in}
 use Rattle.search.specs.Admitted.{Admits}
-use Rattle.search.specs.Visited.{AreVisited, AreVisitedBut}
-use Rattle.search.specs.Outcomes.{HasAll}
-use Rattle.search.proofs.VisitLemmas.{through}
+use Rattle.search.specs.Visited.{AreVisited}
+use Rattle.search.specs.Outcomes.{HasAll, IsWhy}
+use Rattle.search.proofs.VisitLemmas.{at_number, through}
+
+-- why it stopped, where it wasn't for the number of visits
+pub why : (limits : Limits) (p : Progress) (obstacle : Obstacle) → (obstacle ≡ Nodes → limits.nodes ≤ p.nodes) → (obstacle ≡ Visits → ⊥)
+    → IsWhy limits p obstacle
+why limits p Nodes full going = full refl
+why limits p Visits full going = absurd (going refl)
+why limits p NoPlace full going = tt
 
 module _ {N : Type 0} (r : Rules N) where
   -- the first node is admitted where there is none
@@ -23,17 +32,8 @@ module _ {N : Type 0} (r : Rules N) where
       let was = admits.stays k y closed in
       absurd (let low = slice_get_within before k y was.here in let empty = ap length none in omega (arith, low, empty))
 
-  -- a number was taken
-  pub all_but : (is_noted : N → ℕ → Type 0) (nodes : List N) (numbers more : List ℕ) (number : ℕ) → numbers ≡ number ∷ more
-      → AreVisited r is_noted nodes numbers → AreVisitedBut r is_noted nodes more number
-  all_but is_noted nodes numbers more number taken visited k x other closed =
-      visited k x (record {
-        here = closed.here;
-        closed = ap (is_in k) taken ∙ ap (λ b. b || is_in k more) (ne_eqb k number other) ∙ closed.closed;
-      })
-
   -- none is open
-  pub all_there : (is_noted : N → ℕ → Type 0) (nodes : List N) (numbers : List ℕ) → length numbers ≡ 0 → Any r.is_first nodes
+  pub all_there : (is_noted : N → ℕ → Type 0) (nodes : List N) (numbers : List ℕ) → numbers ≡ [] → Any r.is_first nodes
       → AreVisited r is_noted nodes numbers → HasAll r is_noted (length nodes)
   all_there is_noted nodes numbers none first visited = record {
     nodes = nodes;
@@ -42,8 +42,8 @@ module _ {N : Type 0} (r : Rules N) where
       first = first;
       visited = λ x there.
           visited there.0 x (record {
-            here = slice_get_read nodes (length nodes) there.0 x refl there.1 (sym there.2);
-            closed = ap (is_in there.0) (nil_from_length numbers none);
+            here = at_number nodes x there;
+            closed = ap (is_in there.0) none;
           });
     };
   }

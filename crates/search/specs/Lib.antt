@@ -1,5 +1,6 @@
 pub mod Rules
 pub mod Searched
+pub mod Levels
 pub mod Numbers
 pub mod Admitted
 pub mod Visited

@@ -8,6 +8,7 @@ use Rattle.search.specs.declared.outcome.Outcome.{Outcome}
 use Rattle.search.specs.declared.outcome.Outcome.TheVariants.{Decided, Undecided}
 use Rattle.search.specs.Rules.{Rules}
 use Rattle.search.specs.Searched.{AreAll}
+use Rattle.search.specs.Levels.{HasLevels}
 
 -- so many nodes stand for all that can come
 pub record HasAll {N : Type 0} (r : Rules N) (is_noted : N → ℕ → Type 0) (count : ℕ) : Type 0 where
@@ -23,4 +24,4 @@ IsWhy limits p NoPlace = ⊤
 
 abbrev pub IsOutcome : {N : Type 0} → Rules N → (N → ℕ → Type 0) → Limits → Outcome → Type 0
 IsOutcome r is_noted limits (Decided p) = (p.open_nodes ≡ 0) × HasAll r is_noted p.nodes
-IsOutcome r is_noted limits (Undecided obstacle p) = IsWhy limits p obstacle
+IsOutcome r is_noted limits (Undecided obstacle p) = IsWhy limits p obstacle × HasLevels r is_noted p.levels

@@ -9,10 +9,11 @@ pub record Rules (N : Type 0) : Type 1 where
   pub is_next : N → ℕ → N → Type 0
   pub covers : N → N → Type 0
 
--- where a node stands for something, so does each that covers it
+-- where a node stands for something, so does each that covers it; and what covers it, covers what it covers
 pub record AreKept {N : Type 0} (r : Rules N) : Type 0 where
   pub first : (x y : N) → r.is_first x → r.covers y x → r.is_first y
   pub next : (x y z : N) (choice : ℕ) → r.is_next x choice y → r.covers z y → r.is_next x choice z
+  pub joined : (x y z : N) → r.covers x y → r.covers y z → r.covers x z
 
 -- one node covers two
 abbrev pub CoversBoth : {N : Type 0} → Rules N → N → N → N → Type 0

@@ -1,6 +1,6 @@
 //! The numbers that are still to be visited.
 
-ghost use Rattle.std.specs.Prelude.{◌≡◌, ℕ, ◌<◌, Bool, false, List, [], ◌∷◌, ◌++◌, length, slice_index_or, if◌then◌else◌, OnOk, OnErr, IfNone, IfSome};
+ghost use Rattle.std.specs.Prelude.{◌≡◌, ℕ, ◌<◌, Bool, false, List, [], ◌∷◌, ◌++◌, length, slice_get, slice_index_or, if◌then◌else◌, drop, OnOk, OnErr};
 ghost use Rattle.search.specs.Numbers.{is_in, put_in};
 
 use std::alloc::{AllocError, Global};
@@ -51,6 +51,13 @@ impl Agenda {
         is_marked(&self.queued, number)
     }
 
+    /// The first number.
+    pub fn first(&self) -> Option<usize>
+        ensures { result ≡ slice_get self.now 0 }
+    {
+        self.queue.front().copied()
+    }
+
     /// Puts a number last, unless it is there.
     pub fn put(&mut self, number: usize) -> Result<(), AllocError>
         ensures ok { OnOk result (self.new ≡ put_in number self.old) }
@@ -66,9 +73,8 @@ impl Agenda {
 
     /// Takes the first number.
     pub fn take(&mut self) -> Option<usize>
-        ensures none { IfNone result ((self.old ≡ []) × (self.new ≡ [])) }
-        ensures first { IfSome result (λ number. self.old ≡ number ∷ self.new) }
-        ensures gone { IfSome result (λ number. is_in number self.new ≡ false) }
+        ensures first { result ≡ slice_get self.old 0 }
+        ensures rest { self.new ≡ drop 1 self.old }
     {
         let number = self.queue.pop_front()?;
         self.queued[number] = false;

@@ -21,6 +21,8 @@ pub struct Progress {
     pub visits: u64,
     /// How many choices were tried; `u64::MAX` stands for that and more.
     pub steps: u64,
+    /// For how many steps from the beginning all that can come was tried.
+    pub levels: u64,
 }
 
 /// Why a search stopped.

@@ -87,6 +87,8 @@ impl Steps for Walk {
 
     fn settle(&mut self, _node: &mut Place) {}
 
+    fn watch(&mut self, _progress: Progress) {}
+
     fn hash(&self, node: &Place) -> u64 {
         u64::from(node.number)
     }
@@ -101,32 +103,33 @@ fn searched(alloc: Global, nodes: usize, visits: u64) -> Result<(Outcome, u32), 
     Ok((outcome, walk.longest))
 }
 
-fn progress(nodes: usize, open_nodes: usize, visits: u64, steps: u64) -> Progress {
+fn progress(nodes: usize, open_nodes: usize, visits: u64, steps: u64, levels: u64) -> Progress {
     Progress {
         nodes,
         open_nodes,
         visits,
         steps,
+        levels,
     }
 }
 
 /// The places are visited in the order 0, 2, 1, 4, 3, 2, 4, 3, 4: where one step leads to a place
 /// that two lead to as well, its round has lasted longer, and it is visited again. Only steps of
-/// one make the longest round.
+/// one make the longest round. Levels are 0, then 2 and 1, then 4, 3 and 2, then 4 and 3, then 4.
 #[test]
 fn a_walk_round_five_places(rt: HostRuntime) -> Result<(), Fail> {
     let ends = [
-        (5, 9, Outcome::Decided(progress(5, 0, 9, 18)), 5),
+        (5, 9, Outcome::Decided(progress(5, 0, 9, 18, 5)), 5),
         (
             5,
             3,
-            Outcome::Undecided(Obstacle::Visits, progress(5, 3, 3, 6)),
+            Outcome::Undecided(Obstacle::Visits, progress(5, 3, 3, 6, 2)),
             0,
         ),
         (
             4,
             9,
-            Outcome::Undecided(Obstacle::Nodes, progress(4, 3, 1, 4)),
+            Outcome::Undecided(Obstacle::Nodes, progress(4, 3, 1, 4, 1)),
             0,
         ),
     ];

@@ -1,10 +1,11 @@
 //! The search: it visits nodes until none is open.
 
-ghost use Rattle.std.specs.Prelude.{◌≡◌, ◌≢◌, ℕ, ◌<◌, ◌≤◌, false, length, Any, Some, IsTrue, IfOk, IfNone, IfSome, slice_get};
+ghost use Rattle.std.specs.Prelude.{◌≡◌, ◌≢◌, ℕ, ◌+◌, ◌-◌, ◌^◌, ◌<◌, ◌≤◌, length, true, Any, Some, None, IfOk, IfNone, IfSome, slice_get};
 ghost use Rattle.search.specs.Rules.{StaysNoted};
-ghost use Rattle.search.specs.Numbers.{is_in};
-ghost use Rattle.search.specs.Admitted.{Admits};
-ghost use Rattle.search.specs.Visited.{AreVisited, AreVisitedBut, Tries, Visits};
+ghost use Rattle.search.specs.Admitted.{Admits, OthersStay};
+ghost use Rattle.search.specs.Visited.{AreVisited, Closes, GoesOn, Visits, closed_by};
+ghost use Rattle.search.specs.declared.table.Admitted.TheVariants.{Full};
+ghost use Rattle.search.specs.declared.searching.Tried.TheVariants.{Not};
 ghost use Rattle.search.specs.Outcomes.{IsOutcome};
 
 use crate::outcome::{Limits, Obstacle, Outcome, Progress};
@@ -16,11 +17,13 @@ use std::alloc::{AllocError, Global};
 ///
 /// At `Decided` the nodes that are kept stand for all of it: one stands for the beginning, and for
 /// each of them and each choice that may be made in it, one stands for what comes of it, and what
-/// is seen there is noted. `Undecided` says why the search stopped, how many nodes are kept and
-/// how many of them were still to be visited. An error is want of memory.
+/// is seen there is noted. `Undecided` says why the search stopped, how many nodes are kept, how
+/// many of them were still to be visited, and for how many steps from the beginning all that can
+/// come was tried, so that what is seen in them is noted. An error is want of memory.
 ///
 /// Nodes are visited in the order in which they were found. What comes of one is dropped where a
-/// node covers it, or joined with a node, which is then visited again, or else kept.
+/// node covers it, or joined with a node, which is then visited again, or else kept. A node that is
+/// joined with what comes of itself is visited again at once.
 pub fn search<S: Steps>(alloc: Global, steps: &mut S, limits: Limits) -> Result<Outcome, AllocError>
     ensures setting { S.setting steps.new ≡ S.setting steps.old }
     ensures notes { StaysNoted S.is_noted steps.old steps.new }
@@ -29,26 +32,28 @@ pub fn search<S: Steps>(alloc: Global, steps: &mut S, limits: Limits) -> Result<
 {
     let mut table = Table::new(alloc);
     let Some(first) = steps.first(alloc)? else {
-        return Ok(Outcome::Undecided(Obstacle::NoPlace, progress(&table, 0, 0)));
+        return Ok(Outcome::Undecided(Obstacle::NoPlace, progress(&table, 0, 0, 0)));
     };
     steps.kept();
-    if !admit(alloc, steps, &mut table, first, limits.nodes)? {
-        return Ok(Outcome::Undecided(Obstacle::Nodes, progress(&table, 0, 0)));
+    match admit(alloc, steps, &mut table, first, limits.nodes)? {
+        Admitted::Full => Ok(Outcome::Undecided(Obstacle::Nodes, progress(&table, 0, 0, 0))),
+        _ => explore(alloc, steps, &mut table, limits),
     }
-    explore(alloc, steps, &mut table, limits)
 }
 
 /// How far a search has come.
-fn progress<N: Drop>(table: &Table<N>, visits: u64, steps: u64) -> Progress
+fn progress<N: Drop>(table: &Table<N>, visits: u64, steps: u64, levels: u64) -> Progress
     ensures nodes { result.nodes ≡ length table.now.nodes.items }
     ensures open_nodes { result.open_nodes ≡ length table.now.agenda }
     ensures visits { result.visits ≡ visits }
+    ensures levels { result.levels ≡ levels }
 {
     Progress {
         nodes: table.len(),
         open_nodes: table.open_len(),
         visits,
         steps,
+        levels,
     }
 }
 
@@ -67,23 +72,64 @@ fn explore<S: Steps>(
     ensures outcome { IfOk result
         (IsOutcome (S.rules (S.setting steps.old)) (S.is_noted steps.new) limits) }
 {
+    steps.kept();
     let mut made = 0u64;
+    let mut level = Level {
+        done: 0,
+        left: table.open_len(),
+    };
     for visits in 0..limits.visits {
-        let Some(number) = table.close_first() else {
-            return Ok(Outcome::Decided(progress(table, visits, made)));
+        let Some(number) = table.first_open() else {
+            return Ok(Outcome::Decided(progress(table, visits, made, level.done)));
         };
         let visited = visit(alloc, steps, table, number, limits.nodes)?;
         made = made.saturating_add(visited.steps);
         if let Some(obstacle) = visited.obstacle {
-            table.reopen(number)?;
-            return Ok(Outcome::Undecided(obstacle, progress(table, visits, made)));
+            let progress = progress(table, visits, made, level.done);
+            return Ok(Outcome::Undecided(obstacle, progress));
         }
+        level = level.behind(usize::from(visited.is_done), table.open_len());
+        steps.watch(progress(table, visits + 1, made, level.done));
     }
-    let progress = progress(table, limits.visits, made);
+    let progress = progress(table, limits.visits, made, level.done);
     if progress.open_nodes == 0 {
         return Ok(Outcome::Decided(progress));
     }
     Ok(Outcome::Undecided(Obstacle::Visits, progress))
+}
+
+/// How far a search has come, level by level. A level is what was open when the one before was
+/// done.
+#[derive(Clone, Copy)]
+struct Level {
+    /// How many levels were done.
+    done: u64,
+    /// How many of the nodes that have been open for longest belong to the one that is under way.
+    left: usize,
+}
+
+impl Level {
+    ghost use Rattle.std.specs.Prelude.{◌≡◌, ◌+◌, ◌-◌, ◌^◌, ◌<◌, ◌≤◌};
+
+    /// Behind a visit that closed so many nodes, where so many are open now.
+    fn behind(self, closed: usize, opened: usize) -> Self
+        requires { self.done < 2 ^ 64 - 1 }
+        ensures going { closed < self.left →
+            (result.done ≡ self.done) × (result.left ≡ self.left - closed) }
+        ensures done { self.left ≤ closed →
+            (result.done ≡ self.done + 1) × (result.left ≡ opened) }
+    {
+        if closed < self.left {
+            return Level {
+                done: self.done,
+                left: self.left - closed,
+            };
+        }
+        Level {
+            done: self.done + 1,
+            left: opened,
+        }
+    }
 }
 
 /// How a visit went.
@@ -91,12 +137,13 @@ fn explore<S: Steps>(
 struct Visited {
     /// How many choices were tried.
     steps: u64,
+    /// Whether each was that may be made. If not, the node is to be visited again.
+    is_done: bool,
     /// Why the search stops, if it does.
     obstacle: Option<Obstacle>,
 }
 
-/// Visits the node of a number, the only one that is closed and may not have been visited. If it is
-/// opened, it's to be visited again.
+/// Visits the node that has been open for longest, and closes it if that is done.
 fn visit<S: Steps>(
     alloc: Global,
     steps: &mut S,
@@ -105,25 +152,29 @@ fn visit<S: Steps>(
     limit: usize,
 ) -> Result<Visited, AllocError>
     requires inside { number < length table.old.nodes.items }
-    requires closed { is_in number table.old.agenda ≡ false }
-    requires others { AreVisitedBut (S.rules (S.setting steps.old)) (S.is_noted steps.old)
-        table.old.nodes.items table.old.agenda number }
+    requires first { slice_get table.old.agenda 0 ≡ Some number }
+    requires visited { AreVisited (S.rules (S.setting steps.old)) (S.is_noted steps.old)
+        table.old.nodes.items table.old.agenda }
     ensures setting { S.setting steps.new ≡ S.setting steps.old }
     ensures notes { StaysNoted S.is_noted steps.old steps.new }
-    ensures visits { IfOk result (λ visited. IfNone visited.obstacle
-        (Visits (S.rules (S.setting steps.old)) (S.is_noted steps.new)
-        table.old.nodes.items table.new.nodes.items table.new.agenda)) }
+    ensures closes { IfOk result (λ visited. IfNone visited.obstacle
+        (Closes (S.rules (S.setting steps.old)) (S.is_noted steps.new) table.old.nodes.items
+        table.old.agenda table.new.nodes.items table.new.agenda (closed_by visited.is_done))) }
     ensures full { IfOk result (λ visited.
         visited.obstacle ≡ Some Obstacle.Nodes → limit ≤ length table.new.nodes.items) }
     ensures going { IfOk result (λ visited. visited.obstacle ≢ Some Obstacle.Visits) }
 {
     let visited = try_choices(alloc, steps, table, number, limit)?;
+    if !visited.is_done {
+        return Ok(visited);
+    }
+    table.close_first();
     table.settle(steps, number);
     Ok(visited)
 }
 
-/// Tries the choices that may be made in the node of a number, until it is opened; then the others
-/// wait.
+/// Tries the choices that may be made in the node of a number, until it is joined with what comes
+/// of it; then the others wait.
 fn try_choices<S: Steps>(
     alloc: Global,
     steps: &mut S,
@@ -132,14 +183,13 @@ fn try_choices<S: Steps>(
     limit: usize,
 ) -> Result<Visited, AllocError>
     requires inside { number < length table.old.nodes.items }
-    requires closed { is_in number table.old.agenda ≡ false }
-    requires others { AreVisitedBut (S.rules (S.setting steps.old)) (S.is_noted steps.old)
-        table.old.nodes.items table.old.agenda number }
+    requires visited { AreVisited (S.rules (S.setting steps.old)) (S.is_noted steps.old)
+        table.old.nodes.items table.old.agenda }
     ensures setting { S.setting steps.new ≡ S.setting steps.old }
     ensures notes { StaysNoted S.is_noted steps.old steps.new }
     ensures visits { IfOk result (λ visited. IfNone visited.obstacle
-        (Visits (S.rules (S.setting steps.old)) (S.is_noted steps.new)
-        table.old.nodes.items table.new.nodes.items table.new.agenda)) }
+        (Visits (S.rules (S.setting steps.old)) (S.is_noted steps.new) table.old.nodes.items
+        table.old.agenda table.new.nodes.items table.new.agenda number visited.is_done)) }
     ensures full { IfOk result (λ visited.
         visited.obstacle ≡ Some Obstacle.Nodes → limit ≤ length table.new.nodes.items) }
     ensures going { IfOk result (λ visited. visited.obstacle ≢ Some Obstacle.Visits) }
@@ -149,27 +199,43 @@ fn try_choices<S: Steps>(
     let mut from = 0;
     'choices: while let Some(choice) = steps.choice_from(table.node(number), from) {
         made = made.saturating_add(1);
-        if let Some(obstacle) = try_choice(alloc, steps, table, number, choice, limit)? {
-            return Ok(Visited {
-                steps: made,
-                obstacle: Some(obstacle),
-            });
+        match try_choice(alloc, steps, table, number, choice, limit)? {
+            Tried::Apart => from = choice + 1,
+            Tried::Itself => {
+                return Ok(Visited {
+                    steps: made,
+                    is_done: false,
+                    obstacle: None,
+                });
+            }
+            Tried::Not(obstacle) => {
+                return Ok(Visited {
+                    steps: made,
+                    is_done: false,
+                    obstacle: Some(obstacle),
+                });
+            }
         }
-        if table.is_open(number) {
-            return Ok(Visited {
-                steps: made,
-                obstacle: None,
-            });
-        }
-        from = choice + 1;
     }
     Ok(Visited {
         steps: made,
+        is_done: true,
         obstacle: None,
     })
 }
 
-/// Tries a choice in the node of a number. Answers why the search stops, if it does.
+/// What became of a choice.
+#[derive(Clone, Copy)]
+enum Tried {
+    /// What comes of the node is covered by another one.
+    Apart,
+    /// It was joined with the node itself.
+    Itself,
+    /// The search stops.
+    Not(Obstacle),
+}
+
+/// Tries a choice in the node of a number.
 fn try_choice<S: Steps>(
     alloc: Global,
     steps: &mut S,
@@ -177,26 +243,27 @@ fn try_choice<S: Steps>(
     number: usize,
     choice: u64,
     limit: usize,
-) -> Result<Option<Obstacle>, AllocError>
+) -> Result<Tried, AllocError>
     requires inside { number < length table.old.nodes.items }
     requires may { IfSome (slice_get table.old.nodes.items number)
         (λ x. (S.rules (S.setting steps.old)).may x choice) }
     ensures setting { S.setting steps.new ≡ S.setting steps.old }
     ensures notes { StaysNoted S.is_noted steps.old steps.new }
-    ensures tries { IfOk result (λ obstacle. IfNone obstacle
-        (Tries (S.rules (S.setting steps.old)) (S.is_noted steps.new) table.old.nodes.items
-        table.old.agenda table.new.nodes.items table.new.agenda number choice)) }
-    ensures full { IfOk result (λ obstacle.
-        obstacle ≡ Some Obstacle.Nodes → limit ≤ length table.new.nodes.items) }
-    ensures going { IfOk result (λ obstacle. obstacle ≢ Some Obstacle.Visits) }
+    ensures tries { IfOk result (GoesOn (S.rules (S.setting steps.old)) (S.is_noted steps.new)
+        table.old.nodes.items table.old.agenda table.new.nodes.items table.new.agenda
+        number choice) }
+    ensures full { IfOk result (λ tried.
+        tried ≡ Not Obstacle.Nodes → limit ≤ length table.new.nodes.items) }
+    ensures going { IfOk result (λ tried. tried ≢ Not Obstacle.Visits) }
 {
     let Some(next) = steps.next(alloc, table.node(number), choice)? else {
-        return Ok(Some(Obstacle::NoPlace));
+        return Ok(Tried::Not(Obstacle::NoPlace));
     };
-    if !admit(alloc, steps, table, next, limit)? {
-        return Ok(Some(Obstacle::Nodes));
+    match admit(alloc, steps, table, next, limit)? {
+        Admitted::Full => Ok(Tried::Not(Obstacle::Nodes)),
+        Admitted::At(at) if at == number => Ok(Tried::Itself),
+        _ => Ok(Tried::Apart),
     }
-    Ok(None)
 }
 
 /// Sees to it that some node covers another, unless there are as many nodes as a limit allows. A
@@ -207,19 +274,19 @@ fn admit<S: Steps>(
     table: &mut Table<S::Node>,
     node: S::Node,
     limit: usize,
-) -> Result<bool, AllocError>
+) -> Result<Admitted, AllocError>
     ensures setting { S.setting steps.new ≡ S.setting steps.old }
     ensures notes { StaysNoted S.is_noted steps.old steps.new }
-    ensures admits { IfOk result (λ done. IsTrue done → Admits (S.rules (S.setting steps.old))
+    ensures admits { IfOk result (λ done. done ≢ Full → Admits (S.rules (S.setting steps.old))
         table.old.nodes.items table.old.agenda table.new.nodes.items table.new.agenda node) }
-    ensures full { IfOk result (λ done. done ≡ false → limit ≤ length table.new.nodes.items) }
+    ensures others { IfOk result (OthersStay table.old.nodes.items table.new.nodes.items) }
+    ensures full { IfOk result (λ done. done ≡ Full → limit ≤ length table.new.nodes.items) }
 {
     match table.admit(alloc, steps, node, limit)? {
-        Admitted::Covered => Ok(true),
         Admitted::At(number) => {
             table.keep(alloc, steps, number)?;
-            Ok(true)
+            Ok(Admitted::At(number))
         }
-        Admitted::Full => Ok(false),
+        other => Ok(other),
     }
 }

@@ -3,6 +3,7 @@
 ghost use Rattle.std.specs.Prelude.{◌≡◌, ℕ, IsTrue, IfOk, IfSome, IfNone, OnSome};
 ghost use Rattle.search.specs.Rules.{Rules, AreKept, CoversBoth, IsNextChoice, NoMoreMay, StaysNoted};
 
+use crate::outcome::Progress;
 use std::alloc::{AllocError, Global};
 
 /// Nodes, and what comes of a node under a choice.
@@ -86,12 +87,17 @@ pub trait Steps: Drop {
         ensures notes { StaysNoted is_noted self.old self.new }
         ensures same { node.new ≡ node.old };
 
+    /// Is told after each visit how far the search has come.
+    fn watch(&mut self, progress: Progress)
+        ensures setting { setting self.new ≡ setting self.old }
+        ensures notes { StaysNoted is_noted self.old self.new };
+
     /// A number that nodes share which cover each other or can be joined, as far as may be: a node
     /// is compared with those of its number alone. Nothing else depends on it.
     fn hash(&self, node: &Self::Node) -> u64;
 
-    /// Where a node stands for something, so does each that covers it. It does nothing: its clause
-    /// is the law.
+    /// Where a node stands for something, so does each that covers it; and what covers it, covers
+    /// what it covers. It does nothing: its clause is the law.
     fn kept(&self)
         ensures { AreKept (rules (setting self.now)) };
 }

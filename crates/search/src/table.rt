@@ -31,10 +31,10 @@ pub struct Table<N> {
 }
 
 impl<N: Drop> Table<N> {
-    ghost use Rattle.std.specs.Prelude.{◌≡◌, ◌≢◌, ℕ, ◌<◌, false, List, [], ◌∷◌, Some, IfOk, IfNone, IfSome, OnOk, true, ◌++◌, ◌≤◌, length, slice_get};
+    ghost use Rattle.std.specs.Prelude.{◌≡◌, ◌≢◌, ℕ, ◌<◌, List, [], ◌∷◌, Some, IfOk, IfSome, OnOk, ◌++◌, ◌≤◌, length, drop, slice_get};
     ghost use Rattle.search.specs.Numbers.{is_in, put_in};
     ghost use Rattle.search.specs.declared.table.Admitted.TheVariants.{Full};
-    ghost use Rattle.search.specs.Admitted.{Admits, IsAt};
+    ghost use Rattle.search.specs.Admitted.{Admits, IsAt, OthersStay};
     ghost use Rattle.search.specs.Rules.{StaysNoted};
 
     /// No node.
@@ -78,25 +78,20 @@ impl<N: Drop> Table<N> {
         self.agenda.contains(number)
     }
 
-    /// Closes the node that has been open for longest, and answers its number.
-    pub fn close_first(&mut self) -> Option<usize>
-        ensures nodes { self.new.nodes.items ≡ self.old.nodes.items }
-        ensures none { IfNone result ((self.old.agenda ≡ []) × (self.new.agenda ≡ [])) }
-        ensures inside { IfSome result (λ number. number < length self.new.nodes.items) }
-        ensures first { IfSome result (λ number. self.old.agenda ≡ number ∷ self.new.agenda) }
-        ensures closed { IfSome result (λ number. is_in number self.new.agenda ≡ false) }
+    /// The number of the node that has been open for longest.
+    pub fn first_open(&self) -> Option<usize>
+        ensures first { result ≡ slice_get self.now.agenda 0 }
+        ensures inside { IfSome result (λ number. number < length self.now.nodes.items) }
     {
-        self.agenda.take()
+        self.agenda.first()
     }
 
-    /// Opens the node of a number, if there is one.
-    pub fn reopen(&mut self, number: usize) -> Result<(), AllocError>
-        ensures { self.new.nodes.items ≡ self.old.nodes.items }
+    /// Closes the node that has been open for longest.
+    pub fn close_first(&mut self)
+        ensures nodes { self.new.nodes.items ≡ self.old.nodes.items }
+        ensures agenda { self.new.agenda ≡ drop 1 self.old.agenda }
     {
-        if number < self.nodes.len() {
-            self.agenda.put(number)?;
-        }
-        Ok(())
+        self.agenda.take();
     }
 
     /// Sees to it that some node covers another, unless there are as many nodes as a limit allows.
@@ -112,6 +107,7 @@ impl<N: Drop> Table<N> {
         ensures admits { IfOk result (λ done. done ≢ Full → Admits (S.rules (S.setting steps.now))
             self.old.nodes.items self.old.agenda self.new.nodes.items self.new.agenda node) }
         ensures inside { IfOk result (λ done. IsAt (length self.new.nodes.items) done) }
+        ensures others { IfOk result (OthersStay self.old.nodes.items self.new.nodes.items) }
         ensures full { IfOk result (λ done. done ≡ Full → limit ≤ length self.new.nodes.items) }
     {
         let hash = steps.hash(&node);

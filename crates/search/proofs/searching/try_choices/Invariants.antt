@@ -8,7 +8,7 @@ invariant-choices g l = record {
   setting : g.S.Steps.setting l.steps ≡ g.S.Steps.setting l.fn.steps;
   notes : StaysNoted g.S.Steps.is_noted l.fn.steps l.steps;
   visiting : IsVisiting (g.S.Steps.rules (g.S.Steps.setting l.fn.steps)) (g.S.Steps.is_noted l.steps) l.fn.table.nodes.items
-      l.table.nodes.items l.table.agenda l.number l.from;
+      l.fn.table.agenda l.table.nodes.items l.table.agenda l.number l.from;
 }
 
 abbrev pub decreases-choices : goal.decreases-choices

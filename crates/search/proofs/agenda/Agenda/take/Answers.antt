@@ -1,7 +1,7 @@
 use Rattle.std.proofs.Common.{ℕ, ◌<◌, ◌≤◌, Bool, List, ◌∷◌, length, arith, ◌⊎◌, inl, inr, subst}
 use Rattle.std.proofs.lemmas.Bool.{cases_lt}
 use Rattle.search.specs.Numbers.{AreMarked}
-use Rattle.search.proofs.AgendaLemmas.{taken_gone, taken_marked, has_mark}
+use Rattle.search.proofs.AgendaLemmas.{taken_marked, has_mark}
 use Rattle.search.proofs.agenda.Agenda.take.Goals as goal
 
 within : (number : ℕ) (numbers : List ℕ) (marks : List Bool) → AreMarked (number ∷ numbers) marks → number < length marks
@@ -22,8 +22,3 @@ invariant_of-self-2 c =
     let are = subst (λ v. AreMarked v c.self.inside.queued.items) c.in_ok-number.ensures.items c.self.invariant in
     taken_marked c.in_ok-number.number c.pop_front.new.self.items c.self.inside.queued.items are
     (within c.in_ok-number.number c.pop_front.new.self.items c.self.inside.queued.items are)
-
-pub returns-clause-gone : goal.returns-clause-gone
-returns-clause-gone c =
-    taken_gone c.in_ok-number.number c.pop_front.new.self.items c.self.inside.queued.items
-    (subst (λ v. AreMarked v c.self.inside.queued.items) c.in_ok-number.ensures.items c.self.invariant)
