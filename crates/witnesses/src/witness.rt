@@ -26,7 +26,11 @@ fn is_below(found: &Bounds, figure: Figure) -> bool
     match figure {
         Figure::Response(_) | Figure::Latency(_) | Figure::Hold(_) => figure.told(&found.peaks)
             < found.cap,
-        Figure::Refusal(_) | Figure::Loss(_) | Figure::RefusedAction(_) => true,
+        Figure::Refusal(_)
+        | Figure::Loss(_)
+        | Figure::RefusedAction(_)
+        | Figure::Errors(_)
+        | Figure::RoutineErrors(_) => true,
     }
 }
 
@@ -71,8 +75,8 @@ fn tried(
 }
 
 /// A run that shows what is told of a figure below the cap: exactly so many ticks, or that
-/// something is lost or refused, where that has come, and that nothing is, where it hasn't. Its
-/// interrupts keep the distances, in ticks by routine, 1 where none is given.
+/// something is lost, refused or answered other than E_OK, where that has come, and that nothing is,
+/// where it hasn't. Its interrupts keep the distances, in ticks by routine, 1 where none is given.
 ///
 /// What a search has come by is tried by running it, so it may be that none is found. An error is
 /// want of memory.
