@@ -1,8 +1,10 @@
 -- The greatest times that ticks have shown, and what has happened in any.
-use Rattle.std.specs.Prelude.{ℕ, ◌≡◌, ◌<◌, ◌≤◌, Bool, false, min, List, length, replicate, slice_index_or}
+use Rattle.std.specs.Prelude.{ℕ, ◌≡◌, ◌<◌, ◌≤◌, Bool, false, min, List, Option, length, replicate, slice_index_or}
 use Rattle.std.specs.Option.{option_map}
+use Rattle.osek_base.specs.declared.ids.Owner.{Owner}
 use Rattle.osek_base.specs.declared.limits.TheConstants.{MAX_ALARMS, MAX_ROUTINES, MAX_TASKS}
 use Rattle.observations.specs.declared.observation.TheConstants.{MAX_HELD}
+use Rattle.figures.specs.FigureSums.{is_routine, is_task}
 use Rattle.figure_laws.specs.Ages.{oldest_age}
 use Rattle.figure_laws.specs.Holding.{held_ticks}
 use Rattle.figure_laws.specs.Labels.{IsAtMost}
@@ -13,7 +15,7 @@ use Rattle.bound_labels.specs.Labels.{Labels, ages_of, hold_of, pending_of}
 
 -- the greatest age of each task's jobs, wait of each routine's interrupts and hold of each
 -- resource, and whether an interrupt was lost, an activation of a task refused, an action of an
--- alarm refused
+-- alarm refused, a service of a task or of a routine answered other than E_OK
 pub record Peaks : Type 0 where
   pub responses : List ℕ
   pub latencies : List ℕ
@@ -21,6 +23,8 @@ pub record Peaks : Type 0 where
   pub losses : List Bool
   pub refusals : List Bool
   pub actions : List Bool
+  pub errors : List Bool
+  pub routine_errors : List Bool
 
 abbrev pub peak : List ℕ → ℕ → ℕ
 peak peaks k = slice_index_or peaks k 0
@@ -28,8 +32,10 @@ peak peaks k = slice_index_or peaks k 0
 abbrev pub has_come : List Bool → ℕ → Bool
 has_come flags k = slice_index_or flags k false
 
--- what a tick shows with the labels before it is in the peaks, up to the cap
-pub record IsNoted (cap : ℕ) (peaks : Peaks) (seen : Seen) (l : Labels) : Type 0 where
+-- what a tick shows with the labels before it is in the peaks, up to the cap, and so is who fails in
+-- it, if anyone does
+pub record IsNoted (cap : ℕ) (peaks : Peaks) (seen : Seen) (failed : Option Owner)
+    (l : Labels) : Type 0 where
   pub responses : (k : ℕ) → k < length seen.tasks
       → IsAtMost (peak peaks.responses k)
       (option_map (min cap) (oldest_age (task_tick seen k) (ages_of l k)))
@@ -45,6 +51,10 @@ pub record IsNoted (cap : ℕ) (peaks : Peaks) (seen : Seen) (l : Labels) : Type
       → (task_in seen k).refused ≡ 0
   pub actions : (a : ℕ) → a < length seen.alarms → has_come peaks.actions a ≡ false
       → (alarm_in seen a).is_refused ≡ false
+  pub errors : (k : ℕ) → k < length seen.tasks → has_come peaks.errors k ≡ false
+      → is_task failed k ≡ false
+  pub routine_errors : (i : ℕ) → i < length seen.routines
+      → has_come peaks.routine_errors i ≡ false → is_routine failed i ≡ false
 
 -- peaks are no lower than others, and all that had come has
 pub record AreAtLeast (peaks others : Peaks) : Type 0 where
@@ -54,12 +64,15 @@ pub record AreAtLeast (peaks others : Peaks) : Type 0 where
   pub losses : (i : ℕ) → has_come peaks.losses i ≡ false → has_come others.losses i ≡ false
   pub refusals : (k : ℕ) → has_come peaks.refusals k ≡ false → has_come others.refusals k ≡ false
   pub actions : (a : ℕ) → has_come peaks.actions a ≡ false → has_come others.actions a ≡ false
+  pub errors : (k : ℕ) → has_come peaks.errors k ≡ false → has_come others.errors k ≡ false
+  pub routine_errors : (i : ℕ) → has_come peaks.routine_errors i ≡ false
+      → has_come others.routine_errors i ≡ false
 
 -- so what is in the others is in them
 abbrev pub NotesStay : Type 0
 NotesStay =
-    (cap : ℕ) (peaks others : Peaks) (seen : Seen) (l : Labels) → AreAtLeast peaks others
-    → IsNoted cap others seen l → IsNoted cap peaks seen l
+    (cap : ℕ) (peaks others : Peaks) (seen : Seen) (failed : Option Owner) (l : Labels)
+    → AreAtLeast peaks others → IsNoted cap others seen failed l → IsNoted cap peaks seen failed l
 
 -- before the first tick
 abbrev pub no_peaks : Peaks
@@ -71,4 +84,6 @@ no_peaks =
       losses = replicate MAX_ROUTINES false;
       refusals = replicate MAX_TASKS false;
       actions = replicate MAX_ALARMS false;
+      errors = replicate MAX_TASKS false;
+      routine_errors = replicate MAX_ROUTINES false;
     }

@@ -3,17 +3,18 @@
 ghost use Rattle.std.specs.Prelude.{ℕ, ◌≡◌, ◌<◌, ◌≤◌, false, length, min};
 ghost use Rattle.osek_base.specs.declared.limits.TheConstants.{MAX_ALARMS, MAX_ROUTINES, MAX_TASKS};
 ghost use Rattle.observations.specs.declared.observation.TheConstants.{MAX_HELD};
+ghost use Rattle.figures.specs.FigureSums.{is_routine, is_task};
 ghost use Rattle.figure_laws.specs.Labels.{IsAtMost};
 ghost use Rattle.observations.specs.Seen.{seen_of};
 ghost use Rattle.bound_labels.specs.Parts.{shown_age, shown_hold, shown_wait};
 ghost use Rattle.bound_labels.specs.Peaks.{AreAtLeast, IsNoted, has_come, no_peaks, peak};
-ghost use Rattle.bound_labels.specs.Ticks.{alarm_in, holder_tick, routine_in, routine_tick, task_in, task_tick};
+ghost use Rattle.bound_labels.specs.Ticks.{alarm_in, failed_of, holder_tick, routine_in, routine_tick, task_in, task_tick};
 
 use crate::labels::Labels;
-use crate::raising::{has_come, mark, peak, raise};
-use crate::ticks::{holder_tick, routine_tick, task_tick};
+use crate::raising::{has_come, mark, mark_known, peak, raise};
+use crate::ticks::{failed_of, holder_tick, routine_tick, task_tick};
 use observations::{MAX_HELD, Observation};
-use osek_base::{MAX_ALARMS, MAX_ROUTINES, MAX_TASKS};
+use osek_base::{MAX_ALARMS, MAX_ROUTINES, MAX_TASKS, Owner};
 use std::marker::Model;
 
 /// The greatest times that ticks have shown, in ticks and up to a cap, and what has happened in
@@ -32,6 +33,10 @@ pub struct Peaks {
     refusals: [bool; MAX_TASKS],
     /// By alarm, whether its action was refused.
     actions: [bool; MAX_ALARMS],
+    /// By task, whether a service was answered other than E_OK.
+    errors: [bool; MAX_TASKS],
+    /// By routine, whether one was.
+    routine_errors: [bool; MAX_ROUTINES],
 }
 
 impl Model for Peaks {
@@ -46,6 +51,8 @@ impl Model for Peaks {
       losses = p.losses;
       refusals = p.refusals;
       actions = p.actions;
+      errors = p.errors;
+      routine_errors = p.routine_errors;
     } };
 }
 
@@ -139,6 +146,30 @@ fn note_actions(marks: &mut [bool], seen: &Observation)
     }
 }
 
+/// Notes whether a service of a task is answered other than E_OK in a tick.
+fn note_errors(marks: &mut [bool], seen: &Observation)
+    requires { length marks.old ≡ MAX_TASKS }
+    ensures noted { (k : ℕ) → k < length seen.now.tasks.items → has_come marks.new k ≡ false
+        → is_task (failed_of seen.now) k ≡ false }
+    ensures rises { (k : ℕ) → has_come marks.new k ≡ false → has_come marks.old k ≡ false }
+{
+    if let Some(Owner::Task(task)) = failed_of(seen) {
+        mark_known(marks, task.number() as usize);
+    }
+}
+
+/// Notes whether a service of a routine is answered other than E_OK in a tick.
+fn note_routine_errors(marks: &mut [bool], seen: &Observation)
+    requires { length marks.old ≡ MAX_ROUTINES }
+    ensures noted { (i : ℕ) → i < length seen.now.routines.items → has_come marks.new i ≡ false
+        → is_routine (failed_of seen.now) i ≡ false }
+    ensures rises { (i : ℕ) → has_come marks.new i ≡ false → has_come marks.old i ≡ false }
+{
+    if let Some(Owner::Routine(routine)) = failed_of(seen) {
+        mark_known(marks, routine.number() as usize);
+    }
+}
+
 impl Peaks {
     /// No tick has shown anything.
     pub fn new() -> Self
@@ -151,12 +182,14 @@ impl Peaks {
             losses: [false; MAX_ROUTINES],
             refusals: [false; MAX_TASKS],
             actions: [false; MAX_ALARMS],
+            errors: [false; MAX_TASKS],
+            routine_errors: [false; MAX_ROUTINES],
         }
     }
 
     /// Notes what a tick shows with the labels before it, up to a cap in ticks.
     pub fn note(&mut self, cap: u32, seen: &Observation, labels: &Labels)
-        ensures noted { IsNoted cap self.new (seen_of seen.now) labels.now }
+        ensures noted { IsNoted cap self.new (seen_of seen.now) (failed_of seen.now) labels.now }
         ensures rises { AreAtLeast self.new self.old }
     {
         note_responses(&mut self.responses, cap, seen, labels);
@@ -165,6 +198,8 @@ impl Peaks {
         note_losses(&mut self.losses, seen);
         note_refusals(&mut self.refusals, seen);
         note_actions(&mut self.actions, seen);
+        note_errors(&mut self.errors, seen);
+        note_routine_errors(&mut self.routine_errors, seen);
     }
 
     /// The greatest age of a task's jobs, in ticks; 0 beyond the last task.
@@ -207,5 +242,19 @@ impl Peaks {
         ensures { result ≡ has_come self.now.actions alarm }
     {
         has_come(&self.actions, alarm)
+    }
+
+    /// Whether a service of a task was answered other than E_OK.
+    pub fn has_error(&self, task: usize) -> bool
+        ensures { result ≡ has_come self.now.errors task }
+    {
+        has_come(&self.errors, task)
+    }
+
+    /// Whether a service of a routine was answered other than E_OK.
+    pub fn has_routine_error(&self, routine: usize) -> bool
+        ensures { result ≡ has_come self.now.routine_errors routine }
+    {
+        has_come(&self.routine_errors, routine)
     }
 }

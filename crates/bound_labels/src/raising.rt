@@ -1,6 +1,6 @@
 //! Greatest numbers and marks by number, which only rise.
 
-ghost use Rattle.std.specs.Prelude.{ℕ, ◌≡◌, ◌<◌, ◌≤◌, false, length};
+ghost use Rattle.std.specs.Prelude.{ℕ, ◌≡◌, ◌<◌, ◌≤◌, false, true, length};
 ghost use Rattle.figure_laws.specs.Labels.{IsAtMost};
 ghost use Rattle.bound_labels.specs.Peaks.{has_come, peak};
 
@@ -25,6 +25,17 @@ pub(crate) fn mark(marks: &mut [bool], number: usize, comes: bool)
 {
     if comes {
         marks[number] = true;
+    }
+}
+
+/// Marks a number that has come; one beyond the list is passed over.
+pub(crate) fn mark_known(marks: &mut [bool], number: usize)
+    ensures count { length marks.new ≡ length marks.old }
+    ensures noted { number < length marks.old → has_come marks.new number ≡ true }
+    ensures rises { (k : ℕ) → has_come marks.new k ≡ false → has_come marks.old k ≡ false }
+{
+    if number < marks.len() {
+        mark(marks, number, true);
     }
 }
 

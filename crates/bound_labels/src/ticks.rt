@@ -8,11 +8,12 @@ ghost use Rattle.bound_labels.specs.Ticks.{
   task_tick,
   routine_tick,
   holder_tick,
+  failed_of,
 };
 
 use figures::{HolderTick, RoutineTick, TaskTick};
 use observations::{Holder, Observation, RoutineSeen, TaskSeen};
-use osek_base::TaskState;
+use osek_base::{Owner, TaskState};
 
 fn task_in(tasks: &[TaskSeen], number: usize) -> TaskSeen
     ensures { result ≡ slice_index_or tasks.now number no_task }
@@ -86,5 +87,15 @@ pub(crate) fn holder_tick(seen: &Observation, number: usize) -> HolderTick
     HolderTick {
         tick: 0,
         holder: holder_in(seen.holders.as_slice(), number),
+    }
+}
+
+/// Who executes the tick's instruction, where that is a service that is answered other than E_OK.
+pub(crate) fn failed_of(seen: &Observation) -> Option<Owner>
+    ensures { result ≡ failed_of seen.now }
+{
+    match &seen.answered {
+        Some(status) if status.number() > 0 => seen.executor,
+        _ => None,
     }
 }

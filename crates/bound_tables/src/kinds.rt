@@ -23,6 +23,10 @@ pub enum Column {
     Hold,
     /// Whether the action of an alarm may be refused.
     RefusedAction,
+    /// Whether a service of a task may be answered other than E_OK.
+    Errors,
+    /// Whether a service of a routine may be.
+    RoutineErrors,
 }
 
 impl Column {
@@ -34,6 +38,7 @@ impl Column {
             Column::Loss => "losses",
             Column::Hold => "longest",
             Column::Refusal | Column::RefusedAction => "refused",
+            Column::Errors | Column::RoutineErrors => "errors",
         }
     }
 
@@ -46,6 +51,8 @@ impl Column {
             Column::Loss => Figure::Loss(number),
             Column::Hold => Figure::Hold(number),
             Column::RefusedAction => Figure::RefusedAction(number),
+            Column::Errors => Figure::Errors(number),
+            Column::RoutineErrors => Figure::RoutineErrors(number),
         }
     }
 
@@ -60,7 +67,11 @@ impl Column {
                 told.bounds.cap,
                 is_reached,
             ),
-            Column::Refusal | Column::Loss | Column::RefusedAction => Cell::Coming {
+            Column::Refusal
+            | Column::Loss
+            | Column::RefusedAction
+            | Column::Errors
+            | Column::RoutineErrors => Cell::Coming {
                 comes: value > 0,
                 is_reached,
             },
@@ -94,8 +105,8 @@ impl Kind {
     /// What is told of each of its objects.
     pub fn columns(self) -> &'static [Column] {
         match self {
-            Kind::Task => &[Column::Response, Column::Refusal],
-            Kind::Routine => &[Column::Latency, Column::Loss],
+            Kind::Task => &[Column::Response, Column::Refusal, Column::Errors],
+            Kind::Routine => &[Column::Latency, Column::Loss, Column::RoutineErrors],
             Kind::Resource => &[Column::Hold],
             Kind::Alarm => &[Column::RefusedAction],
         }

@@ -15,6 +15,8 @@ fn meaning(column: Column) -> &'static str {
         Column::Loss => "an interrupt finds one pending; a greater distance may change it",
         Column::RefusedAction =>
             "its task has as many jobs as ACTIVATION allows, or none that its event could be set for",
+        Column::Errors | Column::RoutineErrors =>
+            "a service is answered other than E_OK; --witness shows a run in which one is",
         Column::Response | Column::Latency | Column::Hold => "it lasts",
     }
 }

@@ -1,9 +1,10 @@
 -- What comes of a machine comes of each state that its node stands for.
-use Rattle.std.proofs.Common.{ℕ, ◌≡◌, ◌<◌, ◌≤◌, ◌^◌, arith, Bool, true, false, List, [], refl, sym, ◌∙◌, ap, subst}
+use Rattle.std.proofs.Common.{ℕ, ◌≡◌, ◌<◌, ◌≤◌, ◌^◌, arith, Bool, true, false, List, [], refl, sym, ◌∙◌, ap, subst, subst₂}
 use Rattle.std.specs.Prelude.{◌==◌, Option, Some, None, IfSome, IfNone, length}
 use Rattle.std.proofs.Math.Pow.{pow_mono}
 use Rattle.std.specs.Int.{bit_at}
 use Rattle.std.proofs.lemmas.Bool.{eq-eqb, ne_eqb, eqb-true, true≢false}
+use Rattle.osek_base.specs.declared.ids.Owner.{Owner}
 use Rattle.osek_base.specs.System.{System}
 use Rattle.kept_state.specs.Kept.{Kept}
 use Rattle.kept_state.specs.KeptTick.{boot_in, tick_in}
@@ -18,7 +19,7 @@ use Rattle.search.specs.Subsets.{IsSubset, NoSubset}
 use Rattle.bound_labels.specs.Labels.{IsAtLeast, Labels, arrives_in, first_labels, next_labels, wait_of}
 use Rattle.figures.specs.FigureSums.{held_count}
 use Rattle.bound_labels.specs.Peaks.{AreAtLeast, IsNoted, NotesStay, Peaks}
-use Rattle.run_bounds.specs.Nodes.{AreNoted, Comes, IsAfter, IsFirst, IsNext, Node, Setting, StandsFor, labels_at_boot, routines_of, rules_of}
+use Rattle.run_bounds.specs.Nodes.{AreNoted, Comes, IsAfter, IsFirst, IsNext, Node, Setting, StandsFor, failed_in, labels_at_boot, routines_of, rules_of}
 use Rattle.run_bounds.specs.Trying.{AreFree, MaySubsets, OneStateTells, SubsetsMay}
 use Rattle.run_bounds.proofs.Going.{boot_state}
 use Rattle.run_bounds.proofs.Trying.{labels_are_ordered}
@@ -46,13 +47,15 @@ stands e x m is over = record {
 }
 
 -- what a tick makes of it
-pub record Ticked (e : Explorer) (x : Node) (set : ℕ) (m n : Machine) (shown : Seen) : Type 0 where
+pub record Ticked (e : Explorer) (x : Node) (set : ℕ) (m n : Machine) (shown : Seen)
+    (failed : Option Owner) : Type 0 where
   pub is : IsIn e.ground x.key m
   pub going : (picture m).over ≡ x.over
   pub system : system_of n ≡ system_of m
   pub after : picture n
       ≡ (tick_in (system_of m) (routines_of (setting_of e) set) (picture m)).after
   pub seen : shown ≡ seen_in (system_of m) (routines_of (setting_of e) set) (picture m)
+  pub failed_is : failed ≡ failed_in (system_of m) (routines_of (setting_of e) set) (picture m)
 
 -- and the node that is made of that
 pub record IsMade (e : Explorer) (x y : Node) (set : ℕ) (n : Machine) (seen : Seen) : Type 0 where
@@ -61,7 +64,7 @@ pub record IsMade (e : Explorer) (x y : Node) (set : ℕ) (n : Machine) (seen : 
   pub labels : y.labels ≡ next_labels e.cap e.distances set seen x.labels
 
 module _ (e : Explorer) (x : Node) (set : ℕ) (m n : Machine) (seen : Seen)
-    (ticked : Ticked e x set m n seen) where
+    (failed : Option Owner) (ticked : Ticked e x set m n seen failed) where
   abbrev arrived : List ℕ
   arrived = routines_of (setting_of e) set
 
@@ -70,6 +73,9 @@ module _ (e : Explorer) (x : Node) (set : ℕ) (m n : Machine) (seen : Seen)
 
   same_seen : seen ≡ seen_in e.ground.system arrived (picture m)
   same_seen = ticked.seen ∙ ap (λ S. seen_in S arrived (picture m)) ticked.is.system
+
+  same_failed : failed ≡ failed_in e.ground.system arrived (picture m)
+  same_failed = ticked.failed_is ∙ ap (λ S. failed_in S arrived (picture m)) ticked.is.system
 
   same_key : key (system_of n) (need_of e.ground.needs) (picture n)
       ≡ key e.ground.system (need_of e.ground.needs)
@@ -100,12 +106,13 @@ module _ (e : Explorer) (x : Node) (set : ℕ) (m n : Machine) (seen : Seen)
       (is_after y made)
 
   pub are_noted : OneStateTells → IsGround e.ground → x.over ≡ false → (peaks : Peaks)
-      → IsNoted e.cap peaks seen x.labels
+      → IsNoted e.cap peaks seen failed x.labels
       → AreNoted (setting_of e) peaks x set
   are_noted tells ground going peaks noted =
       (tells (setting_of e) x set (picture m) ground.proper ground.suffices ground.own going
       (stands e x m ticked.is ticked.going)).noted peaks
-      (subst (λ (s : Seen). IsNoted e.cap peaks s x.labels) same_seen noted)
+      (subst₂ (λ (s : Seen) (who : Option Owner). IsNoted e.cap peaks s who x.labels) same_seen
+      same_failed noted)
 
 -- the labels after boot
 pub first_is : (S : System) (tasks routines held : ℕ) → tasks ≡ length S.tasks
@@ -135,7 +142,7 @@ pub stays_noted : (e f : Explorer) → NotesStay → setting_of f ≡ setting_of
     → AreAtLeast f.peaks e.peaks → StaysNoted AreNotedIn e f
 stays_noted e f stay same rises x set noted =
     subst (λ (s : Setting). AreNoted s f.peaks x set) (sym same)
-    (λ o is. stay e.cap f.peaks e.peaks _ x.labels rises (noted o is))
+    (λ o is. stay e.cap f.peaks e.peaks _ _ x.labels rises (noted o is))
 
 pub same_stay : (e f : Explorer) → f ≡ e → StaysNoted AreNotedIn e f
 same_stay e f same x set noted = subst (λ (g : Explorer). AreNotedIn g x set) (sym same) noted

@@ -23,6 +23,10 @@ pub enum Figure {
     Hold(usize),
     /// Whether the action of an alarm is refused.
     RefusedAction(usize),
+    /// Whether a service of a task is answered other than E_OK.
+    Errors(usize),
+    /// Whether a service of a routine is.
+    RoutineErrors(usize),
 }
 
 /// What is told of something that has come or not.
@@ -45,6 +49,8 @@ impl Figure {
             Figure::Loss(routine) => coming(peaks.has_loss(routine)),
             Figure::Hold(resource) => peaks.hold(resource),
             Figure::RefusedAction(alarm) => coming(peaks.has_refused_action(alarm)),
+            Figure::Errors(task) => coming(peaks.has_error(task)),
+            Figure::RoutineErrors(routine) => coming(peaks.has_routine_error(routine)),
         }
     }
 }
@@ -65,10 +71,12 @@ pub fn figures_of(alloc: Global, system: &System) -> Result<Vec<Figure>, AllocEr
     for task in 0..system.task_count() {
         figures.push(Figure::Response(task))?;
         figures.push(Figure::Refusal(task))?;
+        figures.push(Figure::Errors(task))?;
     }
     for routine in 0..system.routine_count() {
         figures.push(Figure::Latency(routine))?;
         figures.push(Figure::Loss(routine))?;
+        figures.push(Figure::RoutineErrors(routine))?;
     }
     for resource in 0..held_count(system) {
         figures.push(Figure::Hold(resource))?;

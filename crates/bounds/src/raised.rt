@@ -56,7 +56,11 @@ impl Raised {
             Figure::Response(task) => has(self.tasks, task),
             Figure::Latency(routine) => has(self.routines, routine),
             Figure::Hold(resource) => has(self.resources, resource),
-            Figure::Refusal(_) | Figure::Loss(_) | Figure::RefusedAction(_) => false,
+            Figure::Refusal(_)
+            | Figure::Loss(_)
+            | Figure::RefusedAction(_)
+            | Figure::Errors(_)
+            | Figure::RoutineErrors(_) => false,
         }
     }
 }

@@ -1,5 +1,4 @@
 pub mod ByTicks
-pub mod Answering
 pub mod Below
 pub mod Levels
 pub mod SameTicks

@@ -8,25 +8,24 @@ use Rattle.osek_base.specs.Proper.{IsProper}
 use Rattle.osek_base.specs.Separable.{Separable}
 use Rattle.osek_base.specs.System.{System}
 use Rattle.observations.specs.declared.observation.Observation.{Observation}
-use Rattle.observations.specs.declared.routine_seen.RoutineSeen.{RoutineSeen}
 use Rattle.observations.specs.declared.task_seen.TaskSeen.{TaskSeen}
-use Rattle.observed_runs.specs.Observed.{Ticked, routine_seen, task_seen, tick_at}
+use Rattle.observed_runs.specs.Observed.{Ticked, task_seen, tick_at}
 use Rattle.same_future.proofs.Tables.{table_at}
 use Rattle.figures.specs.AlarmSums.{alarm_figures}
 use Rattle.figures.specs.Counts.{capped}
-use Rattle.figures.specs.FigureSums.{RunFigures, held_count, is_error, is_routine, is_task, levels_of, lower_executes, routine_tick, task_figures, task_tick, unseen_routine, unseen_task}
+use Rattle.figures.specs.FigureSums.{RunFigures, held_count, is_error, is_task, levels_of, lower_executes, task_figures, task_tick, unseen_task}
 use Rattle.figures.specs.ResourceSums.{resource_figures}
 use Rattle.figures.specs.RoutineSums.{routine_figures}
 use Rattle.run_figures.specs.RunFigures.{AreRunFigures, AreTicksOf, IsTickOf}
 use Rattle.upper_bounds.specs.Above.{AreOneAbove, IsTheSameAlarm, IsTheSameResource, IsUpperTask}
 use Rattle.upper_bounds.proofs.Sides.{routine_count, upper_there, with_part}
 use Rattle.upper_figures.specs.ShownAbove.{ShowTheSameAbove, TicksShowTheSame}
-use Rattle.upper_figures.proofs.Carried.{alarms_same, declared_same, last_same, scheduler_same}
+use Rattle.upper_figures.proofs.Carried.{alarms_same, declared_same, last_same, routines_same, scheduler_same}
 use Rattle.upper_figures.proofs.Part.{upper_parts_show_the_same}
 use Rattle.isolation.specs.Everywhere.{IsTheSameEverywhere}
 use Rattle.isolation.specs.SameFigures.{AreTheSameAbove, FiguresAreTheSame, but_blockers}
 use Rattle.isolation.proofs.ByTicks.{plain_tick, stands_ready, task_figures_same}
-use Rattle.isolation.proofs.SameTicks.{lower_ready_same, routine_fails_same, shown, task_fails_same}
+use Rattle.isolation.proofs.SameTicks.{lower_ready_same, shown}
 
 -- ---- observations of one run
 
@@ -128,7 +127,7 @@ module _ (S B : System) (p : ℕ) (pair : AreOneAbove S B p) (mode : ℕ)
           ≡ (is_task u.executor t && is_error u.answered)
       failed_one =
           ap₂ (λ who answer. is_task who t && is_error answer) is.seen.executor is.seen.answered
-          ∙ task_fails_same S B p pair mode arrivals n is.going t high high_there
+          ∙ shown_here.errors t high
           ∙ sym (ap₂ (λ who answer. is_task who t && is_error answer) there.seen.executor
           there.seen.answered)
 
@@ -143,25 +142,6 @@ module _ (S B : System) (p : ℕ) (pair : AreOneAbove S B p) (mode : ℕ)
             has_failed = failed_one i;
             blockers = None;
           }
-
-    routine_one : (r : ℕ) → r < length S.routines → r < length B.routines
-        → routine_tick o r ≡ routine_tick u r
-    routine_one r low low_there =
-        let saw : slice_index_or o.routines.items r unseen_routine
-        ≡ slice_index_or u.routines.items r unseen_routine =
-        ap (λ (xs : List RoutineSeen). slice_index_or xs r unseen_routine) is.seen.routines
-        ∙ table_at (routine_seen mine) (length S.routines) r unseen_routine low
-        ∙ shown_here.routines r
-        ∙ sym (table_at (routine_seen theirs) (length B.routines) r unseen_routine low_there)
-        ∙ sym (ap (λ (xs : List RoutineSeen). slice_index_or xs r unseen_routine)
-        there.seen.routines) in
-        let failed : (is_routine o.executor r && is_error o.answered)
-        ≡ (is_routine u.executor r && is_error u.answered) =
-        ap₂ (λ who answer. is_routine who r && is_error answer) is.seen.executor is.seen.answered
-        ∙ routine_fails_same S B p pair mode arrivals n is.going r
-        ∙ sym (ap₂ (λ who answer. is_routine who r && is_error answer) there.seen.executor
-        there.seen.answered) in
-        λ i. record { tick = number_same i; seen = saw i; has_failed = failed i }
 
   -- ---- the figures
 
@@ -190,9 +170,10 @@ module _ (S B : System) (p : ℕ) (pair : AreOneAbove S B p) (mode : ℕ)
         let low_there : r < length B.routines =
         subst (λ m. r < m) (routine_count S B p pair) low in
         are.figures.routines.each r low
-        ∙ ap routine_figures (listed (λ o. routine_tick o r) (λ u. routine_tick u r)
-        (λ k o u is there. routine_one k o u is there r low low_there)
-        n are.seen other.seen are.ticks other.ticks)
+        ∙ ap routine_figures
+        (routines_same S B p mode arrivals shows r low low_there n are.seen are.ticks
+        ∙ sym (routines_same B B p mode arrivals shows_there r low_there low_there n other.seen
+        other.ticks))
         ∙ sym (other.figures.routines.each r low_there)
 
     declared_are : (r q : ℕ) → IsTheSameResource S B p r q

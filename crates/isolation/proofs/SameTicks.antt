@@ -1,8 +1,7 @@
--- In each tick of systems that agree services of the upper part fail alike; and while an upper task
--- stands ready, none executes but one of the upper part.
-use Rattle.std.proofs.Common.{◌≡◌, ℕ, Bool, true, false, ◌&&◌, List, refl, sym, ◌∙◌, ap, subst, true≢false, ne_eqb}
+-- In each tick of systems that agree, while an upper task stands ready, none executes but one of the
+-- upper part.
+use Rattle.std.proofs.Common.{◌≡◌, ℕ, Bool, true, false, ◌&&◌, List, refl, sym, ◌∙◌, ap, subst, true≢false}
 use Rattle.std.specs.Prelude.{Option, Some, None}
-use Rattle.std.specs.List.{list_any}
 use Rattle.std.specs.Option.{option_map}
 use Rattle.osek_base.specs.declared.arrivals.Arrival.{Arrival}
 use Rattle.osek_base.specs.declared.executed.Executed.{Executed}
@@ -13,24 +12,19 @@ use Rattle.osek_base.specs.Separable.{Separable}
 use Rattle.osek_base.specs.Service.{task_state}
 use Rattle.osek_base.specs.System.{System}
 use Rattle.osek_base.specs.Trace.{arriving, run}
-use Rattle.osek_base.specs.Upper.{is_upper_owner, is_upper_task}
+use Rattle.osek_base.specs.Upper.{is_upper_task}
 use Rattle.run_laws.proofs.Foremost.{equal, self_equal}
 use Rattle.partition_check.proofs.Shared.{IsLayered}
 use Rattle.observations.specs.declared.task_seen.TaskSeen.{TaskSeen}
 use Rattle.observed_runs.specs.Observed.{Ticked, is_by, owner_of, state_seen, task_seen, tick_at}
-use Rattle.same_future.specs.Alike.{records_at}
-use Rattle.figures.specs.FigureSums.{is_routine, is_task, levels_of, lower_executes}
+use Rattle.figures.specs.FigureSums.{levels_of, lower_executes}
 use Rattle.upper_bounds.specs.Above.{AreOneAbove, IsUpperTask}
-use Rattle.upper_bounds.specs.ExecutedAbove.{ExecuteTheSame}
 use Rattle.upper_bounds.specs.StatesAbove.{HaveTheSameStates, executes, executing_at}
-use Rattle.upper_bounds.proofs.Refused.{executions_are_the_same}
 use Rattle.upper_bounds.proofs.Sides.{run_beside, upper_back}
 use Rattle.upper_bounds.proofs.States.{states_are_seen_the_same}
 use Rattle.upper_figures.specs.ShownAbove.{ShowTheSameAbove}
-use Rattle.upper_figures.proofs.Executing.{TellsOne, tick_tells_one}
 use Rattle.upper_figures.proofs.Part.{upper_parts_show_the_same}
-use Rattle.upper_figures.proofs.Ticks.{at_is, by_is, executed_is}
-use Rattle.isolation.proofs.Answering.{failed_is, fails, has_failed}
+use Rattle.upper_figures.proofs.Ticks.{at_is, by_is}
 use Rattle.isolation.proofs.Below.{known, none_ready}
 use Rattle.isolation.proofs.ByTicks.{stands_ready}
 use Rattle.isolation.proofs.Levels.{lower_same}
@@ -44,9 +38,6 @@ module _ (S : System) (p : ℕ) (proper : IsProper S) (separable : Separable S p
 
   layered : IsLayered S p (run S mode arrivals n).state
   layered = (run_beside S p proper separable mode arrivals n).layered
-
-  pub told_one : TellsOne S (records_at S mode arrivals n)
-  told_one = (tick_tells_one S (arriving arrivals n) (run S mode arrivals n).state).one
 
   -- who executes while an upper task stands ready is of the upper part
   pub upper_runs : (u t : ℕ) → is_by (Owner.Task u) here.executed ≡ true → IsUpperTask S p t
@@ -137,51 +128,11 @@ module _ (S B : System) (p : ℕ) (pair : AreOneAbove S B p) (mode : ℕ)
   states : HaveTheSameStates S B p
   states = states_are_seen_the_same.states.others S B p pair
 
-  executions : ExecuteTheSame S B p
-  executions = executions_are_the_same.others S B p pair
-
   going_there : (run B mode arrivals n).state.over ≡ false
   going_there = sym (states.between mode arrivals n).over ∙ going
 
   pub shown : ShowTheSameAbove S B p mine theirs
   shown = upper_parts_show_the_same.others S B p pair mode arrivals n going
-
-  -- ---- services that fail
-
-  failing_same : (test : Option Owner → Bool) → test None ≡ false
-      → ((who : Owner) → is_upper_owner S p who ≡ false → test (Some who) ≡ false)
-      → ((who : Owner) → is_upper_owner B p who ≡ false → test (Some who) ≡ false)
-      → has_failed test mine.executed ≡ has_failed test theirs.executed
-  failing_same test nobody only there =
-      ap (has_failed test) (executed_is S pair.proper mode arrivals n going)
-      ∙ failed_is S p test nobody only (records_at S mode arrivals n)
-      (told_one S p pair.proper pair.separable mode arrivals n going)
-      ∙ ap (list_any (fails test)) (executions.executions mode arrivals n)
-      ∙ sym (failed_is B p test nobody there (records_at B mode arrivals n)
-      (told_one B p pair.proper_there pair.separable_there mode arrivals n going_there))
-      ∙ sym (ap (has_failed test) (executed_is B pair.proper_there mode arrivals n going_there))
-
-  other_task : (T : System) (t : ℕ) → is_upper_task T p t ≡ true
-      → (who : Owner) → is_upper_owner T p who ≡ false → is_task (Some who) t ≡ false
-  other_task T t high (Owner.Task u) is_low =
-      ne_eqb u t (λ e. true≢false (sym high ∙ ap (is_upper_task T p) (sym e) ∙ is_low))
-  other_task T t high (Owner.Routine i) is_low = refl
-
-  pub task_fails_same : (t : ℕ) → IsUpperTask S p t → IsUpperTask B p t
-      → has_failed (λ o. is_task o t) mine.executed ≡ has_failed (λ o. is_task o t) theirs.executed
-  task_fails_same t is there =
-      failing_same (λ o. is_task o t) refl (other_task S t is.upper) (other_task B t there.upper)
-
-  other_routine : (T : System) (i : ℕ) (who : Owner) → is_upper_owner T p who ≡ false
-      → is_routine (Some who) i ≡ false
-  other_routine T i (Owner.Task u) is_low = refl
-  other_routine T i (Owner.Routine j) is_low = absurd (true≢false is_low)
-
-  pub routine_fails_same : (i : ℕ)
-      → has_failed (λ o. is_routine o i) mine.executed
-      ≡ has_failed (λ o. is_routine o i) theirs.executed
-  routine_fails_same i =
-      failing_same (λ o. is_routine o i) refl (other_routine S i) (other_routine B i)
 
   -- ---- lower tasks that execute
 

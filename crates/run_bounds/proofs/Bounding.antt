@@ -22,7 +22,7 @@ use Rattle.figure_laws.specs.Holding.{held_ticks}
 use Rattle.figure_laws.specs.Labels.{IsAtMost}
 use Rattle.figure_laws.specs.Pending.{pending}
 use Rattle.figure_laws.specs.Times.{waited}
-use Rattle.run_figures.specs.RunFigures.{AreRunFigures, AreTicksOf, HaveNone, NoneMoreBefore, StayWithin, alarm_ticks, holder_ticks, routine_ticks, task_ticks}
+use Rattle.run_figures.specs.RunFigures.{AreRunFigures, AreTicksOf, HaveNone, NoneMoreBefore, StayWithin, alarm_ticks, holder_ticks, routine_errors, routine_ticks, task_errors, task_ticks}
 use Rattle.run_figures.proofs.Nothing.{runs_have_none}
 use Rattle.run_figures.proofs.Times.{runs_stay_within}
 use Rattle.search.specs.Searched.{AreAll, IsTried}
@@ -31,9 +31,10 @@ use Rattle.bound_labels.specs.Peaks.{IsNoted, Peaks, has_come, peak}
 use Rattle.bound_labels.specs.Ticks.{holder_tick, routine_tick, task_tick}
 use Rattle.state_keys.specs.Key.{key}
 use Rattle.run_bounds.specs.Bounds.{AreWithin, KeepDistances, SearchesBound}
-use Rattle.run_bounds.specs.Nodes.{AreNoted, IsAfter, May, Node, Setting, StandsFor, routines_of, rules_of, seen_from}
+use Rattle.run_bounds.specs.Nodes.{AreNoted, IsAfter, May, Node, Setting, StandsFor, failed_from, routines_of, rules_of, seen_from}
 use Rattle.run_bounds.proofs.Arrived.{StandFor, in_set, set_at, set_is_low, set_stands}
 use Rattle.run_bounds.proofs.Capped.{held_within, latency_within, leaving_within, oldest_within, waited_within}
+use Rattle.run_bounds.proofs.Failing.{routine_errors_same, task_errors_same}
 use Rattle.run_bounds.proofs.Going.{boot_state}
 use Rattle.run_bounds.proofs.Seen.{ages_agree, alarm_same, holds_agree, lost_same, pending_agrees, refused_same, seen_alarms, seen_holders, seen_routines, seen_tasks}
 use Rattle.run_bounds.proofs.Standing.{AreBoundsAt, ages_at, at_least, boot_bounds, hold_at, pending_at, tick_bounds}
@@ -130,7 +131,7 @@ module _ (s : Setting) (peaks : Peaks) (nodes : List Node) (proper : IsProper s.
     abbrev seen : Seen
     seen = seen_from s (set n) (after n)
 
-    noted : IsNoted s.cap peaks seen has.node.labels
+    noted : IsNoted s.cap peaks seen (failed_from s (set n) (after n)) has.node.labels
     noted = (tried n going has).noted (after n) has.stands
 
     oldest_low : (k : ℕ) → k < length S.tasks → peak peaks.responses k < s.cap
@@ -190,6 +191,22 @@ module _ (s : Setting) (peaks : Peaks) (nodes : List Node) (proper : IsProper s.
         ap (λ (x : AlarmSeen). one_if x.is_refused)
         (alarm_same S s.mode arrivals n (routines_of s (set n)) (arrived n) a low)
         ∙ ap one_if (noted.actions a (omega (arith, low, size)) none)
+
+    no_error : (k : ℕ) → k < length S.tasks → has_come peaks.errors k ≡ false
+        → one_if (task_errors S s.mode arrivals k n) ≡ 0
+    no_error k low none =
+        let size = seen_tasks S (routines_of s (set n)) (after n) in
+        ap one_if
+        (task_errors_same S s.mode arrivals n (routines_of s (set n)) (arrived n) k
+        ∙ noted.errors k (omega (arith, low, size)) none)
+
+    no_routine_error : (i : ℕ) → i < length S.routines → has_come peaks.routine_errors i ≡ false
+        → one_if (routine_errors S s.mode arrivals i n) ≡ 0
+    no_routine_error i low none =
+        let size = seen_routines S (routines_of s (set n)) (after n) in
+        ap one_if
+        (routine_errors_same S s.mode arrivals n (routines_of s (set n)) (arrived n) i
+        ∙ noted.routine_errors i (omega (arith, low, size)) none)
 
 -- ---- the law
 
@@ -263,6 +280,14 @@ module _ (s : Setting) (peaks : Peaks) (nodes : List Node) (proper : IsProper s.
         have.actions a low
         (λ i inside. none_acts s peaks nodes proper all arrivals keep i (going i inside) a low
         none);
+    errors = λ k low none.
+        have.errors k low
+        (λ i inside. no_error s peaks nodes proper all arrivals keep i (going i inside) k low
+        none);
+    routine_errors = λ k low none.
+        have.routine_errors k low
+        (λ i inside. no_routine_error s peaks nodes proper all arrivals keep i (going i inside)
+        k low none);
   }
 
 pub searches_bound : SearchesBound

@@ -18,14 +18,15 @@ use Rattle.needed_data.proofs.Runs.{runs_keep_indices}
 use Rattle.same_future.specs.Alike.{AreAlikeBy, kept_after}
 use Rattle.same_future.specs.AlikeIn.{AreAlikeIn, TicksAreAlikeIn}
 use Rattle.same_future.proofs.AlikeIn.{alike_in_ticks}
-use Rattle.shown_ticks.specs.Seen.{seen_by, seen_in}
+use Rattle.bound_labels.specs.Ticks.{failing}
+use Rattle.shown_ticks.specs.Seen.{answered_in, executor_in, seen_by, seen_in}
 use Rattle.shown_ticks.specs.Shown.{KeptTicked, ticked_in}
 use Rattle.shown_ticks.specs.ShownAlike.{AreShownAlike}
 use Rattle.shown_ticks.proofs.AlikeShown.{alike_show}
 use Rattle.shown_ticks.proofs.NeededShown.{same_needed_show}
 use Rattle.state_keys.specs.InRange.{AlikeHaveOneKey, IsInRange, KeysTell, RunsAreInRange}
 use Rattle.run_bounds.specs.Going.{GoOnAlike, HaveOneFuture, KeysTellFutures}
-use Rattle.run_bounds.specs.Nodes.{Comes}
+use Rattle.run_bounds.specs.Nodes.{Comes, failed_in}
 
 -- ---- what is seen
 
@@ -58,14 +59,39 @@ module _ (S : System) (need : Need) (proper : IsProper S) (enough : Suffices S n
   held_between : HasAllowedIndices need (at_time_of p o)
   held_between = λ i. record (held i) { tick = p.tick; alarms = p.alarms }
 
-  alike_seen : (arrived : List ℕ) → seen_in S arrived o ≡ seen_in S arrived p
-  unfolding seen_in
-  alike_seen arrived =
-      seen_same S (ticked_in S false arrived o) (ticked_in S false arrived (at_time_of p o))
-      (alike_show S need.counters false arrived o (at_time_of p o) proper enough.counters by_time)
-      ∙ seen_same S (ticked_in S false arrived (at_time_of p o)) (ticked_in S false arrived p)
-      (same_needed_show S need false arrived (at_time_of p o) p enough held_between held_too
-      by_data)
+  module _ (arrived : List ℕ) where
+    abbrev first_tick : KeptTicked
+    first_tick = ticked_in S false arrived o
+
+    abbrev tick_between : KeptTicked
+    tick_between = ticked_in S false arrived (at_time_of p o)
+
+    abbrev other_tick : KeptTicked
+    other_tick = ticked_in S false arrived p
+
+    by_times : AreShownAlike S first_tick tick_between
+    by_times =
+        alike_show S need.counters false arrived o (at_time_of p o) proper enough.counters by_time
+
+    by_datas : AreShownAlike S tick_between other_tick
+    by_datas =
+        same_needed_show S need false arrived (at_time_of p o) p enough held_between held_too by_data
+
+    alike_seen : seen_in S arrived o ≡ seen_in S arrived p
+    unfolding seen_in
+    alike_seen =
+        seen_same S first_tick tick_between by_times ∙ seen_same S tick_between other_tick by_datas
+
+    alike_executor : executor_in S arrived o ≡ executor_in S arrived p
+    unfolding executor_in
+    alike_executor = by_times.executor ∙ by_datas.executor
+
+    alike_answered : answered_in S arrived o ≡ answered_in S arrived p
+    unfolding answered_in
+    alike_answered = by_times.answered ∙ by_datas.answered
+
+    alike_failed : failed_in S arrived o ≡ failed_in S arrived p
+    alike_failed = λ i. failing (alike_answered i) (alike_executor i)
 
 -- ---- states that come
 
@@ -134,6 +160,7 @@ module _ (tell : KeysTell) (one_key : AlikeHaveOneKey) (ranged : RunsAreInRange)
             (goes_on S proper p arrived second going_too)) both.after;
         over = ap (λ (x : Kept). x.over) both.after.rest;
         seen = alike_seen S need proper enough o p held held_too alike arrived;
+        failed = alike_failed S need proper enough o p held held_too alike arrived;
       }
 
   one_future : HaveOneFuture S need o p

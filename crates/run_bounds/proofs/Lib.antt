@@ -6,6 +6,7 @@ pub mod Counted
 pub mod Arrived
 pub mod Going
 pub mod Seen
+pub mod Failing
 pub mod Standing
 pub mod Bounding
 pub mod Trying

@@ -1,8 +1,9 @@
 -- One state of a node tells of all that it stands for, and subsets are the sets that may arrive.
-use Rattle.std.proofs.Common.{ℕ, ◌≡◌, inl, inr, false, length, sym, ◌∙◌, subst, arith}
+use Rattle.std.proofs.Common.{ℕ, ◌≡◌, inl, inr, false, Option, length, sym, ◌∙◌, subst, subst₂, arith}
 use Rattle.std.specs.Int.{bit_at}
 use Rattle.std.proofs.lemmas.Bool.{cases_eq, cases_lt, eq-eqb, eqb-true}
 use Rattle.std.proofs.lemmas.Nat.Bits.{bit_at-lt, bit_at_above}
+use Rattle.osek_base.specs.declared.ids.Owner.{Owner}
 use Rattle.osek_base.specs.Proper.{IsProper}
 use Rattle.kept_state.specs.Kept.{Kept}
 use Rattle.needed_data.specs.Need.{Suffices}
@@ -53,7 +54,8 @@ one_state_tells futures s x set o proper enough own going stands = record {
       };
   noted = λ peaks noted p too.
       let alike = goes_as futures s x set o proper enough own going stands p too in
-      subst (λ (seen : Seen). IsNoted s.cap peaks seen x.labels) alike.seen noted;
+      subst₂ (λ (seen : Seen) (failed : Option Owner). IsNoted s.cap peaks seen failed x.labels)
+      alike.seen alike.failed noted;
 }
 
 -- ---- sets

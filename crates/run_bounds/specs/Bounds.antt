@@ -51,6 +51,10 @@ pub record AreWithin (S : System) (cap : ℕ) (peaks : Peaks) (f : RunFigures) :
       → (slice_index_or f.tasks k (task_figures [])).counts.refused ≡ 0
   pub actions : (a : ℕ) → a < length S.alarms → has_come peaks.actions a ≡ false
       → (slice_index_or f.alarms a (alarm_figures [])).refused ≡ 0
+  pub errors : (k : ℕ) → k < length S.tasks → has_come peaks.errors k ≡ false
+      → (slice_index_or f.tasks k (task_figures [])).counts.errors ≡ 0
+  pub routine_errors : (i : ℕ) → i < length S.routines → has_come peaks.routine_errors i ≡ false
+      → (slice_index_or f.routines i (routine_figures [])).errors ≡ 0
 
 -- whatever arrives that keeps the distances, and for however many ticks
 abbrev pub AreBounds : System → ℕ → List ℕ → ℕ → Peaks → Type 0

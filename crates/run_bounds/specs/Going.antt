@@ -9,13 +9,15 @@ use Rattle.needed_data.specs.Need.{Need, Suffices}
 use Rattle.shown_ticks.specs.Seen.{seen_in}
 use Rattle.state_keys.specs.InRange.{NeedsOwnWords}
 use Rattle.state_keys.specs.Key.{key}
-use Rattle.run_bounds.specs.Nodes.{Comes}
+use Rattle.run_bounds.specs.Nodes.{Comes, failed_in}
 
--- the run goes on from both by the same routines: their keys stay equal, and what is seen is equal
+-- the run goes on from both by the same routines: their keys stay equal, what is seen is equal, and
+-- the same one fails, if anyone does
 pub record GoOnAlike (S : System) (need : Need) (arrived : List ℕ) (o p : Kept) : Type 0 where
   pub key : key S need (tick_in S arrived o).after ≡ key S need (tick_in S arrived p).after
   pub over : (tick_in S arrived o).after.over ≡ (tick_in S arrived p).after.over
   pub seen : seen_in S arrived o ≡ seen_in S arrived p
+  pub failed : failed_in S arrived o ≡ failed_in S arrived p
 
 -- both are over, or none is; and where none is they go on alike
 pub record HaveOneFuture (S : System) (need : Need) (o p : Kept) : Type 0 where

@@ -9,7 +9,7 @@ use Rattle.state_keys.specs.InRange.{NeedsOwnWords}
 use Rattle.search.specs.Subsets.{IsSubset}
 use Rattle.bound_labels.specs.Labels.{IsAtLeast, Labels, arrives_in, wait_of}
 use Rattle.bound_labels.specs.Peaks.{IsNoted, Peaks}
-use Rattle.run_bounds.specs.Nodes.{AreNoted, Comes, IsAfter, IsNext, May, Node, Setting, StandsFor, seen_from}
+use Rattle.run_bounds.specs.Nodes.{AreNoted, Comes, IsAfter, IsNext, May, Node, Setting, StandsFor, failed_from, seen_from}
 
 -- ---- labels
 
@@ -32,7 +32,8 @@ StatesCome = (S : System) → IsProper S → Come S
 -- from each
 pub record TellsAll (s : Setting) (x : Node) (set : ℕ) (o : Kept) : Type 0 where
   pub next : (y : Node) → IsAfter s x set y o → IsNext s x set y
-  pub noted : (peaks : Peaks) → IsNoted s.cap peaks (seen_from s set o) x.labels
+  pub noted : (peaks : Peaks)
+      → IsNoted s.cap peaks (seen_from s set o) (failed_from s set o) x.labels
       → AreNoted s peaks x set
 
 abbrev pub OneStateTells : Type 0

@@ -1,5 +1,5 @@
--- Nothing is lost or refused in a run where it isn't in any of its ticks.
-use Rattle.std.proofs.Common.{ℕ, zero, suc, ◌≡◌, ◌<◌, List, [], ◌∷◌, map, length, refl, ◌∙◌, ap, arith}
+-- Nothing is lost, refused or answered other than E_OK in a run where it isn't in any of its ticks.
+use Rattle.std.proofs.Common.{ℕ, zero, suc, ◌≡◌, ◌<◌, ◌&&◌, List, [], ◌∷◌, map, length, refl, ◌∙◌, ap, arith}
 use Rattle.std.specs.Prelude.{slice_index_or}
 use Rattle.osek_base.specs.declared.arrivals.Arrival.{Arrival}
 use Rattle.osek_base.specs.System.{System}
@@ -13,12 +13,12 @@ use Rattle.figures.specs.declared.routine_figures.RoutineFigures.{RoutineFigures
 use Rattle.figures.specs.declared.task_figures.TaskFigures.{TaskFigures}
 use Rattle.figures.specs.declared.task_tick.TaskTick.{TaskTick}
 use Rattle.figures.specs.AlarmSums.{alarm_figures}
-use Rattle.figures.specs.FigureSums.{RunFigures, alarm_tick, levels_of, routine_tick, task_figures, task_tick, unseen_alarm}
+use Rattle.figures.specs.FigureSums.{RunFigures, alarm_tick, is_error, is_routine, is_task, levels_of, routine_tick, task_figures, task_tick, unseen_alarm}
 use Rattle.figures.specs.RoutineSums.{routine_figures}
 use Rattle.figures.specs.TaskSums.{task_counts}
 use Rattle.figure_laws.specs.Counts.{IsNever, one_if}
 use Rattle.figure_laws.proofs.Counts.{counts_tell}
-use Rattle.run_figures.specs.RunFigures.{AreRunFigures, AreTicksOf, IsTickOf, IsZeroBefore, RunsHaveNone, alarm_ticks, routine_ticks, task_ticks}
+use Rattle.run_figures.specs.RunFigures.{AreRunFigures, AreTicksOf, IsTickOf, IsZeroBefore, RunsHaveNone, alarm_ticks, routine_errors as routine_errors_at, routine_ticks, task_errors, task_ticks}
 use Rattle.run_figures.proofs.Running.{routine_seen, shows, task_seen}
 
 module _ (S : System) (mode : ℕ) (arrivals : List Arrival) {T : Type 0} (number : T → ℕ)
@@ -90,9 +90,40 @@ module _ (S : System) (mode : ℕ) (arrivals : List Arrival) (n : ℕ) (f : RunF
           (length S.alarms) k unseen_alarm low in
           λ j. one_if (seen j).is_refused
 
+  errors : (k : ℕ) → k < length S.tasks
+      → IsZeroBefore (λ i. one_if (task_errors S mode arrivals k i)) n
+      → (slice_index_or f.tasks k (task_figures [])).counts.errors ≡ 0
+  errors k low zeros =
+      let tick = λ (o : Observation). task_tick (levels_of S) o k in
+      ap (λ (g : TaskFigures). g.counts.errors) (are.figures.tasks.each k low)
+      ∙ (λ j. (counts_of (map tick are.seen) j).errors)
+      ∙ (counts_tell.0 (map tick are.seen)).errors.none
+      (never S mode arrivals (λ (t : TaskTick). one_if t.has_failed) tick
+      (λ i. one_if (task_errors S mode arrivals k i))
+      (λ i o is.
+      let shown = shows S mode arrivals are.proper i o is in
+      λ j. one_if (is_task (shown.executor j) k && is_error (shown.answered j))) n
+      are.seen are.ticks zeros)
+
+  routine_errors : (k : ℕ) → k < length S.routines
+      → IsZeroBefore (λ i. one_if (routine_errors_at S mode arrivals k i)) n
+      → (slice_index_or f.routines k (routine_figures [])).errors ≡ 0
+  routine_errors k low zeros =
+      let tick = λ (o : Observation). routine_tick o k in
+      ap (λ (g : RoutineFigures). g.errors) (are.figures.routines.each k low)
+      ∙ (counts_tell.1 (map tick are.seen)).errors.none
+      (never S mode arrivals (λ (r : RoutineTick). one_if r.has_failed) tick
+      (λ i. one_if (routine_errors_at S mode arrivals k i))
+      (λ i o is.
+      let shown = shows S mode arrivals are.proper i o is in
+      λ j. one_if (is_routine (shown.executor j) k && is_error (shown.answered j))) n
+      are.seen are.ticks zeros)
+
 pub runs_have_none : RunsHaveNone
 runs_have_none S mode arrivals n f are = record {
   losses = losses S mode arrivals n f are;
   refusals = refusals S mode arrivals n f are;
   actions = actions S mode arrivals n f are;
+  errors = errors S mode arrivals n f are;
+  routine_errors = routine_errors S mode arrivals n f are;
 }

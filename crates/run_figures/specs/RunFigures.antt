@@ -1,18 +1,21 @@
 -- Figures of a run within bounds, by what each tick shows of what is kept of the state before it.
-use Rattle.std.specs.Prelude.{ℕ, zero, suc, ◌≡◌, ◌<◌, ◌≤◌, ◌^◌, false, List, [], ◌∷◌, Option, None, length, slice_index_or}
+use Rattle.std.specs.Prelude.{ℕ, zero, suc, ◌≡◌, ◌<◌, ◌≤◌, ◌^◌, Bool, false, ◌&&◌, List, [], ◌∷◌, Option, None, length, slice_index_or}
+use Rattle.std.specs.Option.{option_map}
 use Rattle.osek_base.specs.declared.arrivals.Arrival.{Arrival}
+use Rattle.osek_base.specs.declared.ids.Owner.{Owner}
+use Rattle.osek_base.specs.declared.status.Status.{Status}
 use Rattle.osek_base.specs.Proper.{IsProper}
 use Rattle.osek_base.specs.System.{System}
 use Rattle.osek_base.specs.Trace.{run}
 use Rattle.observations.specs.declared.observation.Observation.{Observation}
-use Rattle.observed_runs.specs.Observed.{IsSeen, tick_at}
+use Rattle.observed_runs.specs.Observed.{IsSeen, answered, owner_of, tick_at}
 use Rattle.shown_ticks.specs.Shown.{alarm_seen_in, holders_seen_in, kept_tick_at, routine_seen_in, task_seen_in}
 use Rattle.figures.specs.declared.task_tick.TaskTick.{TaskTick}
 use Rattle.figures.specs.declared.routine_figures.RoutineTick.{RoutineTick}
 use Rattle.figures.specs.declared.resource_figures.HolderTick.{HolderTick}
 use Rattle.figures.specs.declared.alarm_figures.AlarmTick.{AlarmTick}
 use Rattle.figures.specs.AlarmSums.{alarm_figures}
-use Rattle.figures.specs.FigureSums.{AreFigures, RunFigures, held_count, task_figures}
+use Rattle.figures.specs.FigureSums.{AreFigures, RunFigures, held_count, is_error, is_routine, is_task, task_figures}
 use Rattle.figures.specs.ResourceSums.{resource_figures}
 use Rattle.figures.specs.RoutineSums.{routine_figures}
 use Rattle.figure_laws.specs.Labels.{Label, IsAtMost, IsWithin}
@@ -68,6 +71,22 @@ abbrev pub alarm_ticks : System → ℕ → List Arrival → ℕ → ℕ → Ala
 alarm_ticks S mode arrivals k i =
     record { tick = i; seen = alarm_seen_in (kept_tick_at S mode arrivals i) k }
 
+-- who executes the instruction of each tick, and what that is answered
+abbrev pub executors : System → ℕ → List Arrival → ℕ → Option Owner
+executors S mode arrivals i = option_map owner_of (kept_tick_at S mode arrivals i).executed
+
+abbrev pub answers : System → ℕ → List Arrival → ℕ → Option Status
+answers S mode arrivals i = answered (kept_tick_at S mode arrivals i).executed
+
+-- whether a service of a task or of a routine is answered other than E_OK in each tick
+abbrev pub task_errors : System → ℕ → List Arrival → ℕ → ℕ → Bool
+task_errors S mode arrivals k i =
+    is_task (executors S mode arrivals i) k && is_error (answers S mode arrivals i)
+
+abbrev pub routine_errors : System → ℕ → List Arrival → ℕ → ℕ → Bool
+routine_errors S mode arrivals k i =
+    is_routine (executors S mode arrivals i) k && is_error (answers S mode arrivals i)
+
 -- the label before tick n, and that up to there none shows more
 abbrev pub label_before : {T L : Type 0} → Label T L → (ℕ → T) → ℕ → L
 label_before label ticks zero = label.first
@@ -118,7 +137,7 @@ RunsStayWithin =
 abbrev pub IsZeroBefore : (ℕ → ℕ) → ℕ → Type 0
 IsZeroBefore number n = (i : ℕ) → i < n → number i ≡ 0
 
--- nothing is lost or refused where it isn't in any tick
+-- nothing is lost, refused or answered other than E_OK where it isn't in any tick
 pub record HaveNone (S : System) (mode : ℕ) (arrivals : List Arrival) (n : ℕ)
     (f : RunFigures) : Type 0 where
   pub losses : (k : ℕ) → k < length S.routines
@@ -130,6 +149,12 @@ pub record HaveNone (S : System) (mode : ℕ) (arrivals : List Arrival) (n : ℕ
   pub actions : (k : ℕ) → k < length S.alarms
       → IsZeroBefore (λ i. one_if (alarm_ticks S mode arrivals k i).seen.is_refused) n
       → (slice_index_or f.alarms k (alarm_figures [])).refused ≡ 0
+  pub errors : (k : ℕ) → k < length S.tasks
+      → IsZeroBefore (λ i. one_if (task_errors S mode arrivals k i)) n
+      → (slice_index_or f.tasks k (task_figures [])).counts.errors ≡ 0
+  pub routine_errors : (k : ℕ) → k < length S.routines
+      → IsZeroBefore (λ i. one_if (routine_errors S mode arrivals k i)) n
+      → (slice_index_or f.routines k (routine_figures [])).errors ≡ 0
 
 abbrev pub RunsHaveNone : Type 0
 RunsHaveNone =

@@ -9,8 +9,8 @@ pub fn runs_stay_within()
     ensures { RunsStayWithin }
 {}
 
-/// In a run no interrupt is lost, and no activation and no alarm's action is refused, where in none
-/// of its ticks one is.
+/// In a run no interrupt is lost, no activation and no alarm's action is refused, and no service is
+/// answered other than E_OK, where in none of its ticks one is.
 pub fn runs_have_none()
     ensures { RunsHaveNone }
 {}

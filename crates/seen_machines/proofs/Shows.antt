@@ -1,6 +1,9 @@
 -- What is seen by what is known of a tick is what the tick shows.
 use Rattle.std.proofs.Common.{◌≡◌, ℕ, zero, suc, ◌+◌, ◌-◌, ◌<◌, false, not, ◌&&◌, List, [], ◌∷◌, ◌++◌, map, length, slice_index_or, refl, sym, ◌∙◌, ap, ap₂, arith}
 use Rattle.std.proofs.lemmas.List.{map-append}
+use Rattle.std.specs.Prelude.{Option}
+use Rattle.std.specs.Option.{option_map}
+use Rattle.osek_base.specs.declared.executed.Executed.{Executed}
 use Rattle.osek_base.specs.declared.ids.Owner.{Owner}
 use Rattle.osek_base.specs.Lists.{below}
 use Rattle.osek_base.specs.System.{System}
@@ -11,10 +14,10 @@ use Rattle.kernel.specs.declared.acted.Acted.{Acted}
 use Rattle.kernel.specs.Told.{task_at_in}
 use Rattle.observations.specs.declared.observation.Observation.{Observation}
 use Rattle.observations.specs.Seen.{seen_of}
-use Rattle.observed_runs.specs.Observed.{activations_by, is_by, is_number, is_waiting, lost_of, one_if, state_seen, times}
+use Rattle.observed_runs.specs.Observed.{activations_by, answered, is_by, is_number, is_waiting, lost_of, one_if, owner_of, state_seen, times}
 use Rattle.observed_runs.proofs.Seeing.{read_at}
 use Rattle.observed_runs.proofs.SeenSteps.{seen_count}
-use Rattle.shown_ticks.specs.Seen.{seen_in}
+use Rattle.shown_ticks.specs.Seen.{answered_in, executor_in, seen_in}
 use Rattle.shown_ticks.specs.Shown.{KeptTicked, alarm_seen_in, holders_seen_in, routine_seen_in, task_seen_in, ticked_in}
 use Rattle.seen_machines.specs.declared.told.Told.{Told}
 use Rattle.seen_machines.specs.Told.{IsOfAll, IsTold, alarm_seen_by, jobs_told, pending_told, routine_seen_by, task_at_told, task_seen_by, without_job}
@@ -109,3 +112,14 @@ seen_is S arrived o seen tasks routines holders alarms = λ i. record {
   holders = holders i;
   alarms = alarms i;
 }
+
+-- who executed, and what that was answered, where the instruction is the tick's
+module _ (S : System) (arrived : List ℕ) (o : Kept) (told : Option Executed)
+    (is : told ≡ (ticked_in S false arrived o).executed) where
+  pub executor_is : option_map owner_of told ≡ executor_in S arrived o
+  unfolding executor_in
+  executor_is = ap (option_map owner_of) is
+
+  pub answered_is : answered told ≡ answered_in S arrived o
+  unfolding answered_in
+  answered_is = ap answered is

@@ -2,11 +2,13 @@
 
 ghost use Rattle.std.specs.Prelude.{◌≡◌, ◌<◌, ◌≤◌, ◌+◌, false, map, length};
 ghost use Rattle.std.specs.List.{All, AllByRecursion};
+ghost use Rattle.std.specs.Option.{option_map};
 ghost use Rattle.osek_base.specs.Lists.{below};
 ghost use Rattle.kept_state.specs.KeptTick.{tick_in};
 ghost use Rattle.kernel.specs.Machine.{IsOfRun, next_tick, picture, system_of};
 ghost use Rattle.observations.specs.Seen.{seen_of};
-ghost use Rattle.shown_ticks.specs.Seen.{seen_in};
+ghost use Rattle.observed_runs.specs.Observed.{answered, owner_of};
+ghost use Rattle.shown_ticks.specs.Seen.{answered_in, executor_in, seen_in};
 ghost use Rattle.seen_machines.specs.Told.{IsOfAll, alarm_seen_by, routine_seen_by, task_seen_by};
 
 use crate::alarms_seen::see_alarms;
@@ -48,6 +50,8 @@ impl Told {
         requires refused { AllByRecursion (λ a. a < length (system_of machine.now).alarms)
             machine.now.acted.refused }
         requires few { length arrived.now ≤ MAX_ARRIVALS }
+        ensures executor { seen.new.executor ≡ option_map owner_of self.now.execution.executed }
+        ensures answered { seen.new.answered ≡ answered self.now.execution.executed }
         ensures tasks { seen.new.tasks.items
             ≡ map (task_seen_by (system_of machine.now) self.now (picture machine.now)
             machine.now.acted) (below (length (system_of machine.now).tasks)) }
@@ -95,6 +99,10 @@ impl Watcher {
         ensures of_run { IsOfRun B.are_counted machine.new }
         ensures seen { seen_of self.new
             ≡ seen_in (system_of machine.old) arrived.now (picture machine.old) }
+        ensures executor { self.new.executor
+            ≡ executor_in (system_of machine.old) arrived.now (picture machine.old) }
+        ensures answered { self.new.answered
+            ≡ answered_in (system_of machine.old) arrived.now (picture machine.old) }
     {
         self.seen.tick = machine.next_tick();
         see_holders(machine, &mut self.seen.holders);

@@ -1,9 +1,13 @@
--- What is seen of things in a tick from a state, as plain lists.
-use Rattle.std.specs.Prelude.{ℕ, false, List, map, length}
+-- What is seen of things in a tick from a state, as plain lists; and who executes its instruction.
+use Rattle.std.specs.Prelude.{ℕ, false, List, Option, map, length}
+use Rattle.std.specs.Option.{option_map}
+use Rattle.osek_base.specs.declared.ids.Owner.{Owner}
+use Rattle.osek_base.specs.declared.status.Status.{Status}
 use Rattle.osek_base.specs.Lists.{below}
 use Rattle.osek_base.specs.System.{System}
 use Rattle.kept_state.specs.Kept.{Kept}
 use Rattle.observations.specs.Seen.{Seen}
+use Rattle.observed_runs.specs.Observed.{answered, owner_of}
 use Rattle.shown_ticks.specs.Shown.{KeptTicked, alarm_seen_in, holders_seen_in, routine_seen_in, task_seen_in, ticked_in}
 
 abbrev pub seen_by : System → KeptTicked → Seen
@@ -19,3 +23,10 @@ seen_by S k =
 -- count as made before it
 unfoldable pub seen_in : System → List ℕ → Kept → Seen
 seen_in S arrived o = seen_by S (ticked_in S false arrived o)
+
+-- who executes the instruction of such a tick, and what that is answered
+unfoldable pub executor_in : System → List ℕ → Kept → Option Owner
+executor_in S arrived o = option_map owner_of (ticked_in S false arrived o).executed
+
+unfoldable pub answered_in : System → List ℕ → Kept → Option Status
+answered_in S arrived o = answered (ticked_in S false arrived o).executed

@@ -1,15 +1,13 @@
--- Responses, latencies and what is lost or refused go by what is seen of a thing alone.
+-- Responses of tasks, what is refused to them and the services of theirs that fail don't go by lower
+-- tasks that execute, nor by blockers.
 use Rattle.std.proofs.Common.{◌≡◌, ℕ, ◌+◌, false, cond, List, [], ◌∷◌, map, refl, sym, ◌∙◌, ap, ap₂}
-use Rattle.std.specs.Prelude.{Option, Some, None, sum_by}
+use Rattle.std.specs.Prelude.{None, count_by, sum_by}
 use Rattle.std.specs.List.{fold}
-use Rattle.figures.specs.declared.reached.Reached.{Reached}
-use Rattle.figures.specs.declared.routine_figures.RoutineTick.{RoutineTick}
 use Rattle.figures.specs.declared.task_tick.TaskTick.{TaskTick}
 use Rattle.figures.specs.Counts.{capped}
 use Rattle.figures.specs.FigureSums.{task_figures}
-use Rattle.figures.specs.Reaching.{put, worse_of}
+use Rattle.figures.specs.Reaching.{put}
 use Rattle.figures.specs.ResponseSums.{entered, later, oldest_response, ready_since, response_figures, responses, spread}
-use Rattle.figures.specs.RoutineSums.{greatest_latency, latency, pending_since, routine_figures, since, still}
 use Rattle.figures.specs.StateSums.{leaves}
 use Rattle.figures.specs.TaskSums.{task_counts}
 
@@ -30,7 +28,7 @@ bare_task t =
       tick = t.tick;
       seen = t.seen;
       lower_executes = false;
-      has_failed = false;
+      has_failed = t.has_failed;
       blockers = None;
     }
 
@@ -50,6 +48,11 @@ refused_bare : (seen : List TaskTick)
     ≡ sum_by (λ (t : TaskTick). t.seen.refused) (map bare_task seen)
 refused_bare seen = sums_same (λ (t : TaskTick). t.seen.refused) bare_task (λ t. refl) 0 seen
 
+errors_bare : (seen : List TaskTick)
+    → count_by (λ (t : TaskTick). t.has_failed) seen
+    ≡ count_by (λ (t : TaskTick). t.has_failed) (map bare_task seen)
+errors_bare seen = sums_same (λ (t : TaskTick). cond t.has_failed 1 0) bare_task (λ t. refl) 0 seen
+
 figures_bare : (seen : List TaskTick)
     → response_figures seen ≡ response_figures (map bare_task seen)
 unfolding response_figures
@@ -67,6 +70,11 @@ refused_of : (seen : List TaskTick) → (task_figures seen).counts.refused
 unfolding task_figures task_counts
 refused_of seen = refl
 
+errors_of : (seen : List TaskTick) → (task_figures seen).counts.errors
+    ≡ capped (count_by (λ (t : TaskTick). t.has_failed) seen)
+unfolding task_figures task_counts
+errors_of seen = refl
+
 pub task_responses_bare : (seen others : List TaskTick)
     → map bare_task seen ≡ map bare_task others
     → (task_figures seen).responses ≡ (task_figures others).responses
@@ -82,56 +90,10 @@ task_refused_bare seen others same =
     ∙ ap (λ (ts : List TaskTick). capped (sum_by (λ t. t.seen.refused) ts)) same
     ∙ sym (ap capped (refused_bare others)) ∙ sym (refused_of others)
 
--- ---- routines
-
-abbrev pub bare_routine : RoutineTick → RoutineTick
-bare_routine r = record { tick = r.tick; seen = r.seen; has_failed = false }
-
-pending_bare : (seen : List RoutineTick)
-    → pending_since seen ≡ pending_since (map bare_routine seen)
-pending_bare [] = refl
-pending_bare (r ∷ before) = ap (λ flag. still r (since r flag)) (pending_bare before)
-
-latency_here : (r : RoutineTick) (flag : Option ℕ) → latency r flag ≡ latency (bare_routine r) flag
-latency_here r None = refl
-latency_here r (Some u) = refl
-
-latency_bare : (seen : List RoutineTick)
-    → greatest_latency seen ≡ greatest_latency (map bare_routine seen)
-latency_bare [] = refl
-latency_bare (r ∷ before) =
-    ap (worse_of (greatest_latency before)) (latency_here r (since r (pending_since before)))
-    ∙ ap₂
-    (λ (worst : Option Reached) flag. worse_of worst (latency (bare_routine r) (since r flag)))
-    (latency_bare before) (pending_bare before)
-
-losses_bare : (seen : List RoutineTick)
-    → sum_by (λ (r : RoutineTick). r.seen.lost) seen
-    ≡ sum_by (λ (r : RoutineTick). r.seen.lost) (map bare_routine seen)
-losses_bare seen = sums_same (λ (r : RoutineTick). r.seen.lost) bare_routine (λ r. refl) 0 seen
-
--- figures of two routines that pend, start and lose alike
-pub record AreAlike (seen others : List RoutineTick) : Type 0 where
-  pub latency : (routine_figures seen).latency ≡ (routine_figures others).latency
-  pub pending : (routine_figures seen).pending_since ≡ (routine_figures others).pending_since
-  pub losses : (routine_figures seen).losses ≡ (routine_figures others).losses
-
-itself_bare : (seen : List RoutineTick) → AreAlike seen (map bare_routine seen)
-unfolding routine_figures
-itself_bare seen = record {
-  latency = latency_bare seen;
-  pending = pending_bare seen;
-  losses = ap capped (losses_bare seen);
-}
-
-pub routines_bare : (seen others : List RoutineTick)
-    → map bare_routine seen ≡ map bare_routine others → AreAlike seen others
-routines_bare seen others same =
-    let here = itself_bare seen in
-    let there = itself_bare others in
-    record {
-      latency = here.latency ∙ ap (λ rs. (routine_figures rs).latency) same ∙ sym there.latency;
-      pending =
-          here.pending ∙ ap (λ rs. (routine_figures rs).pending_since) same ∙ sym there.pending;
-      losses = here.losses ∙ ap (λ rs. (routine_figures rs).losses) same ∙ sym there.losses;
-    }
+pub task_errors_bare : (seen others : List TaskTick)
+    → map bare_task seen ≡ map bare_task others
+    → (task_figures seen).counts.errors ≡ (task_figures others).counts.errors
+task_errors_bare seen others same =
+    errors_of seen ∙ ap capped (errors_bare seen)
+    ∙ ap (λ (ts : List TaskTick). capped (count_by (λ t. t.has_failed) ts)) same
+    ∙ sym (ap capped (errors_bare others)) ∙ sym (errors_of others)

@@ -1,5 +1,5 @@
 -- Figures of the upper part in a run of one system are those in the run of another that agrees.
-use Rattle.std.proofs.Common.{◌≡◌, ℕ, zero, suc, ◌<◌, ◌-◌, true, false, List, [], ◌∷◌, map, length, refl, sym, ◌∙◌, ap, ap₂, arith}
+use Rattle.std.proofs.Common.{◌≡◌, ℕ, zero, suc, ◌<◌, ◌-◌, true, false, ◌&&◌, List, [], ◌∷◌, map, length, refl, sym, ◌∙◌, ap, ap₂, arith}
 use Rattle.std.specs.Prelude.{Option, None, slice_index_or}
 use Rattle.std.proofs.lemmas.List.{get_or_append_left, get_or-append_right}
 use Rattle.std.proofs.lemmas.Simd.{map-map}
@@ -15,11 +15,11 @@ use Rattle.observations.specs.declared.routine_seen.RoutineSeen.{RoutineSeen}
 use Rattle.observations.specs.declared.task_seen.TaskSeen.{TaskSeen}
 use Rattle.observed_runs.specs.Observed.{Ticked, alarm_seen, holders_seen, routine_seen, scheduler_seen, task_seen, tick_at}
 use Rattle.same_future.proofs.Tables.{length-table, table_at}
-use Rattle.figures.specs.FigureSums.{alarm_tick, holder_tick, last_tick, levels_of, routine_tick, task_tick, unseen_alarm, unseen_routine, unseen_task}
+use Rattle.figures.specs.FigureSums.{alarm_tick, holder_tick, is_error, is_routine, is_task, last_tick, levels_of, routine_tick, task_tick, unseen_alarm, unseen_routine, unseen_task}
 use Rattle.run_figures.specs.RunFigures.{AreTicksOf, IsTickOf}
 use Rattle.upper_bounds.specs.Above.{IsTheSameAlarm, IsTheSameResource, IsUpperTask}
-use Rattle.upper_figures.specs.ShownAbove.{ShowTheSameAbove, TicksShowTheSame}
-use Rattle.upper_figures.proofs.Bare.{bare_routine, bare_task}
+use Rattle.upper_figures.specs.ShownAbove.{ShowTheSameAbove, TicksShowTheSame, routine_fails, task_fails}
+use Rattle.upper_figures.proofs.Bare.{bare_task}
 use Rattle.upper_figures.proofs.Observed.{observed_at, observed_before}
 
 -- ---- holders by number
@@ -112,24 +112,25 @@ module _ (S B : System) (p : ℕ) (mode : ℕ) (arrivals : List Arrival)
           upper.known
           ∙ (at n o is).tasks t upper
           ∙ sym (table_at (task_seen B (theirs n)) (length B.tasks) t unseen_task there.known) in
+          let fails : (is_task o.executor t && is_error o.answered) ≡ task_fails (theirs n) t =
+          ap₂ (λ who answer. is_task who t && is_error answer) is.seen.executor is.seen.answered
+          ∙ (at n o is).errors t upper in
           λ i. record {
             tick = is.number i;
             seen = seen i;
             lower_executes = false;
-            has_failed = false;
+            has_failed = fails i;
             blockers = None;
           }
 
   pub routines_same : (r : ℕ) → r < length S.routines → r < length B.routines
       → (n : ℕ) (seen : List Observation) → AreTicksOf S mode arrivals n seen
-      → map bare_routine (map (λ o. routine_tick o r) seen)
-      ≡ map bare_routine (map (λ o. routine_tick o r) (observed_before B mode arrivals n))
-  routines_same r low there =
-      bare_listed bare_routine (λ o. routine_tick o r) (λ o. routine_tick o r) one
+      → map (λ o. routine_tick o r) seen
+      ≡ map (λ o. routine_tick o r) (observed_before B mode arrivals n)
+  routines_same r low there = listed (λ o. routine_tick o r) (λ o. routine_tick o r) one
     where
       one : (n : ℕ) (o : Observation) → IsTickOf S mode arrivals n o
-          → bare_routine (routine_tick o r)
-          ≡ bare_routine (routine_tick (observed_at B mode arrivals n) r)
+          → routine_tick o r ≡ routine_tick (observed_at B mode arrivals n) r
       one n o is =
           let seen : slice_index_or o.routines.items r unseen_routine
           ≡ slice_index_or (observed_at B mode arrivals n).routines.items r unseen_routine =
@@ -137,7 +138,11 @@ module _ (S B : System) (p : ℕ) (mode : ℕ) (arrivals : List Arrival)
           ∙ table_at (routine_seen (mine n)) (length S.routines) r unseen_routine low
           ∙ (at n o is).routines r
           ∙ sym (table_at (routine_seen (theirs n)) (length B.routines) r unseen_routine there) in
-          λ i. record { tick = is.number i; seen = seen i; has_failed = false }
+          let fails : (is_routine o.executor r && is_error o.answered)
+          ≡ routine_fails (theirs n) r =
+          ap₂ (λ who answer. is_routine who r && is_error answer) is.seen.executor is.seen.answered
+          ∙ (at n o is).routine_errors r in
+          λ i. record { tick = is.number i; seen = seen i; has_failed = fails i }
 
   pub declared_same : (r q : ℕ) → IsTheSameResource S B p r q
       → (n : ℕ) (seen : List Observation) → AreTicksOf S mode arrivals n seen

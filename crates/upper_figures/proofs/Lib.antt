@@ -1,5 +1,6 @@
 pub mod Executing
 pub mod Instructions
+pub mod Answering
 pub mod AlarmsSeen
 pub mod Held
 pub mod Ticks

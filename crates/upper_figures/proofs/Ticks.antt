@@ -1,6 +1,6 @@
 -- Each tick shows the same of the upper part in systems that agree.
-use Rattle.std.proofs.Common.{◌≡◌, ℕ, ◌+◌, ◌-◌, false, cond, not, ◌&&◌, List, length, sym, ◌∙◌, ap, ap₂}
-use Rattle.std.specs.Prelude.{◌==◌, slice_index_or}
+use Rattle.std.proofs.Common.{◌≡◌, ℕ, ◌+◌, ◌-◌, Bool, true, false, cond, not, ◌&&◌, List, length, refl, sym, ◌∙◌, ap, ap₂, true≢false, ne_eqb}
+use Rattle.std.specs.Prelude.{◌==◌, Option, Some, None, slice_index_or}
 use Rattle.std.specs.List.{filter, list_any}
 use Rattle.std.specs.Option.{option_map}
 use Rattle.osek_base.specs.declared.arrivals.Arrival.{Arrival}
@@ -14,6 +14,7 @@ use Rattle.osek_base.specs.State.{State, jobs_of}
 use Rattle.osek_base.specs.System.{System}
 use Rattle.osek_base.specs.Tick.{Step, tick}
 use Rattle.osek_base.specs.Trace.{Run, arriving, run}
+use Rattle.osek_base.specs.Upper.{is_upper_owner, is_upper_task}
 use Rattle.run_laws.proofs.Further.{run_more, run_tick}
 use Rattle.kept_state.specs.KeptTick.{KeptStep}
 use Rattle.kept_state.proofs.Ticked.{ticks}
@@ -22,12 +23,14 @@ use Rattle.kernel.specs.Shown.{holder, oldest_job}
 use Rattle.same_future.specs.Alike.{records_at}
 use Rattle.shown_ticks.proofs.Shown.{runs_show}
 use Rattle.observed_runs.specs.Observed.{Ticked, activations_by, alarm_seen, ending, executed_in, is_among, is_by, is_number, is_waiting, lost_of, one_if, refusing, routine_seen, state_seen, task_seen, tick_at, times}
+use Rattle.figures.specs.FigureSums.{is_routine, is_task}
 use Rattle.upper_bounds.specs.Above.{IsUpperTask, IsTheSameAlarm, IsTheSameResource, AreOneAbove}
 use Rattle.upper_bounds.specs.AlarmsAbove.{AlarmsAreAnsweredTheSame}
 use Rattle.upper_bounds.specs.ExecutedAbove.{ExecuteTheSame}
 use Rattle.upper_bounds.specs.StatesAbove.{HaveTheSameStates, IsSeenTheSame, executes, executing_at, holder as kept_holder}
-use Rattle.upper_figures.specs.ShownAbove.{ShowTheSameAbove}
+use Rattle.upper_figures.specs.ShownAbove.{ShowTheSameAbove, routine_fails, task_fails}
 use Rattle.upper_figures.proofs.AlarmsSeen.{activations_are, due_is, has_number, is_refusal, refused_is, refuses}
+use Rattle.upper_figures.proofs.Answering.{failed_is, fails, has_failed}
 use Rattle.upper_figures.proofs.Executing.{TickTells, executed_of_one, tick_tells_one}
 use Rattle.upper_figures.proofs.Held.{holder_declared, holder_scheduler}
 use Rattle.upper_figures.proofs.Instructions.{ending_is, ends_job, is_any, refusing_is}
@@ -65,6 +68,19 @@ module _ (S : System) (proper : IsProper S) (mode : ℕ) (arrivals : List Arriva
       ap (is_by who) executed_is
       ∙ ap (is_by who) (executed_of_one S step.events tells.one)
       ∙ tells.caller who
+
+-- ---- who isn't of the upper part
+
+other_task : (T : System) (p t : ℕ) → is_upper_task T p t ≡ true
+    → (who : Owner) → is_upper_owner T p who ≡ false → is_task (Some who) t ≡ false
+other_task T p t high (Owner.Task u) is_low =
+    ne_eqb u t (λ e. true≢false (sym high ∙ ap (is_upper_task T p) (sym e) ∙ is_low))
+other_task T p t high (Owner.Routine i) is_low = refl
+
+other_routine : (T : System) (p i : ℕ) (who : Owner) → is_upper_owner T p who ≡ false
+    → is_routine (Some who) i ≡ false
+other_routine T p i (Owner.Task u) is_low = refl
+other_routine T p i (Owner.Routine j) is_low = absurd (true≢false is_low)
 
 -- ---- of two systems that agree
 
@@ -251,6 +267,28 @@ module _ (S B : System) (p : ℕ) (pair : AreOneAbove S B p) (states : HaveTheSa
     alarm_same : alarm_seen mine a ≡ alarm_seen theirs c
     alarm_same = λ i. record { has_expired = due_same i; is_refused = refused_same i }
 
+  -- ---- services that fail, by a test that only upper owners pass
+
+  failing_same : (test : Option Owner → Bool) → test None ≡ false
+      → ((who : Owner) → is_upper_owner S p who ≡ false → test (Some who) ≡ false)
+      → ((who : Owner) → is_upper_owner B p who ≡ false → test (Some who) ≡ false)
+      → has_failed test mine.executed ≡ has_failed test theirs.executed
+  failing_same test nobody only only_there =
+      ap (has_failed test) (executed_is S pair.proper mode arrivals n going)
+      ∙ failed_is S p test nobody only (records_at S mode arrivals n) told_here.one
+      ∙ ap (list_any (fails test)) (executions.executions mode arrivals n)
+      ∙ sym (failed_is B p test nobody only_there (records_at B mode arrivals n) told_there.one)
+      ∙ sym (ap (has_failed test) (executed_is B pair.proper_there mode arrivals n going_there))
+
+  task_fails_same : (t : ℕ) → IsUpperTask S p t → task_fails mine t ≡ task_fails theirs t
+  task_fails_same t is =
+      failing_same (λ who. is_task who t) refl (other_task S p t is.upper)
+      (other_task B p t (there t is).upper)
+
+  routine_fails_same : (i : ℕ) → routine_fails mine i ≡ routine_fails theirs i
+  routine_fails_same i =
+      failing_same (λ who. is_routine who i) refl (other_routine S p i) (other_routine B p i)
+
   pub tick_shows_the_same : ShowTheSameAbove S B p mine theirs
   tick_shows_the_same = record {
     tasks = task_same;
@@ -258,4 +296,6 @@ module _ (S B : System) (p : ℕ) (pair : AreOneAbove S B p) (states : HaveTheSa
     holders = holders_same;
     scheduler = scheduler_same;
     alarms = alarm_same;
+    errors = task_fails_same;
+    routine_errors = routine_fails_same;
   }

@@ -18,17 +18,16 @@ use Rattle.figures.specs.AlarmSums.{alarm_figures}
 use Rattle.figures.specs.FigureSums.{AreFigures, RunFigures, held_count, holder_tick, levels_of, routine_tick, task_figures, task_tick}
 use Rattle.figures.specs.ResourceSums.{resource_figures}
 use Rattle.figures.specs.ResponseSums.{Responses}
-use Rattle.figures.specs.RoutineSums.{pending_age, routine_figures}
-use Rattle.figures.specs.Reaching.{worse_of}
+use Rattle.figures.specs.RoutineSums.{routine_figures}
 use Rattle.figure_laws.specs.Labels.{IsWithin}
-use Rattle.figure_laws.specs.Times.{response_time}
+use Rattle.figure_laws.specs.Times.{response_time, routine_time}
 use Rattle.run_figures.specs.RunFigures.{AreRunFigures, AreTicksOf}
 use Rattle.bound_labels.specs.Peaks.{Peaks, peak}
 use Rattle.run_bounds.specs.Bounds.{AreBounds, AreWithin, KeepDistances}
 use Rattle.upper_bounds.specs.Above.{IsTheSameAlarm, IsTheSameResource, IsUpperTask}
 use Rattle.upper_figures.specs.FiguresAbove.{AreBoundsAbove, AreWithinAbove, alarm_in_part, resource_in_part}
 use Rattle.upper_figures.specs.ShownAbove.{TicksShowTheSame}
-use Rattle.upper_figures.proofs.Bare.{AreAlike, bare_task, routines_bare, task_refused_bare, task_responses_bare}
+use Rattle.upper_figures.proofs.Bare.{bare_task, task_errors_bare, task_refused_bare, task_responses_bare}
 use Rattle.upper_figures.proofs.Carried.{alarms_same, declared_same, last_same, routines_same, scheduler_same, tasks_same}
 use Rattle.upper_figures.proofs.Observed.{are_figures, are_run_figures, figures_of, observed_before}
 
@@ -127,6 +126,13 @@ module _ (S B : System) (p : ℕ) (numbers : AreNumbered S B p) (shown : TicksSh
         (map (λ o. task_tick (levels_of B) o t) others) ticks_alike
         ∙ sym (ap (λ (g : TaskFigures). g.counts.refused) (theirs.tasks.each t inside))
 
+    errors_are : task.counts.errors ≡ task_there.counts.errors
+    errors_are =
+        ap (λ (g : TaskFigures). g.counts.errors) (are.figures.tasks.each t is.known)
+        ∙ task_errors_bare (map (λ o. task_tick (levels_of S) o t) are.seen)
+        (map (λ o. task_tick (levels_of B) o t) others) ticks_alike
+        ∙ sym (ap (λ (g : TaskFigures). g.counts.errors) (theirs.tasks.each t inside))
+
   module _ (i : ℕ) (low : i < length S.routines) where
     abbrev pub routine : RoutineFigures
     routine = slice_index_or f.routines i (routine_figures [])
@@ -137,31 +143,12 @@ module _ (S B : System) (p : ℕ) (numbers : AreNumbered S B p) (shown : TicksSh
     low_there : i < length B.routines
     low_there = subst (λ m. i < m) numbers.routines low
 
-    alike : AreAlike (map (λ o. routine_tick o i) are.seen) (map (λ o. routine_tick o i) others)
-    alike =
-        routines_bare (map (λ o. routine_tick o i) are.seen) (map (λ o. routine_tick o i) others)
+    routine_is : routine ≡ routine_there
+    routine_is =
+        are.figures.routines.each i low
+        ∙ ap routine_figures
         (routines_same S B p mode arrivals shown i low low_there n are.seen are.ticks)
-
-    mine_is : routine ≡ routine_figures (map (λ o. routine_tick o i) are.seen)
-    mine_is = are.figures.routines.each i low
-
-    other_is : routine_there ≡ routine_figures (map (λ o. routine_tick o i) others)
-    other_is = theirs.routines.each i low_there
-
-    latency_is : routine.latency ≡ routine_there.latency
-    latency_is =
-        ap (λ (g : RoutineFigures). g.latency) mine_is ∙ alike.latency
-        ∙ sym (ap (λ (g : RoutineFigures). g.latency) other_is)
-
-    pending_is : routine.pending_since ≡ routine_there.pending_since
-    pending_is =
-        ap (λ (g : RoutineFigures). g.pending_since) mine_is ∙ alike.pending
-        ∙ sym (ap (λ (g : RoutineFigures). g.pending_since) other_is)
-
-    losses_are : routine.losses ≡ routine_there.losses
-    losses_are =
-        ap (λ (g : RoutineFigures). g.losses) mine_is ∙ alike.losses
-        ∙ sym (ap (λ (g : RoutineFigures). g.losses) other_is)
+        ∙ sym (theirs.routines.each i low_there)
 
   held_is : (r q : ℕ) → r < held_count S → q < held_count B
       → map (λ o. holder_tick o r) are.seen ≡ map (λ o. holder_tick o q) others
@@ -211,11 +198,11 @@ module _ (S B : System) (p : ℕ) (numbers : AreNumbered S B p) (shown : TicksSh
         (sym (ap₂ response_time last_is (responses_are t is)))
         (within.times t (inside t is) below_cap);
     latencies = λ i low below_cap.
-        subst (IsWithin (peak peaks.latencies i)) (sym (latency_is i low))
-        (within.latencies i (low_there i low) below_cap);
+        subst (λ (g : RoutineFigures). IsWithin (peak peaks.latencies i) g.latency)
+        (sym (routine_is i low)) (within.latencies i (low_there i low) below_cap);
     waits = λ i low below_cap.
         subst (IsWithin (peak peaks.latencies i))
-        (sym (λ j. worse_of (latency_is i low j) (pending_age (last_is j) (pending_is i low j))))
+        (sym (ap₂ routine_time last_is (routine_is i low)))
         (within.waits i (low_there i low) below_cap);
     holds = λ r low high below_cap.
         subst
@@ -236,11 +223,17 @@ module _ (S B : System) (p : ℕ) (numbers : AreNumbered S B p) (shown : TicksSh
         (within.holds (resource_in_part S p (length S.resources))
         (subst (λ q. q < held_count B) (sym numbers.held)
         (scheduler_held B (sym numbers.scheduler ∙ used))) below_cap));
-    losses = λ i low none. losses_are i low ∙ within.losses i (low_there i low) none;
+    losses = λ i low none.
+        ap (λ (g : RoutineFigures). g.losses) (routine_is i low)
+        ∙ within.losses i (low_there i low) none;
     refusals = λ t is none. refused_are t is ∙ within.refusals t (inside t is) none;
     actions = λ a low high none.
         ap (λ (g : AlarmFigures). g.refused) (alarm_is a low high)
         ∙ within.actions (alarm_in_part S p a) (numbers.alarms a low high).known_there none;
+    errors = λ t is none. errors_are t is ∙ within.errors t (inside t is) none;
+    routine_errors = λ i low none.
+        ap (λ (g : RoutineFigures). g.errors) (routine_is i low)
+        ∙ within.routine_errors i (low_there i low) none;
   }
 
 -- ---- the law for two systems

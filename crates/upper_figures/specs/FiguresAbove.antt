@@ -56,6 +56,10 @@ pub record AreWithinAbove (S : System) (p cap : ℕ) (peaks : Peaks) (f : RunFig
   pub actions : (a : ℕ) → a < length S.alarms → IsTrue (is_upper_alarm S p a)
       → has_come peaks.actions (alarm_in_part S p a) ≡ false
       → (slice_index_or f.alarms a (alarm_figures [])).refused ≡ 0
+  pub errors : (t : ℕ) → IsUpperTask S p t → has_come peaks.errors t ≡ false
+      → (slice_index_or f.tasks t (task_figures [])).counts.errors ≡ 0
+  pub routine_errors : (i : ℕ) → i < length S.routines → has_come peaks.routine_errors i ≡ false
+      → (slice_index_or f.routines i (routine_figures [])).errors ≡ 0
 
 -- whatever arrives that keeps the distances, and for however many ticks
 abbrev pub AreBoundsAbove : System → ℕ → ℕ → List ℕ → ℕ → Peaks → Type 0

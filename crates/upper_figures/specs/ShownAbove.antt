@@ -1,16 +1,26 @@
 -- Partitions, no part of the standards. What each tick shows of the upper part is the same in
 -- systems that agree.
-use Rattle.std.specs.Prelude.{ℕ, ◌≡◌, false, List}
+use Rattle.std.specs.Prelude.{ℕ, ◌≡◌, Bool, false, ◌&&◌, List}
+use Rattle.std.specs.Option.{option_map}
 use Rattle.osek_base.specs.declared.arrivals.Arrival.{Arrival}
 use Rattle.osek_base.specs.declared.ids.ResId.{ResId}
 use Rattle.osek_base.specs.System.{System}
 use Rattle.osek_base.specs.Trace.{run}
 use Rattle.kernel.specs.Shown.{holder}
-use Rattle.observed_runs.specs.Observed.{Ticked, alarm_seen, routine_seen, task_seen, tick_at}
+use Rattle.observed_runs.specs.Observed.{Ticked, alarm_seen, answered, owner_of, routine_seen, task_seen, tick_at}
+use Rattle.figures.specs.FigureSums.{is_error, is_routine, is_task}
 use Rattle.upper_bounds.specs.Above.{IsUpperTask, IsTheSameResource, IsTheSameAlarm, IsThatOfTheUpperPart}
 
+-- whether a service of a task or of a routine is answered other than E_OK in a tick
+abbrev pub task_fails : Ticked → ℕ → Bool
+task_fails k t = is_task (option_map owner_of k.executed) t && is_error (answered k.executed)
+
+abbrev pub routine_fails : Ticked → ℕ → Bool
+routine_fails k i = is_routine (option_map owner_of k.executed) i && is_error (answered k.executed)
+
 -- a tick of one system and one of another show the same of each upper task, of each routine, of who
--- holds each upper resource and RES_SCHEDULER, and of each upper alarm
+-- holds each upper resource and RES_SCHEDULER, of each upper alarm, and of the services of upper
+-- tasks and routines that fail
 pub record ShowTheSameAbove (S B : System) (p : ℕ) (k j : Ticked) : Type 0 where
   pub tasks : (t : ℕ) → IsUpperTask S p t → task_seen S k t ≡ task_seen B j t
   pub routines : (i : ℕ) → routine_seen k i ≡ routine_seen j i
@@ -18,6 +28,8 @@ pub record ShowTheSameAbove (S B : System) (p : ℕ) (k j : Ticked) : Type 0 whe
       → holder S k.at (ResId.Declared r) ≡ holder B j.at (ResId.Declared q)
   pub scheduler : holder S k.at ResId.Scheduler ≡ holder B j.at ResId.Scheduler
   pub alarms : (a c : ℕ) → IsTheSameAlarm S B p a c → alarm_seen k a ≡ alarm_seen j c
+  pub errors : (t : ℕ) → IsUpperTask S p t → task_fails k t ≡ task_fails j t
+  pub routine_errors : (i : ℕ) → routine_fails k i ≡ routine_fails j i
 
 -- in each mode and under the same arrivals, each tick before which the run isn't over
 abbrev pub TicksShowTheSame : System → System → ℕ → Type 0

@@ -12,22 +12,20 @@ use Rattle.kernel.specs.Run.{Run, is_over, run_of}
 use Rattle.figures.specs.declared.alarm_figures.AlarmFigures.{AlarmFigures}
 use Rattle.figures.specs.declared.resource_figures.ResourceFigures.{ResourceFigures}
 use Rattle.figures.specs.declared.routine_figures.RoutineFigures.{RoutineFigures}
-use Rattle.figures.specs.declared.routine_figures.RoutineTick.{RoutineTick}
 use Rattle.figures.specs.declared.task_figures.TaskFigures.{TaskFigures}
 use Rattle.figures.specs.declared.task_tick.TaskTick.{TaskTick}
 use Rattle.figures.specs.FigureSums.{AreFigures, RunFigures, levels_of, routine_tick, task_figures, task_tick}
-use Rattle.figures.specs.Reaching.{worse_of}
-use Rattle.figures.specs.RoutineSums.{pending_age, routine_figures}
+use Rattle.figures.specs.RoutineSums.{routine_figures}
 use Rattle.figure_laws.specs.Times.{response_time, routine_time}
-use Rattle.upper_figures.proofs.Bare.{bare_routine, bare_task, routines_bare, task_refused_bare, task_responses_bare}
+use Rattle.upper_figures.proofs.Bare.{bare_task, task_errors_bare, task_refused_bare, task_responses_bare}
 use Rattle.upper_figures.proofs.Observed.{are_figures, figures_of}
 use Rattle.bounds.specs.declared.figure.Figure.{Figure}
-use Rattle.bounds.specs.declared.figure.Figure.TheVariants.{Hold, Latency, Loss, Refusal, RefusedAction, Response}
+use Rattle.bounds.specs.declared.figure.Figure.TheVariants.{Errors, Hold, Latency, Loss, Refusal, RefusedAction, Response, RoutineErrors}
 use Rattle.bounds.specs.Figures.{one_if}
 use Rattle.witnesses.specs.declared.watched.Watched.{Watched}
 use Rattle.witnesses.specs.Running.{Watches, number_of}
 use Rattle.witnesses.specs.Shown.{IsOf, Shows, shown}
-use Rattle.witnesses.specs.Watched.{AreWatched, bare_routine_tick, bare_task_tick, shown_of, ticks_of}
+use Rattle.witnesses.specs.Watched.{AreWatched, bare_task_tick, shown_of, ticks_of}
 
 -- ---- tick by tick
 
@@ -98,14 +96,6 @@ tasks_same levels k [] = refl
 tasks_same levels k (o ∷ before) =
     ap (λ (ts : List TaskTick). bare_task (bare_task_tick o k) ∷ ts) (tasks_same levels k before)
 
-routines_same : (k : ℕ) (seen : List Observation)
-    → map bare_routine (map (λ o. routine_tick o k) seen)
-    ≡ map bare_routine (map (λ o. bare_routine_tick o k) seen)
-routines_same k [] = refl
-routines_same k (o ∷ before) =
-    ap (λ (rs : List RoutineTick). bare_routine (bare_routine_tick o k) ∷ rs)
-    (routines_same k before)
-
 module _ (S : System) (seen : List Observation) (f : RunFigures) (are : AreFigures S seen f)
     (w : Watched) where
   responses : (k : ℕ) → AreWatched k seen w → k < length S.tasks
@@ -124,6 +114,18 @@ module _ (S : System) (seen : List Observation) (f : RunFigures) (are : AreFigur
       (map (λ o. bare_task_tick o k) seen) (tasks_same (levels_of S) k seen)
       ∙ sym (ap (λ (g : TaskFigures). g.counts.refused) watched.task)
 
+  errors : (k : ℕ) → AreWatched k seen w → k < length S.tasks
+      → (slice_index_or f.tasks k (task_figures [])).counts.errors ≡ w.task.counts.errors
+  errors k watched low =
+      ap (λ (g : TaskFigures). g.counts.errors) (are.tasks.each k low)
+      ∙ task_errors_bare (map (λ o. task_tick (levels_of S) o k) seen)
+      (map (λ o. bare_task_tick o k) seen) (tasks_same (levels_of S) k seen)
+      ∙ sym (ap (λ (g : TaskFigures). g.counts.errors) watched.task)
+
+  routine : (k : ℕ) → AreWatched k seen w → k < length S.routines
+      → slice_index_or f.routines k (routine_figures []) ≡ w.routine
+  routine k watched low = are.routines.each k low ∙ sym watched.routine
+
   last : (k : ℕ) → AreWatched k seen w → f.last ≡ w.last
   last k watched = are.last ∙ sym watched.last
 
@@ -132,29 +134,19 @@ module _ (S : System) (seen : List Observation) (f : RunFigures) (are : AreFigur
   shown_same (Response k) watched low = λ i.
       ticks_of (response_time (last k watched i) (responses k watched low i))
   shown_same (Refusal k) watched low = ap (λ n. one_if (nat_lt 0 n)) (refused k watched low)
-  shown_same (Latency k) watched low =
-      let each = are.routines.each k low in
-      let alike =
-      routines_bare (map (λ o. routine_tick o k) seen) (map (λ o. bare_routine_tick o k) seen)
-      (routines_same k seen) in
-      ap (λ (g : RoutineFigures). ticks_of (routine_time f.last g)) each
-      ∙ ap (λ n. ticks_of (routine_time n (routine_figures (map (λ o. routine_tick o k) seen))))
-      (last k watched)
-      ∙ (λ i. ticks_of (worse_of (alike.latency i) (pending_age w.last (alike.pending i))))
-      ∙ sym (ap (λ (g : RoutineFigures). ticks_of (routine_time w.last g)) watched.routine)
+  shown_same (Latency k) watched low = λ i.
+      ticks_of (routine_time (last k watched i) (routine k watched low i))
   shown_same (Loss k) watched low =
-      let alike =
-      routines_bare (map (λ o. routine_tick o k) seen) (map (λ o. bare_routine_tick o k) seen)
-      (routines_same k seen) in
-      ap (λ (g : RoutineFigures). one_if (nat_lt 0 g.losses)) (are.routines.each k low)
-      ∙ ap (λ n. one_if (nat_lt 0 n)) alike.losses
-      ∙ sym (ap (λ (g : RoutineFigures). one_if (nat_lt 0 g.losses)) watched.routine)
+      ap (λ (g : RoutineFigures). one_if (nat_lt 0 g.losses)) (routine k watched low)
   shown_same (Hold k) watched low =
       ap (λ (g : ResourceFigures). ticks_of g.longest)
       (are.resources.each k low ∙ sym watched.resource)
   shown_same (RefusedAction k) watched low =
       ap (λ (g : AlarmFigures). one_if (nat_lt 0 g.refused))
       (are.alarms.each k low ∙ sym watched.alarm)
+  shown_same (Errors k) watched low = ap (λ n. one_if (nat_lt 0 n)) (errors k watched low)
+  shown_same (RoutineErrors k) watched low =
+      ap (λ (g : RoutineFigures). one_if (nat_lt 0 g.errors)) (routine k watched low)
 
 -- what was watched of a run is what its figures show
 pub shows : (S : System) (mode : ℕ) (arrivals : List Arrival) (n : ℕ) (figure : Figure)

@@ -5,7 +5,7 @@ use Rattle.osek_base.specs.System.{System}
 use Rattle.observations.specs.declared.observation.Observation.{Observation}
 use Rattle.run_figures.specs.RunFigures.{AreTicksOf}
 use Rattle.bounds.specs.declared.figure.Figure.{Figure}
-use Rattle.bounds.specs.declared.figure.Figure.TheVariants.{Hold, Latency, Loss, Refusal, RefusedAction, Response}
+use Rattle.bounds.specs.declared.figure.Figure.TheVariants.{Errors, Hold, Latency, Loss, Refusal, RefusedAction, Response, RoutineErrors}
 use Rattle.witnesses.specs.declared.watched.Watched.{Watched}
 use Rattle.witnesses.specs.Watched.{AreWatched}
 
@@ -17,6 +17,8 @@ number_of (Latency i) = i
 number_of (Loss i) = i
 number_of (Hold r) = r
 number_of (RefusedAction a) = a
+number_of (Errors k) = k
+number_of (RoutineErrors i) = i
 
 -- figures of the things of a number over the first n ticks of a run
 pub record Watches (S : System) (mode : ℕ) (arrivals : List Arrival) (n k : ℕ)

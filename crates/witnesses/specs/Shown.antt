@@ -11,7 +11,7 @@ use Rattle.run_figures.specs.RunFigures.{AreRunFigures}
 use Rattle.run_bounds.specs.Bounds.{KeepDistances}
 use Rattle.bound_labels.specs.Peaks.{Peaks}
 use Rattle.bounds.specs.declared.figure.Figure.{Figure}
-use Rattle.bounds.specs.declared.figure.Figure.TheVariants.{Hold, Latency, Loss, Refusal, RefusedAction, Response}
+use Rattle.bounds.specs.declared.figure.Figure.TheVariants.{Errors, Hold, Latency, Loss, Refusal, RefusedAction, Response, RoutineErrors}
 use Rattle.bounds.specs.declared.finding.Bounds.{Bounds}
 use Rattle.bounds.specs.Figures.{one_if, told}
 use Rattle.witnesses.specs.declared.witness.Witness.{Witness}
@@ -19,7 +19,7 @@ use Rattle.witnesses.specs.Watched.{ticks_of}
 
 -- what the figures of a run show: the longest time of a task or a routine, or the age of what
 -- hasn't ended or started behind the last tick, if that is greater; the longest hold; and of what
--- is lost or refused 1 where anything is
+-- is lost, refused or answered other than E_OK 1 where anything is
 abbrev pub shown : RunFigures → Figure → ℕ
 shown f (Response k) =
     ticks_of (response_time f.last (slice_index_or f.tasks k (task_figures [])).responses)
@@ -31,6 +31,10 @@ shown f (Loss i) = one_if (nat_lt 0 (slice_index_or f.routines i (routine_figure
 shown f (Hold r) = ticks_of (slice_index_or f.resources r (resource_figures [])).longest
 shown f (RefusedAction a) =
     one_if (nat_lt 0 (slice_index_or f.alarms a (alarm_figures [])).refused)
+shown f (Errors k) =
+    one_if (nat_lt 0 (slice_index_or f.tasks k (task_figures [])).counts.errors)
+shown f (RoutineErrors i) =
+    one_if (nat_lt 0 (slice_index_or f.routines i (routine_figures [])).errors)
 
 -- a system has the thing of a figure
 abbrev pub IsOf : System → Figure → Type 0
@@ -40,6 +44,8 @@ IsOf S (Latency i) = i < length S.routines
 IsOf S (Loss i) = i < length S.routines
 IsOf S (Hold r) = r < held_count S
 IsOf S (RefusedAction a) = a < length S.alarms
+IsOf S (Errors k) = k < length S.tasks
+IsOf S (RoutineErrors i) = i < length S.routines
 
 -- what is told of a figure isn't above a cap
 abbrev pub IsBelow : ℕ → Peaks → Figure → Type 0
@@ -49,6 +55,8 @@ IsBelow cap peaks (Hold r) = told peaks (Hold r) < cap
 IsBelow cap peaks (Refusal k) = Unit {0}
 IsBelow cap peaks (Loss i) = Unit {0}
 IsBelow cap peaks (RefusedAction a) = Unit {0}
+IsBelow cap peaks (Errors k) = Unit {0}
+IsBelow cap peaks (RoutineErrors i) = Unit {0}
 
 -- the first n ticks of a run show so much of a figure
 pub record Shows (S : System) (mode : ℕ) (arrivals : List Arrival) (n : ℕ) (figure : Figure)

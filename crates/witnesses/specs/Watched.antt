@@ -1,42 +1,33 @@
 -- Figures of the things of one number, over observations, newest first.
-use Rattle.std.specs.Prelude.{ℕ, ◌≡◌, false, List, map, Option, Some, None, nat_lt, slice_index_or}
+use Rattle.std.specs.Prelude.{ℕ, ◌≡◌, false, ◌&&◌, List, map, Option, Some, None, nat_lt, slice_index_or}
 use Rattle.observations.specs.declared.observation.Observation.{Observation}
 use Rattle.figures.specs.declared.reached.Reached.{Reached}
-use Rattle.figures.specs.declared.routine_figures.RoutineTick.{RoutineTick}
 use Rattle.figures.specs.declared.task_tick.TaskTick.{TaskTick}
 use Rattle.figures.specs.AlarmSums.{alarm_figures}
-use Rattle.figures.specs.FigureSums.{alarm_tick, holder_tick, last_tick, task_figures, unseen_routine, unseen_task}
+use Rattle.figures.specs.FigureSums.{alarm_tick, holder_tick, is_error, is_task, last_tick, routine_tick, task_figures, unseen_task}
 use Rattle.figures.specs.ResourceSums.{resource_figures}
 use Rattle.figures.specs.RoutineSums.{routine_figures}
 use Rattle.figure_laws.specs.Times.{response_time, routine_time}
 use Rattle.bounds.specs.declared.figure.Figure.{Figure}
-use Rattle.bounds.specs.declared.figure.Figure.TheVariants.{Hold, Latency, Loss, Refusal, RefusedAction, Response}
+use Rattle.bounds.specs.declared.figure.Figure.TheVariants.{Errors, Hold, Latency, Loss, Refusal, RefusedAction, Response, RoutineErrors}
 use Rattle.bounds.specs.Figures.{one_if}
 use Rattle.witnesses.specs.declared.watched.Watched.{Watched}
 
--- what an observation has of a thing, without who executes and what its instruction is answered
+-- what an observation has of a task, without whether a lower task executes, and without blockers
 abbrev pub bare_task_tick : Observation → ℕ → TaskTick
 bare_task_tick o k =
     record {
       tick = o.tick;
       seen = slice_index_or o.tasks.items k unseen_task;
       lower_executes = false;
-      has_failed = false;
+      has_failed = is_task o.executor k && is_error o.answered;
       blockers = None;
-    }
-
-abbrev pub bare_routine_tick : Observation → ℕ → RoutineTick
-bare_routine_tick o k =
-    record {
-      tick = o.tick;
-      seen = slice_index_or o.routines.items k unseen_routine;
-      has_failed = false;
     }
 
 -- the figures of the things of a number, over observations
 pub record AreWatched (k : ℕ) (seen : List Observation) (w : Watched) : Type 0 where
   pub task : w.task ≡ task_figures (map (λ o. bare_task_tick o k) seen)
-  pub routine : w.routine ≡ routine_figures (map (λ o. bare_routine_tick o k) seen)
+  pub routine : w.routine ≡ routine_figures (map (λ o. routine_tick o k) seen)
   pub resource : w.resource ≡ resource_figures (map (λ o. holder_tick o k) seen)
   pub alarm : w.alarm ≡ alarm_figures (map (λ o. alarm_tick o k) seen)
   pub last : w.last ≡ last_tick seen
@@ -54,3 +45,5 @@ shown_of w (Latency i) = ticks_of (routine_time w.last w.routine)
 shown_of w (Loss i) = one_if (nat_lt 0 w.routine.losses)
 shown_of w (Hold r) = ticks_of w.resource.longest
 shown_of w (RefusedAction a) = one_if (nat_lt 0 w.alarm.refused)
+shown_of w (Errors k) = one_if (nat_lt 0 w.task.counts.errors)
+shown_of w (RoutineErrors i) = one_if (nat_lt 0 w.routine.errors)

@@ -16,7 +16,11 @@ fn is_below(found: &Bounds, figure: Figure) -> bool
     match figure {
         Figure::Response(_) | Figure::Latency(_) | Figure::Hold(_) => figure.told(&found.peaks)
             < found.cap,
-        Figure::Refusal(_) | Figure::Loss(_) | Figure::RefusedAction(_) => true,
+        Figure::Refusal(_)
+        | Figure::Loss(_)
+        | Figure::RefusedAction(_)
+        | Figure::Errors(_)
+        | Figure::RoutineErrors(_) => true,
     }
 }
 

@@ -24,7 +24,9 @@ fn number_of(figure: Figure) -> usize
         | Figure::Latency(number)
         | Figure::Loss(number)
         | Figure::Hold(number)
-        | Figure::RefusedAction(number) => number,
+        | Figure::RefusedAction(number)
+        | Figure::Errors(number)
+        | Figure::RoutineErrors(number) => number,
     }
 }
 
@@ -45,8 +47,12 @@ fn is_of(system: &System, figure: Figure) -> bool
     ensures { IsTrue result → IsOf system.now figure }
 {
     match figure {
-        Figure::Response(task) | Figure::Refusal(task) => task < system.task_count(),
-        Figure::Latency(routine) | Figure::Loss(routine) => routine < system.routine_count(),
+        Figure::Response(task) | Figure::Refusal(task) | Figure::Errors(task) => {
+            task < system.task_count()
+        }
+        Figure::Latency(routine) | Figure::Loss(routine) | Figure::RoutineErrors(routine) => {
+            routine < system.routine_count()
+        }
         Figure::Hold(resource) => resource < held_count(system),
         Figure::RefusedAction(alarm) => alarm < system.alarm_count(),
     }

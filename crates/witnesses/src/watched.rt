@@ -1,11 +1,11 @@
 //! Figures of the things of one number, over the ticks that were seen.
 
 ghost use Rattle.std.specs.Prelude.{ℕ, List, [], ◌∷◌, ◌≡◌, None, nat_lt, slice_index_or};
-ghost use Rattle.figures.specs.FigureSums.{alarm_tick, holder_tick, unseen_alarm, unseen_routine, unseen_task};
+ghost use Rattle.figures.specs.FigureSums.{alarm_tick, holder_tick, is_error, is_routine, is_task, routine_tick, unseen_alarm, unseen_routine, unseen_task};
 ghost use Rattle.figures.specs.declared.reached.Reached.{Reached};
 ghost use Rattle.observations.specs.declared.observation.Observation.{Observation};
 ghost use Rattle.bounds.specs.Figures.{one_if};
-ghost use Rattle.witnesses.specs.Watched.{AreWatched, bare_routine_tick, bare_task_tick, shown_of, ticks_of};
+ghost use Rattle.witnesses.specs.Watched.{AreWatched, bare_task_tick, shown_of, ticks_of};
 
 use bounds::Figure;
 use figures::{
@@ -13,7 +13,7 @@ use figures::{
     TaskFigures, TaskTick,
 };
 use observations::{AlarmSeen, Holder, Observation, RoutineSeen, TaskSeen};
-use osek_base::TaskState;
+use osek_base::{Owner, Status, TaskState};
 
 fn task_seen(tasks: &[TaskSeen], number: usize) -> TaskSeen
     ensures { result ≡ slice_index_or tasks.now number unseen_task }
@@ -68,7 +68,37 @@ fn alarm_seen(alarms: &[AlarmSeen], number: usize) -> AlarmSeen
     }
 }
 
-/// A task in a tick, without who executes and what the tick's instruction is answered.
+/// Whether a status is told, other than E_OK.
+fn is_error(answered: &Option<Status>) -> bool
+    ensures { result ≡ is_error answered.now }
+{
+    match answered {
+        Some(status) => status.number() > 0,
+        None => false,
+    }
+}
+
+/// Whether a task executes.
+fn is_task(executor: &Option<Owner>, number: usize) -> bool
+    ensures { result ≡ is_task executor.now number }
+{
+    match executor {
+        Some(Owner::Task(task)) => task.number() as usize == number,
+        _ => false,
+    }
+}
+
+/// Whether a routine executes.
+fn is_routine(executor: &Option<Owner>, number: usize) -> bool
+    ensures { result ≡ is_routine executor.now number }
+{
+    match executor {
+        Some(Owner::Routine(routine)) => routine.number() as usize == number,
+        _ => false,
+    }
+}
+
+/// A task in a tick, without whether a lower task executes, and without blockers.
 fn task_tick(seen: &Observation, number: usize) -> TaskTick
     ensures { result ≡ bare_task_tick seen.now number }
 {
@@ -76,19 +106,19 @@ fn task_tick(seen: &Observation, number: usize) -> TaskTick
         tick: seen.tick,
         seen: task_seen(seen.tasks.as_slice(), number),
         lower_executes: false,
-        has_failed: false,
+        has_failed: is_task(&seen.executor, number) && is_error(&seen.answered),
         blockers: None,
     }
 }
 
-/// A routine in a tick, without what the tick's instruction is answered.
+/// A routine in a tick.
 fn routine_tick(seen: &Observation, number: usize) -> RoutineTick
-    ensures { result ≡ bare_routine_tick seen.now number }
+    ensures { result ≡ routine_tick seen.now number }
 {
     RoutineTick {
         tick: seen.tick,
         seen: routine_seen(seen.routines.as_slice(), number),
-        has_failed: false,
+        has_failed: is_routine(&seen.executor, number) && is_error(&seen.answered),
     }
 }
 
@@ -111,7 +141,8 @@ fn alarm_tick(seen: &Observation, number: usize) -> AlarmTick
 }
 
 /// Figures of the task, the routine, the resource and the alarm of one number, as far as such a
-/// thing was seen, and the last tick. What goes by who executes isn't counted.
+/// thing was seen, and the last tick. Blockers aren't counted, nor ticks in which a lower task
+/// executes.
 #[derive(Drop)]
 pub(crate) struct Watched {
     pub(crate) task: TaskFigures,
@@ -175,6 +206,8 @@ impl Watched {
             Figure::Loss(_) => coming(self.routine.losses),
             Figure::Hold(_) => ticks_of(self.resource.longest),
             Figure::RefusedAction(_) => coming(self.alarm.refused),
+            Figure::Errors(_) => coming(self.task.counts.errors),
+            Figure::RoutineErrors(_) => coming(self.routine.errors),
         }
     }
 }

@@ -60,8 +60,9 @@ fn tried(
 }
 
 /// A run that shows what is told of a figure: exactly so many ticks, those of the cap where it is
-/// told no higher, or that something is lost or refused, where that has come, and that nothing is,
-/// where it hasn't. Its interrupts keep the distances, in ticks by routine, 1 where none is given.
+/// told no higher, or that something is lost, refused or answered other than E_OK, where that has
+/// come, and that nothing is, where it hasn't. Its interrupts keep the distances, in ticks by
+/// routine, 1 where none is given.
 ///
 /// What a search has come by is tried by running it, so it may be that none is found. An error is
 /// want of memory.

@@ -1,5 +1,6 @@
-use Rattle.std.proofs.Common.{ℕ, ◌≡◌, false, List, refl, sym, ◌∙◌, ap, subst}
+use Rattle.std.proofs.Common.{ℕ, ◌≡◌, false, List, Option, refl, sym, ◌∙◌, ap, subst}
 use Rattle.std.specs.List.{filter}
+use Rattle.osek_base.specs.declared.ids.Owner.{Owner}
 use Rattle.osek_base.specs.Lists.{below}
 use Rattle.kept_state.specs.KeptTick.{tick_in}
 use Rattle.kernel.specs.Machine.{picture, system_of}
@@ -8,7 +9,8 @@ use Rattle.observations.specs.Seen.{Seen, seen_of}
 use Rattle.shown_ticks.specs.Seen.{seen_in}
 use Rattle.bound_labels.specs.Labels.{arrives_in, next_labels}
 use Rattle.bound_labels.specs.Peaks.{IsNoted}
-use Rattle.run_bounds.specs.Nodes.{AreNoted, IsNext, Node, routines_of}
+use Rattle.bound_labels.specs.Ticks.{failed_of, failing}
+use Rattle.run_bounds.specs.Nodes.{AreNoted, IsNext, Node, failed_in, routines_of}
 use Rattle.bounds.specs.Exploring.{Explorer, setting_of}
 use Rattle.bounds.proofs.Exploring.{IsMade, Ticked, are_noted, is_in_of, is_next}
 use Rattle.bounds.proofs.explorer.ExplorerSteps.next.Goals as goal
@@ -33,11 +35,12 @@ returns-clause-next c =
     let n = c.tick_from.new.machine in
     let set = c.args.choice in
     let seen : Seen = seen_of c.tick_from.new.watcher in
+    let failed : Option Owner = failed_of c.tick_from.new.watcher in
     let going : x.over ≡ false = ap (λ (z : Node). z.over) c.from.view_is ∙ c.requires.going in
     let same : c.deref-2.result.now ≡ routines_of (setting_of e) set =
     c.deref-2.ensures.value ∙ c.in_ok-put_routines.ensures.value
     ∙ ap (λ k. filter (arrives_in set) (below k)) c.routine_count.ensures.value in
-    let ticked : Ticked e x set m n seen =
+    let ticked : Ticked e x set m n seen failed =
     record {
       is = is_in_of e.ground c.self.inside.machines x.key c.deref.result.now m
           c.self.invariant.machines c.deref.ensures.value c.in-Some.ensures;
@@ -47,6 +50,8 @@ returns-clause-next c =
           ∙ ap (λ (r : List ℕ). (tick_in (system_of m) r (picture m)).after) same;
       seen = c.tick_from.ensures.seen
           ∙ ap (λ (r : List ℕ). seen_in (system_of m) r (picture m)) same;
+      failed_is = (λ i. failing (c.tick_from.ensures.answered i) (c.tick_from.ensures.executor i))
+          ∙ ap (λ (r : List ℕ). failed_in (system_of m) r (picture m)) same;
     } in
     let y = c.in_ok-node.node in
     let made : IsMade e x y set n seen =
@@ -60,7 +65,7 @@ returns-clause-next c =
     } in
     subst (λ (f : Explorer). IsNext (setting_of f) c.args.from.now set y) c.self.view_is
     (subst (λ (z : Node). IsNext (setting_of e) z set y) c.from.view_is
-    (is_next e x set m n seen ticked c.one_state_tells.ensures c.self.invariant.ground going y
+    (is_next e x set m n seen failed ticked c.one_state_tells.ensures c.self.invariant.ground going y
     made))
 
 pub returns-clause-noted : goal.returns-clause-noted
@@ -83,11 +88,12 @@ returns-clause-noted c =
     let n = c.tick_from.new.machine in
     let set = c.args.choice in
     let seen : Seen = seen_of c.tick_from.new.watcher in
+    let failed : Option Owner = failed_of c.tick_from.new.watcher in
     let going : x.over ≡ false = ap (λ (z : Node). z.over) c.from.view_is ∙ c.requires.going in
     let same : c.deref-2.result.now ≡ routines_of (setting_of e) set =
     c.deref-2.ensures.value ∙ c.in_ok-put_routines.ensures.value
     ∙ ap (λ k. filter (arrives_in set) (below k)) c.routine_count.ensures.value in
-    let ticked : Ticked e x set m n seen =
+    let ticked : Ticked e x set m n seen failed =
     record {
       is = is_in_of e.ground c.self.inside.machines x.key c.deref.result.now m
           c.self.invariant.machines c.deref.ensures.value c.in-Some.ensures;
@@ -97,10 +103,12 @@ returns-clause-noted c =
           ∙ ap (λ (r : List ℕ). (tick_in (system_of m) r (picture m)).after) same;
       seen = c.tick_from.ensures.seen
           ∙ ap (λ (r : List ℕ). seen_in (system_of m) r (picture m)) same;
+      failed_is = (λ i. failing (c.tick_from.ensures.answered i) (c.tick_from.ensures.executor i))
+          ∙ ap (λ (r : List ℕ). failed_in (system_of m) r (picture m)) same;
     } in
     let peaks = c.note.new.self in
     subst (λ (z : Node). AreNoted (setting_of e) peaks z set) c.from.view_is
-    (are_noted e x set m n seen ticked c.one_state_tells.ensures c.self.invariant.ground going
+    (are_noted e x set m n seen failed ticked c.one_state_tells.ensures c.self.invariant.ground going
     peaks
-    (subst (λ (o : Observation). IsNoted e.cap peaks (seen_of o) x.labels) c.seen-seen.ensures
-    c.note.ensures.noted))
+    (subst (λ (o : Observation). IsNoted e.cap peaks (seen_of o) (failed_of o) x.labels)
+    c.seen-seen.ensures c.note.ensures.noted))
