@@ -17,4 +17,4 @@ pub use json_text::json_text;
 pub use naming::{NamedFigure, figure_named, is_column};
 pub use remarks::write_remarks;
 pub use told::Told;
-pub use writing::{write_decided, write_undecided};
+pub use writing::{write_decided, write_undecided, write_up_to};

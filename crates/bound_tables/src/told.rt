@@ -10,8 +10,11 @@ pub struct Told<'b, 'r> {
 }
 
 impl Told<'_, '_> {
-    /// Whether a run is known to show what is told of a figure.
+    /// Whether a run is known to show what is told of a figure. Each shows a 0.
     pub(crate) fn is_reached(self, figure: Figure) -> bool {
+        if figure.told(&self.bounds.peaks) == 0 {
+            return true;
+        }
         for reached in self.reached {
             if *reached == figure {
                 return true;

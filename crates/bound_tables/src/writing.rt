@@ -26,6 +26,21 @@ pub fn write_decided<W: Write>(
     write_tables(system, told, out)
 }
 
+/// Writes the tables of what no run of so many ticks shows more of as a search that stopped before
+/// its end has tried, where these are any. An error is a failed write.
+pub fn write_up_to<W: Write>(
+    system: &System,
+    told: Told<'_, '_>,
+    progress: Progress,
+    out: &mut W,
+) -> io::Result<()> {
+    if progress.levels == 0 {
+        return Ok(());
+    }
+    writeln!(out, "up to {} ticks:", progress.levels)?;
+    write_tables(system, told, out)
+}
+
 /// Writes how far a search came that stopped before its end, and at what. An error is a failed
 /// write.
 pub fn write_undecided<W: Write>(

@@ -115,16 +115,17 @@ impl<'s> Machines<'s> {
         }
     }
 
-    /// One more machine.
+    /// One more machine, and room to note that it may go.
     fn add(&mut self, held: Held<'s>) -> Result<(), AllocError>
         requires { IsIn self.old held.key.items held.machine }
         ensures { self.new ≡ self.old }
     {
+        self.free.reserve(self.held.len().saturating_add(1))?;
         self.held.push(held)?;
         Ok(())
     }
 
-    /// Lets the machine at a place go. Where there is no room to note that, it stays.
+    /// Lets the machine at a place go. There is room to note that, as places are let go once.
     pub(crate) fn release(&mut self, place: usize)
         ensures { self.new ≡ self.old }
     {

@@ -10,6 +10,7 @@ use crate::making::make_files;
 use crate::partitions::{write_cut, write_cuts};
 use crate::request::{Asked, Question, Request, read_line};
 use crate::runs::{write_lines, write_view};
+use crate::search_watch::SearchWatch;
 use crate::showing::write_shown;
 use crate::status::{DONE, REFUSED, REFUSED_LINE, Verdict, WRITE_FAILED, status_of};
 use clap::Error as LineError;
@@ -61,7 +62,9 @@ fn write_answer<'q, O: Write, E: Write>(
                 line,
                 is_explained: request.is_explained,
             };
-            write_searched(alloc, texts, asked, request.distances.as_slice(), out)
+            let mut watch = SearchWatch::new(progress);
+            let distances = request.distances.as_slice();
+            write_searched(alloc, texts, asked, distances, &mut watch, out)
         }
     }
 }

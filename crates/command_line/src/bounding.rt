@@ -3,10 +3,12 @@
 use crate::bounds_line::{BoundsLine, Distance, Wanted};
 use crate::inputs::{Texts, mode_of, system_of};
 use crate::partitions::write_denial;
+use crate::search_watch::SearchWatch;
 use crate::status::{DistanceFault, Verdict};
 use crate::witnessing::write_witness;
 use bound_tables::{
     Told, figure_named, json_text, write_decided, write_lines, write_remarks, write_undecided,
+    write_up_to,
 };
 use bounds::{Bounds, Extent, find_bounds};
 use bounds_above::find_upper_bounds;
@@ -160,11 +162,14 @@ fn write_found<'v, O: Write>(
     let progress = match found.outcome {
         Outcome::Decided(progress) => progress,
         Outcome::Undecided(obstacle, progress) => {
-            write_undecided(obstacle, progress, out)?;
             let told = Told {
                 bounds: found,
                 reached: &[],
             };
+            write_undecided(obstacle, progress, out)?;
+            if line.form == Form::Table && line.witness.is_none() {
+                write_up_to(system, told, progress, out)?;
+            }
             return Ok(Verdict::Searched {
                 is_decided: false,
                 remarks: remarks_of(alloc, system, told, is_explained)?,
@@ -187,13 +192,14 @@ fn write_found<'v, O: Write>(
 }
 
 /// Writes the bounds of the part from a priority upward by itself, or the denial.
-fn write_upper<'v, O: Write>(
+fn write_upper<'v, O: Write, E: Write>(
     alloc: Global,
     texts: &Texts,
     system: &System,
     priority: u8,
     asked: BoundsAsked<'v>,
     distances: &[Distance<'_>],
+    watch: &mut SearchWatch<'_, '_, E>,
     out: &mut O,
 ) -> Result<Verdict<'v>, RunFault> {
     if let Err(denial) = check_isolation(system, priority) {
@@ -202,17 +208,18 @@ fn write_upper<'v, O: Write>(
     let mode = mode_id(alloc, texts, system, asked.line.mode)?;
     let distances = all_distances(alloc, system, distances)?;
     let extent = extent_of(asked.line);
-    let found = find_upper_bounds(alloc, system, priority, mode, &distances, extent)?;
+    let found = find_upper_bounds(alloc, system, priority, mode, &distances, extent, watch)?;
     let (part, bounds) = (&found.part, &found.bounds);
     write_found(alloc, part, mode, &distances, bounds, asked, out)
 }
 
 /// Writes the bounds of all runs in a mode, or how far the search for them came.
-pub(crate) fn write_searched<'v, O: Write>(
+pub(crate) fn write_searched<'v, O: Write, E: Write>(
     alloc: Global,
     texts: &Texts,
     asked: BoundsAsked<'v>,
     distances: &[Distance<'v>],
+    watch: &mut SearchWatch<'_, '_, E>,
     out: &mut O,
 ) -> Result<Verdict<'v>, RunFault> {
     let system = system_of(alloc, texts)?;
@@ -224,10 +231,12 @@ pub(crate) fn write_searched<'v, O: Write>(
         return Ok(Verdict::NoFigure(wanted));
     }
     if let Some(priority) = line.upper {
-        return write_upper(alloc, texts, &system, priority, asked, distances, out);
+        return write_upper(
+            alloc, texts, &system, priority, asked, distances, watch, out,
+        );
     }
     let mode = mode_id(alloc, texts, &system, line.mode)?;
     let distances = all_distances(alloc, &system, distances)?;
-    let found = find_bounds(alloc, &system, mode, &distances, extent_of(line))?;
+    let found = find_bounds(alloc, &system, mode, &distances, extent_of(line), watch)?;
     write_found(alloc, &system, mode, &distances, &found, asked, out)
 }

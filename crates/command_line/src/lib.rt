@@ -17,6 +17,7 @@ mod making;
 mod partitions;
 mod request;
 mod runs;
+mod search_watch;
 mod showing;
 mod status;
 mod witnessing;
