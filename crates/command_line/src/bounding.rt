@@ -6,7 +6,7 @@ use crate::partitions::write_denial;
 use crate::status::{DistanceFault, Verdict};
 use crate::witnessing::write_witness;
 use bound_tables::{Told, figure_named, write_bounds};
-use bounds::{Bounds, Extent, find_bounds};
+use bounds::{Bounds, Extent, Unwatched, find_bounds};
 use bounds_above::find_upper_bounds;
 use isolation::check_isolation;
 use kernel::BootFault;
@@ -154,7 +154,15 @@ fn write_upper<'v, O: Write>(
     let mode = mode_id(alloc, texts, system, line.mode)?;
     let distances = all_distances(alloc, system, distances)?;
     let extent = extent_of(line);
-    let found = find_upper_bounds(alloc, system, priority, mode, &distances, extent)?;
+    let found = find_upper_bounds(
+        alloc,
+        system,
+        priority,
+        mode,
+        &distances,
+        extent,
+        &mut Unwatched,
+    )?;
     write_found(
         alloc,
         &found.part,
@@ -186,6 +194,7 @@ pub(crate) fn write_searched<'v, O: Write>(
     }
     let mode = mode_id(alloc, texts, &system, line.mode)?;
     let distances = all_distances(alloc, &system, distances)?;
-    let found = find_bounds(alloc, &system, mode, &distances, extent_of(line))?;
+    let extent = extent_of(line);
+    let found = find_bounds(alloc, &system, mode, &distances, extent, &mut Unwatched)?;
     write_found(alloc, &system, mode, &distances, &found, line, out)
 }
