@@ -3,14 +3,17 @@ use Rattle.std.specs.Prelude.{ℕ, List}
 use Rattle.osek_base.specs.System.{System}
 use Rattle.search.specs.declared.outcome.Outcome.{Outcome}
 use Rattle.search.specs.declared.outcome.Outcome.TheVariants.{Decided, Undecided}
-use Rattle.run_bounds.specs.Bounds.{AreBounds}
+use Rattle.run_bounds.specs.Bounds.{AreBounds, AreBoundsUpTo}
 use Rattle.bounds.specs.declared.finding.Bounds.{Bounds}
 
--- where the search is decided, the peaks are bounds
-abbrev pub IfDecided : Outcome → Type 0 → Type 0
-IfDecided (Decided p) P = P
-IfDecided (Undecided obstacle p) P = Unit {0}
+-- one thing of every number of ticks, where the search is decided; else another of as many as all
+-- that can come was tried in
+abbrev pub Says : Outcome → Type 0 → (ℕ → Type 0) → Type 0
+Says (Decided p) ever up_to = ever
+Says (Undecided obstacle p) ever up_to = up_to p.levels
 
+-- the peaks are bounds
 abbrev pub AreFound : System → ℕ → List ℕ → Bounds → Type 0
 AreFound S mode distances found =
-    IfDecided found.outcome (AreBounds S mode distances found.cap found.peaks)
+    Says found.outcome (AreBounds S mode distances found.cap found.peaks)
+    (AreBoundsUpTo S mode distances found.cap found.peaks)

@@ -11,19 +11,20 @@ use crate::machines::{Machines, StateMachine, are_equal};
 use crate::node::Node;
 use crate::routines::put_routines;
 use crate::trails::Trails;
+use crate::watch::Watch;
 use bound_labels::{Labels, Peaks};
 use kernel::Machine;
 use needs::Needs;
 use osek_base::{IsrId, ModeId, System};
 use run_bounds::{nodes_are_kept, notes_stay, one_state_tells, subsets_may};
-use search::{Steps, subset_from};
+use search::{Progress, Steps, subset_from};
 use seen_machines::Watcher;
 use std::alloc::{AllocError, Global};
 use std::marker::Model;
 
 /// Ticks machines from state to state, and notes the greatest times that are seen.
 #[derive(Drop)]
-pub(crate) struct Explorer<'s> {
+pub(crate) struct Explorer<'s, 'w, W: Watch> {
     system: &'s System,
     needs: &'s Needs,
     mode: ModeId,
@@ -40,9 +41,10 @@ pub(crate) struct Explorer<'s> {
     peaks: Peaks,
     /// How it came to all of these, of which contracts see nothing.
     trails: Trails,
+    watch: &'w mut W,
 }
 
-impl<'s> Model for Explorer<'s> {
+impl<'s, 'w, W: Watch> Model for Explorer<'s, 'w, W> {
     ghost use Rattle.bounds.specs.Exploring.{Explorer as Seen, IsExploring};
 
     ghost Value = { Seen };
@@ -59,7 +61,7 @@ impl<'s> Model for Explorer<'s> {
         IsExploring (record { system = e.system.now; needs = e.needs.now }) e.machines e.current };
 }
 
-impl<'s> Explorer<'s> {
+impl<'s, 'w, W: Watch> Explorer<'s, 'w, W> {
     /// Nothing was tried yet.
     pub(crate) fn new(
         alloc: Global,
@@ -68,6 +70,7 @@ impl<'s> Explorer<'s> {
         mode: ModeId,
         distances: &'s [u32],
         cap: u32,
+        watch: &'w mut W,
     ) -> Result<Self, AllocError>
         requires { IsGround (record { system = system.now; needs = needs.now }) }
         ensures system { IfOk result (λ e. e.ground.system ≡ system.now) }
@@ -89,6 +92,7 @@ impl<'s> Explorer<'s> {
             watcher: Watcher::new(),
             peaks: Peaks::new(),
             trails: Trails::new(alloc, system)?,
+            watch,
         })
     }
 
@@ -112,7 +116,7 @@ impl<'s> Explorer<'s> {
     }
 }
 
-impl<'s> Steps for Explorer<'s> {
+impl<'s, 'w, W: Watch> Steps for Explorer<'s, 'w, W> {
     ghost use Rattle.run_bounds.specs.Nodes.{Setting as Rulings, rules_of};
     ghost use Rattle.bounds.specs.Exploring.{AreNotedIn, setting_of};
 
@@ -202,6 +206,10 @@ impl<'s> Steps for Explorer<'s> {
         if let Some(place) = node.place.take() {
             self.machines.release(place);
         }
+    }
+
+    fn watch(&mut self, progress: Progress) {
+        self.watch.searched(progress);
     }
 
     fn hash(&self, node: &Node) -> u64 {

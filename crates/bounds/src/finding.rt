@@ -5,10 +5,11 @@ ghost use Rattle.bounds.specs.Found.{AreFound};
 
 use crate::explorer::Explorer;
 use crate::trails::Trails;
+use crate::watch::Watch;
 use bound_labels::Peaks;
 use needs::needed_data;
 use osek_base::{ModeId, System};
-use run_bounds::searches_bound;
+use run_bounds::{levels_bound, searches_bound};
 use search::{Limits, Outcome, search};
 use std::alloc::{AllocError, Global};
 
@@ -41,13 +42,15 @@ pub struct Bounds {
 ///
 /// Where the search is decided, no run does worse than what it tells: after each number of ticks,
 /// each figure of it is at most the peak, where that is below the cap, and nothing is lost or
-/// refused that hasn't come. An error is want of memory.
-pub fn find_bounds(
+/// refused that hasn't come. Where it isn't, this holds after as many ticks at most as the levels
+/// that the search has done. Who watches is told how far it has come. An error is want of memory.
+pub fn find_bounds<W: Watch>(
     alloc: Global,
     system: &System,
     mode: ModeId,
     distances: &[u32],
     extent: Extent,
+    watch: &mut W,
 ) -> Result<Bounds, AllocError>
     ensures found { IfOk result (AreFound system.now mode distances.now) }
     ensures cap { IfOk result (λ found. found.cap ≡ extent.cap) }
@@ -55,12 +58,13 @@ pub fn find_bounds(
     // Who asks for the count of tasks learns that the system is proper.
     let _proper = system.task_count();
     let needs = needed_data(alloc, system)?;
-    let mut explorer = Explorer::new(alloc, system, &needs, mode, distances, extent.cap)?;
+    let mut explorer = Explorer::new(alloc, system, &needs, mode, distances, extent.cap, watch)?;
     let limits = Limits {
         nodes: extent.nodes,
         visits: extent.visits,
     };
     searches_bound();
+    levels_bound();
     let outcome = search(alloc, &mut explorer, limits)?;
     let (peaks, trails) = explorer.into_found();
     Ok(Bounds {

@@ -11,7 +11,9 @@ mod node;
 mod raised;
 mod routines;
 mod trails;
+mod watch;
 
 pub use figure::{Figure, figures_of};
 pub use finding::{Bounds, Extent, find_bounds};
 pub use trails::Trails;
+pub use watch::{Unwatched, Watch};

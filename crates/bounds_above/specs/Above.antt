@@ -3,10 +3,10 @@
 use Rattle.std.specs.Prelude.{ℕ, List}
 use Rattle.osek_base.specs.System.{System}
 use Rattle.bounds.specs.declared.finding.Bounds.{Bounds}
-use Rattle.bounds.specs.Found.{IfDecided}
+use Rattle.bounds.specs.Found.{Says}
 use Rattle.bound_labels.specs.Peaks.{Peaks}
 use Rattle.upper_bounds.specs.Above.{AreOneAbove}
-use Rattle.upper_figures.specs.FiguresAbove.{AreBoundsAbove}
+use Rattle.upper_figures.specs.FiguresAbove.{AreBoundsAbove, AreBoundsAboveUpTo}
 
 -- in the system itself, and in each that is separable at p and agrees with it from p upward
 pub record BoundAll (S : System) (p mode : ℕ) (distances : List ℕ) (cap : ℕ)
@@ -14,7 +14,15 @@ pub record BoundAll (S : System) (p mode : ℕ) (distances : List ℕ) (cap : �
   pub whole : AreBoundsAbove S p mode distances cap peaks
   pub others : (B : System) → AreOneAbove S B p → AreBoundsAbove B p mode distances cap peaks
 
--- where the search is decided
+-- for so many ticks at most
+pub record BoundAllUpTo (S : System) (p mode : ℕ) (distances : List ℕ) (cap : ℕ) (peaks : Peaks)
+    (count : ℕ) : Type 0 where
+  pub whole : AreBoundsAboveUpTo S p mode distances cap peaks count
+  pub others : (B : System) → AreOneAbove S B p
+      → AreBoundsAboveUpTo B p mode distances cap peaks count
+
+-- where the search is decided for ever, else for as many ticks as all that can come was tried in
 abbrev pub HoldAbove : System → ℕ → ℕ → List ℕ → Bounds → Type 0
 HoldAbove S p mode distances found =
-    IfDecided found.outcome (BoundAll S p mode distances found.cap found.peaks)
+    Says found.outcome (BoundAll S p mode distances found.cap found.peaks)
+    (BoundAllUpTo S p mode distances found.cap found.peaks)

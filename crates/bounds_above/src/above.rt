@@ -5,7 +5,7 @@ ghost use Rattle.osek_base.specs.Separable.{Separable};
 ghost use Rattle.osek_base.specs.Agree.{upper_part};
 ghost use Rattle.bounds_above.specs.Above.{HoldAbove};
 
-use bounds::{Bounds, Extent, find_bounds};
+use bounds::{Bounds, Extent, Watch, find_bounds};
 use osek_base::{ModeId, System};
 use std::alloc::{AllocError, Global};
 use upper_figures::bounds_of_the_part_hold;
@@ -25,15 +25,17 @@ pub struct UpperBounds {
 ///
 /// Where the search is decided, the bounds hold inside the system, and inside every system that is
 /// separable at p and agrees with it from p upward, whatever runs below: of upper tasks, all
-/// routines, and upper resources and alarms. How long upper tasks are blocked from below is no part
-/// of them. An error is want of memory.
-pub fn find_upper_bounds(
+/// routines, and upper resources and alarms. Where it isn't, they hold there after as many ticks at
+/// most as the levels that the search has done. How long upper tasks are blocked from below is no
+/// part of them. Who watches is told how far the search has come. An error is want of memory.
+pub fn find_upper_bounds<W: Watch>(
     alloc: Global,
     system: &System,
     p: u8,
     mode: ModeId,
     distances: &[u32],
     extent: Extent,
+    watch: &mut W,
 ) -> Result<UpperBounds, AllocError>
     requires { Separable system.now p }
     ensures part { IfOk result (λ upper. upper.part ≡ upper_part system.now p) }
@@ -44,6 +46,6 @@ pub fn find_upper_bounds(
     let _proper = system.task_count();
     bounds_of_the_part_hold();
     let part = upper_only(alloc, system, p)?;
-    let bounds = find_bounds(alloc, &part, mode, distances, extent)?;
+    let bounds = find_bounds(alloc, &part, mode, distances, extent, watch)?;
     Ok(UpperBounds { part, bounds })
 }

@@ -1,5 +1,6 @@
--- Where the nodes of a search stand for all that can come, what it has noted bounds each run.
-use Rattle.std.proofs.Common.{ℕ, zero, suc, ◌≡◌, ◌<◌, inl, inr, false, List, [], ◌∷◌, length, refl, sym, ◌∙◌, ap, subst, arith}
+-- Where the nodes of a search stand for all that can come, what it has noted bounds each run; where
+-- they do for so many steps, each run of so many ticks.
+use Rattle.std.proofs.Common.{ℕ, zero, suc, ◌≡◌, ◌<◌, ◌≤◌, inl, inr, false, List, [], ◌∷◌, length, refl, sym, ◌∙◌, ap, subst, arith}
 use Rattle.std.specs.Prelude.{Contains}
 use Rattle.std.proofs.lemmas.Bool.{cases_lt}
 use Rattle.osek_base.specs.declared.arrivals.Arrival.{Arrival}
@@ -25,12 +26,14 @@ use Rattle.figure_laws.specs.Times.{waited}
 use Rattle.run_figures.specs.RunFigures.{AreRunFigures, AreTicksOf, HaveNone, NoneMoreBefore, StayWithin, alarm_ticks, holder_ticks, routine_errors, routine_ticks, task_errors, task_ticks}
 use Rattle.run_figures.proofs.Nothing.{runs_have_none}
 use Rattle.run_figures.proofs.Times.{runs_stay_within}
-use Rattle.search.specs.Searched.{AreAll, IsTried}
+use Rattle.search.specs.Admitted.{IsAbove}
+use Rattle.search.specs.Levels.{AreLevels}
+use Rattle.search.specs.Searched.{AreAll, IsTried, IsVisited}
 use Rattle.bound_labels.specs.Labels.{ages_of, distance_of, hold_of, pending_of}
 use Rattle.bound_labels.specs.Peaks.{IsNoted, Peaks, has_come, peak}
 use Rattle.bound_labels.specs.Ticks.{holder_tick, routine_tick, task_tick}
 use Rattle.state_keys.specs.Key.{key}
-use Rattle.run_bounds.specs.Bounds.{AreWithin, KeepDistances, SearchesBound}
+use Rattle.run_bounds.specs.Bounds.{AreWithin, KeepDistances, LevelsBound, SearchesBound}
 use Rattle.run_bounds.specs.Nodes.{AreNoted, IsAfter, May, Node, Setting, StandsFor, failed_from, routines_of, rules_of, seen_from}
 use Rattle.run_bounds.proofs.Arrived.{StandFor, in_set, set_at, set_is_low, set_stands}
 use Rattle.run_bounds.proofs.Capped.{held_within, latency_within, leaving_within, oldest_within, waited_within}
@@ -39,9 +42,9 @@ use Rattle.run_bounds.proofs.Going.{boot_state}
 use Rattle.run_bounds.proofs.Seen.{ages_agree, alarm_same, holds_agree, lost_same, pending_agrees, refused_same, seen_alarms, seen_holders, seen_routines, seen_tasks}
 use Rattle.run_bounds.proofs.Standing.{AreBoundsAt, ages_at, at_least, boot_bounds, hold_at, pending_at, tick_bounds}
 
-module _ (s : Setting) (peaks : Peaks) (nodes : List Node) (proper : IsProper s.system)
-    (all : AreAll (rules_of s) (AreNoted s peaks) nodes) (arrivals : List Arrival)
-    (keep : KeepDistances s.system s.distances arrivals) where
+module _ (s : Setting) (peaks : Peaks) (count : ℕ) (levels : ℕ → List Node)
+    (proper : IsProper s.system) (all : AreLevels (rules_of s) (AreNoted s peaks) count levels)
+    (arrivals : List Arrival) (keep : KeepDistances s.system s.distances arrivals) where
   abbrev S : System
   S = s.system
 
@@ -55,14 +58,46 @@ module _ (s : Setting) (peaks : Peaks) (nodes : List Node) (proper : IsProper s.
 
   record HasNode (n : ℕ) : Type 0 where
     node : Node
-    there : Contains nodes node
+    there : Contains (levels n) node
     stands : StandsFor s node (after n)
     bounds : AreBoundsAt s arrivals n node.labels
+
+  -- and some that was visited
+  record HasVisited (n : ℕ) : Type 0 where
+    node : Node
+    stands : StandsFor s node (after n)
+    bounds : AreBoundsAt s arrivals n node.labels
+    visited : IsVisited (rules_of s) (AreNoted s peaks) (levels (suc n)) node
+
+  covers_too : (n : ℕ) (y : Node) → (has : HasNode n)
+      → IsVisited (rules_of s) (AreNoted s peaks) (levels (suc n)) y
+      → IsAbove (rules_of s) y has.node → HasVisited n
+  covers_too n y has visited (inl same) = record {
+    node = y;
+    stands = subst (λ (x : Node). StandsFor s x (after n)) (sym same) has.stands;
+    bounds = subst (λ (x : Node). AreBoundsAt s arrivals n x.labels) (sym same) has.bounds;
+    visited = visited;
+  }
+  covers_too n y has visited (inr covers) = record {
+    node = y;
+    stands = record {
+      comes = has.stands.comes;
+      key = has.stands.key ∙ sym covers.key;
+      over = has.stands.over ∙ sym covers.over;
+    };
+    bounds = at_least s arrivals n y.labels has.node.labels covers.labels has.bounds;
+    visited = visited;
+  }
+
+  visited_above : (n : ℕ) → n < count → HasNode n → HasVisited n
+  visited_above n low has =
+      let is = all.visited n low has.node has.there in
+      covers_too n is.node has is.visited is.above
 
   arrived : (n : ℕ) → StandFor S s.mode arrivals n (routines_of s (set n))
   arrived n = set_stands S arrivals n s.mode proper (λ i. keep.once i n)
 
-  may : (n : ℕ) → (run S s.mode arrivals n).state.over ≡ false → (has : HasNode n)
+  may : (n : ℕ) → (run S s.mode arrivals n).state.over ≡ false → (has : HasVisited n)
       → May s has.node (set n)
   may n going has = record {
     going = sym has.stands.over ∙ going;
@@ -74,13 +109,13 @@ module _ (s : Setting) (peaks : Peaks) (nodes : List Node) (proper : IsProper s.
         omega (arith, none, sooner);
   }
 
-  tried : (n : ℕ) → (run S s.mode arrivals n).state.over ≡ false → (has : HasNode n)
-      → IsTried (rules_of s) (AreNoted s peaks) nodes has.node (set n)
-  tried n going has = all.visited has.node has.there (set n) (may n going has)
+  tried : (n : ℕ) → (run S s.mode arrivals n).state.over ≡ false → (has : HasVisited n)
+      → IsTried (rules_of s) (AreNoted s peaks) (levels (suc n)) has.node (set n)
+  tried n going has = has.visited (set n) (may n going has)
 
-  first_node : HasNode 0
-  first_node =
-      let first = all.first in
+  first_node : 0 < count → HasNode 0
+  first_node some =
+      let first = all.first some in
       let is = first.4 in
       let state : (boot_in S s.mode).state ≡ after 0 = boot_state S s.mode arrivals proper in
       record {
@@ -94,7 +129,7 @@ module _ (s : Setting) (peaks : Peaks) (nodes : List Node) (proper : IsProper s.
         bounds = at_least s arrivals 0 first.1.labels _ is.labels (boot_bounds s arrivals);
       }
 
-  next_node : (n : ℕ) → (run S s.mode arrivals n).state.over ≡ false → HasNode n
+  next_node : (n : ℕ) → (run S s.mode arrivals n).state.over ≡ false → HasVisited n
       → HasNode (suc n)
   next_node n going has =
       let next = (tried n going has).next in
@@ -115,18 +150,19 @@ module _ (s : Setting) (peaks : Peaks) (nodes : List Node) (proper : IsProper s.
             (tick_bounds s arrivals n has.node.labels has.bounds (arrived n));
       }
 
-  node_at : (n : ℕ) → (run S s.mode arrivals n).state.over ≡ false → HasNode n
-  node_at zero going = first_node
-  node_at (suc n) going =
+  node_at : (n : ℕ) → n < count → (run S s.mode arrivals n).state.over ≡ false → HasNode n
+  node_at zero low going = first_node low
+  node_at (suc n) low going =
       let before : (run S s.mode arrivals n).state.over ≡ false =
       going_before S s.mode arrivals n going in
-      next_node n before (node_at n before)
+      let less : n < count = omega (arith, low) in
+      next_node n before (visited_above n less (node_at n less before))
 
   -- ---- what a tick shows
 
-  module _ (n : ℕ) (going : (run S s.mode arrivals n).state.over ≡ false) where
-    abbrev has : HasNode n
-    has = node_at n going
+  module _ (n : ℕ) (early : n < count) (going : (run S s.mode arrivals n).state.over ≡ false) where
+    abbrev has : HasVisited n
+    has = visited_above n early (node_at n early going)
 
     abbrev seen : Seen
     seen = seen_from s (set n) (after n)
@@ -223,12 +259,16 @@ going_at S mode arrivals (suc n) (o ∷ before) are i low = elim (cases_lt i n) 
       subst (λ k. (run S mode arrivals k).state.over ≡ false) same are.0.going
 ]
 
-module _ (s : Setting) (peaks : Peaks) (nodes : List Node) (proper : IsProper s.system)
-    (all : AreAll (rules_of s) (AreNoted s peaks) nodes) (arrivals : List Arrival) (n : ℕ)
+module _ (s : Setting) (peaks : Peaks) (count : ℕ) (levels : ℕ → List Node)
+    (proper : IsProper s.system) (all : AreLevels (rules_of s) (AreNoted s peaks) count levels)
+    (arrivals : List Arrival) (n : ℕ) (few : n ≤ count)
     (f : RunFigures) (keep : KeepDistances s.system s.distances arrivals)
     (are : AreRunFigures s.system s.mode arrivals n f) where
   going : (i : ℕ) → i < n → (run s.system s.mode arrivals i).state.over ≡ false
   going i low = going_at s.system s.mode arrivals n are.seen are.ticks i low
+
+  soon : (i : ℕ) → i < n → i < count
+  soon i inside = omega (arith, inside, few)
 
   stay : StayWithin s.system s.mode arrivals n f
   stay = runs_stay_within s.system s.mode arrivals n f are
@@ -240,13 +280,13 @@ module _ (s : Setting) (peaks : Peaks) (nodes : List Node) (proper : IsProper s.
       → NoneMoreBefore ages oldest_age (task_ticks s.system s.mode arrivals k)
       (peak peaks.responses k) n
   none_older k low below_cap i inside =
-      oldest_low s peaks nodes proper all arrivals keep i (going i inside) k low below_cap
+      oldest_low s peaks count levels proper all arrivals keep i (soon i inside) (going i inside) k low below_cap
 
   none_waits_longer : (k : ℕ) → k < length s.system.routines → peak peaks.latencies k < s.cap
       → NoneMoreBefore pending waited (routine_ticks s.system s.mode arrivals k)
       (peak peaks.latencies k) n
   none_waits_longer k low below_cap i inside =
-      waited_low s peaks nodes proper all arrivals keep i (going i inside) k low below_cap
+      waited_low s peaks count levels proper all arrivals keep i (soon i inside) (going i inside) k low below_cap
 
   within : AreWithin s.system s.cap peaks f
   within = record {
@@ -266,30 +306,45 @@ module _ (s : Setting) (peaks : Peaks) (nodes : List Node) (proper : IsProper s.
         stay.waits k (peak peaks.latencies k) low (none_waits_longer k low below_cap);
     holds = λ r low below_cap.
         stay.holds r (peak peaks.holds r) low
-        (λ i inside. held_low s peaks nodes proper all arrivals keep i (going i inside) r low
+        (λ i inside. held_low s peaks count levels proper all arrivals keep i (soon i inside) (going i inside) r low
         below_cap);
     losses = λ k low none.
         have.losses k low
-        (λ i inside. none_lost s peaks nodes proper all arrivals keep i (going i inside) k low
+        (λ i inside. none_lost s peaks count levels proper all arrivals keep i (soon i inside) (going i inside) k low
         none);
     refusals = λ k low none.
         have.refusals k low
-        (λ i inside. none_refused s peaks nodes proper all arrivals keep i (going i inside) k
+        (λ i inside. none_refused s peaks count levels proper all arrivals keep i (soon i inside) (going i inside) k
         low none);
     actions = λ a low none.
         have.actions a low
-        (λ i inside. none_acts s peaks nodes proper all arrivals keep i (going i inside) a low
+        (λ i inside. none_acts s peaks count levels proper all arrivals keep i (soon i inside) (going i inside) a low
         none);
     errors = λ k low none.
         have.errors k low
-        (λ i inside. no_error s peaks nodes proper all arrivals keep i (going i inside) k low
-        none);
+        (λ i inside. no_error s peaks count levels proper all arrivals keep i (soon i inside)
+        (going i inside) k low none);
     routine_errors = λ k low none.
         have.routine_errors k low
-        (λ i inside. no_routine_error s peaks nodes proper all arrivals keep i (going i inside)
-        k low none);
+        (λ i inside. no_routine_error s peaks count levels proper all arrivals keep i
+        (soon i inside) (going i inside) k low none);
   }
+
+pub levels_bound : LevelsBound
+levels_bound s peaks count levels proper enough own all arrivals n f few keep are =
+    within s peaks count levels proper all arrivals n few f keep are
+
+-- nodes that stand for all that can come do for any number of steps
+levels_of : (s : Setting) (peaks : Peaks) (nodes : List Node)
+    → AreAll (rules_of s) (AreNoted s peaks) nodes
+    → (count : ℕ) → AreLevels (rules_of s) (AreNoted s peaks) count (λ _. nodes)
+levels_of s peaks nodes all count = record {
+  first = λ _. all.first;
+  visited =
+      λ k low x there. record { node = x; above = inl refl; visited = all.visited x there };
+}
 
 pub searches_bound : SearchesBound
 searches_bound s peaks nodes proper enough own all arrivals n f keep are =
-    within s peaks nodes proper all arrivals n f keep are
+    levels_bound s peaks n (λ _. nodes) proper enough own (levels_of s peaks nodes all n) arrivals
+    n f (omega arith) keep are

@@ -21,4 +21,9 @@ nodes_are_kept s = record {
         over = is.over ∙ sym covers.over;
         labels = at_least_joined z.labels y.labels _ covers.labels is.labels;
       };
+  joined = λ x y z one other. record {
+    key = one.key ∙ other.key;
+    over = one.over ∙ other.over;
+    labels = at_least_joined x.labels y.labels z.labels one.labels other.labels;
+  };
 }

@@ -17,6 +17,7 @@ use Rattle.figure_laws.specs.Times.{response_time, routine_time}
 use Rattle.run_figures.specs.RunFigures.{AreRunFigures}
 use Rattle.state_keys.specs.InRange.{NeedsOwnWords}
 use Rattle.search.specs.Searched.{AreAll}
+use Rattle.search.specs.Levels.{AreLevels}
 use Rattle.search.specs.Rules.{AreKept}
 use Rattle.bound_labels.specs.Labels.{distance_of}
 use Rattle.bound_labels.specs.Peaks.{Peaks, has_come, peak}
@@ -62,6 +63,13 @@ AreBounds S mode distances cap peaks =
     (arrivals : List Arrival) (n : ℕ) (f : RunFigures) → KeepDistances S distances arrivals
     → AreRunFigures S mode arrivals n f → AreWithin S cap peaks f
 
+-- and for so many ticks at most
+abbrev pub AreBoundsUpTo : System → ℕ → List ℕ → ℕ → Peaks → ℕ → Type 0
+AreBoundsUpTo S mode distances cap peaks count =
+    (arrivals : List Arrival) (n : ℕ) (f : RunFigures) → n ≤ count
+    → KeepDistances S distances arrivals → AreRunFigures S mode arrivals n f
+    → AreWithin S cap peaks f
+
 -- ---- the laws
 
 -- where the nodes of a search stand for all that can come, the peaks that it has noted are bounds
@@ -71,6 +79,14 @@ SearchesBound =
     → Suffices s.system s.need → NeedsOwnWords s.system s.need
     → AreAll (rules_of s) (AreNoted s peaks) nodes
     → AreBounds s.system s.mode s.distances s.cap peaks
+
+-- where lists of nodes stand for all that can come in so many steps, in runs of so many ticks
+abbrev pub LevelsBound : Type 0
+LevelsBound =
+    (s : Setting) (peaks : Peaks) (count : ℕ) (levels : ℕ → List Node) → IsProper s.system
+    → Suffices s.system s.need → NeedsOwnWords s.system s.need
+    → AreLevels (rules_of s) (AreNoted s peaks) count levels
+    → AreBoundsUpTo s.system s.mode s.distances s.cap peaks count
 
 -- a node stands for what each node stands for that it covers
 abbrev pub NodesAreKept : Type 0

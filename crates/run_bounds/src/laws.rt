@@ -1,7 +1,7 @@
 //! The laws, one function each. They do nothing: the clause is the law.
 
 ghost use Rattle.bound_labels.specs.Peaks.{NotesStay};
-ghost use Rattle.run_bounds.specs.Bounds.{NodesAreKept, SearchesBound};
+ghost use Rattle.run_bounds.specs.Bounds.{LevelsBound, NodesAreKept, SearchesBound};
 ghost use Rattle.run_bounds.specs.Going.{KeysTellFutures};
 ghost use Rattle.run_bounds.specs.Trying.{
   LabelsAreOrdered,
@@ -59,4 +59,10 @@ pub fn nodes_are_kept()
 /// interrupts keep their distances, after every number of ticks.
 pub fn searches_bound()
     ensures { SearchesBound }
+{}
+
+/// Where a search has tried all that can come in so many ticks, what it has noted bounds the figures
+/// of every run whose interrupts keep their distances, after at most so many.
+pub fn levels_bound()
+    ensures { LevelsBound }
 {}

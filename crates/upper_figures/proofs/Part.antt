@@ -2,9 +2,11 @@
 use Rattle.std.proofs.Common.{◌≡◌, ℕ, ◌<◌, List, length, refl, sym, ◌∙◌, ap, subst, arith}
 use Rattle.std.specs.Prelude.{IsTrue}
 use Rattle.std.proofs.lemmas.List.{length-map}
+use Rattle.osek_base.specs.declared.arrivals.Arrival.{Arrival}
 use Rattle.osek_base.specs.System.{Alarm, System, alarm}
 use Rattle.osek_base.specs.Agree.{Agree, is_upper_declared, resource, uncounted, upper_alarms, upper_part, upper_resources}
 use Rattle.osek_base.specs.declared.task.Property.{Property}
+use Rattle.osek_base.specs.Trace.{run}
 use Rattle.osek_base.specs.Upper.{is_upper_alarm}
 use Rattle.partition_check.proofs.PartAgrees.{all_upper}
 use Rattle.partition_check.proofs.Picked.{all_rank}
@@ -17,7 +19,7 @@ use Rattle.upper_bounds.proofs.Sides.{of_the_part, routine_count, upper_there, w
 use Rattle.upper_figures.specs.FiguresAbove.{BoundsHoldIn, BoundsOfThePartHold, alarm_in_part, resource_in_part}
 use Rattle.upper_figures.specs.ShownAbove.{TicksShowTheSame, UpperPartsShowTheSame}
 use Rattle.upper_figures.proofs.Ticks.{tick_shows_the_same}
-use Rattle.upper_figures.proofs.Within.{AreNumbered, bounds_there}
+use Rattle.upper_figures.proofs.Within.{AreNumbered, bounds_there, bounds_there_up_to}
 
 -- ---- what ticks show
 
@@ -134,14 +136,21 @@ module _ (S B : System) (p : ℕ) (pair : AreOneAbove S B p) where
     alarms = same_alarm;
   }
 
+  over_alike : (mode : ℕ) (arrivals : List Arrival) (n : ℕ)
+      → (run B mode arrivals n).state.over ≡ (run part mode arrivals n).state.over
+  over_alike mode arrivals n =
+      ((states_are_seen_the_same.states.others B part p with_that_part).between mode arrivals
+      n).over
+
   hold_in : BoundsHoldIn S B p
-  hold_in mode distances cap peaks bounds =
-      bounds_there B part p numbered with_that_part.proper_there
-      (ticks_show B part p with_that_part)
-      (λ other arrivals n.
-      ((states_are_seen_the_same.states.others B part p with_that_part).between other arrivals
-      n).over)
-      mode distances cap peaks bounds
+  hold_in = record {
+    ever =
+        bounds_there B part p numbered with_that_part.proper_there
+        (ticks_show B part p with_that_part) over_alike;
+    up_to =
+        bounds_there_up_to B part p numbered with_that_part.proper_there
+        (ticks_show B part p with_that_part) over_alike;
+  }
 
 -- ---- the law
 

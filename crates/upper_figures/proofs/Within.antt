@@ -23,9 +23,9 @@ use Rattle.figure_laws.specs.Labels.{IsWithin}
 use Rattle.figure_laws.specs.Times.{response_time, routine_time}
 use Rattle.run_figures.specs.RunFigures.{AreRunFigures, AreTicksOf}
 use Rattle.bound_labels.specs.Peaks.{Peaks, peak}
-use Rattle.run_bounds.specs.Bounds.{AreBounds, AreWithin, KeepDistances}
+use Rattle.run_bounds.specs.Bounds.{AreBounds, AreBoundsUpTo, AreWithin, KeepDistances}
 use Rattle.upper_bounds.specs.Above.{IsTheSameAlarm, IsTheSameResource, IsUpperTask}
-use Rattle.upper_figures.specs.FiguresAbove.{AreBoundsAbove, AreWithinAbove, alarm_in_part, resource_in_part}
+use Rattle.upper_figures.specs.FiguresAbove.{AreBoundsAbove, AreBoundsAboveUpTo, AreWithinAbove, alarm_in_part, resource_in_part}
 use Rattle.upper_figures.specs.ShownAbove.{TicksShowTheSame}
 use Rattle.upper_figures.proofs.Bare.{bare_task, task_errors_bare, task_refused_bare, task_responses_bare}
 use Rattle.upper_figures.proofs.Carried.{alarms_same, declared_same, last_same, routines_same, scheduler_same, tasks_same}
@@ -238,6 +238,23 @@ module _ (S B : System) (p : ℕ) (numbers : AreNumbered S B p) (shown : TicksSh
 
 -- ---- the law for two systems
 
+pub bounds_there_up_to : (S B : System) (p : ℕ) → AreNumbered S B p → IsProper B
+    → TicksShowTheSame S B p
+    → ((mode : ℕ) (arrivals : List Arrival) (n : ℕ)
+    → (run S mode arrivals n).state.over ≡ (run B mode arrivals n).state.over)
+    → (mode : ℕ) (distances : List ℕ) (cap : ℕ) (peaks : Peaks) (count : ℕ)
+    → AreBoundsUpTo B mode distances cap peaks count
+    → AreBoundsAboveUpTo S p mode distances cap peaks count
+bounds_there_up_to S B p numbers proper shown over mode distances cap peaks count bounds arrivals n f
+    few keep are =
+    let going : (i : ℕ) → i < n → (run B mode arrivals i).state.over ≡ false =
+    λ i low. sym (over mode arrivals i)
+    ∙ going_at S mode arrivals n are.seen are.ticks i low in
+    within_above S B p numbers shown mode cap peaks arrivals n f are
+    (bounds arrivals n (figures_there S B p numbers shown mode cap peaks arrivals n f are) few
+    (distances_there S B distances arrivals numbers.routines keep)
+    (are_run_figures B mode arrivals n proper are.small going))
+
 pub bounds_there : (S B : System) (p : ℕ) → AreNumbered S B p → IsProper B
     → TicksShowTheSame S B p
     → ((mode : ℕ) (arrivals : List Arrival) (n : ℕ)
@@ -245,10 +262,5 @@ pub bounds_there : (S B : System) (p : ℕ) → AreNumbered S B p → IsProper B
     → (mode : ℕ) (distances : List ℕ) (cap : ℕ) (peaks : Peaks)
     → AreBounds B mode distances cap peaks → AreBoundsAbove S p mode distances cap peaks
 bounds_there S B p numbers proper shown over mode distances cap peaks bounds arrivals n f keep are =
-    let going : (i : ℕ) → i < n → (run B mode arrivals i).state.over ≡ false =
-    λ i low. sym (over mode arrivals i)
-    ∙ going_at S mode arrivals n are.seen are.ticks i low in
-    within_above S B p numbers shown mode cap peaks arrivals n f are
-    (bounds arrivals n (figures_there S B p numbers shown mode cap peaks arrivals n f are)
-    (distances_there S B distances arrivals numbers.routines keep)
-    (are_run_figures B mode arrivals n proper are.small going))
+    bounds_there_up_to S B p numbers proper shown over mode distances cap peaks n
+    (λ others m g few. bounds others m g) arrivals n f (omega arith) keep are

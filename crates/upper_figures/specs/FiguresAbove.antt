@@ -1,6 +1,6 @@
 -- Partitions, no part of the standards. Bounds that are found in the upper part by itself hold in
 -- every system with that part.
-use Rattle.std.specs.Prelude.{ℕ, ◌≡◌, ◌<◌, false, IsTrue, List, [], length, slice_index_or}
+use Rattle.std.specs.Prelude.{ℕ, ◌≡◌, ◌<◌, ◌≤◌, false, IsTrue, List, [], length, slice_index_or}
 use Rattle.osek_base.specs.declared.arrivals.Arrival.{Arrival}
 use Rattle.osek_base.specs.System.{System}
 use Rattle.osek_base.specs.Agree.{is_upper_declared, rank, upper_part}
@@ -15,7 +15,7 @@ use Rattle.figure_laws.specs.Labels.{IsWithin}
 use Rattle.figure_laws.specs.Times.{response_time, routine_time}
 use Rattle.run_figures.specs.RunFigures.{AreRunFigures}
 use Rattle.bound_labels.specs.Peaks.{Peaks, has_come, peak}
-use Rattle.run_bounds.specs.Bounds.{AreBounds, KeepDistances}
+use Rattle.run_bounds.specs.Bounds.{AreBounds, AreBoundsUpTo, KeepDistances}
 use Rattle.upper_bounds.specs.Above.{AreOneAbove, IsUpperTask}
 
 -- the numbers that an upper resource and an upper alarm have in the upper part by itself. Upper
@@ -67,12 +67,21 @@ AreBoundsAbove S p mode distances cap peaks =
     (arrivals : List Arrival) (n : ℕ) (f : RunFigures) → KeepDistances S distances arrivals
     → AreRunFigures S mode arrivals n f → AreWithinAbove S p cap peaks f
 
--- bounds of the upper part of a system by itself hold in another one
-abbrev pub BoundsHoldIn : System → System → ℕ → Type 0
-BoundsHoldIn S B p =
-    (mode : ℕ) (distances : List ℕ) (cap : ℕ) (peaks : Peaks)
-    → AreBounds (upper_part S p) mode distances cap peaks
-    → AreBoundsAbove B p mode distances cap peaks
+-- and for so many ticks at most
+abbrev pub AreBoundsAboveUpTo : System → ℕ → ℕ → List ℕ → ℕ → Peaks → ℕ → Type 0
+AreBoundsAboveUpTo S p mode distances cap peaks count =
+    (arrivals : List Arrival) (n : ℕ) (f : RunFigures) → n ≤ count
+    → KeepDistances S distances arrivals → AreRunFigures S mode arrivals n f
+    → AreWithinAbove S p cap peaks f
+
+-- bounds of the upper part of a system by itself hold in another one, for as many ticks
+pub record BoundsHoldIn (S B : System) (p : ℕ) : Type 0 where
+  pub ever : (mode : ℕ) (distances : List ℕ) (cap : ℕ) (peaks : Peaks)
+      → AreBounds (upper_part S p) mode distances cap peaks
+      → AreBoundsAbove B p mode distances cap peaks
+  pub up_to : (mode : ℕ) (distances : List ℕ) (cap : ℕ) (peaks : Peaks) (count : ℕ)
+      → AreBoundsUpTo (upper_part S p) mode distances cap peaks count
+      → AreBoundsAboveUpTo B p mode distances cap peaks count
 
 -- in the whole system, and in each that agrees with it from p upward, whatever stands below
 pub record BoundsOfThePartHold : Type 0 where

@@ -5,7 +5,7 @@ use Rattle.bounds.proofs.Exploring.{free_choices, next_choice, no_choice}
 use Rattle.bounds.proofs.explorer.ExplorerSteps.choice_from.Goals as goal
 
 pub returns-clause-next : goal.returns-clause-next
-returns-clause-next c =
+returns-clause-next g c =
     let e : Explorer =
     record {
       ground = record { system = c.self.inside.system.now; needs = c.self.inside.needs.now };
@@ -34,7 +34,7 @@ returns-clause-next c =
     c.subset_from.ensures.within c.subset_from.ensures.next
 
 pub returns-clause-none : goal.returns-clause-none
-returns-clause-none c =
+returns-clause-none g c =
     let e : Explorer =
     record {
       ground = record { system = c.self.inside.system.now; needs = c.self.inside.needs.now };

@@ -5,19 +5,19 @@ use Rattle.bounds.proofs.Exploring.{first_is, is_first, same_stay}
 use Rattle.bounds.proofs.explorer.ExplorerSteps.first.Goals as goal
 
 pub returns-in_err-boot_again-clause-notes : goal.returns-in_err-boot_again-clause-notes
-returns-in_err-boot_again-clause-notes c = same_stay c.args.self.now _ c.self.view_is
+returns-in_err-boot_again-clause-notes g c = same_stay c.args.self.now _ c.self.view_is
 
 pub returns-in_err-labels-clause-notes : goal.returns-in_err-labels-clause-notes
-returns-in_err-labels-clause-notes c = same_stay c.args.self.now _ c.self.view_is
+returns-in_err-labels-clause-notes g c = same_stay c.args.self.now _ c.self.view_is
 
 pub returns-in_err-node_of-clause-notes : goal.returns-in_err-node_of-clause-notes
-returns-in_err-node_of-clause-notes c = same_stay c.args.self.now _ c.self.view_is
+returns-in_err-node_of-clause-notes g c = same_stay c.args.self.now _ c.self.view_is
 
 pub returns-clause-notes : goal.returns-clause-notes
-returns-clause-notes c = same_stay c.args.self.now _ c.self.view_is
+returns-clause-notes g c = same_stay c.args.self.now _ c.self.view_is
 
 pub returns-clause-first : goal.returns-clause-first
-returns-clause-first c =
+returns-clause-first g c =
     let e : Explorer =
     record {
       ground = record { system = c.self.inside.system.now; needs = c.self.inside.needs.now };

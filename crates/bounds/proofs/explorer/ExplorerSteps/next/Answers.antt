@@ -16,7 +16,7 @@ use Rattle.bounds.proofs.Exploring.{IsMade, Ticked, are_noted, is_in_of, is_next
 use Rattle.bounds.proofs.explorer.ExplorerSteps.next.Goals as goal
 
 pub returns-clause-next : goal.returns-clause-next
-returns-clause-next c =
+returns-clause-next g c =
     let e : Explorer =
     record {
       ground = record { system = c.self.inside.system.now; needs = c.self.inside.needs.now };
@@ -69,7 +69,7 @@ returns-clause-next c =
     made))
 
 pub returns-clause-noted : goal.returns-clause-noted
-returns-clause-noted c =
+returns-clause-noted g c =
     let e : Explorer =
     record {
       ground = record { system = c.self.inside.system.now; needs = c.self.inside.needs.now };
