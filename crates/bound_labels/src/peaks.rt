@@ -153,7 +153,7 @@ fn note_errors(marks: &mut [bool], seen: &Observation)
         → is_task (failed_of seen.now) k ≡ false }
     ensures rises { (k : ℕ) → has_come marks.new k ≡ false → has_come marks.old k ≡ false }
 {
-    if let Some(Owner::Task(task)) = failed_of(seen) {
+    if let Some(Owner::Task(task)) = &failed_of(seen) {
         mark_known(marks, task.number() as usize);
     }
 }
@@ -165,7 +165,7 @@ fn note_routine_errors(marks: &mut [bool], seen: &Observation)
         → is_routine (failed_of seen.now) i ≡ false }
     ensures rises { (i : ℕ) → has_come marks.new i ≡ false → has_come marks.old i ≡ false }
 {
-    if let Some(Owner::Routine(routine)) = failed_of(seen) {
+    if let Some(Owner::Routine(routine)) = &failed_of(seen) {
         mark_known(marks, routine.number() as usize);
     }
 }
