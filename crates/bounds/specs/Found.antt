@@ -6,8 +6,8 @@ use Rattle.search.specs.declared.outcome.Outcome.TheVariants.{Decided, Undecided
 use Rattle.run_bounds.specs.Bounds.{AreBounds, AreBoundsUpTo}
 use Rattle.bounds.specs.declared.finding.Bounds.{Bounds}
 
--- one thing of every number of ticks, where the search is decided; else another of as many as all
--- that can come was tried in
+-- what holds for ever, where the search is decided; else what holds for so many ticks, for as many
+-- as it has done levels
 abbrev pub Says : Outcome → Type 0 → (ℕ → Type 0) → Type 0
 Says (Decided p) ever up_to = ever
 Says (Undecided obstacle p) ever up_to = up_to p.levels

@@ -16,6 +16,8 @@ struct Place {
 struct Walk {
     /// How many steps the longest round had.
     longest: u32,
+    /// How many visits it was told of.
+    told: u64,
 }
 
 impl Steps for Walk {
@@ -87,7 +89,9 @@ impl Steps for Walk {
 
     fn settle(&mut self, _node: &mut Place) {}
 
-    fn watch(&mut self, _progress: Progress) {}
+    fn watch(&mut self, progress: Progress) {
+        self.told = progress.visits;
+    }
 
     fn hash(&self, node: &Place) -> u64 {
         u64::from(node.number)
@@ -96,11 +100,14 @@ impl Steps for Walk {
     fn kept(&self) {}
 }
 
-/// How the search ends within limits, and the longest round.
-fn searched(alloc: Global, nodes: usize, visits: u64) -> Result<(Outcome, u32), AllocError> {
-    let mut walk = Walk { longest: 0 };
+/// How the search ends within limits, the longest round, and how many visits the walk was told of.
+fn searched(alloc: Global, nodes: usize, visits: u64) -> Result<(Outcome, u32, u64), AllocError> {
+    let mut walk = Walk {
+        longest: 0,
+        told: 0,
+    };
     let outcome = search(alloc, &mut walk, Limits { nodes, visits })?;
-    Ok((outcome, walk.longest))
+    Ok((outcome, walk.longest, walk.told))
 }
 
 fn progress(nodes: usize, open_nodes: usize, visits: u64, steps: u64, levels: u64) -> Progress {
@@ -119,23 +126,25 @@ fn progress(nodes: usize, open_nodes: usize, visits: u64, steps: u64, levels: u6
 #[test]
 fn a_walk_round_five_places(rt: HostRuntime) -> Result<(), Fail> {
     let ends = [
-        (5, 9, Outcome::Decided(progress(5, 0, 9, 18, 5)), 5),
+        (5, 9, Outcome::Decided(progress(5, 0, 9, 18, 5)), 5, 9),
         (
             5,
             3,
             Outcome::Undecided(Obstacle::Visits, progress(5, 3, 3, 6, 2)),
             0,
+            3,
         ),
         (
             4,
             9,
             Outcome::Undecided(Obstacle::Nodes, progress(4, 3, 1, 4, 1)),
             0,
+            1,
         ),
     ];
-    for (nodes, visits, outcome, longest) in ends {
+    for (nodes, visits, outcome, longest, told) in ends {
         let end = searched(rt.alloc(), nodes, visits)?;
-        assert!(rt; end == (outcome, longest));
+        assert!(rt; end == (outcome, longest, told));
     }
     Ok(())
 }

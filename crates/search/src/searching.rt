@@ -1,6 +1,6 @@
 //! The search: it visits nodes until none is open.
 
-ghost use Rattle.std.specs.Prelude.{◌≡◌, ◌≢◌, ℕ, ◌+◌, ◌-◌, ◌^◌, ◌<◌, ◌≤◌, length, true, Any, Some, None, IfOk, IfNone, IfSome, slice_get};
+ghost use Rattle.std.specs.Prelude.{◌≡◌, ◌≢◌, ◌<◌, ◌≤◌, length, Any, Some, IfOk, IfNone, IfSome, slice_get};
 ghost use Rattle.search.specs.Rules.{StaysNoted};
 ghost use Rattle.search.specs.Admitted.{Admits, OthersStay};
 ghost use Rattle.search.specs.Visited.{AreVisited, Closes, GoesOn, Visits, closed_by};
