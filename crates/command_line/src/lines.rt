@@ -230,7 +230,7 @@ fn import_line<'a>(alloc: Global) -> Result<Command<'a>, AllocError> {
 
 /// The program's line with its subcommands.
 pub(crate) fn lines<'a>(alloc: Global) -> Result<Command<'a>, AllocError> {
-    Command::new(alloc, "osek_run")
+    Command::new(alloc, "osek")
         .about("Runs a system that an OIL file and programs describe")
         .version(help::VERSION)
         .long_version(help::LONG_VERSION)
