@@ -12,7 +12,12 @@ use tracer::read_system;
 
 /// Writes how many things are wrong with a description, and each at its place.
 fn write_remarks<E: Write>(source: Source<'_>, remarks: &[Remark], err: &mut E) -> io::Result<()> {
-    writeln!(err, "toml: {} faults", remarks.len())?;
+    let word = if remarks.len() == 1 {
+        "fault"
+    } else {
+        "faults"
+    };
+    writeln!(err, "toml: {} {word}", remarks.len())?;
     for remark in remarks {
         source.tell(remark.place, &[Piece::Text(remark.text.as_str())], err)?;
     }
