@@ -10,7 +10,7 @@ _osek_options() {
     vcd) echo "$system --from --to" ;;
     timeline) echo "$system --from --to --rows" ;;
     stats) echo "$system --csv --json --from --to --limit --no-loss --no-refusal" ;;
-    bounds) echo "$system --apart --states --longest --upper --csv --witness" ;;
+    bounds) echo "$system --apart --states --longest --upper --csv --json --witness" ;;
     check) echo "$system --all" ;;
     partitions) echo "$system --joined" ;;
     class | show) echo "$system" ;;
