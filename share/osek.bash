@@ -10,7 +10,7 @@ _osek_options() {
     vcd) echo "$system --from --to" ;;
     timeline) echo "$system --from --to --rows" ;;
     stats) echo "$system --csv --json --from --to --limit --no-loss --no-refusal" ;;
-    bounds) echo "$system --apart --states --longest --upper --csv" ;;
+    bounds) echo "$system --apart --states --longest --upper --csv --json --witness" ;;
     check) echo "$system --all" ;;
     partitions) echo "$system --joined" ;;
     class | show) echo "$system" ;;
@@ -42,7 +42,7 @@ _osek() {
       mapfile -t COMPREPLY < <(compgen -d -- "$word")
       return
       ;;
-    --from | --to | --rows | --limit | --apart | --states | --longest | --upper) return ;;
+    --from | --to | --rows | --limit | --apart | --states | --longest | --upper | --witness) return ;;
   esac
   case $subcommand,$word in
     *,-*) mapfile -t COMPREPLY < <(compgen -W "$(_osek_options "$subcommand")" -- "$word") ;;

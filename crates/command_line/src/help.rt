@@ -65,60 +65,60 @@ pub(crate) const EXPLAIN: &str =
     "Says behind a refusal or a denial, on standard error, where it is and what would be allowed";
 
 pub(crate) const TRACE_EXAMPLE: &str = "Example, ten ticks in the mode Normal:
-  osek_run trace system.oil programs.asm arrivals.irq Normal 10
+  osek trace system.oil programs.asm arrivals.irq Normal 10
 
 With the numbers of blockers:
-  osek_run trace --blocking system.oil programs.asm arrivals.irq Normal 10
+  osek trace --blocking system.oil programs.asm arrivals.irq Normal 10
 
 The files system.oil, programs.asm and arrivals.irq of a folder:
-  osek_run trace --in FOLDER Normal 10";
+  osek trace --in FOLDER Normal 10";
 
 pub(crate) const UPPER_EXAMPLE: &str =
     "Example, ten ticks in the mode Normal, seen from priority 5 upward:
-  osek_run upper system.oil programs.asm arrivals.irq Normal 10 5";
+  osek upper system.oil programs.asm arrivals.irq Normal 10 5";
 
 pub(crate) const VCD_EXAMPLE: &str = "Example, a thousand ticks in the mode Normal, for GTKWave:
-  osek_run vcd system.oil programs.asm arrivals.irq Normal 1000 > run.vcd";
+  osek vcd system.oil programs.asm arrivals.irq Normal 1000 > run.vcd";
 
 pub(crate) const TIMELINE_EXAMPLE: &str =
     "At most 5000 ticks are drawn. Example, the ticks 900 to 999 in the mode Normal:
-  osek_run timeline system.oil programs.asm arrivals.irq Normal 1000 --from 900 > run.svg";
+  osek timeline system.oil programs.asm arrivals.irq Normal 1000 --from 900 > run.svg";
 
 pub(crate) const STATS_EXAMPLE: &str = "Example, a million ticks in the mode Normal:
-  osek_run stats system.oil programs.asm arrivals.irq Normal 1000000
+  osek stats system.oil programs.asm arrivals.irq Normal 1000000
 
 Held to limits, for scripts:
-  osek_run stats system.oil programs.asm arrivals.irq Normal 1000 --limit Control=20 --no-loss";
+  osek stats system.oil programs.asm arrivals.irq Normal 1000 --limit Control=20 --no-loss";
 
 pub(crate) const CHECK_EXAMPLE: &str =
     "Prints `accepted`, or `denied:` with the first rule that is broken, and where.
 
 Example, the cut at priority 5:
-  osek_run check system.oil programs.asm 5
+  osek check system.oil programs.asm 5
 
 All that is in its way, each explained:
-  osek_run check --all --explain system.oil programs.asm 5";
+  osek check --all --explain system.oil programs.asm 5";
 
 pub(crate) const PARTITIONS_EXAMPLE: &str =
     "Prints a line for each priority: `P: accepted`, or `P: denied:` with the first rule that is broken, and where.
 
 Example:
-  osek_run partitions system.oil programs.asm
+  osek partitions system.oil programs.asm
 
 Neighbours joined, as `6..10: accepted`:
-  osek_run partitions --joined system.oil programs.asm";
+  osek partitions --joined system.oil programs.asm";
 
 pub(crate) const CLASS_EXAMPLE: &str = "Prints BCC1, BCC2, ECC1 or ECC2.
 
 Example:
-  osek_run class system.oil programs.asm";
+  osek class system.oil programs.asm";
 
 pub(crate) const SHOW_EXAMPLE: &str =
     "On standard output: the class, and a table for each kind of objects, with numbers, ceilings and masks. On standard
 error: a line for each mistake, as an event that a task waits for and doesn't list, or an object that nobody uses.
 
 Example:
-  osek_run show system.oil programs.asm";
+  osek show system.oil programs.asm";
 
 pub(crate) const APART: &str =
     "Interrupts of the routine come at least so many ticks apart, 1 to 1000000; 1 unless it is said";
@@ -151,10 +151,10 @@ pub(crate) const BOUNDS_EXAMPLE: &str =
 would have to be kept, `undecided:` is printed, and the exit status is 5.
 
 Example, interrupts of Crank at least 20 ticks apart:
-  osek_run bounds system.oil programs.asm Normal --apart Crank=20
+  osek bounds system.oil programs.asm Normal --apart Crank=20
 
 A run in which a response of the task Inject takes as many ticks; their number stands on standard error:
-  osek_run bounds system.oil programs.asm Normal --apart Crank=20 --witness Inject > longest.irq";
+  osek bounds system.oil programs.asm Normal --apart Crank=20 --witness Inject > longest.irq";
 
 pub(crate) const FILE: &str = "The description, in TOML: tasks, interrupts and alarms";
 
@@ -165,7 +165,7 @@ pub(crate) const MAKE_EXAMPLE: &str =
     "What is wrong is told with its places, all at once, and nothing is written then.
 
 Example:
-  osek_run make system.toml -o system";
+  osek make system.toml -o system";
 
 pub(crate) const IMPORTED: &str =
     "The OIL file, and behind it those that it includes: they are found by the last part of their path";
@@ -175,10 +175,10 @@ pub(crate) const IMPORT_EXAMPLE: &str =
 printed.
 
 Example:
-  osek_run import application.oil implementation.oil > system.oil";
+  osek import application.oil implementation.oil > system.oil";
 
 pub(crate) const HINT: &str =
-    "`--help` also tells the exit statuses, `osek_run SUBCOMMAND --help` the words of a subcommand.";
+    "`--help` also tells the exit statuses, `osek SUBCOMMAND --help` the words of a subcommand.";
 
 pub(crate) const STATUSES: &str = "Exit status:
   0  done; after help too
@@ -189,7 +189,7 @@ pub(crate) const STATUSES: &str = "Exit status:
   5  an undecided search of `bounds`; standard output has how far it came
   6  a limit of `stats` is broken; standard error has a line for each
 
-`osek_run SUBCOMMAND --help` tells the words of a subcommand.";
+`osek SUBCOMMAND --help` tells the words of a subcommand.";
 
 pub(crate) const VERSION: &str = "0.1.0";
 

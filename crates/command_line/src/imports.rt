@@ -1,5 +1,6 @@
 //! The import of OIL files as they are used.
 
+use crate::explaining::explain_unread;
 use crate::host_files::Files;
 use crate::inputs::{Unread, read_file};
 use crate::status::{DONE, REFUSED, WRITE_FAILED};
@@ -83,6 +84,7 @@ pub(crate) fn answer_import<F: Files, O: Write, E: Write>(
     match read_all(alloc, names, files) {
         Err(unread) => {
             let _ = writeln!(err, "{unread}");
+            let _ = explain_unread(unread, err);
             REFUSED
         }
         Ok(texts) => match import_texts(alloc, &texts, out, err) {

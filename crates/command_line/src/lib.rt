@@ -1,4 +1,4 @@
-//! The command line of `osek_run`, no part of the standards: what a line asks for, and the answer to it.
+//! The command line of `osek`, no part of the standards: what a line asks for, and the answer to it.
 #![tactic(auto)]
 
 mod answering;

@@ -228,9 +228,13 @@ fn import_line<'a>(alloc: Global) -> Result<Command<'a>, AllocError> {
         .arg(files)
 }
 
+/// What the command is called, whatever the file that runs is.
+const NAME: &str = "osek";
+
 /// The program's line with its subcommands.
 pub(crate) fn lines<'a>(alloc: Global) -> Result<Command<'a>, AllocError> {
-    Command::new(alloc, "osek_run")
+    Command::new(alloc, NAME)
+        .bin_name(NAME)?
         .about("Runs a system that an OIL file and programs describe")
         .version(help::VERSION)
         .long_version(help::LONG_VERSION)

@@ -1,7 +1,9 @@
 //! What is made of a description: the three files of a system, or the places of all that is wrong.
 
+use crate::explaining::explain_unread;
 use crate::folder::NAMES;
 use crate::host_files::{FileFault, Files};
+use crate::inputs::read_file;
 use crate::request::MakeLine;
 use crate::status::{DONE, REFUSED, WRITE_FAILED};
 use std::alloc::{AllocError, Global};
@@ -12,7 +14,12 @@ use tracer::read_system;
 
 /// Writes how many things are wrong with a description, and each at its place.
 fn write_remarks<E: Write>(source: Source<'_>, remarks: &[Remark], err: &mut E) -> io::Result<()> {
-    writeln!(err, "toml: {} faults", remarks.len())?;
+    let word = if remarks.len() == 1 {
+        "fault"
+    } else {
+        "faults"
+    };
+    writeln!(err, "toml: {} {word}", remarks.len())?;
     for remark in remarks {
         source.tell(remark.place, &[Piece::Text(remark.text.as_str())], err)?;
     }
@@ -88,11 +95,11 @@ pub(crate) fn make_files<F: Files, E: Write>(
     files: &mut F,
     err: &mut E,
 ) -> u8 {
-    let made = match files.read(alloc, line.file) {
+    let made = match read_file(alloc, files, line.file) {
         Ok(text) => make_text(alloc, line, &text, files, err),
-        Err(FileFault::Memory) => Err(AllocError),
-        Err(FileFault::Refused(_)) => {
-            let _ = writeln!(err, "file: {}", line.file);
+        Err(unread) => {
+            let _ = writeln!(err, "{unread}");
+            let _ = explain_unread(unread, err);
             return REFUSED;
         }
     };

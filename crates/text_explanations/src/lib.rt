@@ -4,6 +4,7 @@
 #![tactic(auto)]
 
 mod allowed_values;
+mod hints;
 mod mnemonics;
 mod notes;
 mod oil_faults;

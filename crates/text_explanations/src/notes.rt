@@ -10,7 +10,7 @@ const LISTED: usize = 20;
 
 /// The name that is nearest to a word, where one is near: equal but for case, or with at most a third of the word's
 /// letters changed.
-fn nearest<'a>(
+pub(crate) fn nearest<'a>(
     alloc: Global,
     word: &str,
     names: &[&'a str],

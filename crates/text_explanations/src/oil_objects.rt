@@ -1,6 +1,7 @@
 //! Faults of the attributes and objects of an OIL file.
 
 use crate::allowed_values::allowed_values;
+use crate::hints::write_nearest_or_hint;
 use crate::notes::{write_choice, write_names};
 use crate::pieces::Piece::{self, Named, Text};
 use crate::pieces::kind_word;
@@ -64,7 +65,12 @@ pub(crate) fn explain_unknown<W: Write>(
     let [name, is, value, of, owner] = scope.pieces();
     let lacks = Text(" has no attribute ");
     source.tell(place, &[name, is, value, of, owner, lacks, Text(word)], out)?;
-    write_choice(alloc, word, &words(alloc, scope, false)?, out)
+    let words = words(alloc, scope, false)?;
+    if scope.is_block() {
+        return write_choice(alloc, word, &words, out);
+    }
+    write_names("allowed", &words, out)?;
+    write_nearest_or_hint(alloc, source, word, &words, out)
 }
 
 fn has_kind(tree: &SyntaxTree<'_>, kind: Kind) -> bool {

@@ -1,5 +1,6 @@
 //! Faults of an OIL text's tokens and syntax.
 
+use crate::hints::{write_hint_at, write_nearest_or_hint};
 use crate::notes::write_names;
 use crate::pieces::Piece::{Number, Text};
 use crate::source::Source;
@@ -72,7 +73,8 @@ pub(crate) fn explain_token<W: Write>(
         return explain_run(source, place, out);
     }
     let BadToken { what, allowed, len } = bad_token_at(source.from(place));
-    source.note_bytes(place, len, &[Text(what)], "allowed", &[Text(allowed)], out)
+    source.note_bytes(place, len, &[Text(what)], "allowed", &[Text(allowed)], out)?;
+    write_hint_at(source, place, out)
 }
 
 /// A word that is none of the grammar, which stands for all names when tokens are tried.
@@ -147,6 +149,33 @@ fn wanted(alloc: Global, before: &[u8]) -> Result<Vec<&'static str>, AllocError>
     Ok(found)
 }
 
+/// Those of some tokens that are words of the grammar.
+fn words_among(alloc: Global, wanted: &[&'static str]) -> Result<Vec<&'static str>, AllocError> {
+    let mut found: Vec<&'static str> = Vec::new(alloc);
+    for token in wanted {
+        if WORDS.contains(token) {
+            found.push(*token)?;
+        }
+    }
+    Ok(found)
+}
+
+/// Writes which word of the grammar may have been meant by another, where one is wanted, or that `import` may read it.
+fn write_meant<W: Write>(
+    alloc: Global,
+    source: Source<'_>,
+    place: usize,
+    wanted: &[&'static str],
+    out: &mut W,
+) -> io::Result<()> {
+    let word = source.word(place);
+    let words = words_among(alloc, wanted)?;
+    if words.is_empty() || word.is_empty() || begins_with_digit(word) {
+        return Ok(());
+    }
+    write_nearest_or_hint(alloc, source, word, &words, out)
+}
+
 /// Explains a fault of the syntax.
 pub(crate) fn explain_syntax<W: Write>(
     alloc: Global,
@@ -161,5 +190,7 @@ pub(crate) fn explain_syntax<W: Write>(
         "this can't stand here"
     };
     source.tell(place, &[Text(what)], out)?;
-    write_names("wanted", &wanted(alloc, &source.text[..cut])?, out)
+    let wanted = wanted(alloc, &source.text[..cut])?;
+    write_names("wanted", &wanted, out)?;
+    write_meant(alloc, source, place, &wanted, out)
 }

@@ -78,10 +78,36 @@ fn is_directive(tokens: &[Placed<'_>], place: usize) -> bool {
     false
 }
 
+/// The hint at a name where a number is loaded.
+const NAMED_EVENTS: &[u8] =
+    b" hint: SETE, CLRE and WAIT take names of events; LI takes a mask, which osek show tells\n";
+
+/// Whether a word is a register.
+fn is_register(word: &str) -> bool {
+    matches!(word, "r0" | "r1" | "r2" | "r3" | "r4" | "r5" | "r6" | "r7")
+}
+
+/// Whether the second operand of the instruction at a place is a name.
+fn is_second_named(words: &[CodeWord<'_>], place: usize) -> bool {
+    for word in words {
+        if word.place <= place {
+            continue;
+        }
+        let Part::Operand { number, .. } = word.part else {
+            return false;
+        };
+        if number == 1 {
+            return !is_register(word.text);
+        }
+    }
+    false
+}
+
 /// Explains an instruction or directive whose operands are wrong.
 fn explain_operand<W: Write>(
     source: Source<'_>,
     tokens: &[Placed<'_>],
+    words: &[CodeWord<'_>],
     place: usize,
     out: &mut W,
 ) -> io::Result<()> {
@@ -95,7 +121,11 @@ fn explain_operand<W: Write>(
         Text("the line doesn't go on with the operands of "),
         Text(word),
     ];
-    source.note(place, &what, "wanted", &[Text(form(word))], out)
+    source.note(place, &what, "wanted", &[Text(form(word))], out)?;
+    if word == "LI" && is_second_named(words, place) {
+        out.write_all(NAMED_EVENTS)?;
+    }
+    Ok(())
 }
 
 /// The labels of a program.
@@ -193,7 +223,7 @@ pub fn explain_programs<W: Write>(
     let words = code_words(alloc, &tokens)?;
     match *fault {
         AsmFault::UnknownMnemonic(place) => explain_mnemonic(alloc, source, &words, place, out),
-        AsmFault::Operand(place) => explain_operand(source, &tokens, place, out),
+        AsmFault::Operand(place) => explain_operand(source, &tokens, &words, place, out),
         AsmFault::UnknownLabel(place) => explain_label(alloc, source, &words, place, out),
         AsmFault::Twice(place) => explain_twice(source, &words, place, out),
         AsmFault::TooLong(place) => explain_length(source, place, out),

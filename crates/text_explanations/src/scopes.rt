@@ -50,6 +50,11 @@ impl<'t, 'a> Scope<'t, 'a> {
         })
     }
 
+    /// Whether it is a block.
+    pub(crate) fn is_block(self) -> bool {
+        self.attribute.is_some()
+    }
+
     /// How many settings stand there.
     fn count(self) -> usize {
         match self.attribute {

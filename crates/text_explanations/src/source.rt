@@ -18,7 +18,7 @@ const LONGEST: usize = 200;
 
 impl<'a> Source<'a> {
     /// The text before a place and the text from it on.
-    fn parts(self, place: usize) -> (&'a [u8], &'a [u8]) {
+    pub(crate) fn parts(self, place: usize) -> (&'a [u8], &'a [u8]) {
         self.text.split_at(place.min(self.text.len()))
     }
 

@@ -1,5 +1,10 @@
 //! What isn't seen in a text: marks of its encoding, tabs and carriage returns.
 
+/// Whether the byte order mark of UTF-8 stands at the front of a text.
+pub(crate) fn is_utf8_mark(text: &[u8]) -> bool {
+    text.starts_with(b"\xEF\xBB\xBF")
+}
+
 /// What the mark of an encoding is called, where one stands at the front of a text.
 pub(crate) fn mark_at(text: &[u8]) -> Option<&'static str> {
     match text {
