@@ -11,8 +11,9 @@ use Rattle.bound_labels.specs.Labels.{arrives_in, next_labels}
 use Rattle.bound_labels.specs.Peaks.{IsNoted}
 use Rattle.bound_labels.specs.Ticks.{failed_of, failing}
 use Rattle.run_bounds.specs.Nodes.{AreNoted, IsNext, Node, failed_in, routines_of}
-use Rattle.bounds.specs.Exploring.{Explorer, setting_of}
-use Rattle.bounds.proofs.Exploring.{IsMade, Ticked, are_noted, is_in_of, is_next}
+use Rattle.search.specs.Rules.{StaysNoted}
+use Rattle.bounds.specs.Exploring.{AreNotedIn, Explorer, setting_of}
+use Rattle.bounds.proofs.Exploring.{IsMade, Ticked, are_noted, is_in_of, is_next, stays_noted}
 use Rattle.bounds.proofs.explorer.ExplorerSteps.next.Goals as goal
 
 pub returns-clause-next : goal.returns-clause-next
@@ -112,3 +113,17 @@ returns-clause-noted g c =
     peaks
     (subst (λ (o : Observation). IsNoted e.cap peaks (seen_of o) (failed_of o) x.labels)
     c.seen-seen.ensures c.note.ensures.noted))
+
+pub returns-clause-notes : goal.returns-clause-notes
+returns-clause-notes g c =
+    let e : Explorer =
+    record {
+      ground = record { system = c.self.inside.system.now; needs = c.self.inside.needs.now };
+      mode = c.self.inside.mode;
+      distances = c.self.inside.distances.now;
+      cap = c.self.inside.cap;
+      peaks = c.self.inside.peaks;
+    } in
+    let f : Explorer = record e { peaks = c.note.new.self } in
+    subst (λ (h : Explorer). StaysNoted AreNotedIn h f) c.self.view_is
+    (stays_noted e f c.notes_stay.ensures refl c.note.ensures.rises)

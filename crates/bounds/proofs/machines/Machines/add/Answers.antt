@@ -4,8 +4,8 @@ use Rattle.bounds.specs.Held.{Ground, IsIn}
 use Rattle.bounds.proofs.HeldLemmas.{push_in}
 use Rattle.bounds.proofs.machines.Machines.add.Goals as goal
 
-pub invariant_of-self : goal.invariant_of-self
-invariant_of-self c =
+pub invariant_of-self-in_err-push : goal.invariant_of-self-in_err-push
+invariant_of-self-in_err-push c =
     let g : Ground = record
     { system = c.self.inside.system.now; needs = c.self.inside.needs.now } in
     subst (All (λ h. IsIn g h.key.items h.machine)) (sym c.in_err-push.ensures.items)
