@@ -1,4 +1,3 @@
 pub mod Spacing
 pub mod Keeping
 pub mod Watching
-pub mod Reaching

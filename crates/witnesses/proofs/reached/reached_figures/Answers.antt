@@ -1,15 +1,18 @@
-use Rattle.witnesses.proofs.Reaching.{one_reached}
+use Rattle.std.proofs.Common.{subst, sym}
+use Rattle.std.specs.List.{All}
+use Rattle.std.proofs.lemmas.List.Elements.{All-push}
+use Rattle.witnesses.specs.Shown.{IsReached}
 use Rattle.witnesses.proofs.reached.reached_figures.Goals as goal
-use Rattle.witnesses.proofs.reached.reached_figures.Goals.{in-Some+in_ok-push, in_default}
+use Rattle.witnesses.proofs.reached.reached_figures.Goals.{then-branch+in_ok-push, else-branch}
 
 pub loop-place-preserved : goal.loop-place-preserved
 loop-place-preserved c =
-    elim c.match-branch-3.branch [
-      | in-Some+in_ok-push w ↦
+    let holds = IsReached c.args.system.now c.args.mode c.args.distances.now c.args.found.now in
+    elim c.if-branch.branch [
+      | then-branch+in_ok-push w ↦
           rw w.reached-is
-          (one_reached c.args.system.now c.args.mode c.args.distances.now c.args.found.now
-          c.loop-place.reached.items w.push.new.self.items c.index-figure.result.now
-          c.in_ok-_run.field-0 w.in-Some._run w.in_ok-push.ensures.items c.in_ok-_run.ensures
-          w.in-Some.is c.loop-place.invariant)
-      | in_default w ↦ rw w.reached-is c.loop-place.invariant
+          (subst (All holds) (sym w.in_ok-push.ensures.items)
+          (All-push holds c.loop-place.reached.items c.index-figure.result.now c.loop-place.invariant
+          (c.in_ok-is_reached.ensures w.if-branch.true)))
+      | else-branch w ↦ rw w.reached-is c.loop-place.invariant
     ]
