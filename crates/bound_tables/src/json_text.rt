@@ -64,11 +64,7 @@ fn objects(
 }
 
 /// The text of all figures.
-pub fn json_text(
-    alloc: Global,
-    system: &System,
-    told: Told<'_, '_>,
-) -> Result<Vec<u8>, AllocError> {
+pub fn json_of(alloc: Global, system: &System, told: Told<'_, '_>) -> Result<Vec<u8>, AllocError> {
     let mut kinds = Map::new(alloc);
     for kind in &KINDS {
         let objects = objects(alloc, system, told, *kind)?;

@@ -13,7 +13,7 @@ mod told;
 mod writing;
 
 pub use csv_text::write_lines;
-pub use json_text::json_text;
+pub use json_text::json_of;
 pub use naming::{NamedFigure, figure_named, is_column};
 pub use remarks::write_remarks;
 pub use told::Told;

@@ -7,7 +7,7 @@ use crate::search_watch::SearchWatch;
 use crate::status::{DistanceFault, Verdict};
 use crate::witnessing::write_witness;
 use bound_tables::{
-    Told, figure_named, json_text, write_decided, write_lines, write_remarks, write_undecided,
+    Told, figure_named, json_of, write_decided, write_lines, write_remarks, write_undecided,
     write_up_to,
 };
 use bounds::{Bounds, Extent, find_bounds};
@@ -124,7 +124,7 @@ fn write_bounds<O: Write>(
     match form {
         Form::Table => write_decided(system, told, progress, out)?,
         Form::Csv => write_lines(system, told, out)?,
-        Form::Json => out.write_all(json_text(alloc, system, told)?.as_slice())?,
+        Form::Json => out.write_all(json_of(alloc, system, told)?.as_slice())?,
     }
     Ok(())
 }
