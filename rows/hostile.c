@@ -139,17 +139,14 @@ static int is_usual_but_explained(void)
 }
 
 /* Whether the usual answer was given where that may be: of a line that is refused, the text of which is put together as far
-   as memory goes; once while the words of the line are taken over, before any file is opened; and some times in a search for
-   bounds, which notes the places of machines that it needs no more, and does without a note for which there is no room. */
+   as memory goes; and once while the words of the line are taken over, before any file is opened. */
 static int is_passed_over(void)
 {
-    enum { WORDS_TAKEN = 40, PLACES_NOTED = 4 };
-    static int passed_over, unnoted;
+    enum { WORDS_TAKEN = 40 };
+    static int passed_over;
     if (!is_usual())
         return 0;
-    if (usual->status == 2 || (growths <= WORDS_TAKEN && passed_over++ == 0))
-        return 1;
-    return strstr(name, ": osek bounds ") && unnoted++ < PLACES_NOTED;
+    return usual->status == 2 || (growths <= WORDS_TAKEN && passed_over++ == 0);
 }
 
 static int refused(void)
