@@ -51,6 +51,15 @@ impl CounterAlarms {
         }
     }
 
+    /// All of it becomes that of another.
+    pub fn copy_from(&mut self, other: &CounterAlarms)
+        ensures { self.new ≡ other.now }
+    {
+        self.counter = other.counter;
+        self.next = other.next;
+        self.running.copy_from(&other.running);
+    }
+
     /// The tick after `tick`: where the counter grows, its alarms that are due expire, and are added to `due`.
     #[inline(always)]
     pub fn advance(&mut self, tick: u32, due: &mut DueAlarms)

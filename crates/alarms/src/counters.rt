@@ -31,10 +31,25 @@ pub fn replace_counters(
     requires { length others.now ≤ MAX_COUNTERS }
     ensures { counters.new.items ≡ others.now }
 {
+    if counters.len() == others.len() {
+        copy_each(counters.as_mut_slice(), others);
+        return;
+    }
     counters.clear();
     for number in 0..others.len() {
         let other = &others[number];
         counters.push(other.copied());
+    }
+}
+
+/// Each of some counters becomes another one, with its alarms.
+fn copy_each(counters: &mut [CounterAlarms], others: &[CounterAlarms])
+    requires { length counters.old ≡ length others.now }
+    ensures { counters.new ≡ others.now }
+{
+    for number in 0..others.len() {
+        let counter = &mut counters[number];
+        counter.copy_from(&others[number]);
     }
 }
 

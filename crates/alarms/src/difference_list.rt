@@ -61,6 +61,13 @@ impl DifferenceList {
         DifferenceList { entries }
     }
 
+    /// The alarms become those of another list.
+    pub fn copy_from(&mut self, other: &DifferenceList)
+        ensures { self.new ≡ other.now }
+    {
+        replace(&mut self.entries, other.entries.as_slice());
+    }
+
     /// How many alarms are running.
     pub fn len(&self) -> usize
         ensures value { result ≡ length self.now }

@@ -1,6 +1,6 @@
--- The modelled processor, no part of the standards. The windows of words in one list: one for each task that there may be,
--- and then for each routine.
-use Rattle.std.specs.Prelude.{ℕ, ◌+◌, ◌*◌, Bool, ◌&&◌, nat_lt, if◌then◌else◌, List, slice_index}
+-- The modelled processor, no part of the standards. The windows of words in one list: the words of index 0 of each task that
+-- there may be, and then of each routine; then those of index 1, and so on.
+use Rattle.std.specs.Prelude.{ℕ, ◌≡◌, ◌≤◌, ◌+◌, ◌*◌, Bool, ◌&&◌, nat_lt, if◌then◌else◌, List, slice_index}
 use Rattle.osek_base.specs.declared.ids.Owner.{Owner}
 use Rattle.osek_base.specs.declared.limits.TheConstants.{MAX_TASKS, MAX_ROUTINES, WINDOW_WORDS}
 
@@ -16,4 +16,8 @@ window_of (Owner.Routine i) = MAX_TASKS + i
 
 -- the word at an index of an owner's window, 0 where there is none
 abbrev pub word : List ℕ → Owner → ℕ → ℕ
-word words owner index = if has_window owner && nat_lt index WINDOW_WORDS then slice_index words (window_of owner * WINDOW_WORDS + index) else 0
+word words owner index = if has_window owner && nat_lt index WINDOW_WORDS then slice_index words (index * (MAX_TASKS + MAX_ROUTINES) + window_of owner) else 0
+
+-- all words from a place on are 0
+abbrev pub IsBlankFrom : ℕ → List ℕ → Type 0
+IsBlankFrom used words = (k : ℕ) → used ≤ k → slice_index words k ≡ 0

@@ -27,10 +27,25 @@ fn replace_tasks(tasks: &mut ArrayVec<TaskStamps, MAX_TASKS>, others: &[TaskStam
     requires { length others.now ≤ MAX_TASKS }
     ensures { tasks.new.items ≡ others.now }
 {
+    if tasks.len() == others.len() {
+        copy_each(tasks.as_mut_slice(), others);
+        return;
+    }
     tasks.clear();
     for number in 0..others.len() {
         let other = &others[number];
         tasks.push(other.copied());
+    }
+}
+
+/// The stamps of each task become those of another one.
+fn copy_each(tasks: &mut [TaskStamps], others: &[TaskStamps])
+    requires { length tasks.old ≡ length others.now }
+    ensures { tasks.new ≡ others.now }
+{
+    for number in 0..others.len() {
+        let task = &mut tasks[number];
+        task.copy_from(&others[number]);
     }
 }
 

@@ -36,7 +36,7 @@ impl LastTicks {
     pub fn copy_from(&mut self, other: &LastTicks)
         ensures { self.new ≡ other.now }
     {
-        self.behind = other.behind;
+        self.behind.copy_from_slice(&other.behind);
     }
 
     /// A job of a level executes in a tick.

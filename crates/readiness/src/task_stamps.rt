@@ -44,12 +44,20 @@ impl TaskStamps {
     pub fn copied(&self) -> Self
         ensures { result ≡ self.now }
     {
-        let mut stamps = ArrayVec::new();
-        match stamps.try_extend_from_slice(self.stamps.as_slice()) {
+        let mut copy = TaskStamps::new();
+        copy.copy_from(self);
+        copy
+    }
+
+    /// The stamps become those of another task.
+    pub fn copy_from(&mut self, other: &TaskStamps)
+        ensures { self.new ≡ other.now }
+    {
+        self.stamps.clear();
+        match self.stamps.try_extend_from_slice(other.stamps.as_slice()) {
             Ok(()) => {}
             Err(_) => unreachable!(),
         }
-        TaskStamps { stamps }
     }
 
     /// A job more, ready from a tick on: it is the newest.

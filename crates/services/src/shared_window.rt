@@ -35,7 +35,7 @@ impl SharedWindow {
     pub fn copy_from(&mut self, other: &SharedWindow)
         ensures { self.new ≡ other.now }
     {
-        self.words = other.words;
+        self.words.copy_from_slice(&other.words);
     }
 
     /// The word at an index, which counts mod [`SHARED_WORDS`].
