@@ -1,8 +1,11 @@
 -- Ages of jobs as lists.
-use Rattle.std.proofs.Common.{ℕ, zero, suc, ◌≡◌, ◌<◌, ◌≤◌, ◌+◌, max, min, List, [], ◌∷◌, ◌++◌, length, get_or, map, replicate, take, refl, sym, ◌∙◌, ap, subst, arith}
+use Rattle.std.proofs.Common.{ℕ, zero, suc, ◌≡◌, ◌<◌, ◌≤◌, ◌+◌, ◌-◌, true, cond, max, min, List, [], ◌∷◌, ◌++◌, length, get_or, map, replicate, take, refl, sym, ◌∙◌, ap, subst, arith}
 use Rattle.std.proofs.Math.ListN.{set}
-use Rattle.std.proofs.lemmas.List.{length-take-le, take_more}
-use Rattle.figure_laws.specs.Ages.{AreOlder}
+use Rattle.std.proofs.lemmas.List.{append_assoc, length-take-le, map-append, take_more}
+use Rattle.figures.specs.declared.task_tick.TaskTick.{TaskTick}
+use Rattle.figures.specs.ResponseSums.{later}
+use Rattle.figures.specs.StateSums.{leaves}
+use Rattle.figure_laws.specs.Ages.{AreOlder, ages_in, ages_next, followed}
 use Rattle.figure_laws.specs.Merging.{merged_ages}
 
 -- ages that are older one by one
@@ -16,14 +19,39 @@ older_each (x ∷ xs) (y ∷ ys) long each = (
 )
 
 -- those that had ages before
-pub older_before : (cap : ℕ) (old : List ℕ)
-    → map (λ n. min cap (suc n)) old ≡ map (min cap) (map suc old ++ replicate 0 1)
+older_before : (cap : ℕ) (old : List ℕ)
+    → map (λ n. min cap (suc n)) old ≡ map (min cap) (map suc old)
 older_before cap [] = refl
 older_before cap (n ∷ old) = ap (λ v. min cap (suc n) ∷ v) (older_before cap old)
 
+-- ---- behind a tick
+
+-- those that had ages are added, and then the new ones
+pub both_added : (cap new : ℕ) (before old : List ℕ)
+    → (before ++ map (λ n. min cap (suc n)) old) ++ map (min cap) (replicate new 1)
+    ≡ before ++ map (min cap) (map suc old ++ replicate new 1)
+both_added cap new before old =
+    append_assoc before _ _
+    ∙ ap (λ v. before ++ v)
+    (ap (λ v. v ++ map (min cap) (replicate new 1)) (older_before cap old)
+    ∙ sym (map-append (min cap) (map suc old) (replicate new 1)))
+
+later_new : (n : ℕ) → replicate (n - 1) 1 ≡ later (replicate n 1)
+later_new zero = refl
+later_new (suc n) = let e : suc n - 1 ≡ n = omega arith in ap (λ k. replicate k 1) e
+
+-- a job leaves that had no age
+pub next_none : (t : TaskTick) (old : List ℕ) (new left : ℕ) → leaves t ≡ true → length old ≡ 0
+    → new ≡ followed t - length old → left ≡ new - 1
+    → map suc old ++ replicate left 1 ≡ ages_next t old
+next_none t [] new left leaving none is one =
+    ap (λ n. replicate n 1) one ∙ ap (λ n. replicate (n - 1) 1) is ∙ later_new (followed t - 0)
+    ∙ sym (ap (λ b. cond b (later (ages_in t [])) (ages_in t [])) leaving)
+next_none t (n ∷ old) new left leaving none is one = absurd (omega (arith, none))
+
 -- ---- merged one by one
 
-merged_none : (xs : List ℕ) → merged_ages xs [] ≡ xs
+pub merged_none : (xs : List ℕ) → merged_ages xs [] ≡ xs
 merged_none [] = refl
 merged_none (x ∷ xs) = refl
 
@@ -69,3 +97,14 @@ merged_push_at xs ys ages i n low short is e =
     ap (λ k. ages ++ k ∷ []) e ∙ ap (λ v. v ++ get_or ys i 0 ∷ []) is
     ∙ merged_push xs ys i low (subst (λ v. length v ≤ i) is short)
     ∙ ap (λ k. merged_ages xs (take k ys)) one
+
+-- one more behind others
+pub one_merged : (x y : ℕ) (before xs ys : List ℕ)
+    → (before ++ max x y ∷ []) ++ merged_ages xs ys ≡ before ++ merged_ages (x ∷ xs) (y ∷ ys)
+one_merged x y before xs ys = append_assoc before (max x y ∷ []) (merged_ages xs ys)
+
+-- no fewer than before
+pub merged_grows : (xs ys : List ℕ) → length xs ≤ length (merged_ages xs ys)
+merged_grows [] ys = omega arith
+merged_grows (x ∷ xs) [] = omega arith
+merged_grows (x ∷ xs) (y ∷ ys) = let rest = merged_grows xs ys in omega (arith, rest)

@@ -35,6 +35,15 @@ module _ {X : Type 0} (f : X → X → X) (d : X) (v : Vec X Global) (old others
       (subst (λ x. IsListJoined f d x m new) is_old
       (subst (λ x. IsListJoined f d old x new) is_other (record { count = count; each = each })))
 
+pub lists_joined : (old others new l m : List (List ℕ)) → old ≡ l → others ≡ m
+    → length new ≡ length old
+    → ((k : ℕ) → get_or new k [] ≡ merged_ages (get_or old k []) (get_or others k []))
+    → IsListJoined merged_ages [] l m new
+lists_joined old others new l m is_old is_other count each =
+    subst (λ x. IsListJoined merged_ages [] x m new) is_old
+    (subst (λ x. IsListJoined merged_ages [] old x new) is_other
+    (record { count = count; each = each }))
+
 -- ---- holds joined
 
 same_zero : (b : Bool) → cond b zero zero ≡ zero

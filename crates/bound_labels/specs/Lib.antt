@@ -1,3 +1,4 @@
+pub mod AgeLists
 pub mod Ticks
 pub mod Labels
 pub mod Joining

@@ -4,6 +4,7 @@ use Rattle.std.specs.Option.{option_map}
 use Rattle.osek_base.specs.Lists.{below}
 use Rattle.figure_laws.specs.Ages.{ages_next, oldest_age}
 use Rattle.figure_laws.specs.Holding.{Hold, held_ticks, hold_next}
+use Rattle.figure_laws.specs.Merging.{merged_ages}
 use Rattle.figure_laws.specs.Pending.{pending_next}
 use Rattle.figure_laws.specs.Times.{waited}
 use Rattle.observations.specs.Seen.{Seen}
@@ -38,6 +39,9 @@ pending_behind cap seen pending i =
 abbrev pub hold_behind : ℕ → Seen → List Hold → ℕ → Hold
 hold_behind cap seen holds r =
     capped_hold cap (hold_next (holder_tick seen r) (hold_at holds r))
+
+abbrev pub merged_lists : List (List ℕ) → List (List ℕ) → ℕ → List ℕ
+merged_lists others ages k = merged_ages (ages_at ages k) (ages_at others k)
 
 -- of each number of a list
 abbrev pub each_of : {X Y : Type 0} → (List X → ℕ → Y) → List X → List Y

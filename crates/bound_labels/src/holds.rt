@@ -45,6 +45,7 @@ impl Hold {
     }
 
     /// For how many ticks in a row a task has held it.
+    #[inline(always)]
     fn held_by(self, task: TaskId) -> u32
         ensures { result ≡ held_by task self }
     {
@@ -74,6 +75,7 @@ impl Hold {
     }
 
     /// For how long it is held in a tick, up to a cap.
+    #[inline(always)]
     pub(crate) fn held_ticks(self, cap: u32, tick: &HolderTick) -> Option<u32>
         ensures { result ≡ option_map (min cap) (held_ticks tick.now self) }
     {
@@ -146,6 +148,7 @@ pub(crate) fn first_holds(alloc: Global, held: usize) -> Result<Vec<Hold>, Alloc
 }
 
 /// The hold of a resource; none beyond the list.
+#[inline(always)]
 pub(crate) fn hold_of(holds: &[Hold], resource: usize) -> Hold
     ensures { result ≡ hold_at holds.now resource }
 {

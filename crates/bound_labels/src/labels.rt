@@ -20,9 +20,7 @@ ghost use Rattle.bound_labels.specs.Labels.{
 };
 ghost use Rattle.bound_labels.specs.Joining.{AreOfAsMany, Joins};
 
-use crate::ages::{
-    Ages, are_older as are_jobs_older, first_ages, is_task_older, join_ages, next_ages, oldest_of,
-};
+use crate::age_lists::{AgeLists, are_older as are_jobs_older, next_ages};
 use crate::holds::{Hold, are_joinable, are_longer, first_holds, hold_of, join_holds, next_holds};
 use crate::pending::{
     are_older, first_pending, is_older, join_pending, next_pending, pending_of, waited,
@@ -40,7 +38,7 @@ pub struct Labels {
     /// By routine, for how many ticks yet it can't arrive.
     waits: Vec<u32>,
     /// By task.
-    ages: Vec<Ages>,
+    ages: AgeLists,
     /// By routine, the age of its interrupt, if one is pending.
     pending: Vec<Option<u32>>,
     /// By resource.
@@ -56,7 +54,7 @@ impl Model for Labels {
 
     ghost view = { λ l. record {
       waits = l.waits.items;
-      ages = l.ages.items;
+      ages = l.ages;
       pending = l.pending.items;
       holds = l.holds.items;
     } };
@@ -78,7 +76,7 @@ impl Labels {
     {
         Ok(Labels {
             waits: first_waits(alloc, routines)?,
-            ages: first_ages(alloc, tasks)?,
+            ages: AgeLists::none(alloc, tasks)?,
             pending: first_pending(alloc, routines)?,
             holds: first_holds(alloc, held)?,
         })
@@ -131,13 +129,15 @@ impl Labels {
     }
 
     /// The age of a task's oldest job in a tick, up to a cap.
+    #[inline(always)]
     pub(crate) fn oldest_age(&self, cap: u32, tick: &TaskTick, task: usize) -> Option<u32>
         ensures { result ≡ option_map (min cap) (oldest_age tick.now (ages_of self.now task)) }
     {
-        oldest_of(&self.ages, cap, tick, task)
+        self.ages.oldest(cap, tick, task)
     }
 
     /// What an interrupt of a routine has waited in a tick, up to a cap.
+    #[inline(always)]
     pub(crate) fn waited(&self, cap: u32, tick: &RoutineTick, routine: usize) -> Option<u32>
         ensures { result ≡ option_map (min cap) (waited tick.now (pending_of self.now routine)) }
     {
@@ -145,6 +145,7 @@ impl Labels {
     }
 
     /// For how long a resource is held in a tick, up to a cap.
+    #[inline(always)]
     pub(crate) fn held_ticks(&self, cap: u32, tick: &HolderTick, resource: usize) -> Option<u32>
         ensures { result ≡ option_map (min cap) (held_ticks tick.now (hold_of self.now resource)) }
     {
@@ -165,7 +166,7 @@ impl Labels {
     pub fn has_older_jobs(&self, other: &Labels, task: usize) -> bool
         ensures { IsTrue result → AreOlder (ages_of self.now task) (ages_of other.now task) }
     {
-        is_task_older(&self.ages, &other.ages, task)
+        self.ages.is_older(&other.ages, task)
     }
 
     /// Whether an interrupt of a routine has waited at least as long as with other labels; at true
@@ -196,9 +197,9 @@ impl Labels {
             return false;
         }
         are_sooner(&self.waits, &other.waits)
-            && are_jobs_older(&self.ages, &other.ages)
             && are_older(&self.pending, &other.pending)
             && are_longer(&self.holds, &other.holds)
+            && are_jobs_older(&self.ages, &other.ages)
     }
 
     /// Makes of these labels the least that are at least these and others, and answers whether that
@@ -210,7 +211,7 @@ impl Labels {
         if !self.is_of_as_many(other) || !are_joinable(&self.holds, &other.holds) {
             return Ok(false);
         }
-        join_ages(&mut self.ages, &other.ages)?;
+        self.ages.join(&other.ages)?;
         join_waits(&mut self.waits, &other.waits);
         join_pending(&mut self.pending, &other.pending);
         join_holds(&mut self.holds, &other.holds);

@@ -2,6 +2,7 @@
 //! part of the standards.
 #![tactic(auto)]
 
+mod age_lists;
 mod ages;
 mod counting;
 mod holds;

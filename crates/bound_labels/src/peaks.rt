@@ -57,116 +57,130 @@ impl Model for Peaks {
 }
 
 /// Notes the ages of the tasks' oldest jobs in a tick.
-fn note_responses(peaks: &mut [u32], cap: u32, seen: &Observation, labels: &Labels)
+fn note_responses(peaks: &mut [u32], cap: u32, seen: &Observation, labels: &Labels) -> bool
     requires { length peaks.old ≡ MAX_TASKS }
     ensures count { length peaks.new ≡ length peaks.old }
     ensures noted { (k : ℕ) → k < length seen.now.tasks.items → IsAtMost (peak peaks.new k)
         (shown_age cap (seen_of seen.now) labels.now k) }
     ensures rises { (k : ℕ) → peak peaks.old k ≤ peak peaks.new k }
 {
+    let mut rises = false;
     for task in 0..seen.tasks.len() {
-        raise(
+        rises |= raise(
             peaks,
             task,
             labels.oldest_age(cap, &task_tick(seen, task), task),
         );
     }
+    rises
 }
 
 /// Notes what the routines' interrupts have waited in a tick.
-fn note_latencies(peaks: &mut [u32], cap: u32, seen: &Observation, labels: &Labels)
+fn note_latencies(peaks: &mut [u32], cap: u32, seen: &Observation, labels: &Labels) -> bool
     requires { length peaks.old ≡ MAX_ROUTINES }
     ensures count { length peaks.new ≡ length peaks.old }
     ensures noted { (i : ℕ) → i < length seen.now.routines.items → IsAtMost (peak peaks.new i)
         (shown_wait cap (seen_of seen.now) labels.now i) }
     ensures rises { (i : ℕ) → peak peaks.old i ≤ peak peaks.new i }
 {
+    let mut rises = false;
     for routine in 0..seen.routines.len() {
-        raise(
+        rises |= raise(
             peaks,
             routine,
             labels.waited(cap, &routine_tick(seen, routine), routine),
         );
     }
+    rises
 }
 
 /// Notes for how long resources are held in a tick.
-fn note_holds(peaks: &mut [u32], cap: u32, seen: &Observation, labels: &Labels)
+fn note_holds(peaks: &mut [u32], cap: u32, seen: &Observation, labels: &Labels) -> bool
     requires { length peaks.old ≡ MAX_HELD }
     ensures count { length peaks.new ≡ length peaks.old }
     ensures noted { (r : ℕ) → r < length seen.now.holders.items → IsAtMost (peak peaks.new r)
         (shown_hold cap (seen_of seen.now) labels.now r) }
     ensures rises { (r : ℕ) → peak peaks.old r ≤ peak peaks.new r }
 {
+    let mut rises = false;
     for resource in 0..seen.holders.len() {
-        raise(
+        rises |= raise(
             peaks,
             resource,
             labels.held_ticks(cap, &holder_tick(seen, resource), resource),
         );
     }
+    rises
 }
 
 /// Notes of which routines a tick loses interrupts.
-fn note_losses(marks: &mut [bool], seen: &Observation)
+fn note_losses(marks: &mut [bool], seen: &Observation) -> bool
     requires { length marks.old ≡ MAX_ROUTINES }
     ensures count { length marks.new ≡ length marks.old }
     ensures noted { (i : ℕ) → i < length seen.now.routines.items → has_come marks.new i ≡ false
         → (routine_in (seen_of seen.now) i).lost ≡ 0 }
     ensures rises { (i : ℕ) → has_come marks.new i ≡ false → has_come marks.old i ≡ false }
 {
+    let mut rises = false;
     for routine in 0..seen.routines.len() {
-        mark(marks, routine, routine_tick(seen, routine).seen.lost > 0);
+        rises |= mark(marks, routine, seen.routines[routine].lost > 0);
     }
+    rises
 }
 
 /// Notes of which tasks a tick refuses activations.
-fn note_refusals(marks: &mut [bool], seen: &Observation)
+fn note_refusals(marks: &mut [bool], seen: &Observation) -> bool
     requires { length marks.old ≡ MAX_TASKS }
     ensures count { length marks.new ≡ length marks.old }
     ensures noted { (k : ℕ) → k < length seen.now.tasks.items → has_come marks.new k ≡ false
         → (task_in (seen_of seen.now) k).refused ≡ 0 }
     ensures rises { (k : ℕ) → has_come marks.new k ≡ false → has_come marks.old k ≡ false }
 {
+    let mut rises = false;
     for task in 0..seen.tasks.len() {
-        mark(marks, task, task_tick(seen, task).seen.refused > 0);
+        rises |= mark(marks, task, seen.tasks[task].refused > 0);
     }
+    rises
 }
 
 /// Notes of which alarms a tick refuses the actions.
-fn note_actions(marks: &mut [bool], seen: &Observation)
+fn note_actions(marks: &mut [bool], seen: &Observation) -> bool
     requires { length marks.old ≡ MAX_ALARMS }
     ensures count { length marks.new ≡ length marks.old }
     ensures noted { (a : ℕ) → a < length seen.now.alarms.items → has_come marks.new a ≡ false
         → (alarm_in (seen_of seen.now) a).is_refused ≡ false }
     ensures rises { (a : ℕ) → has_come marks.new a ≡ false → has_come marks.old a ≡ false }
 {
+    let mut rises = false;
     for alarm in 0..seen.alarms.len() {
-        mark(marks, alarm, seen.alarms[alarm].is_refused);
+        rises |= mark(marks, alarm, seen.alarms[alarm].is_refused);
     }
+    rises
 }
 
 /// Notes whether a service of a task is answered other than E_OK in a tick.
-fn note_errors(marks: &mut [bool], seen: &Observation)
+fn note_errors(marks: &mut [bool], seen: &Observation) -> bool
     requires { length marks.old ≡ MAX_TASKS }
     ensures noted { (k : ℕ) → k < length seen.now.tasks.items → has_come marks.new k ≡ false
         → is_task (failed_of seen.now) k ≡ false }
     ensures rises { (k : ℕ) → has_come marks.new k ≡ false → has_come marks.old k ≡ false }
 {
-    if let Some(Owner::Task(task)) = &failed_of(seen) {
-        mark_known(marks, task.number() as usize);
+    match &failed_of(seen) {
+        Some(Owner::Task(task)) => mark_known(marks, task.number() as usize),
+        _ => false,
     }
 }
 
 /// Notes whether a service of a routine is answered other than E_OK in a tick.
-fn note_routine_errors(marks: &mut [bool], seen: &Observation)
+fn note_routine_errors(marks: &mut [bool], seen: &Observation) -> bool
     requires { length marks.old ≡ MAX_ROUTINES }
     ensures noted { (i : ℕ) → i < length seen.now.routines.items → has_come marks.new i ≡ false
         → is_routine (failed_of seen.now) i ≡ false }
     ensures rises { (i : ℕ) → has_come marks.new i ≡ false → has_come marks.old i ≡ false }
 {
-    if let Some(Owner::Routine(routine)) = &failed_of(seen) {
-        mark_known(marks, routine.number() as usize);
+    match &failed_of(seen) {
+        Some(Owner::Routine(routine)) => mark_known(marks, routine.number() as usize),
+        _ => false,
     }
 }
 
@@ -187,19 +201,21 @@ impl Peaks {
         }
     }
 
-    /// Notes what a tick shows with the labels before it, up to a cap in ticks.
-    pub fn note(&mut self, cap: u32, seen: &Observation, labels: &Labels)
+    /// Notes what a tick shows with the labels before it, up to a cap in ticks, and answers whether
+    /// that is more than was noted before.
+    pub fn note(&mut self, cap: u32, seen: &Observation, labels: &Labels) -> bool
         ensures noted { IsNoted cap self.new (seen_of seen.now) (failed_of seen.now) labels.now }
         ensures rises { AreAtLeast self.new self.old }
     {
-        note_responses(&mut self.responses, cap, seen, labels);
-        note_latencies(&mut self.latencies, cap, seen, labels);
-        note_holds(&mut self.holds, cap, seen, labels);
-        note_losses(&mut self.losses, seen);
-        note_refusals(&mut self.refusals, seen);
-        note_actions(&mut self.actions, seen);
-        note_errors(&mut self.errors, seen);
-        note_routine_errors(&mut self.routine_errors, seen);
+        let longer = note_responses(&mut self.responses, cap, seen, labels)
+            | note_latencies(&mut self.latencies, cap, seen, labels)
+            | note_holds(&mut self.holds, cap, seen, labels);
+        let more = note_losses(&mut self.losses, seen)
+            | note_refusals(&mut self.refusals, seen)
+            | note_actions(&mut self.actions, seen);
+        let failed = note_errors(&mut self.errors, seen)
+            | note_routine_errors(&mut self.routine_errors, seen);
+        longer | more | failed
     }
 
     /// The greatest age of a task's jobs, in ticks; 0 beyond the last task.

@@ -26,6 +26,7 @@ pub(crate) fn first_pending(alloc: Global, routines: usize) -> Result<Vec<Option
 }
 
 /// The age in a tick, up to a cap, before a start clears the flag.
+#[inline(always)]
 fn pending_in(cap: u32, tick: &RoutineTick, age: Option<u32>) -> Option<u32>
     ensures { result ≡ option_map (min cap) (pending_in tick.now age) }
 {
@@ -47,6 +48,7 @@ fn next_age(cap: u32, tick: &RoutineTick, age: Option<u32>) -> Option<u32>
 }
 
 /// What an interrupt has waited in a tick, up to a cap, where its routine starts without that tick.
+#[inline(always)]
 pub(crate) fn waited(cap: u32, tick: &RoutineTick, age: Option<u32>) -> Option<u32>
     ensures { result ≡ option_map (min cap) (waited tick.now age) }
 {
@@ -58,6 +60,7 @@ pub(crate) fn waited(cap: u32, tick: &RoutineTick, age: Option<u32>) -> Option<u
 }
 
 /// The age of the interrupt of a routine; none beyond the list.
+#[inline(always)]
 pub(crate) fn pending_of(pending: &[Option<u32>], routine: usize) -> Option<u32>
     ensures { result ≡ pending_at pending.now routine }
 {

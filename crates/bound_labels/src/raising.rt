@@ -4,39 +4,45 @@ ghost use Rattle.std.specs.Prelude.{ℕ, ◌≡◌, ◌<◌, ◌≤◌, false, t
 ghost use Rattle.figure_laws.specs.Labels.{IsAtMost};
 ghost use Rattle.bound_labels.specs.Peaks.{has_come, peak};
 
-/// Raises the peak of a number to what is shown, where that is greater.
-pub(crate) fn raise(peaks: &mut [u32], number: usize, shown: Option<u32>)
+/// Raises the peak of a number to what is shown, and answers whether that is greater.
+#[inline(always)]
+pub(crate) fn raise(peaks: &mut [u32], number: usize, shown: Option<u32>) -> bool
     requires { number < length peaks.old }
     ensures count { length peaks.new ≡ length peaks.old }
     ensures noted { IsAtMost (peak peaks.new number) shown }
     ensures rises { (k : ℕ) → peak peaks.old k ≤ peak peaks.new k }
 {
-    if let Some(shown) = shown {
-        peaks[number] = peaks[number].max(shown);
+    match shown {
+        Some(shown) if peaks[number] < shown => {
+            peaks[number] = shown;
+            true
+        }
+        _ => false,
     }
 }
 
-/// Marks a number, where something has come.
-pub(crate) fn mark(marks: &mut [bool], number: usize, comes: bool)
+/// Marks a number, where something has come, and answers whether it is new.
+#[inline(always)]
+pub(crate) fn mark(marks: &mut [bool], number: usize, comes: bool) -> bool
     requires { number < length marks.old }
     ensures count { length marks.new ≡ length marks.old }
     ensures noted { has_come marks.new number ≡ false → comes ≡ false }
     ensures rises { (k : ℕ) → has_come marks.new k ≡ false → has_come marks.old k ≡ false }
 {
-    if comes {
-        marks[number] = true;
+    if !comes || marks[number] {
+        return false;
     }
+    marks[number] = true;
+    true
 }
 
-/// Marks a number that has come; one beyond the list is passed over.
-pub(crate) fn mark_known(marks: &mut [bool], number: usize)
+/// Marks a number that has come, and answers whether it is new; one beyond the list is passed over.
+pub(crate) fn mark_known(marks: &mut [bool], number: usize) -> bool
     ensures count { length marks.new ≡ length marks.old }
     ensures noted { number < length marks.old → has_come marks.new number ≡ true }
     ensures rises { (k : ℕ) → has_come marks.new k ≡ false → has_come marks.old k ≡ false }
 {
-    if number < marks.len() {
-        mark(marks, number, true);
-    }
+    number < marks.len() && mark(marks, number, true)
 }
 
 /// The peak of a number; 0 beyond the list.

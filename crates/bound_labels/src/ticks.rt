@@ -15,6 +15,7 @@ use figures::{HolderTick, RoutineTick, TaskTick};
 use observations::{Holder, Observation, RoutineSeen, TaskSeen};
 use osek_base::{Owner, TaskState};
 
+#[inline(always)]
 fn task_in(tasks: &[TaskSeen], number: usize) -> TaskSeen
     ensures { result ≡ slice_index_or tasks.now number no_task }
 {
@@ -32,6 +33,7 @@ fn task_in(tasks: &[TaskSeen], number: usize) -> TaskSeen
     }
 }
 
+#[inline(always)]
 fn routine_in(routines: &[RoutineSeen], number: usize) -> RoutineSeen
     ensures { result ≡ slice_index_or routines.now number no_routine }
 {
@@ -47,6 +49,7 @@ fn routine_in(routines: &[RoutineSeen], number: usize) -> RoutineSeen
     }
 }
 
+#[inline(always)]
 fn holder_in(holders: &[Holder], number: usize) -> Holder
     ensures { result ≡ slice_index_or holders.now number None }
 {
@@ -57,6 +60,7 @@ fn holder_in(holders: &[Holder], number: usize) -> Holder
 }
 
 /// A task in a tick, by its number.
+#[inline(always)]
 pub(crate) fn task_tick(seen: &Observation, number: usize) -> TaskTick
     ensures { result ≡ task_tick (seen_of seen.now) number }
 {
@@ -70,6 +74,7 @@ pub(crate) fn task_tick(seen: &Observation, number: usize) -> TaskTick
 }
 
 /// A routine in a tick, by its number.
+#[inline(always)]
 pub(crate) fn routine_tick(seen: &Observation, number: usize) -> RoutineTick
     ensures { result ≡ routine_tick (seen_of seen.now) number }
 {
@@ -81,6 +86,7 @@ pub(crate) fn routine_tick(seen: &Observation, number: usize) -> RoutineTick
 }
 
 /// A resource in a tick, by its number.
+#[inline(always)]
 pub(crate) fn holder_tick(seen: &Observation, number: usize) -> HolderTick
     ensures { result ≡ holder_tick (seen_of seen.now) number }
 {

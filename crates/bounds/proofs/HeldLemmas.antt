@@ -1,32 +1,24 @@
--- Machines stay beside the keys of their states.
+-- Machines stay those of a system.
 use Rattle.std.proofs.Common.{ℕ, ◌≡◌, List, ◌∷◌, [], ◌++◌, set, subst, sym}
 use Rattle.std.specs.List.{All}
 use Rattle.std.proofs.lemmas.List.Elements.{All-set, All-push}
+use Rattle.osek_base.specs.System.{System}
 use Rattle.kernel.specs.Machine.{Machine}
-use Rattle.bounds.specs.Held.{Ground, IsIn}
-use Rattle.bounds.specs.declared.machines.Held.{Held}
+use Rattle.bounds.specs.Held.{IsOf}
+use Rattle.bounds.specs.declared.bases.Base.{Base}
 
-pub AreIn : Ground → List Held → Type 0
-AreIn g held = All (λ h. IsIn g h.key.items h.machine) held
+-- a machine that became another one
+pub became : (S T : System) (base : Base) (m : Machine) → S ≡ T → base.machine ≡ m → IsOf S m
+    → IsOf T base.machine
+became S T base m same machine is =
+    subst (IsOf T) (sym machine) (subst (λ U. IsOf U m) same is)
 
--- a machine that became one whose state has a key
-pub became : (g h : Ground) (held : Held) (bytes : List ℕ) (m : Machine) → g ≡ h
-    → held.machine ≡ m → held.key.items ≡ bytes
-    → IsIn g bytes m → IsIn h held.key.items held.machine
-became g h held bytes m ground machine key is =
-    subst (λ b. IsIn h b held.machine) (sym key)
-    (subst (λ n. IsIn h bytes n) (sym machine) (subst (λ j. IsIn j bytes m) ground is))
+pub set_in : (S : System) (held : List Base) (place : ℕ) (other : Base) → IsOf S other.machine
+    → All (λ h. IsOf S h.machine) held → All (λ h. IsOf S h.machine) (set held place other)
+set_in S held place other is are = All-set (λ h. IsOf S h.machine) held place other is are
 
-pub set_in : (g : Ground) (held : List Held) (place : ℕ) (other : Held)
-    → IsIn g other.key.items other.machine
-    → All (λ h. IsIn g h.key.items h.machine) held
-    → All (λ h. IsIn g h.key.items h.machine) (set held place other)
-set_in g held place other is are =
-    All-set (λ h. IsIn g h.key.items h.machine) held place other is are
-
-pub push_in : (g : Ground) (held more : List Held) (other : Held) → more ≡ held ++ other ∷ []
-    → IsIn g other.key.items other.machine
-    → All (λ h. IsIn g h.key.items h.machine) held → All (λ h. IsIn g h.key.items h.machine) more
-push_in g held more other same is are =
-    subst (All (λ h. IsIn g h.key.items h.machine)) (sym same)
-    (All-push (λ h. IsIn g h.key.items h.machine) held other are is)
+pub push_in : (S : System) (held more : List Base) (other : Base) → more ≡ held ++ other ∷ []
+    → IsOf S other.machine → All (λ h. IsOf S h.machine) held → All (λ h. IsOf S h.machine) more
+push_in S held more other same is are =
+    subst (All (λ h. IsOf S h.machine)) (sym same)
+    (All-push (λ h. IsOf S h.machine) held other are is)

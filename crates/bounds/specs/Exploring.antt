@@ -36,7 +36,7 @@ pub record IsGround (g : Ground) : Type 0 where
   pub suffices : Suffices g.system (need_of g.needs)
   pub own : NeedsOwnWords g.system (need_of g.needs)
 
--- the machines that are kept and the one that is ticked are of the system
+-- the machines of states and the one that is ticked are of the system
 pub record IsExploring (g kept : Ground) (current : Machine) : Type 0 where
   pub ground : IsGround g
   pub machines : kept ≡ g

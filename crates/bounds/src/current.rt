@@ -9,7 +9,8 @@ ghost use Rattle.kernel.specs.Machine.{IsOfRun, next_tick, picture, system_of};
 ghost use Rattle.needs.specs.Table.{need_of};
 ghost use Rattle.state_keys.specs.Key.{key};
 
-use crate::machines::StateMachine;
+use crate::bases::StateMachine;
+use crate::bytes::copy_of;
 use crate::node::Node;
 use bound_labels::Labels;
 use kernel::Machine;
@@ -73,39 +74,27 @@ pub(crate) fn tick_from<'s>(
     watcher.tick(machine, arrived);
 }
 
-/// The key of a machine's state.
-pub(crate) fn key_of(
-    alloc: Global,
-    machine: &StateMachine<'_>,
-    needs: &Needs,
-) -> Result<Vec<u8>, AllocError>
-    ensures { IfOk result (λ bytes. bytes.items
-        ≡ key (system_of machine.now) (need_of needs.now) (picture machine.now)) }
-{
-    let mut bytes = Vec::new(alloc);
-    write_key(machine, needs, &mut bytes)?;
-    Ok(bytes)
-}
-
-/// What is kept of a machine's state, with labels.
+/// What is kept of a machine's state, with labels. Its key is written in a room that is used again.
 pub(crate) fn node_of(
     alloc: Global,
     machine: &StateMachine<'_>,
     needs: &Needs,
     labels: Labels,
+    room: &mut Vec<u8>,
 ) -> Result<Node, AllocError>
     ensures key { IfOk result (λ node. node.key
         ≡ key (system_of machine.now) (need_of needs.now) (picture machine.now)) }
     ensures over { IfOk result (λ node. node.over ≡ (picture machine.now).over) }
     ensures labels { IfOk result (λ node. node.labels ≡ labels) }
 {
-    let key = key_of(alloc, machine, needs)?;
+    room.clear();
+    write_key(machine, needs, room)?;
     Ok(Node {
-        key,
+        key: copy_of(alloc, room)?,
         is_over: machine.is_shut_down(),
         labels,
-        place: None,
         entry: None,
+        base: None,
         raised: None,
     })
 }

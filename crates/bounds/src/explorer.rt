@@ -2,14 +2,15 @@
 //! keep their distances.
 
 ghost use Rattle.std.specs.Prelude.{◌≡◌, IfOk};
-ghost use Rattle.figures.specs.FigureSums.{held_count};
 ghost use Rattle.bounds.specs.Exploring.{IsGround};
 ghost use Rattle.bounds.specs.Held.{Ground};
 
-use crate::current::{boot_again, can_go_on, key_of, node_of, tick_from};
-use crate::machines::{Machines, StateMachine, are_equal};
+use crate::bases::StateMachine;
+use crate::current::{boot_again, can_go_on, node_of, tick_from};
+use crate::figure::held_count;
 use crate::node::Node;
 use crate::routines::put_routines;
+use crate::states::States;
 use crate::trails::Trails;
 use crate::watch::Watch;
 use bound_labels::{Labels, Peaks};
@@ -32,9 +33,11 @@ pub(crate) struct Explorer<'s, 'w, W: Watch> {
     distances: &'s [u32],
     /// The age up to which times are told, in ticks.
     cap: u32,
-    machines: Machines<'s>,
+    states: States<'s>,
     /// The machine that is ticked.
     current: StateMachine<'s>,
+    /// Room for the key of its state.
+    key: Vec<u8>,
     /// The routines whose interrupts arrive in a tick.
     arrived: Vec<IsrId>,
     watcher: Watcher,
@@ -58,7 +61,7 @@ impl<'s, 'w, W: Watch> Model for Explorer<'s, 'w, W> {
     } };
 
     ghost invariant = { λ e.
-        IsExploring (record { system = e.system.now; needs = e.needs.now }) e.machines e.current };
+        IsExploring (record { system = e.system.now; needs = e.needs.now }) e.states e.current };
 }
 
 impl<'s, 'w, W: Watch> Explorer<'s, 'w, W> {
@@ -86,8 +89,9 @@ impl<'s, 'w, W: Watch> Explorer<'s, 'w, W> {
             mode,
             distances,
             cap,
-            machines: Machines::new(alloc, system, needs, mode),
+            states: States::new(alloc, system, needs, mode)?,
             current,
+            key: Vec::new(alloc),
             arrived: Vec::new(alloc),
             watcher: Watcher::new(),
             peaks: Peaks::new(),
@@ -101,18 +105,6 @@ impl<'s, 'w, W: Watch> Explorer<'s, 'w, W> {
         ensures { result.0 ≡ self.entry.peaks }
     {
         (self.peaks, self.trails)
-    }
-
-    /// How many resources can be held.
-    fn held_count(&self) -> usize
-        ensures { result ≡ held_count self.now.ground.system }
-    {
-        let declared = self.system.resource_count();
-        if self.system.has_res_scheduler() {
-            declared + 1
-        } else {
-            declared
-        }
     }
 }
 
@@ -134,8 +126,8 @@ impl<'s, 'w, W: Watch> Steps for Explorer<'s, 'w, W> {
         boot_again(alloc, self.system, self.mode, &mut self.current)?;
         let tasks = self.system.task_count();
         let routines = self.system.routine_count();
-        let labels = Labels::first(alloc, tasks, routines, self.held_count())?;
-        Ok(Some(node_of(alloc, &self.current, self.needs, labels)?))
+        let labels = Labels::first(alloc, tasks, routines, held_count(self.system))?;
+        Ok(Some(node_of(alloc, &self.current, self.needs, labels, &mut self.key)?))
     }
 
     fn choice_from(&self, node: &Node, from: u64) -> Option<u64> {
@@ -154,7 +146,9 @@ impl<'s, 'w, W: Watch> Steps for Explorer<'s, 'w, W> {
         choice: u64,
     ) -> Result<Option<Node>, AllocError> {
         put_routines(choice, self.system.routine_count(), &mut self.arrived)?;
-        let Some(machine) = self.machines.at(from.place, &from.key) else {
+        self.states
+            .visit(alloc, &self.trails, from.entry, from.base)?;
+        let Some(machine) = self.states.at(&from.key) else {
             return Ok(None);
         };
         if !can_go_on(machine) {
@@ -167,10 +161,9 @@ impl<'s, 'w, W: Watch> Steps for Explorer<'s, 'w, W> {
         let labels = from
             .labels
             .next(alloc, self.cap, self.distances, choice, seen)?;
-        let node = node_of(alloc, &self.current, self.needs, labels)?;
-        self.peaks.note(self.cap, seen, &from.labels);
-        self.trails.came(from.entry, choice);
-        self.trails.compare(&self.peaks);
+        let node = node_of(alloc, &self.current, self.needs, labels, &mut self.key)?;
+        let rises = self.peaks.note(self.cap, seen, &from.labels);
+        self.trails.came(from.entry, choice, rises, &self.peaks);
         Ok(Some(node))
     }
 
@@ -184,27 +177,22 @@ impl<'s, 'w, W: Watch> Steps for Explorer<'s, 'w, W> {
         node: &mut Node,
         other: Node,
     ) -> Result<Option<Node>, AllocError> {
-        if node.join(&other)? {
+        if node.join(self.system, &other)? {
             return Ok(None);
         }
         Ok(Some(other))
     }
 
     fn keep(&mut self, alloc: Global, node: &mut Node) -> Result<(), AllocError> {
-        node.entry = Some(self.trails.enter(node.entry, node.raised.take())?);
-        if self.machines.at(node.place, &node.key).is_some() {
-            return Ok(());
-        }
-        let key = key_of(alloc, &self.current, self.needs)?;
-        if are_equal(&key, &node.key) {
-            node.place = Some(self.machines.keep(alloc, &self.current, &key)?);
-        }
+        let entry = self.trails.enter(node.entry, node.raised.take())?;
+        node.entry = Some(entry);
+        node.base = Some(self.states.open(alloc, &self.current, entry, node.base)?);
         Ok(())
     }
 
     fn settle(&mut self, node: &mut Node) {
-        if let Some(place) = node.place.take() {
-            self.machines.release(place);
+        if let Some(base) = node.base.take() {
+            self.states.close(base);
         }
     }
 

@@ -1,6 +1,7 @@
 //! The figures of which bounds are told.
 
 ghost use Rattle.std.specs.Prelude.{◌≡◌};
+ghost use Rattle.figures.specs.FigureSums.{held_count};
 ghost use Rattle.bounds.specs.Figures.{one_if, told};
 
 use bound_labels::Peaks;
@@ -56,7 +57,9 @@ impl Figure {
 }
 
 /// How many resources of a system can be held.
-fn held_count(system: &System) -> usize {
+pub(crate) fn held_count(system: &System) -> usize
+    ensures { result ≡ held_count system.now }
+{
     let declared = system.resource_count();
     if system.has_res_scheduler() {
         declared + 1

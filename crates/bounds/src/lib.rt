@@ -2,18 +2,21 @@
 //! every run of a system shows.
 #![tactic(auto)]
 
+mod bases;
+mod bytes;
 mod current;
 mod explorer;
 mod figure;
 mod finding;
-mod machines;
 mod node;
+mod origin;
 mod raised;
 mod routines;
+mod states;
 mod trails;
 mod watch;
 
 pub use figure::{Figure, figures_of};
 pub use finding::{Bounds, Extent, find_bounds};
 pub use trails::Trails;
-pub use watch::{Unwatched, Watch};
+pub use watch::Watch;

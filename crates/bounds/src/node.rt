@@ -3,23 +3,24 @@
 ghost use Rattle.std.specs.Prelude.{◌≡◌, IfOk, IsFalse, IsTrue};
 ghost use Rattle.run_bounds.specs.Nodes.{Covers};
 
-use crate::machines::are_equal;
+use crate::bytes::are_equal;
 use crate::raised::Raised;
 use bound_labels::Labels;
+use osek_base::System;
 use std::alloc::AllocError;
 use std::marker::Model;
 
-/// The key of a state, whether the run is over in it, and its labels. One that is still to be
-/// visited has a machine too, of which contracts see nothing.
+/// The key of a state, whether the run is over in it, and its labels. Contracts see nothing of how
+/// its machine is made again.
 #[derive(Drop)]
 pub(crate) struct Node {
     pub(crate) key: Vec<u8>,
     pub(crate) is_over: bool,
     pub(crate) labels: Labels,
-    /// Where the machine stands among those that are kept.
-    pub(crate) place: Option<usize>,
-    /// The entry that tells how it came to be, of which contracts see nothing either.
+    /// The entry that tells how it came to be, once it is kept.
     pub(crate) entry: Option<usize>,
+    /// The place of the machine from which its own is made, while it is open.
+    pub(crate) base: Option<usize>,
     /// The labels that were raised when it was joined last, until that has an entry.
     pub(crate) raised: Option<Raised>,
 }
@@ -52,7 +53,7 @@ impl Node {
     /// answers whether that could be done: where interrupts can arrive as soon in both, or the other
     /// stands for all that this one does. With the waits of one and the ages of another, interrupts
     /// would come sooner than they can.
-    pub(crate) fn join(&mut self, other: &Node) -> Result<bool, AllocError>
+    pub(crate) fn join(&mut self, system: &System, other: &Node) -> Result<bool, AllocError>
         ensures both { IfOk result (λ done. IsTrue done →
             Covers self.new self.old × Covers self.new other.now) }
         ensures same { IfOk result (λ done. IsFalse done → self.new ≡ self.old) }
@@ -60,7 +61,7 @@ impl Node {
         if !self.is_of_same(other) || !self.goes_with(other) {
             return Ok(false);
         }
-        let raised = self.raised_by(other);
+        let raised = self.raised_by(system, other);
         let done = self.labels.join(&other.labels)?;
         self.raised = raised;
         Ok(done)
@@ -68,9 +69,9 @@ impl Node {
 
     /// Which of its labels another one raises, where interrupts can arrive as soon in both. Else the
     /// other one takes its place.
-    fn raised_by(&self, other: &Node) -> Option<Raised> {
+    fn raised_by(&self, system: &System, other: &Node) -> Option<Raised> {
         if self.labels.has_same_waits(&other.labels) {
-            Some(Raised::by(&self.labels, &other.labels))
+            Some(Raised::by(system, &self.labels, &other.labels))
         } else {
             None
         }

@@ -1,7 +1,8 @@
 //! Which labels of a node others have raised.
 
-use crate::figure::Figure;
+use crate::figure::{Figure, held_count};
 use bound_labels::Labels;
+use osek_base::System;
 
 /// How many things of a kind are told apart; of those beyond, nothing is raised.
 const MAX_THINGS: usize = 64;
@@ -29,22 +30,26 @@ fn has(set: u64, thing: usize) -> bool {
 }
 
 impl Raised {
-    /// Those of which other labels tell longer times than labels do.
-    pub(crate) fn by(labels: &Labels, others: &Labels) -> Self {
+    /// Those of a system of which other labels tell longer times than labels do.
+    pub(crate) fn by(system: &System, labels: &Labels, others: &Labels) -> Self {
         let mut raised = Raised {
             tasks: 0,
             routines: 0,
             resources: 0,
         };
-        for thing in 0..MAX_THINGS {
-            if !labels.has_older_jobs(others, thing) {
-                raised.tasks = with(raised.tasks, thing);
+        for task in 0..system.task_count() {
+            if !labels.has_older_jobs(others, task) {
+                raised.tasks = with(raised.tasks, task);
             }
-            if !labels.has_older_interrupt(others, thing) {
-                raised.routines = with(raised.routines, thing);
+        }
+        for routine in 0..system.routine_count() {
+            if !labels.has_older_interrupt(others, routine) {
+                raised.routines = with(raised.routines, routine);
             }
-            if !labels.has_longer_hold(others, thing) {
-                raised.resources = with(raised.resources, thing);
+        }
+        for resource in 0..held_count(system) {
+            if !labels.has_longer_hold(others, resource) {
+                raised.resources = with(raised.resources, resource);
             }
         }
         raised

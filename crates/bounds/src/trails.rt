@@ -7,16 +7,22 @@ use bound_labels::Peaks;
 use osek_base::System;
 use std::alloc::{AllocError, Global};
 
-/// How a node became what it is.
+/// How a node became what it is. There is one for each node and more, so it takes few bytes: entries
+/// are numbered below 2^32, and so are sets of routines.
 #[derive(Clone, Copy, Debug)]
 enum Entry {
     /// It is the first.
     First,
     /// By a tick behind an earlier entry, in which the routines of a set arrive.
-    Tick { before: usize, set: u64 },
+    Tick { before: u32, set: u32 },
     /// It was joined with the node of the entry before this one; until then it was as an older
     /// entry says. The labels that were raised then have a number.
-    Joined { older: usize, raised: usize },
+    Joined { older: u32, raised: u32 },
+}
+
+/// A number of an entry as it is kept. One that doesn't fit stands for none that there is.
+fn short(number: u64) -> u32 {
+    u32::try_from(number).unwrap_or(u32::MAX)
 }
 
 /// What a tick came from: the entry of its node, if there is one, and the routines that arrive.
@@ -68,13 +74,17 @@ impl Trails {
         })
     }
 
-    /// A tick was made from the node of an entry, in which the routines of a set arrive.
-    pub(crate) fn came(&mut self, before: Option<usize>, set: u64) {
+    /// A tick was made from the node of an entry, in which the routines of a set arrive. Where peaks
+    /// rise by it, it is the first that shows them.
+    pub(crate) fn came(&mut self, before: Option<usize>, set: u64, rises: bool, peaks: &Peaks) {
         self.last = Step { before, set };
+        if rises {
+            self.compare(peaks);
+        }
     }
 
-    /// That tick may have shown more than was seen before.
-    pub(crate) fn compare(&mut self, peaks: &Peaks) {
+    /// The last tick may have shown more than was seen before.
+    fn compare(&mut self, peaks: &Peaks) {
         let step = self.last;
         for origin in self.origins.iter_mut() {
             let value = origin.figure.told(peaks);
@@ -102,8 +112,8 @@ impl Trails {
         let step = self.last;
         let entry = match step.before {
             Some(before) => Entry::Tick {
-                before,
-                set: step.set,
+                before: short(before as u64),
+                set: short(step.set),
             },
             None => Entry::First,
         };
@@ -113,8 +123,8 @@ impl Trails {
                 let place = self.raised.len();
                 self.raised.push(raised)?;
                 self.push(Entry::Joined {
-                    older,
-                    raised: place,
+                    older: short(older as u64),
+                    raised: short(place as u64),
                 })
             }
             _ => Ok(number),
@@ -132,11 +142,42 @@ impl Trails {
     }
 
     /// Which of two entries tells how the label of a figure came to be.
-    fn side(&self, number: usize, older: usize, raised: usize, figure: Figure) -> usize {
-        match self.raised.get(raised) {
+    fn side(&self, number: usize, older: u32, raised: u32, figure: Figure) -> usize {
+        match self.raised.get(raised as usize) {
             Some(raised) if raised.has(figure) => number.saturating_sub(1),
-            _ => older,
+            _ => older as usize,
         }
+    }
+
+    /// How many entries there are.
+    pub(crate) fn len(&self) -> usize {
+        self.entries.len()
+    }
+
+    /// Leaves the sets of routines that arrive in the ticks from an earlier entry to another one, the
+    /// last tick first.
+    pub(crate) fn put_sets(
+        &self,
+        earlier: usize,
+        entry: usize,
+        sets: &mut Vec<u64>,
+    ) -> Result<(), AllocError> {
+        sets.clear();
+        let mut at = entry;
+        for _entry in 0..self.entries.len() {
+            if at == earlier {
+                return Ok(());
+            }
+            at = match self.entries.get(at) {
+                Some(Entry::Tick { before, set }) => {
+                    sets.push(u64::from(*set))?;
+                    *before as usize
+                }
+                Some(Entry::Joined { .. }) => at.saturating_sub(1),
+                Some(Entry::First) | None => return Ok(()),
+            };
+        }
+        Ok(())
     }
 
     /// The sets of routines that arrive in the ticks of a run that may show what is told of a
@@ -154,8 +195,8 @@ impl Trails {
             };
             at = match self.entries.get(number) {
                 Some(Entry::Tick { before, set }) => {
-                    sets.push(*set)?;
-                    Some(*before)
+                    sets.push(u64::from(*set))?;
+                    Some(*before as usize)
                 }
                 Some(Entry::Joined { older, raised }) => {
                     Some(self.side(number, *older, *raised, figure))

@@ -36,6 +36,13 @@ impl Numbers {
         }
     }
 
+    /// As a word whose bit n is set exactly where n is in it.
+    pub(crate) fn bits(self) -> u64
+        ensures { result ≡ self }
+    {
+        self.word
+    }
+
     /// Whether a number is in it.
     pub(crate) fn has(self, number: u8) -> bool
         requires { number < 64 }

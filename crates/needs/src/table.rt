@@ -1,12 +1,11 @@
 //! What is needed, as a table of a system's tasks, routines, resources and counters.
 
-ghost use Rattle.std.specs.Prelude.{◌≡◌, ◌<◌};
-ghost use Rattle.osek_base.specs.declared.limits.TheConstants.{WINDOW_WORDS};
+ghost use Rattle.std.specs.Prelude.{ℕ, ◌≡◌};
 ghost use Rattle.std.specs.Option.{option_map};
-ghost use Rattle.needs.specs.Table.{entry, need_of};
+ghost use Rattle.needs.specs.Table.{entry, has, need_of};
 
 use crate::numbers::Numbers;
-use osek_base::{CounterId, Owner, REGISTERS, Register, ResourceNumber};
+use osek_base::{CounterId, Owner, REGISTERS, ResourceNumber};
 
 /// The indices, numbers mod 64, that each register may have at a place.
 pub(crate) type Row = [Numbers; REGISTERS];
@@ -41,24 +40,25 @@ impl Needs {
         }
     }
 
-    /// Whether a register of a task or routine is needed.
-    pub fn needs_register(&self, owner: Owner, register: Register) -> bool
-        ensures { result ≡ (need_of self.now).registers owner register }
+    /// The registers of a task or routine that are needed, as a set: bit r is set exactly where
+    /// register r is in it.
+    pub fn needed_registers(&self, owner: Owner) -> u64
+        ensures { (r : ℕ) → (need_of self.now).registers owner r ≡ has result r }
     {
         match self.entry(owner) {
-            None => false,
-            Some(own) => own.registers.has(register.number()),
+            None => 0,
+            Some(own) => own.registers.bits(),
         }
     }
 
-    /// Whether a word of the window of a task or routine is needed.
-    pub fn needs_word(&self, owner: Owner, index: u8) -> bool
-        requires { index < WINDOW_WORDS }
-        ensures { result ≡ (need_of self.now).words owner index }
+    /// The words of the window of a task or routine that are needed, as a set: bit i is set exactly
+    /// where word i is in it.
+    pub fn needed_words(&self, owner: Owner) -> u64
+        ensures { (i : ℕ) → (need_of self.now).words owner i ≡ has result i }
     {
         match self.entry(owner) {
-            None => false,
-            Some(own) => own.words.has(index),
+            None => 0,
+            Some(own) => own.words.bits(),
         }
     }
 

@@ -3,36 +3,64 @@
 use std::alloc::{AllocError, Global};
 use std::collections::HashMap;
 
-/// Numbers by hash. Those of one hash have places, counted from 0.
+/// Numbers by hash. Those of one hash are a chain, in the order in which they were added.
 #[derive(Drop)]
 pub struct Index {
-    numbers: HashMap<(u64, usize), usize>,
+    /// By hash, the number that was added first.
+    first: HashMap<u64, usize>,
+    /// By number, the one that was added next of its hash, one higher; 0 behind the last.
+    next: Vec<usize>,
 }
 
 impl Index {
     /// No number.
     pub fn new(alloc: Global) -> Self {
         Index {
-            numbers: HashMap::new(alloc),
+            first: HashMap::new(alloc),
+            next: Vec::new(alloc),
         }
     }
 
     /// How many numbers there are.
     pub fn len(&self) -> usize {
-        self.numbers.len()
+        self.next.len()
     }
 
-    /// The number of a hash at a place.
-    pub fn number(&self, hash: u64, place: usize) -> Option<usize> {
-        self.numbers.get(&(hash, place)).copied()
+    /// The number of a hash that was added first.
+    pub fn first(&self, hash: u64) -> Option<usize> {
+        self.first.get(&hash).copied()
     }
 
-    /// Adds a number to those of a hash.
-    pub fn add(&mut self, hash: u64, number: usize) -> Result<(), AllocError> {
-        for place in 0..=self.numbers.len() {
-            if !self.numbers.contains_key(&(hash, place)) {
-                self.numbers.insert((hash, place), number)?;
-                return Ok(());
+    /// The number that was added next of the hash of another one.
+    pub fn after(&self, number: usize) -> Option<usize> {
+        self.next.get(number)?.checked_sub(1)
+    }
+
+    /// The last number of a chain.
+    fn last(&self, first: usize) -> usize {
+        let mut last = first;
+        for _number in 0..self.next.len() {
+            match self.after(last) {
+                Some(next) => last = next,
+                None => return last,
+            }
+        }
+        last
+    }
+
+    /// Adds a number to those of a hash: as many as there are.
+    pub fn add(&mut self, hash: u64) -> Result<(), AllocError> {
+        let number = self.next.len();
+        self.next.push(0)?;
+        match self.first(hash) {
+            None => {
+                self.first.insert(hash, number)?;
+            }
+            Some(first) => {
+                let last = self.last(first);
+                if last < self.next.len() {
+                    self.next[last] = number.saturating_add(1);
+                }
             }
         }
         Ok(())

@@ -16,43 +16,46 @@ pub enum Joined<N> {
     Apart(N),
 }
 
-/// Whether one of the nodes of a hash covers another.
+/// Whether one of the nodes of a chain covers another.
 pub fn is_covered<S: Steps>(
     nodes: &[S::Node],
     index: &Index,
     steps: &S,
-    hash: u64,
+    first: Option<usize>,
     node: &S::Node,
 ) -> bool
     ensures { IsTrue result →
         Any (λ x. (S.rules (S.setting steps.now)).covers x node.now) nodes.now }
 {
-    for place in 0..index.len() {
-        let Some(number) = index.number(hash, place) else {
+    let mut at = first;
+    for _number in 0..index.len() {
+        let Some(number) = at else {
             return false;
         };
         if number < nodes.len() && steps.covers(&nodes[number], node) {
             return true;
         }
+        at = index.after(number);
     }
     false
 }
 
-/// Joins a node with one of those of its hash.
+/// Joins a node with one of those of a chain.
 pub fn join_among<S: Steps>(
     alloc: Global,
     nodes: &mut [S::Node],
     index: &Index,
     steps: &S,
-    hash: u64,
+    first: Option<usize>,
     node: S::Node,
 ) -> Result<Joined<S::Node>, AllocError>
     ensures { IfOk result
         (IsJoined (S.rules (S.setting steps.now)) nodes.old nodes.new node) }
 {
     let mut left = node;
-    for place in 0..index.len() {
-        let Some(number) = index.number(hash, place) else {
+    let mut at = first;
+    for _number in 0..index.len() {
+        let Some(number) = at else {
             return Ok(Joined::Apart(left));
         };
         if number < nodes.len() {
@@ -61,6 +64,7 @@ pub fn join_among<S: Steps>(
                 Joined::Apart(same) => left = same,
             }
         }
+        at = index.after(number);
     }
     Ok(Joined::Apart(left))
 }

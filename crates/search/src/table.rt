@@ -111,10 +111,11 @@ impl<N: Drop> Table<N> {
         ensures full { IfOk result (λ done. done ≡ Full → limit ≤ length self.new.nodes.items) }
     {
         let hash = steps.hash(&node);
-        if is_covered(&self.nodes, &self.index, steps, hash, &node) {
+        let first = self.index.first(hash);
+        if is_covered(&self.nodes, &self.index, steps, first, &node) {
             return Ok(Admitted::Covered);
         }
-        match join_among(alloc, &mut self.nodes, &self.index, steps, hash, node)? {
+        match join_among(alloc, &mut self.nodes, &self.index, steps, first, node)? {
             Joined::At(number) => {
                 self.agenda.put(number)?;
                 Ok(Admitted::At(number))
@@ -165,7 +166,7 @@ impl<N: Drop> Table<N> {
             (self.new.agenda ≡ put_in (length self.old.nodes.items) self.old.agenda) }
     {
         let number = self.nodes.len();
-        self.index.add(hash, number)?;
+        self.index.add(hash)?;
         self.nodes.push(node)?;
         self.agenda.put(number)
     }

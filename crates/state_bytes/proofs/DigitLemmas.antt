@@ -2,7 +2,7 @@
 use Rattle.std.proofs.Common.{ℕ, zero, suc, ◌≡◌, ◌<◌, ◌+◌, ◌-◌, ◌/◌, ◌%◌, cond, List, [], ◌∷◌, ◌++◌, refl, sym, ◌∙◌, ap, subst, arith}
 use Rattle.std.proofs.lemmas.List.{append_assoc}
 use Rattle.std.proofs.lemmas.Bool.{lt-ltb, le-ltb}
-use Rattle.state_keys.specs.Bytes.{digits}
+use Rattle.state_keys.specs.Bytes.{digits, number}
 use Rattle.state_bytes.specs.Limit.{limit}
 
 less : (k : ℕ) → suc k - 1 ≡ k
@@ -23,6 +23,10 @@ unfolding digits
 digits_last zero n low = refl
 digits_last (suc k) n low =
     ap (λ b. cond b (n ∷ []) ((128 + n % 128) ∷ digits k (n / 128))) (lt-ltb n 128 low)
+
+pub number_last : (n : ℕ) → n < 128 → number n ≡ n ∷ []
+unfolding number
+number_last n low = digits_last 4 n low
 
 pub digits_step : (k n : ℕ) → (k ≡ 0 → ⊥) → (n < 128 → ⊥) → (old : List ℕ)
     → (old ++ (128 + n % 128) ∷ []) ++ digits (k - 1) (n / 128) ≡ old ++ digits k n

@@ -1,5 +1,6 @@
 pub mod DigitLemmas
 pub mod Steps
+pub mod SetLemmas
 pub mod ReadyLemmas
 pub mod CounterLemmas
 pub mod TimeLemmas

@@ -1,3 +1,4 @@
 pub mod Limit
 pub mod Parts
+pub mod Sets
 pub mod Told

@@ -9,6 +9,7 @@ ghost use Rattle.state_keys.specs.Bytes.{each, needed, number, optional};
 ghost use Rattle.state_keys.specs.Key.{context_key, executing_key, routine_key};
 
 use crate::numbers::{push_byte, push_flag, push_number};
+use crate::sets::has;
 use machine::Cpu;
 use needs::Needs;
 use osek_base::{Owner, REGISTERS, Register, TaskId};
@@ -16,17 +17,17 @@ use services::{Active, CompactQueues, Objects};
 use std::alloc::AllocError;
 
 /// Adds a register, if it is needed.
+#[inline(always)]
 fn push_register(
     out: &mut Vec<u8>,
-    needs: &Needs,
-    owner: &Owner,
+    is_needed: bool,
     cpu: &Cpu,
     register: Register,
 ) -> Result<(), AllocError>
     ensures { OnOk result (out.new.items ≡ out.old.items
-        ++ needed ((need_of needs.now).registers owner.now register) (value cpu.now register)) }
+        ++ needed is_needed (value cpu.now register)) }
 {
-    if needs.needs_register(*owner, register) {
+    if is_needed {
         push_number(out, cpu.value(register))?;
     }
     Ok(())
@@ -44,9 +45,10 @@ fn push_registers(
         ++ each REGISTERS
         (λ r. needed ((need_of needs.now).registers owner.now r) (value cpu.now r))) }
 {
+    let registers = needs.needed_registers(*owner);
     for number in 0..REGISTERS {
-        let register = Register::new(number as u8);
-        push_register(out, needs, owner, cpu, register)?;
+        let is_needed = has(registers, number as u8);
+        push_register(out, is_needed, cpu, Register::new(number as u8))?;
     }
     Ok(())
 }

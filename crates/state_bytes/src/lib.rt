@@ -10,6 +10,7 @@ mod interrupts;
 mod laws;
 mod numbers;
 mod ready;
+mod sets;
 mod tasks;
 mod times;
 mod words;

@@ -7,6 +7,7 @@ ghost use Rattle.state_bytes.specs.Limit.{limit};
 use std::alloc::AllocError;
 
 /// Adds a byte.
+#[inline(always)]
 pub fn push_byte(out: &mut Vec<u8>, byte: u8) -> Result<(), AllocError>
     ensures { OnOk result (out.new.items ≡ out.old.items ++ byte ∷ []) }
 {
@@ -32,15 +33,28 @@ fn push_digits(out: &mut Vec<u8>, more: u8, n: u32) -> Result<(), AllocError>
     push_digits(out, more - 1, n / 128)
 }
 
-/// Adds a number: one to five bytes.
+/// Adds a number of any length.
 #[tactic(auto, unfolding(state_keys::specs::Bytes::number, crate::specs::Limit::limit))]
-pub fn push_number(out: &mut Vec<u8>, n: u32) -> Result<(), AllocError>
+fn push_long(out: &mut Vec<u8>, n: u32) -> Result<(), AllocError>
     ensures { OnOk result (out.new.items ≡ out.old.items ++ number n) }
 {
     push_digits(out, 4, n)
 }
 
+/// Adds a number: one to five bytes. Most are one.
+#[inline(always)]
+#[tactic(auto, using(crate::proofs::DigitLemmas::number_last))]
+pub fn push_number(out: &mut Vec<u8>, n: u32) -> Result<(), AllocError>
+    ensures { OnOk result (out.new.items ≡ out.old.items ++ number n) }
+{
+    if n < 128 {
+        return push_byte(out, n as u8);
+    }
+    push_long(out, n)
+}
+
 /// Adds a flag.
+#[inline(always)]
 pub fn push_flag(out: &mut Vec<u8>, is_set: bool) -> Result<(), AllocError>
     ensures { OnOk result (out.new.items ≡ out.old.items ++ flag is_set) }
 {

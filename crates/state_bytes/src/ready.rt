@@ -1,14 +1,15 @@
 //! The ready queues.
 
-ghost use Rattle.std.specs.Prelude.{◌≡◌, ◌<◌, ◌++◌, suc, OnOk};
+ghost use Rattle.std.specs.Prelude.{ℕ, ◌≡◌, ◌<◌, ◌++◌, [], false, suc, OnOk};
 ghost use Rattle.osek_base.specs.declared.limits.TheConstants.{MAX_TASK_PRIORITY};
+ghost use Rattle.needs.specs.Table.{has};
 ghost use Rattle.services.specs.CompactQueues.{tasks_at};
 ghost use Rattle.state_keys.specs.Bytes.{each};
 ghost use Rattle.state_keys.specs.Key.{level_key, ready_key};
 ghost use Rattle.state_bytes.specs.Parts.{entry_key};
 
 use crate::numbers::push_number;
-use ready_queues::LEVELS;
+use crate::sets::{next_in, with_number};
 use services::{CompactQueues, ReadyEntry};
 use std::alloc::AllocError;
 
@@ -41,14 +42,28 @@ fn push_level(out: &mut Vec<u8>, level: u8, entries: &[ReadyEntry]) -> Result<()
     }
 }
 
+/// The levels below 64 at which a task is ready, as a set.
+fn levels_of(entries: &[ReadyEntry]) -> u64
+    ensures { (l : ℕ) → l < 64 → has result l ≡ false → tasks_at entries.now l ≡ [] }
+{
+    let mut levels = 0;
+    for entry in entries {
+        levels = with_number(levels, entry.level);
+    }
+    levels
+}
+
 /// Adds the tasks that are ready, from the lowest level up.
 #[tactic(auto, using(crate::proofs::Steps::none_yet))]
 fn push_levels(out: &mut Vec<u8>, entries: &[ReadyEntry]) -> Result<(), AllocError>
     ensures { OnOk result (out.new.items ≡ out.old.items
         ++ each (suc MAX_TASK_PRIORITY) (λ l. level_key l (tasks_at entries.now l))) }
 {
-    for level in 0..LEVELS {
-        push_level(out, level, entries)?;
+    let levels = levels_of(entries);
+    let mut from = 0;
+    while let Some(level) = next_in(levels, from) {
+        push_level(out, level as u8, entries)?;
+        from = level + 1;
     }
     Ok(())
 }

@@ -19,6 +19,7 @@ use services::{CompactQueues, Objects};
 use std::alloc::AllocError;
 
 /// How many ticks the counter of an alarm has a value.
+#[inline(always)]
 fn ticks_per_base(system: &System, alarm: AlarmId) -> u32
     requires { alarm < length system.now.alarms }
     ensures value { result ≡ (counter_of system.now alarm).ticks_per_base }
@@ -30,6 +31,7 @@ fn ticks_per_base(system: &System, alarm: AlarmId) -> u32
 }
 
 /// How many counts pass when a tick comes: 1 where the counter grows, else 0.
+#[inline(always)]
 fn counts_passed(base: u32, tick: u32) -> u32
     requires { 1 ≤ base }
     ensures { result ≡ tick / base - (tick - 1) / base }
@@ -38,6 +40,7 @@ fn counts_passed(base: u32, tick: u32) -> u32
 }
 
 /// What is left once some counts have passed.
+#[inline(always)]
 fn less_by(passed: u32, left: Option<u32>) -> Option<u32>
     ensures { result ≡ less_by passed left }
 {
@@ -49,6 +52,7 @@ fn less_by(passed: u32, left: Option<u32>) -> Option<u32>
 
 /// How many counts an alarm has left at a tick, where the clock shows the one before; None while it
 /// is off.
+#[inline(always)]
 fn counts_left(
     system: &System,
     objects: &Objects<'_, CompactQueues>,

@@ -1,39 +1,21 @@
 //! The words that are needed, of tasks, routines and resources.
 
 ghost use Rattle.std.specs.Prelude.{◌≡◌, ◌<◌, ◌++◌, OnOk, length};
-ghost use Rattle.osek_base.specs.declared.limits.TheConstants.{SHARED_WORDS, WINDOW_WORDS};
+ghost use Rattle.osek_base.specs.declared.limits.TheConstants.{SHARED_WORDS};
 ghost use Rattle.osek_base.specs.declared.ids.Owner.{Owner as OwnerOf};
 ghost use Rattle.osek_base.specs.State.{shared_word};
 ghost use Rattle.kernel.specs.Machine.{picture, system_of};
 ghost use Rattle.needs.specs.Table.{need_of};
-ghost use Rattle.state_keys.specs.Bytes.{each, needed, number};
+ghost use Rattle.state_keys.specs.Bytes.{each, number};
 ghost use Rattle.state_keys.specs.Key.{shared_key, window_key, words_key};
 
 use crate::numbers::push_number;
+use crate::sets::next_in;
 use kernel::{Blockers, Machine};
 use needs::Needs;
-use osek_base::{IsrId, Owner, ResourceNumber, SHARED_WORDS, System, TaskId, WINDOW_WORDS};
+use osek_base::{IsrId, Owner, ResourceNumber, SHARED_WORDS, System, TaskId};
 use services::CompactQueues;
 use std::alloc::AllocError;
-
-/// Adds the word of a window, if it is needed.
-fn push_word<B: Blockers>(
-    out: &mut Vec<u8>,
-    machine: &Machine<'_, CompactQueues, B>,
-    needs: &Needs,
-    owner: &Owner,
-    index: u8,
-) -> Result<(), AllocError>
-    requires { index < WINDOW_WORDS }
-    ensures { OnOk result (out.new.items ≡ out.old.items
-        ++ needed ((need_of needs.now).words owner.now index)
-        ((picture machine.now).words owner.now index)) }
-{
-    if needs.needs_word(*owner, index) {
-        push_number(out, machine.word(*owner, index as u32))?;
-    }
-    Ok(())
-}
 
 /// Adds the words of a window that are needed.
 #[tactic(auto, using(crate::proofs::Steps::none_yet))]
@@ -46,8 +28,11 @@ fn push_window<B: Blockers>(
     ensures { OnOk result (out.new.items ≡ out.old.items
         ++ window_key (need_of needs.now) (picture machine.now) owner.now) }
 {
-    for index in 0..WINDOW_WORDS {
-        push_word(out, machine, needs, owner, index as u8)?;
+    let words = needs.needed_words(*owner);
+    let mut from = 0;
+    while let Some(index) = next_in(words, from) {
+        push_number(out, machine.word(*owner, index))?;
+        from = index + 1;
     }
     Ok(())
 }

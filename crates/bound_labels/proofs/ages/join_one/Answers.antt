@@ -1,6 +1,6 @@
-use Rattle.std.proofs.Common.{◌≡◌, ◌<◌, ◌≤◌, length, get_or, refl, ◌∙◌, ap, max, arith}
+use Rattle.std.proofs.Common.{ℕ, ◌≡◌, ◌<◌, ◌≤◌, List, length, get_or, take, refl, ◌∙◌, ap, max, arith}
 use Rattle.std.proofs.lemmas.Grind.{get_or_default_zero}
-use Rattle.bound_labels.proofs.AgeLemmas.{merged_set_at, merged_push_at}
+use Rattle.bound_labels.proofs.AgeLemmas.{merged_grows, merged_set_at, merged_push_at}
 use Rattle.bound_labels.proofs.ages.join_one.Goals.{then-job-len, else-job-len+in_ok-push}
 use Rattle.bound_labels.proofs.ages.join_one.Goals as goal
 
@@ -25,3 +25,16 @@ loop-job-preserved c =
           c.loop-job.invariant refl in
           rw w.ages-is (w.in_ok-push.ensures.items ∙ more)
     ]
+
+pub returns-clause-grows : goal.returns-clause-grows
+returns-clause-grows c =
+    let more = merged_grows c.args.ages.now.items (take c.loop-job.job c.args.others.now) in
+    let e = ap (λ (v : List ℕ). length v) c.loop-job.invariant in
+    omega (arith, more, e)
+
+pub returns-in_err-push-clause-grows : goal.returns-in_err-push-clause-grows
+returns-in_err-push-clause-grows c =
+    let more = merged_grows c.args.ages.now.items (take c.loop-job.job c.args.others.now) in
+    let e = ap (λ (v : List ℕ). length v) c.loop-job.invariant in
+    let stays = ap (λ (v : List ℕ). length v) c.in_err-push.ensures.items in
+    omega (arith, more, e, stays)

@@ -1,10 +1,13 @@
-use Rattle.std.proofs.Common.{◌≡◌, ◌++◌}
+use Rattle.std.proofs.Common.{◌≡◌, ◌≤◌, ◌++◌, ◌-◌}
+use Rattle.services.specs.CompactQueues.{tasks_at}
 use Rattle.state_keys.specs.Bytes.{each}
 use Rattle.state_keys.specs.Key.{level_key}
-use Rattle.services.specs.CompactQueues.{tasks_at}
 use Rattle.state_bytes.proofs.ready.push_levels.Given as goal
 
 abbrev pub invariant-loop-level : goal.invariant-loop-level
 invariant-loop-level l =
-    l.out.items ≡ l.fn.out.items
-    ++ each l.level (λ n. level_key n (tasks_at l.entries n))
+    (l.from ≤ 64) × (l.out.items ≡ l.fn.out.items
+    ++ each l.from (λ n. level_key n (tasks_at l.entries n)))
+
+abbrev pub decreases-loop-level : goal.decreases-loop-level
+decreases-loop-level l = 64 - l.from

@@ -1,4 +1,4 @@
-use Rattle.std.proofs.Common.{◌≡◌, ◌++◌}
+use Rattle.std.proofs.Common.{◌≡◌, ◌≤◌, ◌++◌, ◌-◌}
 use Rattle.state_keys.specs.Bytes.{each, needed}
 use Rattle.kernel.specs.Machine.{picture}
 use Rattle.needs.specs.Table.{need_of}
@@ -6,6 +6,9 @@ use Rattle.state_bytes.proofs.words.push_window.Given as goal
 
 abbrev pub invariant-loop-index : goal.invariant-loop-index
 invariant-loop-index g l =
-    l.out.items ≡ l.fn.out.items
-    ++ each l.index (λ i. needed ((need_of l.needs).words l.owner i)
-    ((picture l.machine).words l.owner i))
+    (l.from ≤ 64) × (l.out.items ≡ l.fn.out.items
+    ++ each l.from (λ i. needed ((need_of l.needs).words l.owner i)
+    ((picture l.machine).words l.owner i)))
+
+abbrev pub decreases-loop-index : goal.decreases-loop-index
+decreases-loop-index g l = 64 - l.from

@@ -1,8 +1,8 @@
-use Rattle.std.proofs.Common.{[], None, min, refl, ◌∙◌, ap}
-use Rattle.figure_laws.specs.Merging.{merged_age, merged_ages}
+use Rattle.std.proofs.Common.{None, min, refl, ◌∙◌, ap}
+use Rattle.figure_laws.specs.Merging.{merged_age}
 use Rattle.bound_labels.specs.Labels.{Labels, no_hold}
 use Rattle.bound_labels.specs.Joining.{joined_hold}
-use Rattle.bound_labels.proofs.LabelLemmas.{labels_joined, joinable_at, list_joined}
+use Rattle.bound_labels.proofs.LabelLemmas.{labels_joined, joinable_at, list_joined, lists_joined}
 use Rattle.bound_labels.proofs.labels.Labels.join.Goals as goal
 
 -- list by list, the labels seen as their fields
@@ -18,22 +18,20 @@ returns c =
     (c.deref-else-not-is_of_as_many.ensures.value ∙ ap (λ (v : Labels). v.holds) others)
     (c.if-not-are_joinable.ensures refl))
     (list_joined min 0 c.self.inside.waits
-    c.deref_mut-2.result.now c.deref-3.result.now c.join_waits.new.waits l.waits m.waits
-    (c.deref_mut-2.ensures.value ∙ ap (λ (v : Labels). v.waits) mine)
-    (c.deref-3.ensures.value ∙ ap (λ (v : Labels). v.waits) others)
-    c.deref_mut-2.ensures.len c.join_waits.ensures.count c.join_waits.ensures.each)
-    (list_joined merged_ages [] c.self.inside.ages
-    c.deref_mut.result.now c.deref-2.result.now c.join_ages.new.ages l.ages m.ages
-    (c.deref_mut.ensures.value ∙ ap (λ (v : Labels). v.ages) mine)
-    (c.deref-2.ensures.value ∙ ap (λ (v : Labels). v.ages) others)
-    c.deref_mut.ensures.len c.join_ages.ensures.count c.in_ok-join_ages.ensures.each)
+    c.deref_mut.result.now c.deref-2.result.now c.join_waits.new.waits l.waits m.waits
+    (c.deref_mut.ensures.value ∙ ap (λ (v : Labels). v.waits) mine)
+    (c.deref-2.ensures.value ∙ ap (λ (v : Labels). v.waits) others)
+    c.deref_mut.ensures.len c.join_waits.ensures.count c.join_waits.ensures.each)
+    (lists_joined c.self.inside.ages c.other.inside.ages c.join.new.self l.ages m.ages
+    (ap (λ (v : Labels). v.ages) mine) (ap (λ (v : Labels). v.ages) others)
+    c.in_ok-join.ensures.count c.in_ok-join.ensures.each)
     (list_joined merged_age None c.self.inside.pending
-    c.deref_mut-3.result.now c.deref-4.result.now c.join_pending.new.pending l.pending m.pending
-    (c.deref_mut-3.ensures.value ∙ ap (λ (v : Labels). v.pending) mine)
-    (c.deref-4.ensures.value ∙ ap (λ (v : Labels). v.pending) others)
-    c.deref_mut-3.ensures.len c.join_pending.ensures.count c.join_pending.ensures.each)
+    c.deref_mut-2.result.now c.deref-3.result.now c.join_pending.new.pending l.pending m.pending
+    (c.deref_mut-2.ensures.value ∙ ap (λ (v : Labels). v.pending) mine)
+    (c.deref-3.ensures.value ∙ ap (λ (v : Labels). v.pending) others)
+    c.deref_mut-2.ensures.len c.join_pending.ensures.count c.join_pending.ensures.each)
     (list_joined joined_hold no_hold c.self.inside.holds
-    c.deref_mut-4.result.now c.deref-5.result.now c.join_holds.new.holds l.holds m.holds
-    (c.deref_mut-4.ensures.value ∙ ap (λ (v : Labels). v.holds) mine)
-    (c.deref-5.ensures.value ∙ ap (λ (v : Labels). v.holds) others)
-    c.deref_mut-4.ensures.len c.join_holds.ensures.count c.join_holds.ensures.each)
+    c.deref_mut-3.result.now c.deref-4.result.now c.join_holds.new.holds l.holds m.holds
+    (c.deref_mut-3.ensures.value ∙ ap (λ (v : Labels). v.holds) mine)
+    (c.deref-4.ensures.value ∙ ap (λ (v : Labels). v.holds) others)
+    c.deref_mut-3.ensures.len c.join_holds.ensures.count c.join_holds.ensures.each)

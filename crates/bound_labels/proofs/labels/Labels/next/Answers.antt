@@ -30,10 +30,10 @@ returns c =
     (c.deref.ensures.value ∙ ap (λ (l : Labels). l.waits) c.self.view_is))
     (c.in_ok-next_ages.ensures
     ∙ ap (λ (v : List (List ℕ)). each_of (ages_behind cap seen) v)
-    (c.deref-2.ensures.value ∙ ap (λ (l : Labels). l.ages) c.self.view_is))
+    (ap (λ (l : Labels). l.ages) c.self.view_is))
     (c.in_ok-next_pending.ensures
     ∙ ap (λ (v : List (Option ℕ)). each_of (pending_behind cap seen) v)
-    (c.deref-3.ensures.value ∙ ap (λ (l : Labels). l.pending) c.self.view_is))
+    (c.deref-2.ensures.value ∙ ap (λ (l : Labels). l.pending) c.self.view_is))
     (c.in_ok-next_holds.ensures
     ∙ ap (λ (v : List Hold). each_of (hold_behind cap seen) v)
-    (c.deref-4.ensures.value ∙ ap (λ (l : Labels). l.holds) c.self.view_is))
+    (c.deref-3.ensures.value ∙ ap (λ (l : Labels). l.holds) c.self.view_is))

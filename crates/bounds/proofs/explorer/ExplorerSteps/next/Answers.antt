@@ -43,8 +43,8 @@ returns-clause-next g c =
     ∙ ap (λ k. filter (arrives_in set) (below k)) c.routine_count.ensures.value in
     let ticked : Ticked e x set m n seen failed =
     record {
-      is = is_in_of e.ground c.self.inside.machines x.key c.deref.result.now m
-          c.self.invariant.machines c.deref.ensures.value c.in-Some.ensures;
+      is = is_in_of e.ground c.visit.new.self x.key c.deref.result.now m
+          (c.visit.ensures ∙ c.self.invariant.machines) c.deref.ensures.value c.in-Some.ensures;
       going = c.if-not-can_go_on.ensures.going refl ∙ sym going;
       system = c.tick_from.ensures.system;
       after = c.tick_from.ensures.after
@@ -96,8 +96,8 @@ returns-clause-noted g c =
     ∙ ap (λ k. filter (arrives_in set) (below k)) c.routine_count.ensures.value in
     let ticked : Ticked e x set m n seen failed =
     record {
-      is = is_in_of e.ground c.self.inside.machines x.key c.deref.result.now m
-          c.self.invariant.machines c.deref.ensures.value c.in-Some.ensures;
+      is = is_in_of e.ground c.visit.new.self x.key c.deref.result.now m
+          (c.visit.ensures ∙ c.self.invariant.machines) c.deref.ensures.value c.in-Some.ensures;
       going = c.if-not-can_go_on.ensures.going refl ∙ sym going;
       system = c.tick_from.ensures.system;
       after = c.tick_from.ensures.after
@@ -107,12 +107,12 @@ returns-clause-noted g c =
       failed_is = (λ i. failing (c.tick_from.ensures.answered i) (c.tick_from.ensures.executor i))
           ∙ ap (λ (r : List ℕ). failed_in (system_of m) r (picture m)) same;
     } in
-    let peaks = c.note.new.self in
+    let peaks = c.note-rises.new.self in
     subst (λ (z : Node). AreNoted (setting_of e) peaks z set) c.from.view_is
     (are_noted e x set m n seen failed ticked c.one_state_tells.ensures c.self.invariant.ground going
     peaks
     (subst (λ (o : Observation). IsNoted e.cap peaks (seen_of o) (failed_of o) x.labels)
-    c.seen-seen.ensures c.note.ensures.noted))
+    c.seen-seen.ensures c.note-rises.ensures.noted))
 
 pub returns-clause-notes : goal.returns-clause-notes
 returns-clause-notes g c =
@@ -124,6 +124,6 @@ returns-clause-notes g c =
       cap = c.self.inside.cap;
       peaks = c.self.inside.peaks;
     } in
-    let f : Explorer = record e { peaks = c.note.new.self } in
+    let f : Explorer = record e { peaks = c.note-rises.new.self } in
     subst (λ (h : Explorer). StaysNoted AreNotedIn h f) c.self.view_is
-    (stays_noted e f c.notes_stay.ensures refl c.note.ensures.rises)
+    (stays_noted e f c.notes_stay.ensures refl c.note-rises.ensures.rises)

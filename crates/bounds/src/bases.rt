@@ -1,0 +1,158 @@
+//! Machines of some states, from which those of the states behind them are made again.
+
+ghost use Rattle.std.specs.Prelude.{◌≡◌, IfSome};
+ghost use Rattle.kernel.specs.Machine.{system_of};
+ghost use Rattle.bounds.specs.Held.{IsOf};
+
+use kernel::{Machine, NotCounted};
+use osek_base::{ModeId, System};
+use services::CompactQueues;
+use std::alloc::{AllocError, Global};
+use std::marker::Model;
+
+/// A machine that a search ticks; nobody asks it for blockers.
+pub(crate) type StateMachine<'s> = Machine<'s, CompactQueues, NotCounted>;
+
+/// A machine, and the entry of the trail that tells its state.
+#[derive(Drop)]
+struct Base<'s> {
+    machine: StateMachine<'s>,
+    entry: usize,
+}
+
+impl<'s> Base<'s> {
+    /// The machine becomes another one of the same system, with the entry of that one's state.
+    fn become_other(&mut self, machine: &StateMachine<'s>, entry: usize)
+        requires { system_of self.old.machine ≡ system_of machine.now }
+        ensures { self.new.machine ≡ machine.now }
+    {
+        self.machine.copy_from(machine);
+        self.entry = entry;
+    }
+}
+
+/// Machines of one system, in numbered places.
+#[derive(Drop)]
+pub(crate) struct Bases<'s> {
+    system: &'s System,
+    mode: ModeId,
+    held: Vec<Base<'s>>,
+    /// By place, how often its machine is made use of.
+    users: Vec<usize>,
+    /// Places of machines of which nobody makes use.
+    free: Vec<usize>,
+}
+
+impl<'s> Model for Bases<'s> {
+    ghost use Rattle.osek_base.specs.System.{System};
+    ghost use Rattle.std.specs.List.{All};
+    ghost use Rattle.bounds.specs.Held.{IsOf};
+
+    ghost Value = { System };
+
+    ghost view = { λ b. b.system.now };
+
+    ghost invariant = { λ b. All (λ h. IsOf b.system.now h.machine) b.held.items };
+}
+
+impl<'s> Bases<'s> {
+    /// No machine yet.
+    pub(crate) fn new(alloc: Global, system: &'s System, mode: ModeId) -> Self
+        ensures { result ≡ system.now }
+    {
+        Bases {
+            system,
+            mode,
+            held: Vec::new(alloc),
+            users: Vec::new(alloc),
+            free: Vec::new(alloc),
+        }
+    }
+
+    /// The machine at a place.
+    pub(crate) fn at(&self, place: usize) -> Option<&StateMachine<'s>>
+        ensures { IfSome result (λ m. IsOf self.now m.now) }
+    {
+        let base = self.held.get(place)?;
+        Some(&base.machine)
+    }
+
+    /// The entry of the state of the machine at a place.
+    pub(crate) fn entry(&self, place: usize) -> Option<usize> {
+        let base = self.held.get(place)?;
+        Some(base.entry)
+    }
+
+    /// How many machines are made use of.
+    pub(crate) fn len(&self) -> usize {
+        self.held.len().saturating_sub(self.free.len())
+    }
+
+    /// Keeps a copy of a machine, whose state an entry tells, and answers its place.
+    pub(crate) fn keep(
+        &mut self,
+        alloc: Global,
+        machine: &StateMachine<'s>,
+        entry: usize,
+    ) -> Result<usize, AllocError>
+        requires { IsOf self.old machine.now }
+        ensures { self.new ≡ self.old }
+    {
+        if let Some(place) = self.free.pop() {
+            if place < self.held.len() {
+                self.put(place, machine, entry);
+                return Ok(place);
+            }
+        }
+        let mut new = Machine::boot(alloc, self.system, self.mode)?;
+        new.copy_from(machine);
+        self.add(Base {
+            machine: new,
+            entry,
+        })?;
+        Ok(self.held.len().saturating_sub(1))
+    }
+
+    /// The machine at a place becomes another one.
+    fn put(&mut self, place: usize, machine: &StateMachine<'s>, entry: usize)
+        requires { IsOf self.old machine.now }
+        ensures { self.new ≡ self.old }
+    {
+        if place < self.held.len() {
+            self.held[place].become_other(machine, entry);
+        }
+    }
+
+    /// One more machine, and room to note that nobody makes use of it.
+    fn add(&mut self, base: Base<'s>) -> Result<(), AllocError>
+        requires { IsOf self.old base.machine }
+        ensures { self.new ≡ self.old }
+    {
+        self.free.reserve(self.held.len().saturating_add(1))?;
+        self.users.push(0)?;
+        self.held.push(base)?;
+        Ok(())
+    }
+
+    /// The machine at a place is made use of once more.
+    pub(crate) fn retain(&mut self, place: usize)
+        ensures { self.new ≡ self.old }
+    {
+        if place < self.users.len() {
+            self.users[place] = self.users[place].saturating_add(1);
+        }
+    }
+
+    /// The machine at a place is made use of once less. Where it was the last time it may become
+    /// another one; there is room to note that, as it is noted once.
+    pub(crate) fn release(&mut self, place: usize)
+        ensures { self.new ≡ self.old }
+    {
+        if place < self.users.len() {
+            self.users[place] = self.users[place].saturating_sub(1);
+            if self.users[place] == 0 {
+                let _noted = self.free.push(place);
+            }
+        }
+    }
+}

@@ -1,0 +1,122 @@
+//! The machine of the node that is visited.
+
+ghost use Rattle.std.specs.Prelude.{◌≡◌, IfOk, IfSome};
+ghost use Rattle.bounds.specs.Held.{IsIn, IsOf};
+
+use crate::bases::StateMachine;
+use crate::bytes::are_equal;
+use crate::current::can_go_on;
+use crate::routines::put_routines;
+use kernel::Machine;
+use needs::Needs;
+use osek_base::{IsrId, ModeId, System, TickRecord};
+use state_bytes::write_key;
+use std::alloc::{AllocError, Global};
+use std::marker::Model;
+
+/// A machine beside the key of its state, once it was made again.
+#[derive(Drop)]
+pub(crate) struct Origin<'s> {
+    system: &'s System,
+    needs: &'s Needs,
+    machine: StateMachine<'s>,
+    key: Vec<u8>,
+    /// Whether the key is that of the machine's state.
+    is_made: bool,
+    /// The routines whose interrupts arrive in a tick.
+    arrived: Vec<IsrId>,
+    /// Room for what a tick records.
+    before: TickRecord,
+    behind: TickRecord,
+}
+
+impl<'s> Model for Origin<'s> {
+    ghost use Rattle.bounds.specs.Held.{Ground, IsOrigin};
+
+    ghost Value = { Ground };
+
+    ghost view = { λ o. record { system = o.system.now; needs = o.needs.now } };
+
+    ghost invariant = { λ o.
+        IsOrigin (record { system = o.system.now; needs = o.needs.now }) o.machine o.key.items o.is_made };
+}
+
+impl<'s> Origin<'s> {
+    /// No machine is made yet.
+    pub(crate) fn new(
+        alloc: Global,
+        system: &'s System,
+        needs: &'s Needs,
+        mode: ModeId,
+    ) -> Result<Self, AllocError>
+        ensures system { IfOk result (λ o. o.system ≡ system.now) }
+        ensures needs { IfOk result (λ o. o.needs ≡ needs.now) }
+    {
+        Ok(Origin {
+            system,
+            needs,
+            machine: Machine::boot(alloc, system, mode)?,
+            key: Vec::new(alloc),
+            is_made: false,
+            arrived: Vec::new(alloc),
+            before: TickRecord::new(),
+            behind: TickRecord::new(),
+        })
+    }
+
+    /// The machine.
+    pub(crate) fn machine(&self) -> &StateMachine<'s>
+        ensures { IsOf self.now.system result.now }
+    {
+        &self.machine
+    }
+
+    /// The machine, if its state has a key.
+    pub(crate) fn at(&self, key: &[u8]) -> Option<&StateMachine<'s>>
+        ensures { IfSome result (λ m. IsIn self.now key.now m.now) }
+    {
+        if !self.is_made || !are_equal(&self.key, key) {
+            return None;
+        }
+        Some(&self.machine)
+    }
+
+    /// Makes it again from another one, by ticks in which the routines of sets arrive, the last tick
+    /// first.
+    pub(crate) fn remake(&mut self, from: &StateMachine<'s>, sets: &[u64]) -> Result<(), AllocError>
+        requires { IsOf self.old.system from.now }
+        ensures { self.new ≡ self.old }
+    {
+        self.is_made = false;
+        self.machine.copy_from(from);
+        for set in sets.iter().rev() {
+            self.tick(*set)?;
+        }
+        self.write()
+    }
+
+    /// Does one tick in which the routines of a set arrive, if it can be done.
+    fn tick(&mut self, set: u64) -> Result<(), AllocError>
+        ensures { self.new ≡ self.old }
+    {
+        self.is_made = false;
+        put_routines(set, self.system.routine_count(), &mut self.arrived)?;
+        if can_go_on(&self.machine) {
+            let _executed = self
+                .machine
+                .tick(&self.arrived, &mut self.before, &mut self.behind);
+        }
+        Ok(())
+    }
+
+    /// Writes the key of the machine's state.
+    fn write(&mut self) -> Result<(), AllocError>
+        ensures { self.new ≡ self.old }
+    {
+        self.is_made = false;
+        self.key.clear();
+        write_key(&self.machine, self.needs, &mut self.key)?;
+        self.is_made = true;
+        Ok(())
+    }
+}
