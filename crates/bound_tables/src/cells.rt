@@ -9,6 +9,8 @@ pub enum Cell {
     Time { ticks: u32, is_reached: bool },
     /// A time that reaches the cap.
     Above,
+    /// A time that some run can make as long as one likes.
+    Unbounded,
     /// Whether something may come, and whether a run shows that it does or doesn't.
     Coming { comes: bool, is_reached: bool },
 }
@@ -35,7 +37,8 @@ impl Cell {
     }
 
     /// What is promised of the figure: `reached` where a run shows it and none shows more, `bound`
-    /// where none shows more, or `above` where nothing is.
+    /// where none shows more, `unbounded` where some run shows as much as one likes, or `above`
+    /// where nothing is promised.
     pub fn standing(self) -> &'static str {
         match self {
             Cell::Time {
@@ -48,6 +51,7 @@ impl Cell {
             } => "reached",
             Cell::Time { .. } | Cell::Coming { comes: false, .. } => "bound",
             Cell::Above | Cell::Coming { comes: true, .. } => "above",
+            Cell::Unbounded => "unbounded",
         }
     }
 }
@@ -57,7 +61,7 @@ impl fmt::Display for Cell {
     fn fmt<W: fmt::Write>(&self, f: &mut fmt::Formatter<W>) -> fmt::Result {
         match self {
             Cell::Time { ticks, .. } => write!(f, "{ticks}"),
-            Cell::Above => Ok(()),
+            Cell::Above | Cell::Unbounded => Ok(()),
             Cell::Coming { comes, .. } => write!(f, "{}", u8::from(*comes)),
         }
     }

@@ -21,7 +21,7 @@ fn put(
 fn number_of(cell: Cell) -> Value {
     match cell {
         Cell::Time { ticks, .. } => Value::from(ticks),
-        Cell::Above => Value::Null,
+        Cell::Above | Cell::Unbounded => Value::Null,
         Cell::Coming { comes, .. } => Value::from(u32::from(comes)),
     }
 }

@@ -61,6 +61,9 @@ impl Column {
         let figure = self.figure(number);
         let value = figure.told(&told.bounds.peaks);
         let is_reached = told.is_reached(figure);
+        if told.is_endless(figure) {
+            return Cell::Unbounded;
+        }
         match self {
             Column::Response | Column::Latency | Column::Hold => Cell::of_time(
                 value,

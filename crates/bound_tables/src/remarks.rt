@@ -42,6 +42,12 @@ fn write_remark<W: Write>(
             "above: some run may take {} ticks or more; what can be put off for ever has no bound",
             told.bounds.cap
         ),
+        Cell::Unbounded => {
+            writeln!(
+                out,
+                "unbounded: a job can be kept from ending for ever; --witness shows the ticks that come again"
+            )
+        }
         Cell::Time { ticks, .. } => {
             writeln!(
                 out,

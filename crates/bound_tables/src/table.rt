@@ -40,6 +40,7 @@ fn write_cell<W: Write>(cell: Cell, out: &mut W) -> io::Result<()> {
     match cell {
         Cell::Time { ticks, is_reached } => write_number(ticks, is_reached, out),
         Cell::Above => out.write_all(b"       above"),
+        Cell::Unbounded => out.write_all(b"   unbounded"),
         Cell::Coming { comes, is_reached } => write_number(u32::from(comes), is_reached, out),
     }
 }

@@ -2,11 +2,13 @@
 
 use bounds::{Bounds, Figure};
 
-/// The bounds of a system, and the figures that a run is known to show as they are told.
+/// The bounds of a system, the figures that a run is known to show as they are told, and the tasks,
+/// by number, that a run is known to keep from ending for as long as one likes.
 #[derive(Clone, Copy)]
 pub struct Told<'b, 'r> {
     pub bounds: &'b Bounds,
     pub reached: &'r [Figure],
+    pub endless: &'r [usize],
 }
 
 impl Told<'_, '_> {
@@ -17,6 +19,16 @@ impl Told<'_, '_> {
         }
         for reached in self.reached {
             if *reached == figure {
+                return true;
+            }
+        }
+        false
+    }
+
+    /// Whether a run is known to show as much of a figure as one likes.
+    pub(crate) fn is_endless(self, figure: Figure) -> bool {
+        for task in self.endless {
+            if figure == Figure::Response(*task) {
                 return true;
             }
         }

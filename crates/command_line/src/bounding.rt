@@ -20,7 +20,7 @@ use search::{Outcome, Progress};
 use std::alloc::{AllocError, Global};
 use std::io::Write;
 use tracer::RunFault;
-use witnesses::reached_figures;
+use witnesses::{endless_tasks, reached_figures};
 
 /// What is asked of bounds, and whether it is said what the figures mean.
 #[derive(Clone, Copy, Debug)]
@@ -165,6 +165,7 @@ fn write_found<'v, O: Write>(
             let told = Told {
                 bounds: found,
                 reached: &[],
+                endless: &[],
             };
             write_undecided(obstacle, progress, out)?;
             if line.form == Form::Table && line.witness.is_none() {
@@ -180,9 +181,11 @@ fn write_found<'v, O: Write>(
         return write_witness(alloc, system, mode, distances, found, wanted, out);
     }
     let reached = reached_figures(alloc, system, mode, distances, found)?;
+    let endless = endless_tasks(alloc, system, mode, distances, found)?;
     let told = Told {
         bounds: found,
         reached: &reached,
+        endless: &endless,
     };
     write_bounds(alloc, system, told, progress, line.form, out)?;
     Ok(Verdict::Searched {

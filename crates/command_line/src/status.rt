@@ -65,7 +65,8 @@ pub(crate) enum Verdict<'a> {
     NoDistance(DistanceFault<'a>),
     /// What a search found is written, and whether it has come to its end: a line for each remark.
     Searched { is_decided: bool, remarks: Vec<u8> },
-    /// The arrivals of a run that shows a figure are written: a line tells its ticks and the figure.
+    /// The arrivals of a run that shows a figure are written: a line tells its ticks and the figure,
+    /// and where it has no bound another one which ticks can come again.
     Witnessed(String),
     /// A run is wanted of a figure that no thing has: nothing is written.
     NoFigure(Wanted<'a>),
@@ -82,7 +83,7 @@ impl Verdict<'_> {
             Verdict::Broken(lines) => err.write_all(lines.as_bytes()),
             Verdict::Warned(lines) => err.write_all(lines),
             Verdict::NoDistance(fault) => writeln!(err, "{fault}"),
-            Verdict::Witnessed(line) => err.write_all(line.as_bytes()),
+            Verdict::Witnessed(lines) => err.write_all(lines.as_bytes()),
             Verdict::NoFigure(wanted) => writeln!(err, "witness: {wanted}"),
             Verdict::NoWitness(wanted) => writeln!(err, "witness: {wanted}: no run is known"),
             Verdict::Searched { remarks, .. } => err.write_all(remarks),

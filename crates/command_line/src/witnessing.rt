@@ -3,12 +3,12 @@
 use crate::bounds_line::Wanted;
 use crate::status::Verdict;
 use bound_tables::{NamedFigure, figure_named};
-use bounds::Bounds;
+use bounds::{Bounds, Figure};
 use osek_base::{Arrivals, ModeId, System};
 use std::alloc::{AllocError, Global};
 use std::io::{self, Write};
 use tracer::RunFault;
-use witnesses::{Witness, find_witness};
+use witnesses::{Witness, find_endless, find_witness};
 
 /// Writes arrivals as a list.
 fn write_arrivals<O: Write>(system: &System, arrivals: &Arrivals, out: &mut O) -> io::Result<()> {
@@ -38,6 +38,30 @@ fn line_of(
     format!(in alloc; "{} ticks: {kind} {name} {column} {value}\n", witness.ticks)
 }
 
+/// Adds a line with the ticks of that run that can come again and again, so that the figure has no
+/// bound, where some can.
+fn add_endless(
+    alloc: Global,
+    system: &System,
+    mode: ModeId,
+    distances: &[u32],
+    found: &Bounds,
+    figure: Figure,
+    lines: &mut String,
+) -> Result<(), AllocError> {
+    if let Figure::Response(task) = figure {
+        if let Some(endless) = find_endless(alloc, system, mode, distances, found, task)? {
+            let last = endless.until.saturating_sub(1);
+            let line = format!(in alloc;
+                "ticks {} to {last} can come again and again\n",
+                endless.from
+            )?;
+            lines.push_str(&line)?;
+        }
+    }
+    Ok(())
+}
+
 /// Writes the arrivals of a run that shows what is told of a figure.
 pub(crate) fn write_witness<'v, O: Write>(
     alloc: Global,
@@ -54,7 +78,16 @@ pub(crate) fn write_witness<'v, O: Write>(
     let Some(witness) = find_witness(alloc, system, mode, distances, found, named.figure)? else {
         return Ok(Verdict::NoWitness(wanted));
     };
-    let line = line_of(alloc, found, named, wanted.name, &witness)?;
+    let mut lines = line_of(alloc, found, named, wanted.name, &witness)?;
+    add_endless(
+        alloc,
+        system,
+        mode,
+        distances,
+        found,
+        named.figure,
+        &mut lines,
+    )?;
     write_arrivals(system, &witness.arrivals, out)?;
-    Ok(Verdict::Witnessed(line))
+    Ok(Verdict::Witnessed(lines))
 }

@@ -8,6 +8,7 @@ use Rattle.osek_base.specs.declared.arrivals.Arrival.{Arrival}
 use Rattle.osek_base.specs.declared.limits.TheConstants.{MAX_ARRIVALS}
 use Rattle.osek_base.specs.ArrivalList.{are_in_order, is_arrival_list}
 use Rattle.osek_base.specs.System.{System}
+use Rattle.kernel.specs.Run.{AreKnown}
 use Rattle.run_bounds.specs.Bounds.{KeepDistances}
 use Rattle.witnesses.specs.Apart.{are_apart}
 use Rattle.witnesses.proofs.Spacing.{both_of, once, spaced}
@@ -28,6 +29,16 @@ all_known count [] are = All-nil (λ (a : Arrival). a.routine < count)
 all_known count (a ∷ rest) are =
     All-cons (λ (x : Arrival). x.routine < count) a rest are.0 (all_known count rest are.1)
 
+pub in_order : (xs : List Arrival) → is_arrival_list xs ≡ true → are_in_order 0 xs ≡ true
+in_order xs list = (both_of (nat_le (length xs) MAX_ARRIVALS) (are_in_order 0 xs) list).1
+
+-- arrivals that were asked one by one are of routines of the system
+pub are_known : (S : System) (xs : List Arrival) (count : ℕ) (b : Bool) → count ≡ length S.routines
+    → b ≡ list_all (λ (a : Arrival). nat_lt a.routine count) xs → b ≡ true → AreKnown S xs
+are_known S xs count b many are is =
+    subst (λ n. All (λ (a : Arrival). a.routine < n) xs) many
+    (all_known count xs (known count xs (sym are ∙ is)))
+
 pub keep : (S : System) (distances : List ℕ) (xs : List Arrival) (count : ℕ) (b c : Bool)
     → is_arrival_list xs ≡ true → count ≡ length S.routines
     → b ≡ list_all (λ (a : Arrival). nat_lt a.routine count) xs → c ≡ are_apart distances xs
@@ -37,7 +48,7 @@ keep S distances xs count b c list many all_are apart first second = record {
     known =
         subst (λ n. AllByRecursion (λ (a : Arrival). a.routine < n) xs) many
         (known count xs (sym all_are ∙ first));
-    ordered = (both_of (nat_le (length xs) MAX_ARRIVALS) (are_in_order 0 xs) list).1;
+    ordered = in_order xs list;
   };
   spaced = λ i t u low earlier one other.
       spaced distances xs (sym apart ∙ second) i t u earlier one other;

@@ -1,3 +1,7 @@
+pub mod Ordered
 pub mod Spacing
 pub mod Keeping
 pub mod Watching
+pub mod Walking
+pub mod Stood
+pub mod Lassoing

@@ -14,7 +14,7 @@ use Rattle.figures.specs.declared.resource_figures.ResourceFigures.{ResourceFigu
 use Rattle.figures.specs.declared.routine_figures.RoutineFigures.{RoutineFigures}
 use Rattle.figures.specs.declared.task_figures.TaskFigures.{TaskFigures}
 use Rattle.figures.specs.declared.task_tick.TaskTick.{TaskTick}
-use Rattle.figures.specs.FigureSums.{AreFigures, RunFigures, levels_of, routine_tick, task_figures, task_tick}
+use Rattle.figures.specs.FigureSums.{AreFigures, RunFigures, levels_of, task_figures, task_tick}
 use Rattle.figures.specs.RoutineSums.{routine_figures}
 use Rattle.figure_laws.specs.Times.{response_time, routine_time}
 use Rattle.upper_figures.proofs.Bare.{bare_task, task_errors_bare, task_refused_bare, task_responses_bare}

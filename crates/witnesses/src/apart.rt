@@ -1,9 +1,11 @@
 //! OSEK/VDX OS: interrupt processing, category 2. Whether arrivals keep distances.
 
-ghost use Rattle.std.specs.Prelude.{◌≡◌, IsTrue, nat_lt};
+ghost use Rattle.std.specs.Prelude.{◌≡◌, IsTrue, true, nat_lt};
 ghost use Rattle.std.specs.List.{list_all};
 ghost use Rattle.bound_labels.specs.Labels.{distance_of};
+ghost use Rattle.osek_base.specs.ArrivalList.{are_in_order};
 ghost use Rattle.osek_base.specs.declared.arrivals.Arrival.{Arrival};
+ghost use Rattle.kernel.specs.Run.{AreKnown};
 ghost use Rattle.run_bounds.specs.Bounds.{KeepDistances};
 ghost use Rattle.witnesses.specs.Apart.{are_apart, comes_behind, next_tick};
 
@@ -26,13 +28,6 @@ fn routine_of(arrival: &Arrival) -> usize
     usize::from(arrival.routine.number())
 }
 
-/// Whether an arrival isn't of a routine, or doesn't come before a tick.
-fn comes_behind(routine: usize, tick: u64, arrival: &Arrival) -> bool
-    ensures { result ≡ comes_behind routine tick arrival.now }
-{
-    !(routine_of(arrival) == routine && u64::from(arrival.tick) < tick)
-}
-
 /// The tick from which on the routine of an arrival may arrive again: a distance later, and not in
 /// the same one.
 fn next_tick(distances: &[u32], arrival: &Arrival) -> u64
@@ -42,17 +37,26 @@ fn next_tick(distances: &[u32], arrival: &Arrival) -> u64
     u64::from(arrival.tick) + u64::from(distance)
 }
 
-/// Whether none of some arrivals is of a routine and comes before a tick.
+/// Whether none of some arrivals is of a routine and comes before a tick. They are in order, so
+/// none is asked behind the first that doesn't come before it.
 fn come_behind(routine: usize, tick: u64, later: &[Arrival]) -> bool
+    requires { are_in_order 0 later.now ≡ true }
     ensures { result ≡ list_all (comes_behind routine tick) later.now }
 {
-    later
-        .iter()
-        .all(|arrival| comes_behind(routine, tick, arrival))
+    for arrival in later {
+        if tick <= u64::from(arrival.tick) {
+            return true;
+        }
+        if routine_of(arrival) == routine {
+            return false;
+        }
+    }
+    true
 }
 
 /// Whether the arrivals of each routine come apart by its distance, and not in one tick.
 fn are_apart(distances: &[u32], arrivals: &[Arrival]) -> bool
+    requires { are_in_order 0 arrivals.now ≡ true }
     ensures { result ≡ are_apart distances.now arrivals.now }
 {
     for (place, arrival) in arrivals.iter().enumerate() {
@@ -69,6 +73,13 @@ fn are_known(count: usize, arrivals: &[Arrival]) -> bool
     ensures { result ≡ list_all (λ (a : Arrival). nat_lt a.routine count) arrivals.now }
 {
     arrivals.iter().all(|arrival| routine_of(arrival) < count)
+}
+
+/// Whether all arrivals are of routines of a system; at true they are.
+pub(crate) fn are_of_routines(system: &System, arrivals: &[Arrival]) -> bool
+    ensures { IsTrue result → AreKnown system.now arrivals.now }
+{
+    are_known(system.routine_count(), arrivals)
 }
 
 /// Whether arrivals are of routines of a system, and come at least as many ticks apart as distances

@@ -2,12 +2,20 @@
 //! a number of ticks, tried by an exact run.
 #![tactic(auto)]
 
+mod again;
 mod apart;
+mod came;
 mod candidate;
+mod endless;
+mod lasso;
 mod reached;
 mod running;
+mod standing;
+mod suspect;
+mod walk;
 mod watched;
 mod witness;
 
+pub use endless::{Endless, endless_tasks, find_endless};
 pub use reached::reached_figures;
 pub use witness::{Witness, find_witness};

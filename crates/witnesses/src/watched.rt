@@ -15,7 +15,8 @@ use figures::{
 use observations::{AlarmSeen, Holder, Observation, RoutineSeen, TaskSeen};
 use osek_base::{Owner, Status, TaskState};
 
-fn task_seen(tasks: &[TaskSeen], number: usize) -> TaskSeen
+/// What is seen of the task of a number; nothing where there is none.
+pub(crate) fn task_seen(tasks: &[TaskSeen], number: usize) -> TaskSeen
     ensures { result ≡ slice_index_or tasks.now number unseen_task }
 {
     match tasks.get(number) {

@@ -3,8 +3,14 @@ use Rattle.std.specs.Prelude.{nat_lt}
 use Rattle.std.specs.List.{list_all}
 use Rattle.osek_base.specs.declared.arrivals.Arrival.{Arrival}
 use Rattle.witnesses.specs.Apart.{are_apart}
-use Rattle.witnesses.proofs.Keeping.{keep}
+use Rattle.osek_base.specs.ArrivalList.{are_in_order}
+use Rattle.witnesses.proofs.Keeping.{in_order, keep}
 use Rattle.witnesses.proofs.apart.keep_distances.Goals as goal
+
+pub are_apart-requires : goal.are_apart-requires
+are_apart-requires c =
+    ap (are_in_order 0) c.list-list.ensures.value
+    ∙ in_order c.args.arrivals.now c.list-list.ensures.kept
 
 pub returns : goal.returns
 returns c apart =

@@ -1,0 +1,4 @@
+pub mod Arriving
+pub mod Known
+pub mod Spacing
+pub mod Rounds

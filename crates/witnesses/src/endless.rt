@@ -1,0 +1,208 @@
+//! Runs that can be gone on without end while a job of a task stands.
+
+ghost use Rattle.std.specs.Prelude.{◌≤◌, IfOk, IfSome, IsTrue};
+ghost use Rattle.std.specs.List.{All};
+ghost use Rattle.bounds.specs.Exploring.{IsGround};
+ghost use Rattle.endless_runs.specs.Kept.{CanBeKept};
+ghost use Rattle.endless_runs.specs.Lassos.{again};
+ghost use Rattle.kernel.specs.Run.{AreKnown};
+ghost use Rattle.run_bounds.specs.Bounds.{KeepDistances};
+ghost use Rattle.witnesses.specs.Endless.{IsEndless};
+
+use crate::again::{again, come_before};
+use crate::apart::{are_of_routines, keep_distances};
+use crate::candidate::arrivals_of;
+use crate::lasso::comes_twice;
+use crate::suspect::suspected;
+use bounds::{Bounds, Figure};
+use endless_runs::lassos_are_endless;
+use needs::{Needs, needed_data};
+use osek_base::{Arrival, Arrivals, MAX_ARRIVALS, ModeId, System};
+use std::alloc::{AllocError, Global};
+
+/// A run that comes twice to one state while a job of a task stands, so that it can be gone on
+/// without end: what arrives from the one tick on comes once more behind the other, and so on.
+#[derive(Debug, Drop)]
+pub struct Endless {
+    /// Those before `until`.
+    pub arrivals: Arrivals,
+    /// The tick before which the run comes to the state first.
+    pub from: u32,
+    /// The tick before which it comes to it again, 1 to 1,000,000.
+    pub until: u32,
+}
+
+/// The arrivals before a tick. An error is want of memory.
+fn before(alloc: Global, tick: u32, list: &[Arrival]) -> Result<Vec<Arrival>, AllocError> {
+    let mut early = Vec::new(alloc);
+    for arrival in list {
+        if arrival.tick < tick {
+            early.push(*arrival)?;
+        }
+    }
+    Ok(early)
+}
+
+/// Whether arrivals keep distances with those from a tick on once more; at true they do. An error
+/// is want of memory.
+fn keep_again(
+    alloc: Global,
+    system: &System,
+    distances: &[u32],
+    arrivals: &Arrivals,
+    from: u32,
+    until: u32,
+) -> Result<bool, AllocError>
+    requires { from ≤ until }
+    ensures { IfOk result (λ keep. IsTrue keep
+        → KeepDistances system.now distances.now (again from until arrivals.now)) }
+{
+    let Some(more) = again(alloc, from, until, arrivals.list())? else {
+        return Ok(false);
+    };
+    let Some(more) = Arrivals::new(more) else {
+        return Ok(false);
+    };
+    Ok(keep_distances(system, distances, &more))
+}
+
+/// Arrivals and two ticks, where their run can be gone on without end by what comes between.
+fn tried(
+    alloc: Global,
+    system: &System,
+    mode: ModeId,
+    distances: &[u32],
+    needs: &Needs,
+    arrivals: Arrivals,
+    from: u32,
+    until: u32,
+    task: usize,
+) -> Result<Option<Endless>, AllocError>
+    requires { IsGround (record { system = system.now; needs = needs.now }) }
+    ensures { IfOk result (λ found.
+        IfSome found (IsEndless system.now mode distances.now task)) }
+{
+    if until <= from || !come_before(until, arrivals.list()) {
+        return Ok(None);
+    }
+    if !keep_distances(system, distances, &arrivals) {
+        return Ok(None);
+    }
+    if !keep_again(alloc, system, distances, &arrivals, from, until)? {
+        return Ok(None);
+    }
+    if !comes_twice(alloc, system, mode, needs, &arrivals, from, until, task)? {
+        return Ok(None);
+    }
+    lassos_are_endless();
+    Ok(Some(Endless {
+        arrivals,
+        from,
+        until,
+    }))
+}
+
+/// As [`find_endless`], by a run with arrivals, walked for so many ticks.
+fn find_in(
+    alloc: Global,
+    system: &System,
+    mode: ModeId,
+    distances: &[u32],
+    arrivals: &Arrivals,
+    ticks: usize,
+    task: usize,
+) -> Result<Option<Endless>, AllocError>
+    requires { AreKnown system.now arrivals.now }
+    ensures { IfOk result (λ found.
+        IfSome found (IsEndless system.now mode distances.now task)) }
+{
+    // Who asks for the count of tasks learns that the system is proper.
+    let _proper = system.task_count();
+    let needs = needed_data(alloc, system)?;
+    let Some((from, until)) = suspected(
+        alloc, system, mode, distances, &needs, arrivals, ticks, task,
+    )?
+    else {
+        return Ok(None);
+    };
+    let Some(early) = Arrivals::new(before(alloc, until, arrivals.list())?) else {
+        return Ok(None);
+    };
+    tried(
+        alloc, system, mode, distances, &needs, early, from, until, task,
+    )
+}
+
+/// Whether a task can be kept from ending for ever: a run, where one is found, that comes twice to
+/// one state while a job of the task stands ready or runs, and neither ends nor begins to wait. So
+/// no number of ticks bounds the task's greatest response. Tasks are numbered from 0.
+/// Its interrupts keep the distances, in ticks by routine, 1 where none is given, also where those
+/// between the two states come again.
+///
+/// The run that is tried is that by which a search has come to the task's greatest response, so it
+/// may be that none is found. An error is want of memory.
+pub fn find_endless(
+    alloc: Global,
+    system: &System,
+    mode: ModeId,
+    distances: &[u32],
+    found: &Bounds,
+    task: usize,
+) -> Result<Option<Endless>, AllocError>
+    ensures { IfOk result (λ endless.
+        IfSome endless (IsEndless system.now mode distances.now task)) }
+{
+    let path = found.trails.path(alloc, Figure::Response(task))?;
+    let mut arrivals = arrivals_of(alloc, &path, system.routine_count())?;
+    arrivals.truncate(MAX_ARRIVALS);
+    let Some(arrivals) = Arrivals::new(arrivals) else {
+        return Ok(None);
+    };
+    if !are_of_routines(system, arrivals.list()) {
+        return Ok(None);
+    }
+    let ticks = path.len();
+    find_in(alloc, system, mode, distances, &arrivals, ticks, task)
+}
+
+/// Whether the greatest response of a task is told to reach the cap, and the task can be kept from
+/// ending for as many ticks as one likes; at true it can.
+fn is_endless(
+    alloc: Global,
+    system: &System,
+    mode: ModeId,
+    distances: &[u32],
+    found: &Bounds,
+    task: usize,
+) -> Result<bool, AllocError>
+    ensures { IfOk result (λ endless. IsTrue endless → CanBeKept system.now mode distances.now task) }
+{
+    if Figure::Response(task).told(&found.peaks) < found.cap {
+        return Ok(false);
+    }
+    match find_endless(alloc, system, mode, distances, found, task)? {
+        Some(_run) => Ok(true),
+        None => Ok(false),
+    }
+}
+
+/// The tasks, by number, that can be kept from ending for as many ticks as one likes, where a run is
+/// found as by [`find_endless`], of those whose greatest response is told to reach the cap. An error
+/// is want of memory.
+pub fn endless_tasks(
+    alloc: Global,
+    system: &System,
+    mode: ModeId,
+    distances: &[u32],
+    found: &Bounds,
+) -> Result<Vec<usize>, AllocError>
+    ensures { IfOk result (λ tasks. All (CanBeKept system.now mode distances.now) tasks.items) }
+{
+    let mut tasks = Vec::new(alloc);
+    for task in 0..system.task_count() {
+        if is_endless(alloc, system, mode, distances, found, task)? {
+            tasks.push(task)?;
+        }
+    }
+    Ok(tasks)
+}
