@@ -3,5 +3,4 @@ pub mod ListLemmas
 pub mod LabelLemmas
 pub mod MapLemmas
 pub mod PairLemmas
-pub mod PeakLemmas
 pub mod SetLemmas

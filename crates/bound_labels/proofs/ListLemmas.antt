@@ -221,3 +221,22 @@ each_merged lists others k many =
           (sym (get_or_past lists k [] le))
           (sym (get_or_past others k [] (omega (arith, many, le))))
     ]
+
+-- ---- filled age by age
+
+pub lists_stay : (ages more ends : List ℕ) → AreLists ages ends → AreLists (ages ++ more) ends
+lists_stay ages more ends are =
+    let count = length-append ages more in
+    within_grown (length ages) (length (ages ++ more)) 0 ends are (omega (arith, count))
+
+within_ended : (count begin : ℕ) (ends : List ℕ) → AreWithin count begin ends → begin ≤ count
+    → AreWithin count begin (ends ++ count ∷ [])
+within_ended count begin [] are low = (low, omega arith, tt)
+within_ended count begin (end ∷ ends) are low =
+    (are.0, are.1, within_ended count end ends are.2 are.1)
+
+pub list_ended : (ages ends : List ℕ) (n : ℕ) → AreLists ages ends → n ≡ length ages
+    → AreLists ages (ends ++ n ∷ [])
+list_ended ages ends n are full =
+    subst (λ m. AreLists ages (ends ++ m ∷ [])) (sym full)
+    (within_ended (length ages) 0 ends are (omega arith))

@@ -3,4 +3,3 @@ pub mod Ticks
 pub mod Labels
 pub mod Joining
 pub mod Parts
-pub mod Peaks

@@ -1,17 +1,13 @@
 -- What is seen of things in a tick, one by one, and as ticks of figures.
-use Rattle.std.specs.Prelude.{ℕ, false, if◌then◌else◌, Option, None, slice_index_or}
-use Rattle.osek_base.specs.declared.ids.Owner.{Owner}
-use Rattle.osek_base.specs.declared.status.Status.{Status}
+use Rattle.std.specs.Prelude.{ℕ, false, None, slice_index_or}
 use Rattle.osek_base.specs.declared.status.TaskState.{TaskState}
 use Rattle.observations.specs.declared.alarm_seen.AlarmSeen.{AlarmSeen}
-use Rattle.observations.specs.declared.observation.Observation.{Observation}
 use Rattle.observations.specs.declared.routine_seen.RoutineSeen.{RoutineSeen}
 use Rattle.observations.specs.declared.task_seen.TaskSeen.{TaskSeen}
 use Rattle.observations.specs.Seen.{Seen}
 use Rattle.figures.specs.declared.task_tick.TaskTick.{TaskTick}
 use Rattle.figures.specs.declared.routine_figures.RoutineTick.{RoutineTick}
 use Rattle.figures.specs.declared.resource_figures.HolderTick.{HolderTick}
-use Rattle.figures.specs.FigureSums.{is_error}
 
 -- a task without a job, to which nothing comes, and the like; what is beyond the lists is seen so
 abbrev pub no_task : TaskSeen
@@ -58,12 +54,3 @@ routine_tick seen i = record { tick = 0; seen = routine_in seen i; has_failed = 
 
 abbrev pub holder_tick : Seen → ℕ → HolderTick
 holder_tick seen r = record { tick = 0; holder = slice_index_or seen.holders r None }
-
--- ---- who fails
-
--- who executes a tick's instruction, where that is a service that is answered other than E_OK
-abbrev pub failing : Option Status → Option Owner → Option Owner
-failing answered executor = if is_error answered then executor else None
-
-abbrev pub failed_of : Observation → Option Owner
-failed_of o = failing o.answered o.executor

@@ -94,15 +94,6 @@ fn have_same_ends(ends: &[usize], others: &[usize]) -> bool
     ends == others
 }
 
-/// How many jobs there are in a tick.
-fn jobs_in(seen: &Observation) -> usize {
-    let mut jobs = 0;
-    for task in seen.tasks.as_slice() {
-        jobs = usize::saturating_add(jobs, usize::from(task.jobs));
-    }
-    jobs
-}
-
 /// The greater ages of two.
 fn merged(lists: &AgeLists, others: &AgeLists) -> Result<AgeLists, AllocError>
     ensures { IfOk result (λ merged. merged ≡ each_of (merged_lists others.now) lists.now) }
@@ -123,23 +114,25 @@ fn replace(lists: &mut AgeLists, others: AgeLists)
     *lists = others;
 }
 
-/// The ages behind a tick.
-pub(crate) fn next_ages(
-    alloc: Global,
+/// Puts the ages behind a tick in place of others, with where those of each task end.
+fn put_next(
+    ages: &mut Vec<u32>,
+    ends: &mut Vec<usize>,
     cap: u32,
     seen: &Observation,
     lists: &AgeLists,
-) -> Result<AgeLists, AllocError>
-    ensures { IfOk result (λ next. next ≡
-        each_of (ages_behind cap (seen_of seen.now)) lists.now) }
+) -> Result<(), AllocError>
+    ensures are { OnOk result (AreLists ages.new.items ends.new.items) }
+    ensures same { OnOk result (lists_of ages.new.items ends.new.items
+        ≡ each_of (ages_behind cap (seen_of seen.now)) lists.now) }
 {
-    let mut ages = Vec::with_capacity(alloc, jobs_in(seen))?;
-    let mut ends = Vec::with_capacity(alloc, lists.len())?;
+    ages.clear();
+    ends.clear();
     for task in 0..lists.len() {
-        push_next(&mut ages, cap, &task_tick(seen, task), lists.of(task))?;
+        push_next(ages, cap, &task_tick(seen, task), lists.of(task))?;
         ends.push(ages.len())?;
     }
-    Ok(AgeLists { ages, ends })
+    Ok(())
 }
 
 /// Whether the ages of each task are at least those of the same task among others; at true they
@@ -168,6 +161,55 @@ impl AgeLists {
         })
     }
 
+    /// Of no task.
+    pub(crate) fn new(alloc: Global) -> Self
+        ensures { result ≡ [] }
+    {
+        AgeLists {
+            ages: Vec::new(alloc),
+            ends: Vec::new(alloc),
+        }
+    }
+
+    /// Of no task any more.
+    pub(crate) fn clear(&mut self)
+        ensures { self.new ≡ [] }
+    {
+        self.ages.clear();
+        self.ends.clear();
+    }
+
+    /// Adds an age to the task that comes next.
+    pub(crate) fn push_age(&mut self, age: u32) -> Result<(), AllocError> {
+        self.ages.push(age)?;
+        Ok(())
+    }
+
+    /// One more task, whose ages were added since the one before.
+    pub(crate) fn end_task(&mut self) -> Result<(), AllocError> {
+        self.ends.push(self.ages.len())?;
+        Ok(())
+    }
+
+    /// They become those behind a tick. After an error there are none.
+    pub(crate) fn become_next(
+        &mut self,
+        cap: u32,
+        seen: &Observation,
+        old: &AgeLists,
+    ) -> Result<(), AllocError>
+        ensures { OnOk result
+            (self.new ≡ each_of (ages_behind cap (seen_of seen.now)) old.now) }
+    {
+        match put_next(&mut self.ages, &mut self.ends, cap, seen, old) {
+            Ok(()) => Ok(()),
+            Err(error) => {
+                self.ends.clear();
+                Err(error)
+            }
+        }
+    }
+
     /// How many tasks there are.
     #[inline(always)]
     pub(crate) fn len(&self) -> usize
@@ -178,7 +220,7 @@ impl AgeLists {
 
     /// The ages of a task; none beyond the last task.
     #[inline(always)]
-    fn of(&self, task: usize) -> &[u32]
+    pub(crate) fn of(&self, task: usize) -> &[u32]
         ensures { result.now ≡ ages_at self.now task }
     {
         ages_of(&self.ages, &self.ends, task)

@@ -1,6 +1,6 @@
 //! OSEK/VDX OS: resource management. By whom a resource is held, and for how long.
 
-ghost use Rattle.std.specs.Prelude.{ℕ, ◌≡◌, ◌<◌, ◌≤◌, ◌⊎◌, IfOk, IsTrue, length, map, min, replicate, slice_index_or};
+ghost use Rattle.std.specs.Prelude.{ℕ, ◌≡◌, ◌<◌, ◌≤◌, ◌⊎◌, IfOk, IsTrue, OnOk, length, map, min, replicate, slice_index_or};
 ghost use Rattle.std.specs.Option.{option_map};
 ghost use Rattle.figure_laws.specs.Holding.{IsLonger, held_by, held_in, held_ticks, hold_next};
 ghost use Rattle.observations.specs.Seen.{seen_of};
@@ -18,7 +18,7 @@ use std::marker::Model;
 
 /// Who holds a resource, and for how many ticks in a row, up to a cap.
 #[derive(Clone, Copy)]
-pub(crate) struct Hold {
+pub struct Hold {
     holder: Holder,
     held: u32,
 }
@@ -34,6 +34,31 @@ impl Model for Hold {
 }
 
 impl Hold {
+    /// A task holds it for so many ticks, or none.
+    pub(crate) fn new(holder: Option<TaskId>, held: u32) -> Self
+        ensures holder { result.holder ≡ holder }
+        ensures held { result.held ≡ held }
+    {
+        Hold {
+            holder: Holder::new(holder),
+            held,
+        }
+    }
+
+    /// The task, if one has held it.
+    pub fn holder(self) -> Option<TaskId>
+        ensures { result ≡ self.holder }
+    {
+        self.holder.task()
+    }
+
+    /// For how many ticks in a row, up to a cap.
+    pub fn held(self) -> u32
+        ensures { result ≡ self.held }
+    {
+        self.held
+    }
+
     /// Nobody holds it.
     pub(crate) fn none() -> Self
         ensures { result ≡ no_hold }
@@ -158,23 +183,23 @@ pub(crate) fn hold_of(holds: &[Hold], resource: usize) -> Hold
     }
 }
 
-/// The holds behind a tick.
+/// Puts the holds behind a tick in place of others.
 #[tactic(auto, using(crate::proofs::MapLemmas::one_more))]
-pub(crate) fn next_holds(
-    alloc: Global,
+pub(crate) fn put_next_holds(
+    next: &mut Vec<Hold>,
     cap: u32,
     seen: &Observation,
     holds: &[Hold],
-) -> Result<Vec<Hold>, AllocError>
-    ensures { IfOk result (λ next. next.items ≡
+) -> Result<(), AllocError>
+    ensures { OnOk result (next.new.items ≡
         each_of (hold_behind cap (seen_of seen.now)) holds.now) }
 {
-    let mut next = Vec::with_capacity(alloc, holds.len())?;
+    next.clear();
     for resource in 0..holds.len() {
         let hold = hold_of(holds, resource);
         next.push(hold.next(cap, &holder_tick(seen, resource)))?;
     }
-    Ok(next)
+    Ok(())
 }
 
 /// Whether each is at least as long as that of the same resource among others; at true they are.

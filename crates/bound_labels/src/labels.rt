@@ -1,6 +1,6 @@
 //! Labels of a state that may come in many runs.
 
-ghost use Rattle.std.specs.Prelude.{ℕ, ◌≡◌, ◌<◌, ◌≤◌, ◌^◌, IfOk, IsTrue, length, min};
+ghost use Rattle.std.specs.Prelude.{ℕ, ◌≡◌, ◌<◌, ◌≤◌, ◌^◌, IfOk, IsTrue, OnOk, length, min};
 ghost use Rattle.std.specs.Int.{bit_at};
 ghost use Rattle.std.specs.Option.{option_map};
 ghost use Rattle.osek_base.specs.declared.limits.TheConstants.{MAX_ROUTINES};
@@ -20,14 +20,17 @@ ghost use Rattle.bound_labels.specs.Labels.{
 };
 ghost use Rattle.bound_labels.specs.Joining.{AreOfAsMany, Joins};
 
-use crate::age_lists::{AgeLists, are_older as are_jobs_older, next_ages};
-use crate::holds::{Hold, are_joinable, are_longer, first_holds, hold_of, join_holds, next_holds};
-use crate::pending::{
-    are_older, first_pending, is_older, join_pending, next_pending, pending_of, waited,
+use crate::age_lists::{AgeLists, are_older as are_jobs_older};
+use crate::holds::{
+    Hold, are_joinable, are_longer, first_holds, hold_of, join_holds, put_next_holds,
 };
-use crate::waits::{are_sooner, first_waits, free_routines, join_waits, next_waits, wait_of};
+use crate::pending::{
+    are_older, first_pending, is_older, join_pending, pending_of, put_next_pending, waited,
+};
+use crate::waits::{are_sooner, first_waits, join_waits, put_next_waits, wait_of};
 use figures::{HolderTick, RoutineTick, TaskTick};
 use observations::Observation;
+use osek_base::TaskId;
 use std::alloc::{AllocError, Global};
 use std::marker::Model;
 
@@ -46,8 +49,6 @@ pub struct Labels {
 }
 
 impl Model for Labels {
-    ghost use Rattle.std.specs.Prelude.{◌≤◌, length};
-    ghost use Rattle.osek_base.specs.declared.limits.TheConstants.{MAX_ROUTINES};
     ghost use Rattle.bound_labels.specs.Labels.{Labels as Told};
 
     ghost Value = { Told };
@@ -58,8 +59,6 @@ impl Model for Labels {
       pending = l.pending.items;
       holds = l.holds.items;
     } };
-
-    ghost invariant = { λ l. length l.waits.items ≤ MAX_ROUTINES };
 }
 
 impl Labels {
@@ -71,7 +70,6 @@ impl Labels {
         routines: usize,
         held: usize,
     ) -> Result<Labels, AllocError>
-        requires { routines ≤ MAX_ROUTINES }
         ensures { IfOk result (λ l. l ≡ first_labels tasks routines held) }
     {
         Ok(Labels {
@@ -82,25 +80,37 @@ impl Labels {
         })
     }
 
-    /// Those behind a tick in which the routines of a set arrive. Distances are in ticks, and so is
-    /// the cap, up to which ages go. An error is that there is no memory.
-    pub fn next(
-        &self,
-        alloc: Global,
+    /// Of no thing.
+    pub fn new(alloc: Global) -> Labels
+        ensures { result ≡ first_labels 0 0 0 }
+    {
+        Labels {
+            waits: Vec::new(alloc),
+            ages: AgeLists::new(alloc),
+            pending: Vec::new(alloc),
+            holds: Vec::new(alloc),
+        }
+    }
+
+    /// They become those behind a tick in which the routines of a set arrive. Distances are in
+    /// ticks, and so is the cap, up to which ages go. An error is that there is no memory; the
+    /// labels may have any values then.
+    pub fn become_next(
+        &mut self,
         cap: u32,
         distances: &[u32],
         set: u64,
         seen: &Observation,
-    ) -> Result<Labels, AllocError>
-        ensures { IfOk result
-            (λ l. l ≡ next_labels cap distances.now set (seen_of seen.now) self.now) }
+        old: &Labels,
+    ) -> Result<(), AllocError>
+        ensures { OnOk result
+            (self.new ≡ next_labels cap distances.now set (seen_of seen.now) old.now) }
     {
-        Ok(Labels {
-            waits: next_waits(alloc, distances, set, &self.waits)?,
-            ages: next_ages(alloc, cap, seen, &self.ages)?,
-            pending: next_pending(alloc, cap, seen, &self.pending)?,
-            holds: next_holds(alloc, cap, seen, &self.holds)?,
-        })
+        put_next_waits(&mut self.waits, distances, set, &old.waits)?;
+        self.ages.become_next(cap, seen, &old.ages)?;
+        put_next_pending(&mut self.pending, cap, seen, &old.pending)?;
+        put_next_holds(&mut self.holds, cap, seen, &old.holds)?;
+        Ok(())
     }
 
     /// For how many ticks yet a routine can't arrive; 0 beyond the last routine.
@@ -110,17 +120,6 @@ impl Labels {
         wait_of(&self.waits, routine)
     }
 
-    /// The routines that need not wait, of so many that there are, as a set: bit i is set where
-    /// routine i is in it.
-    pub fn free_routines(&self, count: usize) -> u64
-        requires { count ≤ MAX_ROUTINES }
-        ensures free { (i : ℕ) → i < count → wait_of self.now i ≡ 0 → bit_at result i ≡ 1 }
-        ensures others { (i : ℕ) → bit_at result i ≡ 1 → wait_of self.now i ≡ 0 }
-        ensures low { result < 2 ^ count }
-    {
-        free_routines(&self.waits, count)
-    }
-
     /// Whether interrupts can arrive as soon as with other labels.
     pub fn has_same_waits(&self, other: &Labels) -> bool
         ensures { IsTrue result → self.now.waits ≡ other.now.waits }
@@ -128,9 +127,44 @@ impl Labels {
         self.waits.as_slice() == other.waits.as_slice()
     }
 
+    /// By routine, for how many ticks yet it can't arrive.
+    pub fn waits(&self) -> &[u32]
+        ensures { result.now ≡ self.now.waits }
+    {
+        &self.waits
+    }
+
+    /// Of how many tasks they are.
+    pub fn task_count(&self) -> usize
+        ensures { result ≡ length self.now.ages }
+    {
+        self.ages.len()
+    }
+
+    /// The ages of a task's jobs, oldest first; none beyond the last task.
+    pub fn ages(&self, task: usize) -> &[u32]
+        ensures { result.now ≡ ages_of self.now task }
+    {
+        self.ages.of(task)
+    }
+
+    /// By routine, the age of its interrupt, if one is pending.
+    pub fn pending(&self) -> &[Option<u32>]
+        ensures { result.now ≡ self.now.pending }
+    {
+        &self.pending
+    }
+
+    /// By resource.
+    pub fn holds(&self) -> &[Hold]
+        ensures { result.now ≡ self.now.holds }
+    {
+        &self.holds
+    }
+
     /// The age of a task's oldest job in a tick, up to a cap.
     #[inline(always)]
-    pub(crate) fn oldest_age(&self, cap: u32, tick: &TaskTick, task: usize) -> Option<u32>
+    pub fn oldest_age(&self, cap: u32, tick: &TaskTick, task: usize) -> Option<u32>
         ensures { result ≡ option_map (min cap) (oldest_age tick.now (ages_of self.now task)) }
     {
         self.ages.oldest(cap, tick, task)
@@ -138,7 +172,7 @@ impl Labels {
 
     /// What an interrupt of a routine has waited in a tick, up to a cap.
     #[inline(always)]
-    pub(crate) fn waited(&self, cap: u32, tick: &RoutineTick, routine: usize) -> Option<u32>
+    pub fn waited(&self, cap: u32, tick: &RoutineTick, routine: usize) -> Option<u32>
         ensures { result ≡ option_map (min cap) (waited tick.now (pending_of self.now routine)) }
     {
         waited(cap, tick, pending_of(&self.pending, routine))
@@ -146,7 +180,7 @@ impl Labels {
 
     /// For how long a resource is held in a tick, up to a cap.
     #[inline(always)]
-    pub(crate) fn held_ticks(&self, cap: u32, tick: &HolderTick, resource: usize) -> Option<u32>
+    pub fn held_ticks(&self, cap: u32, tick: &HolderTick, resource: usize) -> Option<u32>
         ensures { result ≡ option_map (min cap) (held_ticks tick.now (hold_of self.now resource)) }
     {
         hold_of(&self.holds, resource).held_ticks(cap, tick)
@@ -216,5 +250,47 @@ impl Labels {
         join_pending(&mut self.pending, &other.pending);
         join_holds(&mut self.holds, &other.holds);
         Ok(true)
+    }
+}
+
+/// They are filled thing by thing, in the order of the lists. An error is that there is no memory;
+/// they stay then.
+impl Labels {
+    /// Of no thing any more.
+    pub fn clear(&mut self)
+        ensures { self.new ≡ first_labels 0 0 0 }
+    {
+        self.waits.clear();
+        self.ages.clear();
+        self.pending.clear();
+        self.holds.clear();
+    }
+
+    /// One more routine, and for how many ticks yet it can't arrive.
+    pub fn push_wait(&mut self, wait: u32) -> Result<(), AllocError> {
+        self.waits.push(wait)?;
+        Ok(())
+    }
+
+    /// The age of one more job of the task that comes next.
+    pub fn push_age(&mut self, age: u32) -> Result<(), AllocError> {
+        self.ages.push_age(age)
+    }
+
+    /// One more task, whose jobs were told.
+    pub fn end_task(&mut self) -> Result<(), AllocError> {
+        self.ages.end_task()
+    }
+
+    /// The age of one more routine's interrupt, if one is pending.
+    pub fn push_pending(&mut self, age: Option<u32>) -> Result<(), AllocError> {
+        self.pending.push(age)?;
+        Ok(())
+    }
+
+    /// One more resource, who holds it, and for how many ticks.
+    pub fn push_hold(&mut self, holder: Option<TaskId>, held: u32) -> Result<(), AllocError> {
+        self.holds.push(Hold::new(holder, held))?;
+        Ok(())
     }
 }

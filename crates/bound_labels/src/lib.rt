@@ -1,5 +1,4 @@
-//! Labels of a state that may come in many runs, and the greatest times that ticks have shown. No
-//! part of the standards.
+//! Labels of a state that may come in many runs. No part of the standards.
 #![tactic(auto)]
 
 mod age_lists;
@@ -7,11 +6,10 @@ mod ages;
 mod counting;
 mod holds;
 mod labels;
-mod peaks;
 mod pending;
-mod raising;
 mod ticks;
 mod waits;
 
+pub use holds::Hold;
 pub use labels::Labels;
-pub use peaks::Peaks;
+pub use ticks::{holder_tick, routine_tick, task_tick};

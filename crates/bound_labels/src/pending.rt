@@ -1,6 +1,6 @@
 //! OSEK/VDX OS: interrupt processing. Ages of pending interrupts.
 
-ghost use Rattle.std.specs.Prelude.{ℕ, ◌≡◌, ◌<◌, ◌≤◌, IfOk, IsTrue, None, length, map, min, replicate, slice_index_or};
+ghost use Rattle.std.specs.Prelude.{ℕ, ◌≡◌, ◌<◌, ◌≤◌, IfOk, IsTrue, OnOk, None, length, map, min, replicate, slice_index_or};
 ghost use Rattle.std.specs.Option.{option_map};
 ghost use Rattle.figure_laws.specs.Merging.{merged_age};
 ghost use Rattle.figure_laws.specs.Pending.{IsOlder, pending_in, pending_next};
@@ -70,23 +70,23 @@ pub(crate) fn pending_of(pending: &[Option<u32>], routine: usize) -> Option<u32>
     }
 }
 
-/// The ages behind a tick.
+/// Puts the ages behind a tick in place of others.
 #[tactic(auto, using(crate::proofs::MapLemmas::one_more))]
-pub(crate) fn next_pending(
-    alloc: Global,
+pub(crate) fn put_next_pending(
+    next: &mut Vec<Option<u32>>,
     cap: u32,
     seen: &Observation,
     pending: &[Option<u32>],
-) -> Result<Vec<Option<u32>>, AllocError>
-    ensures { IfOk result (λ next. next.items ≡
+) -> Result<(), AllocError>
+    ensures { OnOk result (next.new.items ≡
         each_of (pending_behind cap (seen_of seen.now)) pending.now) }
 {
-    let mut next = Vec::with_capacity(alloc, pending.len())?;
+    next.clear();
     for routine in 0..pending.len() {
         let age = pending_of(pending, routine);
         next.push(next_age(cap, &routine_tick(seen, routine), age))?;
     }
-    Ok(next)
+    Ok(())
 }
 
 /// Whether an age is at least another one; at true it is.

@@ -8,12 +8,11 @@ ghost use Rattle.bound_labels.specs.Ticks.{
   task_tick,
   routine_tick,
   holder_tick,
-  failed_of,
 };
 
 use figures::{HolderTick, RoutineTick, TaskTick};
 use observations::{Holder, Observation, RoutineSeen, TaskSeen};
-use osek_base::{Owner, TaskState};
+use osek_base::TaskState;
 
 #[inline(always)]
 fn task_in(tasks: &[TaskSeen], number: usize) -> TaskSeen
@@ -61,7 +60,7 @@ fn holder_in(holders: &[Holder], number: usize) -> Holder
 
 /// A task in a tick, by its number.
 #[inline(always)]
-pub(crate) fn task_tick(seen: &Observation, number: usize) -> TaskTick
+pub fn task_tick(seen: &Observation, number: usize) -> TaskTick
     ensures { result ≡ task_tick (seen_of seen.now) number }
 {
     TaskTick {
@@ -75,7 +74,7 @@ pub(crate) fn task_tick(seen: &Observation, number: usize) -> TaskTick
 
 /// A routine in a tick, by its number.
 #[inline(always)]
-pub(crate) fn routine_tick(seen: &Observation, number: usize) -> RoutineTick
+pub fn routine_tick(seen: &Observation, number: usize) -> RoutineTick
     ensures { result ≡ routine_tick (seen_of seen.now) number }
 {
     RoutineTick {
@@ -87,21 +86,11 @@ pub(crate) fn routine_tick(seen: &Observation, number: usize) -> RoutineTick
 
 /// A resource in a tick, by its number.
 #[inline(always)]
-pub(crate) fn holder_tick(seen: &Observation, number: usize) -> HolderTick
+pub fn holder_tick(seen: &Observation, number: usize) -> HolderTick
     ensures { result ≡ holder_tick (seen_of seen.now) number }
 {
     HolderTick {
         tick: 0,
         holder: holder_in(seen.holders.as_slice(), number),
-    }
-}
-
-/// Who executes the tick's instruction, where that is a service that is answered other than E_OK.
-pub(crate) fn failed_of(seen: &Observation) -> Option<Owner>
-    ensures { result ≡ failed_of seen.now }
-{
-    match &seen.answered {
-        Some(status) if status.number() > 0 => seen.executor,
-        _ => None,
     }
 }

@@ -1,7 +1,6 @@
 //! OSEK/VDX OS: interrupt processing. For how many ticks yet a routine can't arrive.
 
-ghost use Rattle.std.specs.Prelude.{ℕ, ◌≡◌, ◌<◌, ◌≤◌, ◌-◌, ◌^◌, IfOk, IsTrue, if◌then◌else◌, length, map, min, replicate, slice_index_or};
-ghost use Rattle.std.specs.Int.{bit_at};
+ghost use Rattle.std.specs.Prelude.{ℕ, ◌≡◌, ◌<◌, ◌≤◌, ◌-◌, IfOk, IsTrue, OnOk, if◌then◌else◌, length, map, min, replicate, slice_index_or};
 ghost use Rattle.bound_labels.specs.Labels.{arrives_in, distance_of};
 ghost use Rattle.bound_labels.specs.Parts.{each_of, wait_at, wait_behind};
 
@@ -29,10 +28,13 @@ pub(crate) fn wait_of(waits: &[u32], routine: usize) -> u32
 }
 
 /// Whether a routine arrives with a set.
+#[tactic(auto, using(crate::proofs::SetLemmas::not_in))]
 fn arrives_in(set: u64, routine: usize) -> bool
-    requires { routine < 64 }
     ensures { result ≡ arrives_in set routine }
 {
+    if routine >= 64 {
+        return false;
+    }
     (set >> routine) % 2 == 1
 }
 
@@ -47,7 +49,6 @@ fn distance_of(distances: &[u32], routine: usize) -> u32
 }
 
 fn next_wait(waits: &[u32], distances: &[u32], set: u64, routine: usize) -> u32
-    requires { routine < 64 }
     ensures { result ≡ wait_behind distances.now set waits.now routine }
 {
     if arrives_in(set, routine) {
@@ -57,22 +58,22 @@ fn next_wait(waits: &[u32], distances: &[u32], set: u64, routine: usize) -> u32
     }
 }
 
-/// The waits behind a tick in which the routines of a set arrive.
+/// Puts the waits behind a tick, in which the routines of a set arrive, in place of others.
 #[tactic(auto, using(crate::proofs::MapLemmas::one_more))]
-pub(crate) fn next_waits(
-    alloc: Global,
+pub(crate) fn put_next_waits(
+    next: &mut Vec<u32>,
     distances: &[u32],
     set: u64,
     waits: &[u32],
-) -> Result<Vec<u32>, AllocError>
-    requires { length waits.now ≤ 64 }
-    ensures { IfOk result (λ next. next.items ≡ each_of (wait_behind distances.now set) waits.now) }
+) -> Result<(), AllocError>
+    ensures { OnOk result
+        (next.new.items ≡ each_of (wait_behind distances.now set) waits.now) }
 {
-    let mut next = Vec::with_capacity(alloc, waits.len())?;
+    next.clear();
     for routine in 0..waits.len() {
         next.push(next_wait(waits, distances, set, routine))?;
     }
-    Ok(next)
+    Ok(())
 }
 
 /// Whether each wait is no longer than that of the same routine among others; at true they are.
@@ -98,21 +99,4 @@ pub(crate) fn join_waits(waits: &mut [u32], others: &[u32])
     for (routine, wait) in waits.iter_mut().enumerate() {
         *wait = (*wait).min(others[routine]);
     }
-}
-
-/// The routines that need not wait, of so many that there are, as a set.
-pub(crate) fn free_routines(waits: &[u32], count: usize) -> u64
-    requires { count ≤ 64 }
-    ensures free { (i : ℕ) → i < count → wait_at waits.now i ≡ 0 → bit_at result i ≡ 1 }
-    ensures others { (i : ℕ) → bit_at result i ≡ 1 → wait_at waits.now i ≡ 0 }
-    ensures low { result < 2 ^ count }
-{
-    let mut free = 0;
-    for routine in 0..count {
-        let wait = wait_of(waits, routine);
-        if wait == 0 {
-            free |= 1 << routine;
-        }
-    }
-    free
 }

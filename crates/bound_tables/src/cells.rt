@@ -11,6 +11,8 @@ pub enum Cell {
     Above,
     /// A time that some run can make as long as one likes.
     Unbounded,
+    /// A number that none exceeds, and whether a run shows it.
+    Count { value: u32, is_reached: bool },
     /// Whether something may come, and whether a run shows that it does or doesn't.
     Coming { comes: bool, is_reached: bool },
 }
@@ -25,11 +27,14 @@ impl Cell {
         }
     }
 
-    /// Whether it is a time that a run shows, or says that something doesn't come.
+    /// Whether it is a time or a number that a run shows, or says that something doesn't come.
     pub fn is_plain(self) -> bool {
         matches!(
             self,
             Cell::Time {
+                is_reached: true,
+                ..
+            } | Cell::Count {
                 is_reached: true,
                 ..
             } | Cell::Coming { comes: false, .. }
@@ -45,11 +50,15 @@ impl Cell {
                 is_reached: true,
                 ..
             }
+            | Cell::Count {
+                is_reached: true,
+                ..
+            }
             | Cell::Coming {
                 is_reached: true,
                 ..
             } => "reached",
-            Cell::Time { .. } | Cell::Coming { comes: false, .. } => "bound",
+            Cell::Time { .. } | Cell::Count { .. } | Cell::Coming { comes: false, .. } => "bound",
             Cell::Above | Cell::Coming { comes: true, .. } => "above",
             Cell::Unbounded => "unbounded",
         }
@@ -61,6 +70,7 @@ impl fmt::Display for Cell {
     fn fmt<W: fmt::Write>(&self, f: &mut fmt::Formatter<W>) -> fmt::Result {
         match self {
             Cell::Time { ticks, .. } => write!(f, "{ticks}"),
+            Cell::Count { value, .. } => write!(f, "{value}"),
             Cell::Above | Cell::Unbounded => Ok(()),
             Cell::Coming { comes, .. } => write!(f, "{}", u8::from(*comes)),
         }

@@ -1,7 +1,8 @@
 //! Bounds as comma-separated values, a line a figure. Names have no comma, so nothing is quoted.
 
-use crate::kinds::{KINDS, Kind};
+use crate::failed_service::name_of;
 use crate::told::Told;
+use bound_kinds::{KINDS, Kind};
 use osek_base::System;
 use std::io::{self, Write};
 
@@ -14,9 +15,23 @@ fn write_object<W: Write>(
 ) -> io::Result<()> {
     let name = kind.name(system, number);
     for column in kind.columns() {
-        let cell = column.cell(told, number);
+        let cell = told.cell(*column, number);
         let (word, standing) = (column.word(), cell.standing());
         writeln!(out, "{},{name},{word},{cell},{standing}", kind.word())?;
+    }
+    Ok(())
+}
+
+/// A line for each service that may be answered other than E_OK: whose it is, its place and the number
+/// of the status.
+fn write_services<W: Write>(system: &System, told: Told<'_, '_>, out: &mut W) -> io::Result<()> {
+    for failure in told.bounds.peaks.failures() {
+        let (name, place) = (name_of(system, failure.owner), failure.place.number());
+        writeln!(
+            out,
+            "service,{name},{place},{},above",
+            failure.status.number()
+        )?;
     }
     Ok(())
 }
@@ -29,5 +44,5 @@ pub fn write_lines<W: Write>(system: &System, told: Told<'_, '_>, out: &mut W) -
             write_object(system, told, *kind, number, out)?;
         }
     }
-    Ok(())
+    write_services(system, told, out)
 }

@@ -1,8 +1,10 @@
 //! Bounds as JSON: an object by kinds, in each one by names, and in each of these one by columns.
 
 use crate::cells::Cell;
-use crate::kinds::{KINDS, Kind};
+use crate::failed_service::name_of;
 use crate::told::Told;
+use bound_kinds::{KINDS, Kind};
+use observations::Failure;
 use osek_base::System;
 use serde_json::{Map, Value};
 use std::alloc::{AllocError, Global};
@@ -21,6 +23,7 @@ fn put(
 fn number_of(cell: Cell) -> Value {
     match cell {
         Cell::Time { ticks, .. } => Value::from(ticks),
+        Cell::Count { value, .. } => Value::from(value),
         Cell::Above | Cell::Unbounded => Value::Null,
         Cell::Coming { comes, .. } => Value::from(u32::from(comes)),
     }
@@ -43,7 +46,7 @@ fn object(
 ) -> Result<Value, AllocError> {
     let mut figures = Map::new(alloc);
     for column in kind.columns() {
-        let value = value_of(alloc, column.cell(told, number))?;
+        let value = value_of(alloc, told.cell(*column, number))?;
         put(alloc, &mut figures, column.word(), value)?;
     }
     Ok(Value::Object(figures))
@@ -63,13 +66,36 @@ fn objects(
     Ok(Value::Object(objects))
 }
 
-/// The text of all figures.
+/// A service that may be answered other than E_OK: whose it is, its place and the number of the
+/// status.
+fn service(alloc: Global, system: &System, failure: &Failure) -> Result<Value, AllocError> {
+    let mut told = Map::new(alloc);
+    let name = String::from_str(alloc, name_of(system, failure.owner))?;
+    put(alloc, &mut told, "name", Value::String(name))?;
+    let place = u32::from(failure.place.number());
+    put(alloc, &mut told, "place", Value::from(place))?;
+    let status = u32::from(failure.status.number());
+    put(alloc, &mut told, "status", Value::from(status))?;
+    Ok(Value::Object(told))
+}
+
+fn services(alloc: Global, system: &System, told: Told<'_, '_>) -> Result<Value, AllocError> {
+    let mut services = Vec::new(alloc);
+    for failure in told.bounds.peaks.failures() {
+        services.push(service(alloc, system, failure)?)?;
+    }
+    Ok(Value::Array(services))
+}
+
+/// The text of all figures, and of the services that may be answered other than E_OK.
 pub fn json_of(alloc: Global, system: &System, told: Told<'_, '_>) -> Result<Vec<u8>, AllocError> {
     let mut kinds = Map::new(alloc);
     for kind in &KINDS {
         let objects = objects(alloc, system, told, *kind)?;
         put(alloc, &mut kinds, kind.word(), objects)?;
     }
+    let services = services(alloc, system, told)?;
+    put(alloc, &mut kinds, "service", services)?;
     let mut text = Value::Object(kinds).to_vec_pretty(alloc)?;
     text.push(b'\n')?;
     Ok(text)

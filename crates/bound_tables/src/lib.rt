@@ -4,8 +4,9 @@
 
 mod cells;
 mod csv_text;
+mod failed_service;
+mod failed_services;
 mod json_text;
-mod kinds;
 mod naming;
 mod remarks;
 mod table;
@@ -14,7 +15,7 @@ mod writing;
 
 pub use csv_text::write_lines;
 pub use json_text::json_of;
-pub use naming::{NamedFigure, figure_named, is_column};
+pub use naming::{NamedFigure, figure_named};
 pub use remarks::write_remarks;
 pub use told::Told;
 pub use writing::{write_decided, write_undecided, write_up_to};

@@ -1,6 +1,7 @@
 //! Figures by the names of objects and the words of columns.
 
-use crate::kinds::{Column, KINDS, Kind};
+use crate::told::figure_of;
+use bound_kinds::{KINDS, Kind, column_of};
 use bounds::Figure;
 use osek_base::System;
 
@@ -10,27 +11,6 @@ pub struct NamedFigure {
     pub figure: Figure,
     pub kind: &'static str,
     pub column: &'static str,
-}
-
-/// Whether a column has that word.
-pub fn is_column(word: &str) -> bool {
-    for kind in &KINDS {
-        if column_of(*kind, Some(word)).is_some() {
-            return true;
-        }
-    }
-    false
-}
-
-/// The column of a kind that has that word; its first, where no word is said.
-fn column_of(kind: Kind, word: Option<&str>) -> Option<Column> {
-    for column in kind.columns() {
-        match word {
-            Some(word) if word != column.word() => {}
-            _ => return Some(*column),
-        }
-    }
-    None
 }
 
 /// The number of the object of a kind that has that name.
@@ -50,7 +30,7 @@ pub fn figure_named(system: &System, name: &str, word: Option<&str>) -> Option<N
         if let Some(number) = number_of(system, *kind, name) {
             if let Some(column) = column_of(*kind, word) {
                 return Some(NamedFigure {
-                    figure: column.figure(number),
+                    figure: figure_of(column, number),
                     kind: kind.word(),
                     column: column.word(),
                 });

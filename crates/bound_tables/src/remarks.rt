@@ -1,8 +1,8 @@
 //! What figures mean that aren't times that a run shows, and what would change them.
 
 use crate::cells::Cell;
-use crate::kinds::{Column, KINDS, Kind};
 use crate::told::Told;
+use bound_kinds::{Column, KINDS, Kind};
 use osek_base::System;
 use search::{Obstacle, Outcome};
 use std::io::{self, Write};
@@ -17,7 +17,8 @@ fn meaning(column: Column) -> &'static str {
             "its task has as many jobs as ACTIVATION allows, or none that its event could be set for",
         Column::Errors | Column::RoutineErrors =>
             "a service is answered other than E_OK; --witness shows a run in which one is",
-        Column::Response | Column::Latency | Column::Hold => "it lasts",
+        Column::Shutdown => "some run ends by a ShutdownOS",
+        Column::Response | Column::Jobs | Column::Latency | Column::Hold => "it lasts",
     }
 }
 
@@ -30,7 +31,7 @@ fn write_remark<W: Write>(
     number: usize,
     out: &mut W,
 ) -> io::Result<()> {
-    let cell = column.cell(told, number);
+    let cell = told.cell(column, number);
     if cell.is_plain() {
         return Ok(());
     }
@@ -52,6 +53,12 @@ fn write_remark<W: Write>(
             writeln!(
                 out,
                 "<={ticks}: no run takes longer, and none is known that takes as long"
+            )
+        }
+        Cell::Count { value, .. } => {
+            writeln!(
+                out,
+                "<={value}: no run has more at once, and none is known that has as many"
             )
         }
         Cell::Coming {

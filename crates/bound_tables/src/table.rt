@@ -1,8 +1,9 @@
 //! Bounds as tables for people: names at the left, figures at the right of 11 columns.
 
 use crate::cells::Cell;
-use crate::kinds::{KINDS, Kind, width_of};
+use crate::failed_services::write_services;
 use crate::told::Told;
+use bound_kinds::{KINDS, Kind, width_of};
 use osek_base::System;
 use std::io::{self, Write};
 
@@ -39,6 +40,7 @@ fn write_number<W: Write>(value: u32, is_reached: bool, out: &mut W) -> io::Resu
 fn write_cell<W: Write>(cell: Cell, out: &mut W) -> io::Result<()> {
     match cell {
         Cell::Time { ticks, is_reached } => write_number(ticks, is_reached, out),
+        Cell::Count { value, is_reached } => write_number(value, is_reached, out),
         Cell::Above => out.write_all(b"       above"),
         Cell::Unbounded => out.write_all(b"   unbounded"),
         Cell::Coming { comes, is_reached } => write_number(u32::from(comes), is_reached, out),
@@ -63,7 +65,7 @@ fn write_line<W: Write>(
 ) -> io::Result<()> {
     write_name(kind.name(system, number), width, out)?;
     for column in kind.columns() {
-        write_cell(column.cell(told, number), out)?;
+        write_cell(told.cell(*column, number), out)?;
     }
     out.write_all(b"\n")
 }
@@ -84,7 +86,8 @@ fn write_kind<W: Write>(
     Ok(())
 }
 
-/// Writes the tables of all kinds of which there are objects. An error is a failed write.
+/// Writes the tables of all kinds of which there are objects, and the services that may be answered
+/// other than E_OK. An error is a failed write.
 pub fn write_tables<W: Write>(system: &System, told: Told<'_, '_>, out: &mut W) -> io::Result<()> {
     let width = width_of(system);
     for kind in &KINDS {
@@ -92,5 +95,5 @@ pub fn write_tables<W: Write>(system: &System, told: Told<'_, '_>, out: &mut W) 
             write_kind(system, told, *kind, width, out)?;
         }
     }
-    Ok(())
+    write_services(system, told, out)
 }

@@ -1,5 +1,7 @@
 //! Bounds, and which of them runs show.
 
+use crate::cells::Cell;
+use bound_kinds::Column;
 use bounds::{Bounds, Figure};
 
 /// The bounds of a system, the figures that a run is known to show as they are told, and the tasks,
@@ -33,5 +35,48 @@ impl Told<'_, '_> {
             }
         }
         false
+    }
+
+    /// What is told in a column of the object of a number.
+    pub(crate) fn cell(self, column: Column, number: usize) -> Cell {
+        let figure = figure_of(column, number);
+        let value = figure.told(&self.bounds.peaks);
+        let is_reached = self.is_reached(figure);
+        if self.is_endless(figure) {
+            return Cell::Unbounded;
+        }
+        match column {
+            Column::Response | Column::Latency | Column::Hold => Cell::of_time(
+                value,
+                self.bounds.cap,
+                is_reached,
+            ),
+            Column::Jobs => Cell::Count { value, is_reached },
+            Column::Refusal
+            | Column::Loss
+            | Column::RefusedAction
+            | Column::Errors
+            | Column::RoutineErrors
+            | Column::Shutdown => Cell::Coming {
+                comes: value > 0,
+                is_reached,
+            },
+        }
+    }
+}
+
+/// The figure of a column, of the object of a number.
+pub(crate) fn figure_of(column: Column, number: usize) -> Figure {
+    match column {
+        Column::Response => Figure::Response(number),
+        Column::Jobs => Figure::Jobs(number),
+        Column::Refusal => Figure::Refusal(number),
+        Column::Latency => Figure::Latency(number),
+        Column::Loss => Figure::Loss(number),
+        Column::Hold => Figure::Hold(number),
+        Column::RefusedAction => Figure::RefusedAction(number),
+        Column::Errors => Figure::Errors(number),
+        Column::RoutineErrors => Figure::RoutineErrors(number),
+        Column::Shutdown => Figure::Shutdown,
     }
 }

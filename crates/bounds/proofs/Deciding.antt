@@ -7,7 +7,7 @@ use Rattle.search.specs.declared.outcome.Outcome.TheVariants.{Decided, Undecided
 use Rattle.search.specs.Levels.{AreLevels}
 use Rattle.search.specs.Outcomes.{IsOutcome}
 use Rattle.search.specs.Searched.{AreAll}
-use Rattle.bound_labels.specs.Peaks.{Peaks}
+use Rattle.bound_peaks.specs.Peaks.{Peaks}
 use Rattle.run_bounds.specs.Bounds.{AreBounds, AreBoundsUpTo, LevelsBound, SearchesBound}
 use Rattle.run_bounds.specs.Nodes.{Setting, rules_of}
 use Rattle.bounds.specs.Exploring.{AreNotedIn, Explorer, IsGround, setting_of}

@@ -1,15 +1,14 @@
 -- What comes of a machine comes of each state that its node stands for.
-use Rattle.std.proofs.Common.{ℕ, ◌≡◌, ◌<◌, ◌≤◌, ◌^◌, arith, Bool, true, false, List, [], refl, sym, ◌∙◌, ap, subst, subst₂}
+use Rattle.std.proofs.Common.{ℕ, ◌≡◌, ◌<◌, ◌≤◌, ◌^◌, arith, Bool, true, false, List, [], refl, sym, ◌∙◌, ap, subst}
 use Rattle.std.specs.Prelude.{◌==◌, Option, Some, None, IfSome, IfNone, length}
 use Rattle.std.proofs.Math.Pow.{pow_mono}
 use Rattle.std.specs.Int.{bit_at}
 use Rattle.std.proofs.lemmas.Bool.{eq-eqb, ne_eqb, eqb-true, true≢false}
-use Rattle.osek_base.specs.declared.ids.Owner.{Owner}
 use Rattle.osek_base.specs.System.{System}
 use Rattle.kept_state.specs.Kept.{Kept}
 use Rattle.kept_state.specs.KeptTick.{boot_in, tick_in}
 use Rattle.observations.specs.Seen.{Seen}
-use Rattle.shown_ticks.specs.Seen.{seen_in}
+use Rattle.shown_ticks.specs.Seen.{failure_in, seen_in}
 use Rattle.needs.specs.Table.{need_of}
 use Rattle.kernel.specs.Machine.{IsBooted, IsOfRun, Machine, next_tick, picture, system_of}
 use Rattle.same_future.specs.Alike.{kept_after}
@@ -18,8 +17,8 @@ use Rattle.search.specs.Rules.{IsNextChoice, NoMoreMay, StaysNoted}
 use Rattle.search.specs.Subsets.{IsSubset, NoSubset}
 use Rattle.bound_labels.specs.Labels.{IsAtLeast, Labels, arrives_in, first_labels, next_labels, wait_of}
 use Rattle.figures.specs.FigureSums.{held_count}
-use Rattle.bound_labels.specs.Peaks.{AreAtLeast, IsNoted, NotesStay, Peaks}
-use Rattle.run_bounds.specs.Nodes.{AreNoted, Comes, IsAfter, IsFirst, IsNext, Node, Setting, StandsFor, failed_in, labels_at_boot, routines_of, rules_of}
+use Rattle.bound_peaks.specs.Peaks.{AreAtLeast, IsNoted, NotesStay, Peaks, TickShown}
+use Rattle.run_bounds.specs.Nodes.{AreNoted, Comes, IsAfter, IsFirst, IsNext, Node, Setting, StandsFor, labels_at_boot, routines_of, rules_of, tick_shown_in}
 use Rattle.run_bounds.specs.Trying.{AreFree, MaySubsets, OneStateTells, SubsetsMay}
 use Rattle.run_bounds.proofs.Going.{boot_state}
 use Rattle.run_bounds.proofs.Trying.{labels_are_ordered}
@@ -47,15 +46,15 @@ stands e x m is over = record {
 }
 
 -- what a tick makes of it
-pub record Ticked (e : Explorer) (x : Node) (set : ℕ) (m n : Machine) (shown : Seen)
-    (failed : Option Owner) : Type 0 where
+pub record Ticked (e : Explorer) (x : Node) (set : ℕ) (m n : Machine) (t : TickShown) : Type 0 where
   pub is : IsIn e.ground x.key m
   pub going : (picture m).over ≡ x.over
   pub system : system_of n ≡ system_of m
   pub after : picture n
       ≡ (tick_in (system_of m) (routines_of (setting_of e) set) (picture m)).after
-  pub seen : shown ≡ seen_in (system_of m) (routines_of (setting_of e) set) (picture m)
-  pub failed_is : failed ≡ failed_in (system_of m) (routines_of (setting_of e) set) (picture m)
+  pub seen : t.seen ≡ seen_in (system_of m) (routines_of (setting_of e) set) (picture m)
+  pub failure : t.failure ≡ failure_in (system_of m) (routines_of (setting_of e) set) (picture m)
+  pub over : t.over ≡ (picture n).over
 
 -- and the node that is made of that
 pub record IsMade (e : Explorer) (x y : Node) (set : ℕ) (n : Machine) (seen : Seen) : Type 0 where
@@ -63,19 +62,29 @@ pub record IsMade (e : Explorer) (x y : Node) (set : ℕ) (n : Machine) (seen : 
   pub over : y.over ≡ (picture n).over
   pub labels : y.labels ≡ next_labels e.cap e.distances set seen x.labels
 
-module _ (e : Explorer) (x : Node) (set : ℕ) (m n : Machine) (seen : Seen)
-    (failed : Option Owner) (ticked : Ticked e x set m n seen failed) where
+module _ (e : Explorer) (x : Node) (set : ℕ) (m n : Machine) (t : TickShown)
+    (ticked : Ticked e x set m n t) where
   abbrev arrived : List ℕ
   arrived = routines_of (setting_of e) set
 
   same_after : picture n ≡ (tick_in e.ground.system arrived (picture m)).after
   same_after = ticked.after ∙ ap (λ S. (tick_in S arrived (picture m)).after) ticked.is.system
 
-  same_seen : seen ≡ seen_in e.ground.system arrived (picture m)
+  same_seen : t.seen ≡ seen_in e.ground.system arrived (picture m)
   same_seen = ticked.seen ∙ ap (λ S. seen_in S arrived (picture m)) ticked.is.system
 
-  same_failed : failed ≡ failed_in e.ground.system arrived (picture m)
-  same_failed = ticked.failed_is ∙ ap (λ S. failed_in S arrived (picture m)) ticked.is.system
+  same_failure : t.failure ≡ failure_in e.ground.system arrived (picture m)
+  same_failure = ticked.failure ∙ ap (λ S. failure_in S arrived (picture m)) ticked.is.system
+
+  same_over : t.over ≡ (tick_in e.ground.system arrived (picture m)).after.over
+  same_over = ticked.over ∙ ap (λ (o : Kept). o.over) same_after
+
+  same_shown : t ≡ tick_shown_in e.ground.system arrived (picture m)
+  same_shown = λ i. record {
+    seen = same_seen i;
+    failure = same_failure i;
+    over = same_over i;
+  }
 
   same_key : key (system_of n) (need_of e.ground.needs) (picture n)
       ≡ key e.ground.system (need_of e.ground.needs)
@@ -84,7 +93,7 @@ module _ (e : Explorer) (x : Node) (set : ℕ) (m n : Machine) (seen : Seen)
       ap (λ S. key S (need_of e.ground.needs) (picture n)) (ticked.system ∙ ticked.is.system)
       ∙ ap (key e.ground.system (need_of e.ground.needs)) same_after
 
-  is_after : (y : Node) → IsMade e x y set n seen → IsAfter (setting_of e) x set y (picture m)
+  is_after : (y : Node) → IsMade e x y set n t.seen → IsAfter (setting_of e) x set y (picture m)
   is_after y made = record {
     key = sym (made.key ∙ same_key);
     over = sym (made.over ∙ ap (λ (o : Kept). o.over) same_after);
@@ -99,20 +108,19 @@ module _ (e : Explorer) (x : Node) (set : ℕ) (m n : Machine) (seen : Seen)
   }
 
   pub is_next : OneStateTells → IsGround e.ground → x.over ≡ false → (y : Node)
-      → IsMade e x y set n seen → IsNext (setting_of e) x set y
+      → IsMade e x y set n t.seen → IsNext (setting_of e) x set y
   is_next tells ground going y made =
       (tells (setting_of e) x set (picture m) ground.proper ground.suffices ground.own going
       (stands e x m ticked.is ticked.going)).next y
       (is_after y made)
 
   pub are_noted : OneStateTells → IsGround e.ground → x.over ≡ false → (peaks : Peaks)
-      → IsNoted e.cap peaks seen failed x.labels
+      → IsNoted e.cap peaks t x.labels
       → AreNoted (setting_of e) peaks x set
   are_noted tells ground going peaks noted =
       (tells (setting_of e) x set (picture m) ground.proper ground.suffices ground.own going
       (stands e x m ticked.is ticked.going)).noted peaks
-      (subst₂ (λ (s : Seen) (who : Option Owner). IsNoted e.cap peaks s who x.labels) same_seen
-      same_failed noted)
+      (subst (λ (s : TickShown). IsNoted e.cap peaks s x.labels) same_shown noted)
 
 -- the labels after boot
 pub first_is : (S : System) (tasks routines held : ℕ) → tasks ≡ length S.tasks
@@ -142,7 +150,7 @@ pub stays_noted : (e f : Explorer) → NotesStay → setting_of f ≡ setting_of
     → AreAtLeast f.peaks e.peaks → StaysNoted AreNotedIn e f
 stays_noted e f stay same rises x set noted =
     subst (λ (s : Setting). AreNoted s f.peaks x set) (sym same)
-    (λ o is. stay e.cap f.peaks e.peaks _ _ x.labels rises (noted o is))
+    (λ o is. stay e.cap f.peaks e.peaks _ x.labels rises (noted o is))
 
 pub same_stay : (e f : Explorer) → f ≡ e → StaysNoted AreNotedIn e f
 same_stay e f same x set noted = subst (λ (g : Explorer). AreNotedIn g x set) (sym same) noted
@@ -177,17 +185,17 @@ are_free count whole l has only low = record {
   has = λ i inside. free_is whole i (wait_of l i) (has i inside) (only i);
 }
 
-pub free_choices : (e f : Explorer) (x y : Node) (count whole : ℕ) → SubsetsMay → f ≡ e → y ≡ x
-    → y.over ≡ false
-    → count ≡ length f.ground.system.routines → ((i : ℕ) → i < count → wait_of y.labels i ≡ 0
+pub free_choices : (e f : Explorer) (x : Node) (l : Labels) (count whole : ℕ) → SubsetsMay → f ≡ e
+    → l ≡ x.labels → x.over ≡ false
+    → count ≡ length f.ground.system.routines → ((i : ℕ) → i < count → wait_of l i ≡ 0
     → bit_at whole i ≡ 1)
-    → ((i : ℕ) → bit_at whole i ≡ 1 → wait_of y.labels i ≡ 0) → whole < 2 ^ count
+    → ((i : ℕ) → bit_at whole i ≡ 1 → wait_of l i ≡ 0) → whole < 2 ^ count
     → MaySubsets (setting_of e) x whole
-free_choices e f x y count whole may same alike going many has only low =
+free_choices e f x l count whole may same alike going many has only low =
+    let free = subst (λ n. AreFree n l whole) many (are_free count whole l has only low) in
     subst (λ (g : Explorer). MaySubsets (setting_of g) x whole) same
-    (subst (λ (z : Node). MaySubsets (setting_of f) z whole) alike
-    (may (setting_of f) y whole going
-    (subst (λ n. AreFree n y.labels whole) many (are_free count whole y.labels has only low))))
+    (may (setting_of f) x whole going
+    (subst (λ (m : Labels). AreFree (length f.ground.system.routines) m whole) alike free))
 
 pub next_choice : (s : Setting) (x : Node) (whole from count : ℕ) → MaySubsets s x whole
     → whole < 2 ^ count → count ≤ 16 → (o : Option ℕ)
@@ -208,6 +216,10 @@ pub no_choice : (s : Setting) (x : Node) (whole from : ℕ) → MaySubsets s x w
 no_choice s x whole from may None none =
     λ choice above allowed. none choice above (may.others choice allowed)
 no_choice s x whole from may (Some set) none = tt
+
+-- what is said of what was found, of one that was
+pub if_some : {X : Type 0} (P : X → Type 0) (o : Option X) (x : X) → o ≡ Some x → IfSome o P → P x
+if_some P o x same has = subst (λ p. IfSome p P) same has
 
 -- a machine is in the state of a node
 pub is_in_of : (g h : Ground) (k l : List ℕ) (m : Machine) → h ≡ g → l ≡ k → IsIn h l m

@@ -5,7 +5,7 @@ use Rattle.needed_data.specs.Need.{Suffices}
 use Rattle.needs.specs.Table.{need_of}
 use Rattle.kernel.specs.Machine.{IsOfRun, Machine, system_of}
 use Rattle.state_keys.specs.InRange.{NeedsOwnWords}
-use Rattle.bound_labels.specs.Peaks.{Peaks}
+use Rattle.bound_peaks.specs.Peaks.{Peaks}
 use Rattle.run_bounds.specs.Nodes.{AreNoted, Node, Setting}
 use Rattle.bounds.specs.Held.{Ground}
 

@@ -13,22 +13,42 @@ use std::marker::Model;
 /// A machine that a search ticks; nobody asks it for blockers.
 pub(crate) type StateMachine<'s> = Machine<'s, CompactQueues, NotCounted>;
 
-/// A machine, and the entry of the trail that tells its state.
+/// Where a state stands in a search.
+#[derive(Clone, Copy, Debug)]
+pub(crate) struct Spot {
+    /// The entry of the trail that tells it.
+    pub(crate) entry: usize,
+    /// How many ticks there are up to it.
+    pub(crate) depth: usize,
+}
+
+/// A machine, and where its state stands.
 #[derive(Drop)]
 struct Base<'s> {
     machine: StateMachine<'s>,
-    entry: usize,
+    spot: Spot,
 }
 
 impl<'s> Base<'s> {
-    /// The machine becomes another one of the same system, with the entry of that one's state.
-    fn become_other(&mut self, machine: &StateMachine<'s>, entry: usize)
+    /// The machine becomes another one of the same system, whose state stands at a spot.
+    fn become_other(&mut self, machine: &StateMachine<'s>, spot: Spot)
         requires { system_of self.old.machine ≡ system_of machine.now }
         ensures { self.new.machine ≡ machine.now }
     {
         self.machine.copy_from(machine);
-        self.entry = entry;
+        self.spot = spot;
     }
+}
+
+/// The place of a machine whose state an entry tells.
+fn place_of(held: &[Base<'_>], entry: usize) -> Option<usize> {
+    for place in 0..held.len() {
+        let base = &held[place];
+        if base.spot.entry == entry {
+            return Some(place);
+        }
+    }
+    None
 }
 
 /// Machines of one system, in numbered places.
@@ -77,10 +97,15 @@ impl<'s> Bases<'s> {
         Some(&base.machine)
     }
 
-    /// The entry of the state of the machine at a place.
-    pub(crate) fn entry(&self, place: usize) -> Option<usize> {
+    /// Where the state of the machine at a place stands.
+    pub(crate) fn spot(&self, place: usize) -> Option<Spot> {
         let base = self.held.get(place)?;
-        Some(base.entry)
+        Some(base.spot)
+    }
+
+    /// The place of a machine whose state an entry tells.
+    pub(crate) fn find(&self, entry: usize) -> Option<usize> {
+        place_of(&self.held, entry)
     }
 
     /// How many machines are made use of.
@@ -88,38 +113,35 @@ impl<'s> Bases<'s> {
         self.held.len().saturating_sub(self.free.len())
     }
 
-    /// Keeps a copy of a machine, whose state an entry tells, and answers its place.
+    /// Keeps a copy of a machine, whose state stands at a spot, and answers its place.
     pub(crate) fn keep(
         &mut self,
         alloc: Global,
         machine: &StateMachine<'s>,
-        entry: usize,
+        spot: Spot,
     ) -> Result<usize, AllocError>
         requires { IsOf self.old machine.now }
         ensures { self.new ≡ self.old }
     {
         if let Some(place) = self.free.pop() {
             if place < self.held.len() {
-                self.put(place, machine, entry);
+                self.put(place, machine, spot);
                 return Ok(place);
             }
         }
         let mut new = Machine::boot(alloc, self.system, self.mode)?;
         new.copy_from(machine);
-        self.add(Base {
-            machine: new,
-            entry,
-        })?;
+        self.add(Base { machine: new, spot })?;
         Ok(self.held.len().saturating_sub(1))
     }
 
-    /// The machine at a place becomes another one.
-    fn put(&mut self, place: usize, machine: &StateMachine<'s>, entry: usize)
+    /// The machine at a place becomes another one, whose state stands at a spot.
+    pub(crate) fn put(&mut self, place: usize, machine: &StateMachine<'s>, spot: Spot)
         requires { IsOf self.old machine.now }
         ensures { self.new ≡ self.old }
     {
         if place < self.held.len() {
-            self.held[place].become_other(machine, entry);
+            self.held[place].become_other(machine, spot);
         }
     }
 

@@ -1,21 +1,21 @@
 //! The machine that a search ticks.
 
-ghost use Rattle.std.specs.Prelude.{◌≡◌, ◌<◌, ◌≤◌, IsTrue, IfOk, OnOk, false, length};
+ghost use Rattle.std.specs.Prelude.{◌≡◌, ◌<◌, ◌≤◌, IsTrue, IfOk, IfSome, OnOk, false, length};
 ghost use Rattle.std.specs.List.{All};
 ghost use Rattle.kept_state.specs.KeptTick.{boot_in, tick_in};
 ghost use Rattle.observations.specs.Seen.{seen_of};
-ghost use Rattle.shown_ticks.specs.Seen.{answered_in, executor_in, seen_in};
+ghost use Rattle.shown_ticks.specs.Seen.{failure_in, seen_in};
 ghost use Rattle.kernel.specs.Machine.{IsOfRun, next_tick, picture, system_of};
 ghost use Rattle.needs.specs.Table.{need_of};
 ghost use Rattle.state_keys.specs.Key.{key};
 
 use crate::bases::StateMachine;
-use crate::bytes::copy_of;
 use crate::node::Node;
 use bound_labels::Labels;
 use kernel::Machine;
 use needs::Needs;
 use osek_base::{IsrId, MAX_ROUTINES, MAX_TICKS, ModeId, System};
+use packed_labels::{pack, packed_are_told};
 use seen_machines::Watcher;
 use state_bytes::write_key;
 use std::alloc::{AllocError, Global};
@@ -64,37 +64,32 @@ pub(crate) fn tick_from<'s>(
         ≡ (tick_in (system_of from.now) arrived.now (picture from.now)).after }
     ensures seen { seen_of watcher.new
         ≡ seen_in (system_of from.now) arrived.now (picture from.now) }
-    ensures executor { watcher.new.executor
-        ≡ executor_in (system_of from.now) arrived.now (picture from.now) }
-    ensures answered { watcher.new.answered
-        ≡ answered_in (system_of from.now) arrived.now (picture from.now) }
+    ensures failure { watcher.new.failure
+        ≡ failure_in (system_of from.now) arrived.now (picture from.now) }
     ensures of_run { IsOfRun false machine.new }
 {
     machine.copy_from(from);
     watcher.tick(machine, arrived);
 }
 
-/// What is kept of a machine's state, with labels. Its key is written in a room that is used again.
+/// What is kept of a machine's state, with labels; none where its key is too long. Its bytes are
+/// written in a room that is used again.
 pub(crate) fn node_of(
     alloc: Global,
     machine: &StateMachine<'_>,
     needs: &Needs,
-    labels: Labels,
+    labels: &Labels,
     room: &mut Vec<u8>,
-) -> Result<Node, AllocError>
-    ensures key { IfOk result (λ node. node.key
-        ≡ key (system_of machine.now) (need_of needs.now) (picture machine.now)) }
-    ensures over { IfOk result (λ node. node.over ≡ (picture machine.now).over) }
-    ensures labels { IfOk result (λ node. node.labels ≡ labels) }
+) -> Result<Option<Node>, AllocError>
+    ensures key { IfOk result (λ o. IfSome o (λ node. node.key
+        ≡ key (system_of machine.now) (need_of needs.now) (picture machine.now))) }
+    ensures over { IfOk result (λ o. IfSome o (λ node. node.over ≡ (picture machine.now).over)) }
+    ensures labels { IfOk result (λ o. IfSome o (λ node. node.labels ≡ labels.now)) }
 {
+    packed_are_told();
     room.clear();
     write_key(machine, needs, room)?;
-    Ok(Node {
-        key: copy_of(alloc, room)?,
-        is_over: machine.is_shut_down(),
-        labels,
-        entry: None,
-        base: None,
-        raised: None,
-    })
+    let key_len = room.len();
+    pack(labels, room)?;
+    Node::new(alloc, room, key_len, machine.is_shut_down())
 }

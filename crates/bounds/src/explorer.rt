@@ -6,21 +6,26 @@ ghost use Rattle.bounds.specs.Exploring.{IsGround};
 ghost use Rattle.bounds.specs.Held.{Ground};
 
 use crate::bases::StateMachine;
+use crate::comparing::Comparing;
 use crate::current::{boot_again, can_go_on, node_of, tick_from};
 use crate::figure::held_count;
 use crate::node::Node;
+use crate::raised::Raised;
 use crate::routines::put_routines;
 use crate::states::States;
 use crate::trails::Trails;
 use crate::watch::Watch;
-use bound_labels::{Labels, Peaks};
+use bound_labels::Labels;
+use bound_peaks::Peaks;
 use kernel::Machine;
 use needs::Needs;
 use osek_base::{IsrId, ModeId, System};
+use packed_labels::{ReadLabels, free_routines};
 use run_bounds::{nodes_are_kept, notes_stay, one_state_tells, subsets_may};
 use search::{Progress, Steps, subset_from};
 use seen_machines::Watcher;
 use std::alloc::{AllocError, Global};
+use std::cell::Cell;
 use std::marker::Model;
 
 /// Ticks machines from state to state, and notes the greatest times that are seen.
@@ -36,14 +41,21 @@ pub(crate) struct Explorer<'s, 'w, W: Watch> {
     states: States<'s>,
     /// The machine that is ticked.
     current: StateMachine<'s>,
-    /// Room for the key of its state.
-    key: Vec<u8>,
+    /// The labels of the node that is visited, and those behind a tick.
+    read: ReadLabels,
+    labels: Labels,
+    /// Room for the bytes of a node.
+    bytes: Vec<u8>,
+    /// Room in which nodes are compared, while none are.
+    comparing: Cell<Option<Comparing>>,
     /// The routines whose interrupts arrive in a tick.
     arrived: Vec<IsrId>,
     watcher: Watcher,
     peaks: Peaks,
     /// How it came to all of these, of which contracts see nothing.
     trails: Trails,
+    /// How many bytes the nodes take that are kept, about.
+    kept: u64,
     watch: &'w mut W,
 }
 
@@ -91,13 +103,37 @@ impl<'s, 'w, W: Watch> Explorer<'s, 'w, W> {
             cap,
             states: States::new(alloc, system, needs, mode)?,
             current,
-            key: Vec::new(alloc),
+            read: ReadLabels::new(alloc),
+            labels: Labels::new(alloc),
+            bytes: Vec::new(alloc),
+            comparing: Cell::new(Some(Comparing::new(alloc))),
             arrived: Vec::new(alloc),
             watcher: Watcher::new(),
-            peaks: Peaks::new(),
+            peaks: Peaks::new(alloc),
             trails: Trails::new(alloc, system)?,
+            kept: 0,
             watch,
         })
+    }
+
+    /// The labels that were raised when a node was joined last, if they weren't taken since.
+    fn take_raised(&self) -> Option<Raised> {
+        let mut comparing = self.comparing.take()?;
+        let raised = comparing.raised.take();
+        self.comparing.set(Some(comparing));
+        raised
+    }
+
+    /// Whether memory was wanted where nodes were compared, which can't be told there.
+    pub(crate) fn wants_memory(&self) -> bool {
+        match self.comparing.take() {
+            None => true,
+            Some(comparing) => {
+                let wants_memory = comparing.wants_memory;
+                self.comparing.set(Some(comparing));
+                wants_memory
+            }
+        }
     }
 
     /// The greatest times that were noted, and how a search has come to them.
@@ -127,15 +163,18 @@ impl<'s, 'w, W: Watch> Steps for Explorer<'s, 'w, W> {
         let tasks = self.system.task_count();
         let routines = self.system.routine_count();
         let labels = Labels::first(alloc, tasks, routines, held_count(self.system))?;
-        Ok(Some(node_of(alloc, &self.current, self.needs, labels, &mut self.key)?))
+        let Some(node) = node_of(alloc, &self.current, self.needs, &labels, &mut self.bytes)? else {
+            return Ok(None);
+        };
+        Ok(Some(node))
     }
 
     fn choice_from(&self, node: &Node, from: u64) -> Option<u64> {
-        if node.is_over {
+        if node.is_over() {
             return None;
         }
         subsets_may();
-        let free = node.labels.free_routines(self.system.routine_count());
+        let free = free_routines(node.packed(), self.system.routine_count());
         subset_from(free, from)
     }
 
@@ -147,8 +186,12 @@ impl<'s, 'w, W: Watch> Steps for Explorer<'s, 'w, W> {
     ) -> Result<Option<Node>, AllocError> {
         put_routines(choice, self.system.routine_count(), &mut self.arrived)?;
         self.states
-            .visit(alloc, &self.trails, from.entry, from.base)?;
-        let Some(machine) = self.states.at(&from.key) else {
+            .visit(alloc, &self.trails, from.entry(), from.base())?;
+        self.read.read(from.packed())?;
+        let Some(labels) = self.read.of(from.packed()) else {
+            return Ok(None);
+        };
+        let Some(machine) = self.states.at(from.key()) else {
             return Ok(None);
         };
         if !can_go_on(machine) {
@@ -158,46 +201,68 @@ impl<'s, 'w, W: Watch> Steps for Explorer<'s, 'w, W> {
         notes_stay();
         tick_from(machine, &mut self.current, &self.arrived, &mut self.watcher);
         let seen = self.watcher.seen();
-        let labels = from
-            .labels
-            .next(alloc, self.cap, self.distances, choice, seen)?;
-        let node = node_of(alloc, &self.current, self.needs, labels, &mut self.key)?;
-        let rises = self.peaks.note(self.cap, seen, &from.labels);
-        self.trails.came(from.entry, choice, rises, &self.peaks);
+        self.labels
+            .become_next(self.cap, self.distances, choice, seen, labels)?;
+        let Some(node) = node_of(
+            alloc,
+            &self.current,
+            self.needs,
+            &self.labels,
+            &mut self.bytes,
+        )?
+        else {
+            return Ok(None);
+        };
+        let is_over = self.current.is_shut_down();
+        let rises = self.peaks.note(self.cap, seen, is_over, labels)?;
+        self.trails.came(from.entry(), choice, rises, &self.peaks);
         Ok(Some(node))
     }
 
     fn covers(&self, one: &Node, other: &Node) -> bool {
-        one.covers(other)
+        let Some(mut comparing) = self.comparing.take() else {
+            return false;
+        };
+        let covers = one.covers(other, &mut comparing);
+        self.comparing.set(Some(comparing));
+        covers
     }
 
     fn join(
         &self,
-        _alloc: Global,
+        alloc: Global,
         node: &mut Node,
         other: Node,
     ) -> Result<Option<Node>, AllocError> {
-        if node.join(self.system, &other)? {
+        let Some(mut comparing) = self.comparing.take() else {
+            return Ok(Some(other));
+        };
+        let done = node.join(alloc, self.system, &other, &mut comparing)?;
+        self.comparing.set(Some(comparing));
+        if done {
             return Ok(None);
         }
         Ok(Some(other))
     }
 
     fn keep(&mut self, alloc: Global, node: &mut Node) -> Result<(), AllocError> {
-        let entry = self.trails.enter(node.entry, node.raised.take())?;
-        node.entry = Some(entry);
-        node.base = Some(self.states.open(alloc, &self.current, entry, node.base)?);
+        self.kept = node.size_with(self.kept);
+        let raised = self.take_raised();
+        let entry = self.trails.enter(node.entry(), raised)?;
+        let base = self.states.open(alloc, &self.current, entry, node.base())?;
+        node.keep(entry, base);
         Ok(())
     }
 
     fn settle(&mut self, node: &mut Node) {
-        if let Some(base) = node.base.take() {
+        if let Some(base) = node.base() {
             self.states.close(base);
         }
+        node.close();
     }
 
     fn watch(&mut self, progress: Progress) {
-        self.watch.searched(progress);
+        self.watch.searched(progress, self.kept);
     }
 
     fn hash(&self, node: &Node) -> u64 {

@@ -4,7 +4,7 @@ ghost use Rattle.std.specs.Prelude.{◌≡◌};
 ghost use Rattle.figures.specs.FigureSums.{held_count};
 ghost use Rattle.bounds.specs.Figures.{one_if, told};
 
-use bound_labels::Peaks;
+use bound_peaks::Peaks;
 use osek_base::System;
 use std::alloc::{AllocError, Global};
 
@@ -14,6 +14,8 @@ use std::alloc::{AllocError, Global};
 pub enum Figure {
     /// The greatest response of a task.
     Response(usize),
+    /// The most jobs of a task at once.
+    Jobs(usize),
     /// Whether an activation of a task is refused.
     Refusal(usize),
     /// The greatest latency of a routine.
@@ -28,6 +30,8 @@ pub enum Figure {
     Errors(usize),
     /// Whether a service of a routine is.
     RoutineErrors(usize),
+    /// Whether a ShutdownOS ends a run.
+    Shutdown,
 }
 
 /// What is told of something that has come or not.
@@ -38,13 +42,14 @@ fn coming(has_come: bool) -> u32
 }
 
 impl Figure {
-    /// What peaks tell of it: ticks of a time; of what comes or not 1 where it has come, and 0
-    /// where not.
+    /// What peaks tell of it: ticks of a time; a number of jobs; of what comes or not 1 where it has
+    /// come, and 0 where not.
     pub fn told(self, peaks: &Peaks) -> u32
         ensures { result ≡ told peaks.now self }
     {
         match self {
             Figure::Response(task) => peaks.response(task),
+            Figure::Jobs(task) => peaks.jobs(task),
             Figure::Refusal(task) => coming(peaks.has_refusal(task)),
             Figure::Latency(routine) => peaks.latency(routine),
             Figure::Loss(routine) => coming(peaks.has_loss(routine)),
@@ -52,6 +57,7 @@ impl Figure {
             Figure::RefusedAction(alarm) => coming(peaks.has_refused_action(alarm)),
             Figure::Errors(task) => coming(peaks.has_error(task)),
             Figure::RoutineErrors(routine) => coming(peaks.has_routine_error(routine)),
+            Figure::Shutdown => coming(peaks.has_shutdown()),
         }
     }
 }
@@ -73,6 +79,7 @@ pub fn figures_of(alloc: Global, system: &System) -> Result<Vec<Figure>, AllocEr
     let mut figures = Vec::new(alloc);
     for task in 0..system.task_count() {
         figures.push(Figure::Response(task))?;
+        figures.push(Figure::Jobs(task))?;
         figures.push(Figure::Refusal(task))?;
         figures.push(Figure::Errors(task))?;
     }
@@ -87,5 +94,6 @@ pub fn figures_of(alloc: Global, system: &System) -> Result<Vec<Figure>, AllocEr
     for alarm in 0..system.alarm_count() {
         figures.push(Figure::RefusedAction(alarm))?;
     }
+    figures.push(Figure::Shutdown)?;
     Ok(figures)
 }

@@ -6,7 +6,7 @@ ghost use Rattle.bounds.specs.Found.{AreFound};
 use crate::explorer::Explorer;
 use crate::trails::Trails;
 use crate::watch::Watch;
-use bound_labels::Peaks;
+use bound_peaks::Peaks;
 use needs::needed_data;
 use osek_base::{ModeId, System};
 use run_bounds::{levels_bound, searches_bound};
@@ -66,6 +66,9 @@ pub fn find_bounds<W: Watch>(
     searches_bound();
     levels_bound();
     let outcome = search(alloc, &mut explorer, limits)?;
+    if explorer.wants_memory() {
+        return Err(AllocError);
+    }
     let (peaks, trails) = explorer.into_found();
     Ok(Bounds {
         outcome,

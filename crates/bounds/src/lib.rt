@@ -4,7 +4,10 @@
 
 mod bases;
 mod bytes;
+mod comparing;
 mod current;
+mod effort;
+mod entry;
 mod explorer;
 mod figure;
 mod finding;
@@ -13,8 +16,10 @@ mod origin;
 mod raised;
 mod routines;
 mod states;
+mod stops;
 mod trails;
 mod watch;
+mod way;
 
 pub use figure::{Figure, figures_of};
 pub use finding::{Bounds, Extent, find_bounds};

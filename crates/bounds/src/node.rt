@@ -1,90 +1,238 @@
 //! What a search keeps of a state.
 
-ghost use Rattle.std.specs.Prelude.{◌≡◌, IfOk, IsFalse, IsTrue};
+ghost use Rattle.std.specs.Prelude.{◌≡◌, ◌≤◌, IfOk, IfSome, IsFalse, IsTrue, OnOk, drop, length, take};
+ghost use Rattle.packed_labels.specs.Unpacked.{unpacked};
 ghost use Rattle.run_bounds.specs.Nodes.{Covers};
 
-use crate::bytes::are_equal;
+use crate::bytes::{are_equal, behind, copy_of, first_of};
+use crate::comparing::{Comparing, labels_of};
 use crate::raised::Raised;
 use bound_labels::Labels;
 use osek_base::System;
-use std::alloc::AllocError;
+use packed_labels::{pack, packed_are_told};
+use std::alloc::{AllocError, Global};
 use std::marker::Model;
+
+/// What a node takes beside the bytes of its key and its labels, about: itself, its block, its entry
+/// of the trail, and its places among hashes and open nodes.
+const BYTES_BESIDE: u64 = 96;
+
+/// In place of the number of an entry or of a machine, where there is none.
+const NONE: u32 = u32::MAX;
 
 /// The key of a state, whether the run is over in it, and its labels. Contracts see nothing of how
 /// its machine is made again.
 #[derive(Drop)]
 pub(crate) struct Node {
-    pub(crate) key: Vec<u8>,
-    pub(crate) is_over: bool,
-    pub(crate) labels: Labels,
+    /// The key, and the labels behind it, in no byte more.
+    bytes: Vec<u8>,
+    /// How many bytes the key has.
+    key_len: u32,
     /// The entry that tells how it came to be, once it is kept.
-    pub(crate) entry: Option<usize>,
+    entry: u32,
     /// The place of the machine from which its own is made, while it is open.
-    pub(crate) base: Option<usize>,
-    /// The labels that were raised when it was joined last, until that has an entry.
-    pub(crate) raised: Option<Raised>,
+    base: u32,
+    is_over: bool,
 }
 
 impl Model for Node {
+    ghost use Rattle.std.specs.Prelude.{◌≤◌, drop, length, take};
+    ghost use Rattle.packed_labels.specs.Unpacked.{unpacked};
     ghost use Rattle.run_bounds.specs.Nodes.{Node as Kept};
 
     ghost Value = { Kept };
 
-    ghost view = { λ n. record { key = n.key.items; over = n.is_over; labels = n.labels } };
+    ghost view = { λ n. record {
+      key = take n.key_len n.bytes.items;
+      over = n.is_over;
+      labels = unpacked (drop n.key_len n.bytes.items);
+    } };
+
+    ghost invariant = { λ n. n.key_len ≤ length n.bytes.items };
+}
+
+/// A number, if it is one.
+fn number_of(number: u32) -> Option<usize> {
+    if number == NONE {
+        None
+    } else {
+        Some(number as usize)
+    }
+}
+
+/// A number as it is kept. One that doesn't fit isn't.
+fn short(number: usize) -> u32 {
+    u32::try_from(number).unwrap_or(NONE)
+}
+
+/// Whether the ages of two nodes of one state can stand beside each other: where interrupts can
+/// arrive as soon in both, or the other stands for all that the one does.
+fn go_together(labels: &Labels, others: &Labels) -> bool {
+    labels.has_same_waits(others) || others.is_at_least(labels)
+}
+
+/// Which labels others raise, where interrupts can arrive as soon in both. Else the others take
+/// their place.
+fn raised_by(system: &System, labels: &Labels, others: &Labels) -> Option<Raised> {
+    if labels.has_same_waits(others) {
+        Some(Raised::by(system, labels, others))
+    } else {
+        None
+    }
 }
 
 impl Node {
+    /// One of so many bytes of a key and those of labels behind them; none where the key has 2^32
+    /// bytes or more.
+    pub(crate) fn new(
+        alloc: Global,
+        bytes: &[u8],
+        key_len: usize,
+        is_over: bool,
+    ) -> Result<Option<Self>, AllocError>
+        requires { key_len ≤ length bytes.now }
+        ensures key { IfOk result (λ o. IfSome o (λ n. n.key ≡ take key_len bytes.now)) }
+        ensures over { IfOk result (λ o. IfSome o (λ n. n.over ≡ is_over)) }
+        ensures labels { IfOk result (λ o. IfSome o
+            (λ n. n.labels ≡ unpacked (drop key_len bytes.now))) }
+    {
+        let Ok(key_len) = u32::try_from(key_len) else {
+            return Ok(None);
+        };
+        let bytes = copy_of(alloc, bytes)?;
+        Ok(Some(Node {
+            bytes,
+            key_len,
+            entry: NONE,
+            base: NONE,
+            is_over,
+        }))
+    }
+
+    pub(crate) fn key(&self) -> &[u8]
+        ensures { result.now ≡ self.now.key }
+    {
+        first_of(&self.bytes, self.key_len as usize)
+    }
+
+    /// The bytes of its labels.
+    pub(crate) fn packed(&self) -> &[u8]
+        ensures { unpacked result.now ≡ self.now.labels }
+    {
+        behind(&self.bytes, self.key_len as usize)
+    }
+
+    /// Whether the run is over in its state.
+    pub(crate) fn is_over(&self) -> bool
+        ensures { result ≡ self.now.over }
+    {
+        self.is_over
+    }
+
+    /// The entry that tells how it came to be, once it is kept.
+    pub(crate) fn entry(&self) -> Option<usize> {
+        number_of(self.entry)
+    }
+
+    /// The place of the machine from which its own is made, while it is open.
+    pub(crate) fn base(&self) -> Option<usize> {
+        number_of(self.base)
+    }
+
+    /// It is kept: an entry tells how it came to be, and its machine is made from that at a place.
+    pub(crate) fn keep(&mut self, entry: usize, base: usize)
+        ensures { self.new ≡ self.old }
+    {
+        self.entry = short(entry);
+        self.base = short(base);
+    }
+
+    /// It was visited, and needs no machine more.
+    pub(crate) fn close(&mut self)
+        ensures { self.new ≡ self.old }
+    {
+        self.base = NONE;
+    }
+
     /// Whether two are of one state, but for their labels.
     fn is_of_same(&self, other: &Node) -> bool
         ensures key { IsTrue result → self.now.key ≡ other.now.key }
         ensures over { IsTrue result → self.now.over ≡ other.now.over }
     {
-        self.is_over == other.is_over && are_equal(&self.key, &other.key)
+        self.is_over() == other.is_over() && are_equal(self.key(), other.key())
     }
 
     /// Whether it stands for all that another one stands for.
-    pub(crate) fn covers(&self, other: &Node) -> bool
+    pub(crate) fn covers(&self, other: &Node, comparing: &mut Comparing) -> bool
         ensures { IsTrue result → Covers self.now other.now }
     {
-        self.is_of_same(other) && self.labels.is_at_least(&other.labels)
+        self.is_of_same(other) && comparing.are_at_least(self.packed(), other.packed())
+    }
+
+    /// It has other labels.
+    fn put_labels(&mut self, alloc: Global, labels: &Labels) -> Result<(), AllocError>
+        ensures { OnOk result (self.new ≡ record self.old { labels = labels.now }) }
+    {
+        packed_are_told();
+        let mut bytes = copy_of(alloc, self.key())?;
+        pack(labels, &mut bytes)?;
+        self.bytes = copy_of(alloc, &bytes)?;
+        Ok(())
     }
 
     /// Makes it stand for all that another one stands for too, where both are of one state, and
     /// answers whether that could be done: where interrupts can arrive as soon in both, or the other
     /// stands for all that this one does. With the waits of one and the ages of another, interrupts
     /// would come sooner than they can.
-    pub(crate) fn join(&mut self, system: &System, other: &Node) -> Result<bool, AllocError>
+    pub(crate) fn join(
+        &mut self,
+        alloc: Global,
+        system: &System,
+        other: &Node,
+        comparing: &mut Comparing,
+    ) -> Result<bool, AllocError>
         ensures both { IfOk result (λ done. IsTrue done →
             Covers self.new self.old × Covers self.new other.now) }
         ensures same { IfOk result (λ done. IsFalse done → self.new ≡ self.old) }
     {
-        if !self.is_of_same(other) || !self.goes_with(other) {
+        if !self.is_of_same(other) {
             return Ok(false);
         }
-        let raised = self.raised_by(system, other);
-        let done = self.labels.join(&other.labels)?;
-        self.raised = raised;
-        Ok(done)
-    }
-
-    /// Which of its labels another one raises, where interrupts can arrive as soon in both. Else the
-    /// other one takes its place.
-    fn raised_by(&self, system: &System, other: &Node) -> Option<Raised> {
-        if self.labels.has_same_waits(&other.labels) {
-            Some(Raised::by(system, &self.labels, &other.labels))
-        } else {
-            None
+        comparing.read(self.packed(), other.packed())?;
+        let Some(own) = comparing.one(self.packed()) else {
+            return Ok(false);
+        };
+        let Some(others) = comparing.other(other.packed()) else {
+            return Ok(false);
+        };
+        if !go_together(own, others) {
+            return Ok(false);
         }
+        let raised = raised_by(system, own, others);
+        let Some(mut labels) = labels_of(alloc, self.packed())? else {
+            return Ok(false);
+        };
+        if !labels.join(others)? {
+            return Ok(false);
+        }
+        self.put_labels(alloc, &labels)?;
+        comparing.raised = raised;
+        Ok(true)
     }
 
-    /// Whether the ages of two nodes of one state can stand beside each other.
-    fn goes_with(&self, other: &Node) -> bool {
-        self.labels.has_same_waits(&other.labels) || other.labels.is_at_least(&self.labels)
+    /// How many bytes it and others take, about, where it is kept that wasn't before.
+    pub(crate) fn size_with(&self, others: u64) -> u64 {
+        if self.entry == NONE {
+            let own = BYTES_BESIDE.saturating_add(self.bytes.len() as u64);
+            others.saturating_add(own)
+        } else {
+            others
+        }
     }
 
     /// A number that goes by the key.
     pub(crate) fn hash(&self) -> u64 {
-        hash_of(&self.key)
+        hash_of(self.key())
     }
 }
 

@@ -81,22 +81,17 @@ impl<'s> Origin<'s> {
         Some(&self.machine)
     }
 
-    /// Makes it again from another one, by ticks in which the routines of sets arrive, the last tick
-    /// first.
-    pub(crate) fn remake(&mut self, from: &StateMachine<'s>, sets: &[u64]) -> Result<(), AllocError>
+    /// The machine becomes another one.
+    pub(crate) fn begin(&mut self, from: &StateMachine<'s>)
         requires { IsOf self.old.system from.now }
         ensures { self.new ≡ self.old }
     {
         self.is_made = false;
         self.machine.copy_from(from);
-        for set in sets.iter().rev() {
-            self.tick(*set)?;
-        }
-        self.write()
     }
 
     /// Does one tick in which the routines of a set arrive, if it can be done.
-    fn tick(&mut self, set: u64) -> Result<(), AllocError>
+    pub(crate) fn tick(&mut self, set: u64) -> Result<(), AllocError>
         ensures { self.new ≡ self.old }
     {
         self.is_made = false;
@@ -110,7 +105,7 @@ impl<'s> Origin<'s> {
     }
 
     /// Writes the key of the machine's state.
-    fn write(&mut self) -> Result<(), AllocError>
+    pub(crate) fn write(&mut self) -> Result<(), AllocError>
         ensures { self.new ≡ self.old }
     {
         self.is_made = false;

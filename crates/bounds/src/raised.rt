@@ -61,11 +61,13 @@ impl Raised {
             Figure::Response(task) => has(self.tasks, task),
             Figure::Latency(routine) => has(self.routines, routine),
             Figure::Hold(resource) => has(self.resources, resource),
-            Figure::Refusal(_)
+            Figure::Jobs(_)
+            | Figure::Refusal(_)
             | Figure::Loss(_)
             | Figure::RefusedAction(_)
             | Figure::Errors(_)
-            | Figure::RoutineErrors(_) => false,
+            | Figure::RoutineErrors(_)
+            | Figure::Shutdown => false,
         }
     }
 }

@@ -4,15 +4,18 @@
 ghost use Rattle.std.specs.Prelude.{◌≡◌, IfOk, IfSome};
 ghost use Rattle.bounds.specs.Held.{IsIn, IsOf};
 
-use crate::bases::{Bases, StateMachine};
+use crate::bases::{Bases, Spot, StateMachine};
+use crate::effort::Effort;
 use crate::origin::Origin;
+use crate::stops::Stops;
 use crate::trails::Trails;
+use crate::way::{Passed, Start, put_way};
 use needs::Needs;
 use osek_base::{ModeId, System};
 use std::alloc::{AllocError, Global};
 use std::marker::Model;
 
-/// How many ticks a machine is made again by, at most, where there is room to keep it then.
+/// By how many ticks a machine is made again, at least, that is kept then.
 const FAR: usize = 4;
 
 /// How many machines may be kept whatever the number of entries of the trail.
@@ -26,13 +29,15 @@ const ENTRIES_OF_ONE: usize = 128;
 #[derive(Drop)]
 pub(crate) struct States<'s> {
     bases: Bases<'s>,
+    stops: Stops<'s>,
     origin: Origin<'s>,
-    /// The entry of the node that is visited, and the place of the machine that what comes of it is
+    /// Where the node that is visited stands, and the place of the machine that what comes of it is
     /// made from.
-    entry: Option<usize>,
+    here: Option<Spot>,
     base: Option<usize>,
-    /// The sets of routines that arrive in the ticks by which a machine is made again.
-    sets: Vec<u64>,
+    /// The ticks by which a machine is made again, the last one first.
+    way: Vec<Passed>,
+    effort: Effort,
 }
 
 impl<'s> Model for States<'s> {
@@ -43,7 +48,7 @@ impl<'s> Model for States<'s> {
 
     ghost view = { λ s. s.origin };
 
-    ghost invariant = { λ s. s.bases ≡ s.origin.system };
+    ghost invariant = { λ s. (s.bases ≡ s.origin.system) × (s.stops ≡ s.origin.system) };
 }
 
 impl<'s> States<'s> {
@@ -59,10 +64,12 @@ impl<'s> States<'s> {
     {
         Ok(States {
             bases: Bases::new(alloc, system, mode),
+            stops: Stops::new(alloc, system, mode),
             origin: Origin::new(alloc, system, needs, mode)?,
-            entry: None,
+            here: None,
             base: None,
-            sets: Vec::new(alloc),
+            way: Vec::new(alloc),
+            effort: Effort::none(),
         })
     }
 
@@ -83,31 +90,26 @@ impl<'s> States<'s> {
     ) -> Result<(), AllocError>
         ensures { self.new ≡ self.old }
     {
+        self.effort = self.effort.one_tried();
         match (entry, base) {
-            (Some(entry), Some(base)) if self.entry != Some(entry) => {
-                self.make(trails, entry, base)?;
-                self.settle_on(alloc, trails, entry, base)
+            (Some(entry), Some(base)) if !self.is_at(entry) => {
+                self.make(alloc, trails, entry, base)?;
+                self.settle_on(alloc, trails, base)
             }
             _ => Ok(()),
         }
     }
 
-    /// Makes the machine that an entry tells from that at a place.
-    fn make(&mut self, trails: &Trails, entry: usize, base: usize) -> Result<(), AllocError>
-        ensures { self.new ≡ self.old }
-    {
-        let (Some(machine), Some(earlier)) = (self.bases.at(base), self.bases.entry(base)) else {
-            return Ok(());
-        };
-        trails.put_sets(earlier, entry, &mut self.sets)?;
-        self.origin.remake(machine, &self.sets)?;
-        self.entry = Some(entry);
-        Ok(())
+    /// Whether the machine is that of an entry.
+    fn is_at(&self, entry: usize) -> bool {
+        match self.here {
+            Some(here) => here.entry == entry,
+            None => false,
+        }
     }
 
-    /// Keeps that machine, where it was made by many ticks and there is room. What comes of the node
-    /// is made from it then, and else from that at the place.
-    fn settle_on(
+    /// Makes the machine that an entry tells from that at a place, or from one that is nearer.
+    fn make(
         &mut self,
         alloc: Global,
         trails: &Trails,
@@ -116,11 +118,68 @@ impl<'s> States<'s> {
     ) -> Result<(), AllocError>
         ensures { self.new ≡ self.old }
     {
+        let Some(spot) = self.bases.spot(base) else {
+            return Ok(());
+        };
+        let here = self.here.take();
+        let start = put_way(trails, entry, here, &self.stops, spot, &mut self.way)?;
+        let Some(depth) = self.begin(start, base) else {
+            return Ok(());
+        };
+        for number in (0..self.way.len()).rev() {
+            self.pass(alloc, number, depth)?;
+        }
+        self.origin.write()?;
+        self.effort = self.effort.made_by(self.way.len());
+        self.here = Some(Spot {
+            entry,
+            depth: depth.saturating_add(self.way.len()),
+        });
+        Ok(())
+    }
+
+    /// The machine becomes that with which a way begins. Answers how many ticks there are up to it.
+    fn begin(&mut self, start: Option<Start>, base: usize) -> Option<usize>
+        ensures { self.new ≡ self.old }
+    {
+        match start? {
+            Start::Here(spot) => Some(spot.depth),
+            Start::Stop(place) => {
+                self.origin.begin(self.stops.at(place)?);
+                Some(self.stops.spot(place)?.depth)
+            }
+            Start::Base(spot) => {
+                self.origin.begin(self.bases.at(base)?);
+                Some(spot.depth)
+            }
+        }
+    }
+
+    /// Does the tick of a number on the way, which starts behind so many.
+    fn pass(&mut self, alloc: Global, number: usize, depth: usize) -> Result<(), AllocError>
+        ensures { self.new ≡ self.old }
+    {
+        let Some(passed) = self.way.get(number).copied() else {
+            return Ok(());
+        };
+        self.origin.tick(passed.set)?;
+        let spot = Spot {
+            entry: passed.entry,
+            depth: depth.saturating_add(self.way.len().saturating_sub(number)),
+        };
+        self.stops.pass(alloc, self.origin.machine(), spot, number)
+    }
+
+    /// Keeps that machine, where much is done to make machines again, it was made by many ticks, and
+    /// there is room. What comes of the node is made from it then, and else from that at the place.
+    fn settle_on(&mut self, alloc: Global, trails: &Trails, base: usize) -> Result<(), AllocError>
+        ensures { self.new ≡ self.old }
+    {
         let room = FEW + trails.len() / ENTRIES_OF_ONE;
-        let base = if self.sets.len() >= FAR && self.bases.len() < room {
-            self.bases.keep(alloc, self.origin.machine(), entry)?
-        } else {
-            base
+        let is_kept = self.way.len() >= FAR && self.effort.is_great() && self.bases.len() < room;
+        let base = match self.here {
+            Some(here) if is_kept => self.bases.keep(alloc, self.origin.machine(), here)?,
+            _ => base,
         };
         self.bases.retain(base);
         if let Some(earlier) = self.base.replace(base) {
@@ -143,7 +202,7 @@ impl<'s> States<'s> {
     {
         let base = match self.base {
             Some(base) => base,
-            None => self.bases.keep(alloc, booted, entry)?,
+            None => self.bases.keep(alloc, booted, Spot { entry, depth: 0 })?,
         };
         self.bases.retain(base);
         if let Some(earlier) = earlier {

@@ -1,29 +1,12 @@
 //! How a search has come to what it tells, of which contracts see nothing: what is found by it is
 //! tried by a run.
 
+use crate::entry::{Entry, Kept, short};
 use crate::figure::{Figure, figures_of};
 use crate::raised::Raised;
-use bound_labels::Peaks;
+use bound_peaks::Peaks;
 use osek_base::System;
 use std::alloc::{AllocError, Global};
-
-/// How a node became what it is. There is one for each node and more, so it takes few bytes: entries
-/// are numbered below 2^32, and so are sets of routines.
-#[derive(Clone, Copy, Debug)]
-enum Entry {
-    /// It is the first.
-    First,
-    /// By a tick behind an earlier entry, in which the routines of a set arrive.
-    Tick { before: u32, set: u32 },
-    /// It was joined with the node of the entry before this one; until then it was as an older
-    /// entry says. The labels that were raised then have a number.
-    Joined { older: u32, raised: u32 },
-}
-
-/// A number of an entry as it is kept. One that doesn't fit stands for none that there is.
-fn short(number: u64) -> u32 {
-    u32::try_from(number).unwrap_or(u32::MAX)
-}
 
 /// What a tick came from: the entry of its node, if there is one, and the routines that arrive.
 #[derive(Clone, Copy, Debug)]
@@ -43,7 +26,7 @@ struct Origin {
 /// How a search has come to each of its nodes, and to the greatest figures.
 #[derive(Drop)]
 pub struct Trails {
-    entries: Vec<Entry>,
+    entries: Vec<Kept>,
     raised: Vec<Raised>,
     origins: Vec<Origin>,
     last: Step,
@@ -98,7 +81,7 @@ impl Trails {
     /// One more entry, and its number.
     fn push(&mut self, entry: Entry) -> Result<usize, AllocError> {
         let number = self.entries.len();
-        self.entries.push(entry)?;
+        self.entries.push(Kept::of(entry))?;
         Ok(number)
     }
 
@@ -154,30 +137,23 @@ impl Trails {
         self.entries.len()
     }
 
-    /// Leaves the sets of routines that arrive in the ticks from an earlier entry to another one, the
-    /// last tick first.
-    pub(crate) fn put_sets(
-        &self,
-        earlier: usize,
-        entry: usize,
-        sets: &mut Vec<u64>,
-    ) -> Result<(), AllocError> {
-        sets.clear();
-        let mut at = entry;
-        for _entry in 0..self.entries.len() {
-            if at == earlier {
-                return Ok(());
-            }
-            at = match self.entries.get(at) {
-                Some(Entry::Tick { before, set }) => {
-                    sets.push(u64::from(*set))?;
-                    *before as usize
-                }
-                Some(Entry::Joined { .. }) => at.saturating_sub(1),
-                Some(Entry::First) | None => return Ok(()),
-            };
+    /// The entry of a number, if there is one.
+    fn entry(&self, number: usize) -> Option<Entry> {
+        let kept = self.entries.get(number)?;
+        Some(kept.entry())
+    }
+
+    /// The tick by which the state of an entry was made last: the entry before it, and the set of
+    /// routines that arrive. None for the first.
+    pub(crate) fn last_tick(&self, number: usize) -> Option<(usize, u64)> {
+        let made = match self.entry(number)? {
+            Entry::Joined { .. } => self.entry(number.checked_sub(1)?)?,
+            entry => entry,
+        };
+        match made {
+            Entry::Tick { before, set } => Some((before as usize, u64::from(set))),
+            Entry::First | Entry::Joined { .. } => None,
         }
-        Ok(())
     }
 
     /// The sets of routines that arrive in the ticks of a run that may show what is told of a
@@ -193,13 +169,13 @@ impl Trails {
             let Some(number) = at else {
                 return Ok(sets);
             };
-            at = match self.entries.get(number) {
+            at = match self.entry(number) {
                 Some(Entry::Tick { before, set }) => {
-                    sets.push(u64::from(*set))?;
-                    Some(*before as usize)
+                    sets.push(u64::from(set))?;
+                    Some(before as usize)
                 }
                 Some(Entry::Joined { older, raised }) => {
-                    Some(self.side(number, *older, *raised, figure))
+                    Some(self.side(number, older, raised, figure))
                 }
                 Some(Entry::First) | None => None,
             };

@@ -6,7 +6,7 @@ use Rattle.osek_base.specs.Separable.{Separable}
 use Rattle.osek_base.specs.Agree.{upper_part}
 use Rattle.search.specs.declared.outcome.Outcome.{Outcome}
 use Rattle.search.specs.declared.outcome.Outcome.TheVariants.{Decided, Undecided}
-use Rattle.bound_labels.specs.Peaks.{Peaks}
+use Rattle.bound_peaks.specs.Peaks.{Peaks}
 use Rattle.run_bounds.specs.Bounds.{AreBounds, AreBoundsUpTo}
 use Rattle.upper_figures.specs.FiguresAbove.{BoundsOfThePartHold}
 use Rattle.bounds.specs.Found.{Says}

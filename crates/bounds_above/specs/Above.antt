@@ -4,7 +4,7 @@ use Rattle.std.specs.Prelude.{ℕ, List}
 use Rattle.osek_base.specs.System.{System}
 use Rattle.bounds.specs.declared.finding.Bounds.{Bounds}
 use Rattle.bounds.specs.Found.{Says}
-use Rattle.bound_labels.specs.Peaks.{Peaks}
+use Rattle.bound_peaks.specs.Peaks.{Peaks}
 use Rattle.upper_bounds.specs.Above.{AreOneAbove}
 use Rattle.upper_figures.specs.FiguresAbove.{AreBoundsAbove, AreBoundsAboveUpTo}
 

@@ -1,20 +1,17 @@
 //! Answers to command lines: what is asked is written, and then how it ended.
 
-use crate::bounding::{BoundsAsked, write_searched};
-use crate::explaining::{explain_fault, explain_unread, explain_verdict};
-use crate::folder::{Folder, folder_of, with_files};
-use crate::host_files::Files;
-use crate::imports::answer_import;
-use crate::inputs::{Texts, read_texts, system_of};
-use crate::making::make_files;
-use crate::partitions::{write_cut, write_cuts};
-use crate::request::{Asked, Question, Request, read_line};
-use crate::runs::{write_lines, write_view};
-use crate::search_watch::SearchWatch;
+use crate::explaining::{explain_fault, explain_verdict};
 use crate::showing::write_shown;
-use crate::status::{DONE, REFUSED, REFUSED_LINE, Verdict, WRITE_FAILED, status_of};
 use clap::Error as LineError;
 use clap::error::ErrorKind;
+use command_answers::{Texts, Verdict, read_texts, status_of, system_of, write_cut, write_cuts};
+use command_bounds::{BoundsAsked, SearchWatch, write_searched};
+use command_files::{
+    DONE, Files, Folder, REFUSED, REFUSED_LINE, WRITE_FAILED, explain_unread, folder_of, with_files,
+};
+use command_making::{answer_import, make_files};
+use command_requests::{Asked, Question, Request, read_line};
+use command_runs::{write_lines, write_view};
 use run_views::Progress;
 use std::alloc::{AllocError, Global};
 use std::convert::AsStr;

@@ -1,11 +1,8 @@
 //! What is written behind the line of a refusal or a denial, where it is asked for.
 
-use crate::host_files::Refusal;
-use crate::inputs::{Texts, Unread, system_of};
-use crate::partitions::{Stretch, stretches};
-use crate::request::{Question, Request, RunLine};
-use crate::status::Verdict;
 use arrival_lists::IrqFault;
+use command_answers::{Stretch, Texts, Verdict, stretches, system_of};
+use command_requests::{Question, Request, RunLine};
 use explanations::{explain_denial, explain_denials, explain_generation};
 use isolation::check_isolation;
 use partition_check::NamedDenial;
@@ -44,23 +41,6 @@ fn run_of<'t>(request: &Request<'t>, texts: &'t Texts) -> (Source<'t>, Option<&'
         text: &texts.irq,
     };
     (irq, request.question.mode())
-}
-
-/// What is said of a file that can't be read.
-fn refusal_text(refusal: Refusal) -> &'static str {
-    match refusal {
-        Refusal::Missing => "there is no file of that name",
-        Refusal::Folder => "it is a folder",
-        Refusal::Failed => "it can't be read",
-    }
-}
-
-/// Writes why a file could not be had. Want of memory has no explanation.
-pub(crate) fn explain_unread<W: Write>(unread: Unread<'_>, out: &mut W) -> io::Result<()> {
-    match unread {
-        Unread::File(name, refusal) => writeln!(out, "{name}: {}", refusal_text(refusal)),
-        Unread::Memory => Ok(()),
-    }
 }
 
 /// The line of a refused arrival list, and what is wrong with it.

@@ -1,9 +1,8 @@
 //! What is written of a system by itself.
 
 use crate::explaining::{asm, oil};
-use crate::inputs::{Texts, system_of};
-use crate::request::Request;
-use crate::status::Verdict;
+use command_answers::{Texts, Verdict, system_of};
+use command_requests::Request;
 use std::alloc::Global;
 use std::io::Write;
 use system_gen::class_of;

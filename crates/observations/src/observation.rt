@@ -1,6 +1,7 @@
 //! What is seen of one tick, no part of the standards.
 
 use crate::alarm_seen::AlarmSeen;
+use crate::failure::Failure;
 use crate::holder::Holder;
 use crate::routine_seen::RoutineSeen;
 use crate::task_seen::TaskSeen;
@@ -20,6 +21,8 @@ pub struct Observation {
     pub executor: Option<Owner>,
     /// What the instruction is answered, if it is a service with a status.
     pub answered: Option<Status>,
+    /// The instruction itself, if it is a service that is answered other than E_OK.
+    pub failure: Option<Failure>,
     /// The number of blockers of the job that executes, where this is its first instruction since it became ready; None
     /// also where blockers aren't counted.
     pub blockers: Option<u32>,
@@ -37,6 +40,7 @@ impl Observation {
             tick: 0,
             executor: None,
             answered: None,
+            failure: None,
             blockers: None,
             tasks: ArrayVec::new(),
             routines: ArrayVec::new(),

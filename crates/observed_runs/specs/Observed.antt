@@ -1,8 +1,9 @@
 -- What is seen of a tick of a run, no part of the standards.
-use Rattle.std.specs.Prelude.{ℕ, ◌≡◌, ◌+◌, ◌-◌, Bool, true, false, not, ◌&&◌, ◌==◌, if◌then◌else◌, List, [], ◌∷◌, ◌++◌, map, Option, Some, None, length, slice_index_or}
+use Rattle.std.specs.Prelude.{ℕ, ◌≡◌, ◌+◌, ◌-◌, Bool, true, false, not, ◌&&◌, ◌==◌, nat_lt, if◌then◌else◌, List, [], ◌∷◌, ◌++◌, map, Option, Some, None, length, slice_index_or}
 use Rattle.std.specs.List.{filter, list_any}
 use Rattle.std.specs.Option.{option_map}
 use Rattle.observations.specs.declared.alarm_seen.AlarmSeen.{AlarmSeen}
+use Rattle.observations.specs.declared.failure.Failure.{Failure}
 use Rattle.observations.specs.declared.observation.Observation.{Observation}
 use Rattle.observations.specs.declared.routine_seen.RoutineSeen.{RoutineSeen}
 use Rattle.observations.specs.declared.task_seen.TaskSeen.{TaskSeen}
@@ -22,6 +23,7 @@ use Rattle.osek_base.specs.Lists.{below, same_owner}
 use Rattle.osek_base.specs.Service.{task_state}
 use Rattle.osek_base.specs.State.{State, jobs_of}
 use Rattle.osek_base.specs.System.{System, alarm, instruction_at}
+use Rattle.osek_base.specs.Tick.{status_number}
 use Rattle.osek_base.specs.Trace.{arriving, run}
 use Rattle.blocking_laws.specs.Steps.{record_at, step_at}
 use Rattle.services.specs.Seen.{routine_of}
@@ -68,6 +70,16 @@ status_of _ = None
 abbrev pub answered : Option Executed → Option Status
 answered None = None
 answered (Some e) = status_of e.outcome
+
+-- the instruction, where its answer has a status other than E_OK
+abbrev pub failure_by : Executed → Option Status → Option Failure
+failure_by e None = None
+failure_by e (Some status) =
+    if nat_lt 0 (status_number status) then Some (record { owner = e.owner; place = e.place; status = status }) else None
+
+abbrev pub failure_of : Option Executed → Option Failure
+failure_of None = None
+failure_of (Some e) = failure_by e (status_of e.outcome)
 
 -- whether an instruction ends the job that executes it
 abbrev pub is_end : Instr → Bool
@@ -210,6 +222,7 @@ alarm_seen k a = record { has_expired = is_among k.due a; is_refused = is_among 
 pub record IsSeen (S : System) (k : Ticked) (o : Observation) : Type 0 where
   pub executor : o.executor ≡ option_map owner_of k.executed
   pub answered : o.answered ≡ answered k.executed
+  pub failure : o.failure ≡ failure_of k.executed
   pub tasks : o.tasks.items ≡ map (task_seen S k) (below (length S.tasks))
   pub routines : o.routines.items ≡ map (routine_seen k) (below (length S.routines))
   pub holders : o.holders.items ≡ holders_seen S k.at

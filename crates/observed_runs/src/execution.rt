@@ -9,6 +9,8 @@ ghost use Rattle.observed_runs.specs.Observed.{
   activates,
   answered,
   ending,
+  failure_by,
+  failure_of,
   instruction,
   is_accepted,
   is_by,
@@ -20,6 +22,7 @@ ghost use Rattle.observed_runs.specs.Observed.{
   task_of,
 };
 
+use observations::Failure;
 use osek_base::{Executed, Instr, IsrId, Outcome, Owner, Service, Status, System, TaskId};
 
 /// What a tick executed, and the tasks that it concerns.
@@ -161,6 +164,30 @@ pub fn answered(executed: &Option<Executed>) -> Option<Status>
     match executed {
         None => None,
         Some(executed) => status_of(&executed.outcome),
+    }
+}
+
+/// An instruction that is answered so, if that is other than E_OK.
+fn failure_by(executed: &Executed, answered: Option<Status>) -> Option<Failure>
+    ensures { result ≡ failure_by executed.now answered }
+{
+    match answered {
+        Some(status) if status.number() > 0 => Some(Failure {
+            owner: executed.owner,
+            place: executed.place,
+            status,
+        }),
+        _ => None,
+    }
+}
+
+/// The instruction, if it is a service that is answered other than E_OK.
+pub fn failure(executed: &Option<Executed>) -> Option<Failure>
+    ensures { result ≡ failure_of executed.now }
+{
+    match executed {
+        None => None,
+        Some(executed) => failure_by(executed, status_of(&executed.outcome)),
     }
 }
 

@@ -11,7 +11,7 @@ mod routines_seen;
 mod tasks_seen;
 mod told_run;
 
-pub use execution::{Execution, answered, executor, is_by};
+pub use execution::{Execution, answered, executor, failure, is_by};
 pub use observed_run::ObservedRun;
 pub use readers::{activations_by, is_among, is_routine, is_task, times};
 pub use routines_seen::lost_of;

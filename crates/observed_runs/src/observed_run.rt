@@ -9,7 +9,7 @@ ghost use Rattle.blocking_laws.specs.Steps.{record_at, step_at};
 ghost use Rattle.observed_runs.specs.Keeping.{last_tick};
 ghost use Rattle.observed_runs.specs.Observed.{IsObserved, IsSeen, holders_seen};
 
-use crate::execution::{answered, executor};
+use crate::execution::{answered, executor, failure};
 use crate::told_run::ToldRun;
 use kernel::{Blockers, BootFault};
 use observations::Observation;
@@ -50,6 +50,7 @@ impl<'s, B: Blockers> ToldRun<'s, B> {
         let executed = self.executed();
         seen.executor = executor(&executed);
         seen.answered = answered(&executed);
+        seen.failure = failure(&executed);
         seen.blockers = self.kernel.blockers();
         self.see_tasks(&mut seen.tasks);
         self.see_routines(&mut seen.routines);

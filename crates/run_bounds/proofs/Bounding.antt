@@ -1,7 +1,7 @@
 -- Where the nodes of a search stand for all that can come, what it has noted bounds each run; where
 -- they do for so many steps, each run of so many ticks.
 use Rattle.std.proofs.Common.{ℕ, zero, suc, ◌≡◌, ◌<◌, ◌≤◌, inl, inr, false, List, [], ◌∷◌, length, refl, sym, ◌∙◌, ap, subst, arith}
-use Rattle.std.specs.Prelude.{Contains}
+use Rattle.std.specs.Prelude.{Contains, IfSome, Option}
 use Rattle.std.proofs.lemmas.Bool.{cases_lt}
 use Rattle.osek_base.specs.declared.arrivals.Arrival.{Arrival}
 use Rattle.osek_base.specs.Proper.{IsProper}
@@ -12,7 +12,10 @@ use Rattle.kept_state.specs.Kept.{Kept}
 use Rattle.kept_state.specs.KeptTick.{KeptStep, boot_in, tick_in}
 use Rattle.observations.specs.Seen.{Seen}
 use Rattle.observations.specs.declared.alarm_seen.AlarmSeen.{AlarmSeen}
+use Rattle.observations.specs.declared.failure.Failure.{Failure}
 use Rattle.observations.specs.declared.observation.Observation.{Observation}
+use Rattle.observations.specs.declared.task_seen.TaskSeen.{TaskSeen}
+use Rattle.observed_runs.specs.Observed.{failure_of, task_seen, tick_at}
 use Rattle.same_future.specs.Alike.{kept_after}
 use Rattle.same_future.proofs.Covered.{none_waits}
 use Rattle.same_future.proofs.Futures.{kept_more}
@@ -26,20 +29,21 @@ use Rattle.figure_laws.specs.Times.{waited}
 use Rattle.run_figures.specs.RunFigures.{AreRunFigures, AreTicksOf, HaveNone, NoneMoreBefore, StayWithin, alarm_ticks, holder_ticks, routine_errors, routine_ticks, task_errors, task_ticks}
 use Rattle.run_figures.proofs.Nothing.{runs_have_none}
 use Rattle.run_figures.proofs.Times.{runs_stay_within}
+use Rattle.shown_ticks.proofs.Shown.{runs_show}
 use Rattle.search.specs.Admitted.{IsAbove}
 use Rattle.search.specs.Levels.{AreLevels}
 use Rattle.search.specs.Searched.{AreAll, IsTried, IsVisited}
 use Rattle.bound_labels.specs.Labels.{ages_of, distance_of, hold_of, pending_of}
-use Rattle.bound_labels.specs.Peaks.{IsNoted, Peaks, has_come, peak}
-use Rattle.bound_labels.specs.Ticks.{holder_tick, routine_tick, task_tick}
+use Rattle.bound_peaks.specs.Peaks.{IsNoted, Peaks, TickShown, has_come, peak, routine_fails, task_fails}
+use Rattle.bound_labels.specs.Ticks.{holder_tick, routine_tick, task_in, task_tick}
 use Rattle.state_keys.specs.Key.{key}
-use Rattle.run_bounds.specs.Bounds.{AreWithin, KeepDistances, LevelsBound, SearchesBound}
-use Rattle.run_bounds.specs.Nodes.{AreNoted, IsAfter, May, Node, Setting, StandsFor, failed_from, routines_of, rules_of, seen_from}
+use Rattle.run_bounds.specs.Bounds.{AreWithin, IsTickWithin, KeepDistances, LevelsBound, SearchesBound}
+use Rattle.run_bounds.specs.Nodes.{AreNoted, IsAfter, May, Node, Setting, StandsFor, routines_of, rules_of, tick_shown_from}
 use Rattle.run_bounds.proofs.Arrived.{StandFor, in_set, set_at, set_is_low, set_stands}
 use Rattle.run_bounds.proofs.Capped.{held_within, latency_within, leaving_within, oldest_within, waited_within}
-use Rattle.run_bounds.proofs.Failing.{routine_errors_same, task_errors_same}
+use Rattle.run_bounds.proofs.Failing.{failure_same, no_routine_error, no_task_error}
 use Rattle.run_bounds.proofs.Going.{boot_state}
-use Rattle.run_bounds.proofs.Seen.{ages_agree, alarm_same, holds_agree, lost_same, pending_agrees, refused_same, seen_alarms, seen_holders, seen_routines, seen_tasks}
+use Rattle.run_bounds.proofs.Seen.{ages_agree, alarm_same, holds_agree, jobs_same, lost_same, pending_agrees, refused_same, seen_alarms, seen_holders, seen_routines, seen_tasks}
 use Rattle.run_bounds.proofs.Standing.{AreBoundsAt, ages_at, at_least, boot_bounds, hold_at, pending_at, tick_bounds}
 
 module _ (s : Setting) (peaks : Peaks) (count : ℕ) (levels : ℕ → List Node)
@@ -129,14 +133,18 @@ module _ (s : Setting) (peaks : Peaks) (count : ℕ) (levels : ℕ → List Node
         bounds = at_least s arrivals 0 first.1.labels _ is.labels (boot_bounds s arrivals);
       }
 
+  after_tick : (n : ℕ) → (run S s.mode arrivals n).state.over ≡ false
+      → (tick_in S (routines_of s (set n)) (after n)).after ≡ after (suc n)
+  after_tick n going =
+      ap (λ (t : KeptStep). t.after) (sym (arrived n).tick)
+      ∙ sym (kept_more S s.mode arrivals proper n going)
+
   next_node : (n : ℕ) → (run S s.mode arrivals n).state.over ≡ false → HasVisited n
       → HasNode (suc n)
   next_node n going has =
       let next = (tried n going has).next in
       let is : IsAfter s has.node (set n) next.1 (after n) = next.4 (after n) has.stands in
-      let state : (tick_in S (routines_of s (set n)) (after n)).after ≡ after (suc n) =
-      ap (λ (t : KeptStep). t.after) (sym (arrived n).tick)
-      ∙ sym (kept_more S s.mode arrivals proper n going) in
+      let state = after_tick n going in
       record {
         node = next.1;
         there = (next.0, next.2, next.3);
@@ -164,10 +172,13 @@ module _ (s : Setting) (peaks : Peaks) (count : ℕ) (levels : ℕ → List Node
     abbrev has : HasVisited n
     has = visited_above n early (node_at n early going)
 
-    abbrev seen : Seen
-    seen = seen_from s (set n) (after n)
+    abbrev shown : TickShown
+    shown = tick_shown_from s (set n) (after n)
 
-    noted : IsNoted s.cap peaks seen (failed_from s (set n) (after n)) has.node.labels
+    abbrev seen : Seen
+    seen = shown.seen
+
+    noted : IsNoted s.cap peaks shown has.node.labels
     noted = (tried n going has).noted (after n) has.stands
 
     oldest_low : (k : ℕ) → k < length S.tasks → peak peaks.responses k < s.cap
@@ -228,21 +239,40 @@ module _ (s : Setting) (peaks : Peaks) (count : ℕ) (levels : ℕ → List Node
         (alarm_same S s.mode arrivals n (routines_of s (set n)) (arrived n) a low)
         ∙ ap one_if (noted.actions a (omega (arith, low, size)) none)
 
-    no_error : (k : ℕ) → k < length S.tasks → has_come peaks.errors k ≡ false
+    no_error : (k : ℕ) → task_fails peaks.failures k ≡ false
         → one_if (task_errors S s.mode arrivals k n) ≡ 0
-    no_error k low none =
-        let size = seen_tasks S (routines_of s (set n)) (after n) in
+    no_error k none =
         ap one_if
-        (task_errors_same S s.mode arrivals n (routines_of s (set n)) (arrived n) k
-        ∙ noted.errors k (omega (arith, low, size)) none)
+        (no_task_error S s.mode arrivals n (routines_of s (set n)) (arrived n) peaks.failures
+        noted.failures k none)
 
-    no_routine_error : (i : ℕ) → i < length S.routines → has_come peaks.routine_errors i ≡ false
+    no_error_of_routine : (i : ℕ) → routine_fails peaks.failures i ≡ false
         → one_if (routine_errors S s.mode arrivals i n) ≡ 0
-    no_routine_error i low none =
-        let size = seen_routines S (routines_of s (set n)) (after n) in
+    no_error_of_routine i none =
         ap one_if
-        (routine_errors_same S s.mode arrivals n (routines_of s (set n)) (arrived n) i
-        ∙ noted.routine_errors i (omega (arith, low, size)) none)
+        (no_routine_error S s.mode arrivals n (routines_of s (set n)) (arrived n) peaks.failures
+        noted.failures i none)
+
+    tick_within : IsTickWithin S s.mode peaks arrivals n
+    tick_within =
+        let told = runs_show S s.mode arrivals n proper going in
+        let size = seen_tasks S (routines_of s (set n)) (after n) in
+        record {
+          failures =
+              subst (λ (f : Option Failure). IfSome f (λ x. Contains peaks.failures x))
+              (sym
+              (ap failure_of told.executed
+              ∙ failure_same S s.mode arrivals n (routines_of s (set n)) (arrived n)))
+              noted.failures;
+          jobs = λ k low.
+              let few = noted.jobs k (omega (arith, low, size)) in
+              let same : (task_seen S (tick_at S s.mode arrivals n) k).jobs ≡ (task_in seen k).jobs =
+              ap (λ (t : TaskSeen). t.jobs) (told.tasks k)
+              ∙ jobs_same S s.mode arrivals n (routines_of s (set n)) (arrived n) k low in
+              omega (arith, few, same);
+          shutdown = λ none.
+              ap (λ (o : Kept). o.over) (sym (after_tick n going)) ∙ noted.shutdown none;
+        }
 
 -- ---- the law
 
@@ -323,16 +353,20 @@ module _ (s : Setting) (peaks : Peaks) (count : ℕ) (levels : ℕ → List Node
     errors = λ k low none.
         have.errors k low
         (λ i inside. no_error s peaks count levels proper all arrivals keep i (soon i inside)
-        (going i inside) k low none);
+        (going i inside) k none);
     routine_errors = λ k low none.
         have.routine_errors k low
-        (λ i inside. no_routine_error s peaks count levels proper all arrivals keep i
-        (soon i inside) (going i inside) k low none);
+        (λ i inside. no_error_of_routine s peaks count levels proper all arrivals keep i
+        (soon i inside) (going i inside) k none);
   }
 
 pub levels_bound : LevelsBound
-levels_bound s peaks count levels proper enough own all arrivals n f few keep are =
-    within s peaks count levels proper all arrivals n few f keep are
+levels_bound s peaks count levels proper enough own all = record {
+  figures = λ arrivals n f few keep are.
+      within s peaks count levels proper all arrivals n few f keep are;
+  ticks = λ arrivals n early keep going.
+      tick_within s peaks count levels proper all arrivals keep n early going;
+}
 
 -- nodes that stand for all that can come do for any number of steps
 levels_of : (s : Setting) (peaks : Peaks) (nodes : List Node)
@@ -345,6 +379,5 @@ levels_of s peaks nodes all count = record {
 }
 
 pub searches_bound : SearchesBound
-searches_bound s peaks nodes proper enough own all arrivals n f keep are =
-    levels_bound s peaks n (λ _. nodes) proper enough own (levels_of s peaks nodes all n) arrivals
-    n f (omega arith) keep are
+searches_bound s peaks nodes proper enough own all count =
+    levels_bound s peaks count (λ _. nodes) proper enough own (levels_of s peaks nodes all count)

@@ -18,15 +18,14 @@ use Rattle.needed_data.proofs.Runs.{runs_keep_indices}
 use Rattle.same_future.specs.Alike.{AreAlikeBy, kept_after}
 use Rattle.same_future.specs.AlikeIn.{AreAlikeIn, TicksAreAlikeIn}
 use Rattle.same_future.proofs.AlikeIn.{alike_in_ticks}
-use Rattle.bound_labels.specs.Ticks.{failing}
-use Rattle.shown_ticks.specs.Seen.{answered_in, executor_in, seen_by, seen_in}
+use Rattle.shown_ticks.specs.Seen.{failure_in, seen_by, seen_in}
 use Rattle.shown_ticks.specs.Shown.{KeptTicked, ticked_in}
 use Rattle.shown_ticks.specs.ShownAlike.{AreShownAlike}
 use Rattle.shown_ticks.proofs.AlikeShown.{alike_show}
 use Rattle.shown_ticks.proofs.NeededShown.{same_needed_show}
 use Rattle.state_keys.specs.InRange.{AlikeHaveOneKey, IsInRange, KeysTell, RunsAreInRange}
 use Rattle.run_bounds.specs.Going.{GoOnAlike, HaveOneFuture, KeysTellFutures}
-use Rattle.run_bounds.specs.Nodes.{Comes, failed_in}
+use Rattle.run_bounds.specs.Nodes.{Comes}
 
 -- ---- what is seen
 
@@ -82,16 +81,9 @@ module _ (S : System) (need : Need) (proper : IsProper S) (enough : Suffices S n
     alike_seen =
         seen_same S first_tick tick_between by_times ∙ seen_same S tick_between other_tick by_datas
 
-    alike_executor : executor_in S arrived o ≡ executor_in S arrived p
-    unfolding executor_in
-    alike_executor = by_times.executor ∙ by_datas.executor
-
-    alike_answered : answered_in S arrived o ≡ answered_in S arrived p
-    unfolding answered_in
-    alike_answered = by_times.answered ∙ by_datas.answered
-
-    alike_failed : failed_in S arrived o ≡ failed_in S arrived p
-    alike_failed = λ i. failing (alike_answered i) (alike_executor i)
+    alike_failure : failure_in S arrived o ≡ failure_in S arrived p
+    unfolding failure_in
+    alike_failure = by_times.failure ∙ by_datas.failure
 
 -- ---- states that come
 
@@ -160,7 +152,7 @@ module _ (tell : KeysTell) (one_key : AlikeHaveOneKey) (ranged : RunsAreInRange)
             (goes_on S proper p arrived second going_too)) both.after;
         over = ap (λ (x : Kept). x.over) both.after.rest;
         seen = alike_seen S need proper enough o p held held_too alike arrived;
-        failed = alike_failed S need proper enough o p held held_too alike arrived;
+        failure = alike_failure S need proper enough o p held held_too alike arrived;
       }
 
   one_future : HaveOneFuture S need o p

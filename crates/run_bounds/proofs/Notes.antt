@@ -1,20 +1,32 @@
 -- What a search has noted stays noted when its peaks rise.
-use Rattle.std.proofs.Common.{ℕ, ◌≤◌, Option, Some, None, arith}
+use Rattle.std.proofs.Common.{ℕ, ◌≤◌, List, Option, Some, None, arith}
+use Rattle.std.specs.Prelude.{Contains, IfSome}
+use Rattle.observations.specs.declared.failure.Failure.{Failure}
 use Rattle.figure_laws.specs.Labels.{IsAtMost}
-use Rattle.bound_labels.specs.Peaks.{NotesStay}
+use Rattle.bound_peaks.specs.Peaks.{NotesStay}
 
 no_more : (low high : ℕ) (shown : Option ℕ) → low ≤ high → IsAtMost low shown → IsAtMost high shown
 no_more low high None rise within = tt
 no_more low high (Some n) rise within = omega (arith, rise, within)
 
+still_noted : (xs ys : List Failure) → ((x : Failure) → Contains xs x → Contains ys x)
+    → (failure : Option Failure) → IfSome failure (λ x. Contains xs x)
+    → IfSome failure (λ x. Contains ys x)
+still_noted xs ys more None there = tt
+still_noted xs ys more (Some x) there = more x there
+
 pub notes_stay : NotesStay
-notes_stay cap peaks others seen failed l rise noted = record {
+notes_stay cap peaks others t l rise noted = record {
   responses = λ k low. no_more _ _ _ (rise.responses k) (noted.responses k low);
+  jobs = λ k low.
+      let before = noted.jobs k low in
+      let more = rise.jobs k in
+      omega (arith, before, more);
   latencies = λ i low. no_more _ _ _ (rise.latencies i) (noted.latencies i low);
   holds = λ r low. no_more _ _ _ (rise.holds r) (noted.holds r low);
   losses = λ i low none. noted.losses i low (rise.losses i none);
   refusals = λ k low none. noted.refusals k low (rise.refusals k none);
   actions = λ a low none. noted.actions a low (rise.actions a none);
-  errors = λ k low none. noted.errors k low (rise.errors k none);
-  routine_errors = λ i low none. noted.routine_errors i low (rise.routine_errors i none);
+  failures = still_noted others.failures peaks.failures rise.failures t.failure noted.failures;
+  shutdown = λ none. noted.shutdown (rise.shutdown none);
 }

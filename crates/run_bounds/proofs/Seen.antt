@@ -173,6 +173,10 @@ module _ (S : System) (mode : ℕ) (arrivals : List Arrival) (n : ℕ) (chosen :
       → (routine_ticks S mode arrivals k n).seen.lost ≡ (routine_in seen k).lost
   lost_same k low = ap (λ (r : RoutineSeen). r.lost) (routine_same k low)
 
+  pub jobs_same : (k : ℕ) → k < length S.tasks
+      → (task_seen_in S told k).jobs ≡ (task_in seen k).jobs
+  jobs_same k low = ap (λ (t : TaskSeen). t.jobs) (task_same k low)
+
   pub refused_same : (k : ℕ) → k < length S.tasks
       → (task_ticks S mode arrivals k n).seen.refused ≡ (task_in seen k).refused
   refused_same k low = ap (λ (t : TaskSeen). t.refused) (task_same k low)

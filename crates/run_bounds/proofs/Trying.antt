@@ -1,9 +1,8 @@
 -- One state of a node tells of all that it stands for, and subsets are the sets that may arrive.
-use Rattle.std.proofs.Common.{ℕ, ◌≡◌, inl, inr, false, Option, length, sym, ◌∙◌, subst, subst₂, arith}
+use Rattle.std.proofs.Common.{ℕ, ◌≡◌, inl, inr, false, length, sym, ◌∙◌, subst, arith}
 use Rattle.std.specs.Int.{bit_at}
 use Rattle.std.proofs.lemmas.Bool.{cases_eq, cases_lt, eq-eqb, eqb-true}
 use Rattle.std.proofs.lemmas.Nat.Bits.{bit_at-lt, bit_at_above}
-use Rattle.osek_base.specs.declared.ids.Owner.{Owner}
 use Rattle.osek_base.specs.Proper.{IsProper}
 use Rattle.kept_state.specs.Kept.{Kept}
 use Rattle.needed_data.specs.Need.{Suffices}
@@ -12,7 +11,7 @@ use Rattle.search.specs.Subsets.{IsSubset}
 use Rattle.search.proofs.SubsetLemmas.{subset_within}
 use Rattle.state_keys.specs.InRange.{NeedsOwnWords}
 use Rattle.bound_labels.specs.Labels.{IsAtLeast, arrives_in, next_labels, wait_of}
-use Rattle.bound_labels.specs.Peaks.{IsNoted}
+use Rattle.bound_peaks.specs.Peaks.{IsNoted, TickShown}
 use Rattle.run_bounds.specs.Going.{GoOnAlike, HaveOneFuture, KeysTellFutures}
 use Rattle.run_bounds.specs.Nodes.{May, Node, Setting, StandsFor, routines_of}
 use Rattle.run_bounds.specs.Trying.{AreFree, LabelsAreOrdered, OneStateTells, StatesCome, SubsetsMay}
@@ -54,8 +53,9 @@ one_state_tells futures s x set o proper enough own going stands = record {
       };
   noted = λ peaks noted p too.
       let alike = goes_as futures s x set o proper enough own going stands p too in
-      subst₂ (λ (seen : Seen) (failed : Option Owner). IsNoted s.cap peaks seen failed x.labels)
-      alike.seen alike.failed noted;
+      subst (λ (t : TickShown). IsNoted s.cap peaks t x.labels)
+      (λ i. record { seen = alike.seen i; failure = alike.failure i; over = alike.over i })
+      noted;
 }
 
 -- ---- sets

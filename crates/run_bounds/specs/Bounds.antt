@@ -1,13 +1,13 @@
 -- Peaks that bound the figures of every run whose interrupts keep distances.
-use Rattle.std.specs.Prelude.{ℕ, ◌≡◌, ◌<◌, ◌≤◌, false, List, [], length, slice_index_or}
+use Rattle.std.specs.Prelude.{ℕ, suc, ◌≡◌, ◌<◌, ◌≤◌, false, List, [], Contains, IfSome, length, slice_index_or}
 use Rattle.osek_base.specs.declared.arrivals.Arrival.{Arrival}
 use Rattle.osek_base.specs.Proper.{IsProper}
 use Rattle.osek_base.specs.System.{System}
-use Rattle.osek_base.specs.Trace.{arriving}
+use Rattle.osek_base.specs.Trace.{arriving, run}
 use Rattle.run_laws.specs.Arrived.{AreArrivals}
 use Rattle.needed_data.specs.Need.{Suffices}
 use Rattle.same_future.specs.Covering.{AreSpaced}
-use Rattle.observed_runs.specs.Observed.{times}
+use Rattle.observed_runs.specs.Observed.{failure_of, task_seen, tick_at, times}
 use Rattle.figures.specs.AlarmSums.{alarm_figures}
 use Rattle.figures.specs.FigureSums.{RunFigures, held_count, task_figures}
 use Rattle.figures.specs.ResourceSums.{resource_figures}
@@ -20,7 +20,7 @@ use Rattle.search.specs.Searched.{AreAll}
 use Rattle.search.specs.Levels.{AreLevels}
 use Rattle.search.specs.Rules.{AreKept}
 use Rattle.bound_labels.specs.Labels.{distance_of}
-use Rattle.bound_labels.specs.Peaks.{Peaks, has_come, peak}
+use Rattle.bound_peaks.specs.Peaks.{Peaks, has_come, peak, routine_fails, task_fails}
 use Rattle.run_bounds.specs.Nodes.{AreNoted, Node, Setting, rules_of}
 
 -- interrupts of a routine come at least so many ticks apart, and one of it at most in a tick
@@ -52,23 +52,34 @@ pub record AreWithin (S : System) (cap : ℕ) (peaks : Peaks) (f : RunFigures) :
       → (slice_index_or f.tasks k (task_figures [])).counts.refused ≡ 0
   pub actions : (a : ℕ) → a < length S.alarms → has_come peaks.actions a ≡ false
       → (slice_index_or f.alarms a (alarm_figures [])).refused ≡ 0
-  pub errors : (k : ℕ) → k < length S.tasks → has_come peaks.errors k ≡ false
+  pub errors : (k : ℕ) → k < length S.tasks → task_fails peaks.failures k ≡ false
       → (slice_index_or f.tasks k (task_figures [])).counts.errors ≡ 0
-  pub routine_errors : (i : ℕ) → i < length S.routines → has_come peaks.routine_errors i ≡ false
+  pub routine_errors : (i : ℕ) → i < length S.routines → routine_fails peaks.failures i ≡ false
       → (slice_index_or f.routines i (routine_figures [])).errors ≡ 0
 
--- whatever arrives that keeps the distances, and for however many ticks
+-- tick n of a run is within peaks: a service that is answered other than E_OK is one of theirs, no
+-- task has more jobs, and the run is over behind it only where they say so
+pub record IsTickWithin (S : System) (mode : ℕ) (peaks : Peaks) (arrivals : List Arrival)
+    (n : ℕ) : Type 0 where
+  pub failures : IfSome (failure_of (tick_at S mode arrivals n).executed)
+      (λ x. Contains peaks.failures x)
+  pub jobs : (k : ℕ) → k < length S.tasks
+      → (task_seen S (tick_at S mode arrivals n) k).jobs ≤ peak peaks.jobs k
+  pub shutdown : peaks.shuts_down ≡ false → (run S mode arrivals (suc n)).state.over ≡ false
+
+-- whatever arrives that keeps the distances, for so many ticks at most
+pub record AreBoundsUpTo (S : System) (mode : ℕ) (distances : List ℕ) (cap : ℕ) (peaks : Peaks)
+    (count : ℕ) : Type 0 where
+  pub figures : (arrivals : List Arrival) (n : ℕ) (f : RunFigures) → n ≤ count
+      → KeepDistances S distances arrivals → AreRunFigures S mode arrivals n f
+      → AreWithin S cap peaks f
+  pub ticks : (arrivals : List Arrival) (n : ℕ) → n < count → KeepDistances S distances arrivals
+      → (run S mode arrivals n).state.over ≡ false → IsTickWithin S mode peaks arrivals n
+
+-- and for however many ticks
 abbrev pub AreBounds : System → ℕ → List ℕ → ℕ → Peaks → Type 0
 AreBounds S mode distances cap peaks =
-    (arrivals : List Arrival) (n : ℕ) (f : RunFigures) → KeepDistances S distances arrivals
-    → AreRunFigures S mode arrivals n f → AreWithin S cap peaks f
-
--- and for so many ticks at most
-abbrev pub AreBoundsUpTo : System → ℕ → List ℕ → ℕ → Peaks → ℕ → Type 0
-AreBoundsUpTo S mode distances cap peaks count =
-    (arrivals : List Arrival) (n : ℕ) (f : RunFigures) → n ≤ count
-    → KeepDistances S distances arrivals → AreRunFigures S mode arrivals n f
-    → AreWithin S cap peaks f
+    (count : ℕ) → AreBoundsUpTo S mode distances cap peaks count
 
 -- ---- the laws
 

@@ -1,7 +1,6 @@
 -- What is kept of states in a search through all runs of a system whose interrupts keep distances.
-use Rattle.std.specs.Prelude.{ℕ, ◌≡◌, ◌<◌, ◌^◌, Bool, false, IsTrue, List, Option, length}
+use Rattle.std.specs.Prelude.{ℕ, ◌≡◌, ◌<◌, ◌^◌, Bool, false, IsTrue, List, length}
 use Rattle.osek_base.specs.declared.arrivals.Arrival.{Arrival}
-use Rattle.osek_base.specs.declared.ids.Owner.{Owner}
 use Rattle.osek_base.specs.System.{System}
 use Rattle.kept_state.specs.Kept.{Kept}
 use Rattle.kept_state.specs.KeptTick.{boot_in, tick_in}
@@ -10,12 +9,11 @@ use Rattle.same_future.specs.Alike.{kept_after}
 use Rattle.same_future.specs.Shown.{chosen_of}
 use Rattle.observations.specs.Seen.{Seen}
 use Rattle.figures.specs.FigureSums.{held_count}
-use Rattle.shown_ticks.specs.Seen.{answered_in, executor_in, seen_in}
+use Rattle.shown_ticks.specs.Seen.{failure_in, seen_in}
 use Rattle.state_keys.specs.Key.{key}
 use Rattle.search.specs.Rules.{Rules}
 use Rattle.bound_labels.specs.Labels.{Labels, IsAtLeast, arrives_in, first_labels, next_labels, wait_of}
-use Rattle.bound_labels.specs.Peaks.{IsNoted, Peaks}
-use Rattle.bound_labels.specs.Ticks.{failing}
+use Rattle.bound_peaks.specs.Peaks.{IsNoted, Peaks, TickShown}
 
 -- what a search goes by: a system in a mode, which data is needed, how many ticks apart interrupts
 -- of each routine come at least, and up to which age labels tell
@@ -54,12 +52,17 @@ routines_of s set = chosen_of s.system (arrives_in set)
 abbrev pub seen_from : Setting → ℕ → Kept → Seen
 seen_from s set o = seen_in s.system (routines_of s set) o
 
--- who fails in such a tick, if anyone does
-abbrev pub failed_in : System → List ℕ → Kept → Option Owner
-failed_in S arrived o = failing (answered_in S arrived o) (executor_in S arrived o)
+-- what such a tick shows
+abbrev pub tick_shown_in : System → List ℕ → Kept → TickShown
+tick_shown_in S arrived o =
+    record {
+      seen = seen_in S arrived o;
+      failure = failure_in S arrived o;
+      over = (tick_in S arrived o).after.over;
+    }
 
-abbrev pub failed_from : Setting → ℕ → Kept → Option Owner
-failed_from s set o = failed_in s.system (routines_of s set) o
+abbrev pub tick_shown_from : Setting → ℕ → Kept → TickShown
+tick_shown_from s set o = tick_shown_in s.system (routines_of s set) o
 
 abbrev pub labels_at_boot : System → Labels
 labels_at_boot S = first_labels (length S.tasks) (length S.routines) (held_count S)
@@ -93,8 +96,8 @@ pub record Covers (x y : Node) : Type 0 where
 abbrev pub rules_of : Setting → Rules Node
 rules_of s = record { is_first = IsFirst s; may = May s; is_next = IsNext s; covers = Covers }
 
--- what is seen in the tick of each such state is noted, and who fails in it
+-- what the tick of each such state shows is noted
 abbrev pub AreNoted : Setting → Peaks → Node → ℕ → Type 0
 AreNoted s peaks x set =
     (o : Kept) → StandsFor s x o
-    → IsNoted s.cap peaks (seen_from s set o) (failed_from s set o) x.labels
+    → IsNoted s.cap peaks (tick_shown_from s set o) x.labels

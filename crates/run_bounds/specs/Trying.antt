@@ -8,8 +8,8 @@ use Rattle.needed_data.specs.Need.{Suffices}
 use Rattle.state_keys.specs.InRange.{NeedsOwnWords}
 use Rattle.search.specs.Subsets.{IsSubset}
 use Rattle.bound_labels.specs.Labels.{IsAtLeast, Labels, arrives_in, wait_of}
-use Rattle.bound_labels.specs.Peaks.{IsNoted, Peaks}
-use Rattle.run_bounds.specs.Nodes.{AreNoted, Comes, IsAfter, IsNext, May, Node, Setting, StandsFor, failed_from, seen_from}
+use Rattle.bound_peaks.specs.Peaks.{IsNoted, Peaks}
+use Rattle.run_bounds.specs.Nodes.{AreNoted, Comes, IsAfter, IsNext, May, Node, Setting, StandsFor, tick_shown_from}
 
 -- ---- labels
 
@@ -33,7 +33,7 @@ StatesCome = (S : System) → IsProper S → Come S
 pub record TellsAll (s : Setting) (x : Node) (set : ℕ) (o : Kept) : Type 0 where
   pub next : (y : Node) → IsAfter s x set y o → IsNext s x set y
   pub noted : (peaks : Peaks)
-      → IsNoted s.cap peaks (seen_from s set o) (failed_from s set o) x.labels
+      → IsNoted s.cap peaks (tick_shown_from s set o) x.labels
       → AreNoted s peaks x set
 
 abbrev pub OneStateTells : Type 0

@@ -1,6 +1,6 @@
 //! The laws, one function each. They do nothing: the clause is the law.
 
-ghost use Rattle.bound_labels.specs.Peaks.{NotesStay};
+ghost use Rattle.bound_peaks.specs.Peaks.{NotesStay};
 ghost use Rattle.run_bounds.specs.Bounds.{LevelsBound, NodesAreKept, SearchesBound};
 ghost use Rattle.run_bounds.specs.Going.{KeysTellFutures};
 ghost use Rattle.run_bounds.specs.Trying.{

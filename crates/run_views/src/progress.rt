@@ -45,12 +45,16 @@ impl<'e, E: Write> Progress<'e, E> {
         }
     }
 
-    /// A search has made so many visits, keeps so many states, has so many of them open, and has tried all that can come up to
-    /// a tick. A failed write is forgotten.
-    pub fn note_search(&mut self, visits: u64, states: usize, open: usize, tick: u64) {
+    /// A search has made so many visits, keeps so many states, has so many of them open, has tried all that can come up to a
+    /// tick, and takes so many bytes. A failed write is forgotten.
+    pub fn note_search(&mut self, visits: u64, states: usize, open: usize, tick: u64, bytes: u64) {
         if self.is_shown && self.next_visit <= visits {
             self.next_visit = visits.saturating_add(VISITS_BETWEEN);
-            let _ = write!(self.err, "\r{states} states, {open} open, tick {tick}    ");
+            let megabytes = bytes / 1_000_000;
+            let _ = write!(
+                self.err,
+                "\r{states} states, {open} open, tick {tick}, {megabytes} MB    "
+            );
             let _ = self.err.flush();
         }
     }

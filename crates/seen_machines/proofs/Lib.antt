@@ -1,4 +1,4 @@
-pub mod Steps
+pub mod Filled
 pub mod Acting
 pub mod Executing
 pub mod Stays

@@ -14,10 +14,10 @@ use Rattle.kernel.specs.declared.acted.Acted.{Acted}
 use Rattle.kernel.specs.Told.{task_at_in}
 use Rattle.observations.specs.declared.observation.Observation.{Observation}
 use Rattle.observations.specs.Seen.{seen_of}
-use Rattle.observed_runs.specs.Observed.{activations_by, answered, is_by, is_number, is_waiting, lost_of, one_if, owner_of, state_seen, times}
+use Rattle.observed_runs.specs.Observed.{activations_by, answered, failure_of, is_by, is_number, is_waiting, lost_of, one_if, owner_of, state_seen, times}
 use Rattle.observed_runs.proofs.Seeing.{read_at}
 use Rattle.observed_runs.proofs.SeenSteps.{seen_count}
-use Rattle.shown_ticks.specs.Seen.{answered_in, executor_in, seen_in}
+use Rattle.shown_ticks.specs.Seen.{answered_in, executor_in, failure_in, seen_in}
 use Rattle.shown_ticks.specs.Shown.{KeptTicked, alarm_seen_in, holders_seen_in, routine_seen_in, task_seen_in, ticked_in}
 use Rattle.seen_machines.specs.declared.told.Told.{Told}
 use Rattle.seen_machines.specs.Told.{IsOfAll, IsTold, alarm_seen_by, jobs_told, pending_told, routine_seen_by, task_at_told, task_seen_by, without_job}
@@ -123,3 +123,7 @@ module _ (S : System) (arrived : List ℕ) (o : Kept) (told : Option Executed)
   pub answered_is : answered told ≡ answered_in S arrived o
   unfolding answered_in
   answered_is = ap answered is
+
+  pub failure_is : failure_of told ≡ failure_in S arrived o
+  unfolding failure_in
+  failure_is = ap failure_of is

@@ -5,6 +5,7 @@ ghost use Rattle.osek_base.specs.Lists.{below};
 ghost use Rattle.kernel.specs.Machine.{system_of};
 ghost use Rattle.seen_machines.specs.Told.{alarm_seen_by};
 
+use crate::places::give_places;
 use crate::readers::system;
 use arrayvec::ArrayVec;
 use kernel::{Blockers, Machine};
@@ -24,7 +25,7 @@ fn alarm_seen<Q: ReadyQueues, B: Blockers>(machine: &Machine<'_, Q, B>, alarm: A
 }
 
 /// Leaves what is seen of the alarms.
-#[tactic(auto, using(crate::proofs::Steps::seen_more, crate::proofs::Steps::seen_count))]
+#[tactic(auto, using(crate::proofs::Filled::one_more, crate::proofs::Filled::all_of))]
 pub(crate) fn see_alarms<Q: ReadyQueues, B: Blockers>(
     machine: &Machine<'_, Q, B>,
     alarms: &mut ArrayVec<AlarmSeen, MAX_ALARMS>,
@@ -32,8 +33,10 @@ pub(crate) fn see_alarms<Q: ReadyQueues, B: Blockers>(
     ensures { alarms.new.items
         ≡ map (alarm_seen_by machine.now.acted) (below (length (system_of machine.now).alarms)) }
 {
-    alarms.clear();
-    for number in 0..system(machine).alarm_count() {
-        alarms.push(alarm_seen(machine, AlarmId::new(number as u8)));
+    let count = system(machine).alarm_count();
+    give_places(alarms, count);
+    let places = alarms.as_mut_slice();
+    for number in 0..count {
+        places[number] = alarm_seen(machine, AlarmId::new(number as u8));
     }
 }

@@ -7,6 +7,7 @@ ghost use Rattle.same_future.specs.Spans.{is_pending_in};
 ghost use Rattle.services.specs.Seen.{routine_of};
 ghost use Rattle.kernel.specs.Machine.{picture, system_of};
 
+use crate::places::give_places;
 use crate::readers::{active_routine, is_pending, job_count, system};
 use arrayvec::ArrayVec;
 use kernel::{Blockers, Machine};
@@ -49,7 +50,7 @@ impl Before {
 }
 
 /// Leaves how many jobs each task has.
-#[tactic(auto, using(crate::proofs::Steps::seen_more, crate::proofs::Steps::seen_count))]
+#[tactic(auto, using(crate::proofs::Filled::one_more, crate::proofs::Filled::all_of))]
 fn see_jobs<Q: ReadyQueues, B: Blockers>(
     machine: &Machine<'_, Q, B>,
     jobs: &mut ArrayVec<u8, MAX_TASKS>,
@@ -57,14 +58,16 @@ fn see_jobs<Q: ReadyQueues, B: Blockers>(
     ensures { jobs.new.items ≡ map (λ t. ((picture machine.now).slots t).count)
         (below (length (system_of machine.now).tasks)) }
 {
-    jobs.clear();
-    for number in 0..system(machine).task_count() {
-        jobs.push(job_count(machine, TaskId::new(number as u8)));
+    let count = system(machine).task_count();
+    give_places(jobs, count);
+    let places = jobs.as_mut_slice();
+    for number in 0..count {
+        places[number] = job_count(machine, TaskId::new(number as u8));
     }
 }
 
 /// Leaves which routines are pending.
-#[tactic(auto, using(crate::proofs::Steps::seen_more, crate::proofs::Steps::seen_count))]
+#[tactic(auto, using(crate::proofs::Filled::one_more, crate::proofs::Filled::all_of))]
 fn see_pending<Q: ReadyQueues, B: Blockers>(
     machine: &Machine<'_, Q, B>,
     pending: &mut ArrayVec<bool, MAX_ROUTINES>,
@@ -72,8 +75,10 @@ fn see_pending<Q: ReadyQueues, B: Blockers>(
     ensures { pending.new.items ≡ map (is_pending_in (picture machine.now))
         (below (length (system_of machine.now).routines)) }
 {
-    pending.clear();
-    for number in 0..system(machine).routine_count() {
-        pending.push(is_pending(machine, IsrId::new(number as u8)));
+    let count = system(machine).routine_count();
+    give_places(pending, count);
+    let places = pending.as_mut_slice();
+    for number in 0..count {
+        places[number] = is_pending(machine, IsrId::new(number as u8));
     }
 }

@@ -4,6 +4,7 @@
 mod alarms_seen;
 mod before;
 mod holders_seen;
+mod places;
 mod readers;
 mod routines_seen;
 mod tasks_seen;

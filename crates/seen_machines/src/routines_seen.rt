@@ -5,6 +5,7 @@ ghost use Rattle.osek_base.specs.Lists.{below};
 ghost use Rattle.kernel.specs.Machine.{picture, system_of};
 ghost use Rattle.seen_machines.specs.Told.{IsOfAll, routine_seen_by};
 
+use crate::places::give_places;
 use crate::readers::{is_pending, system};
 use crate::told::Told;
 use arrayvec::ArrayVec;
@@ -39,7 +40,7 @@ impl Told {
     }
 
     /// Leaves what is seen of the routines.
-    #[tactic(auto, using(crate::proofs::Steps::seen_more, crate::proofs::Steps::seen_count))]
+    #[tactic(auto, using(crate::proofs::Filled::one_more, crate::proofs::Filled::all_of))]
     pub(crate) fn see_routines<Q: ReadyQueues, B: Blockers>(
         &self,
         machine: &Machine<'_, Q, B>,
@@ -52,9 +53,11 @@ impl Told {
             ≡ map (routine_seen_by self.now (picture machine.now) arrived.now)
             (below (length (system_of machine.now).routines)) }
     {
-        routines.clear();
-        for number in 0..system(machine).routine_count() {
-            routines.push(self.routine_seen(machine, arrived, IsrId::new(number as u8)));
+        let count = system(machine).routine_count();
+        give_places(routines, count);
+        let places = routines.as_mut_slice();
+        for number in 0..count {
+            places[number] = self.routine_seen(machine, arrived, IsrId::new(number as u8));
         }
     }
 }

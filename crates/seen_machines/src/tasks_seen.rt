@@ -6,6 +6,7 @@ ghost use Rattle.osek_base.specs.Lists.{below};
 ghost use Rattle.kernel.specs.Machine.{picture, system_of};
 ghost use Rattle.seen_machines.specs.Told.{IsOfAll, task_seen_by};
 
+use crate::places::give_places;
 use crate::readers::{job_count, system, task_state};
 use crate::told::Told;
 use arrayvec::ArrayVec;
@@ -47,7 +48,7 @@ impl Told {
     }
 
     /// Leaves what is seen of the tasks.
-    #[tactic(auto, using(crate::proofs::Steps::seen_more, crate::proofs::Steps::seen_count))]
+    #[tactic(auto, using(crate::proofs::Filled::one_more, crate::proofs::Filled::all_of))]
     pub(crate) fn see_tasks<Q: ReadyQueues, B: Blockers>(
         &self,
         machine: &Machine<'_, Q, B>,
@@ -60,9 +61,11 @@ impl Told {
             ≡ map (task_seen_by (system_of machine.now) self.now (picture machine.now)
             machine.now.acted) (below (length (system_of machine.now).tasks)) }
     {
-        tasks.clear();
-        for number in 0..system(machine).task_count() {
-            tasks.push(self.task_seen(machine, TaskId::new(number as u8)));
+        let count = system(machine).task_count();
+        give_places(tasks, count);
+        let places = tasks.as_mut_slice();
+        for number in 0..count {
+            places[number] = self.task_seen(machine, TaskId::new(number as u8));
         }
     }
 }

@@ -7,8 +7,8 @@ ghost use Rattle.osek_base.specs.Lists.{below};
 ghost use Rattle.kept_state.specs.KeptTick.{tick_in};
 ghost use Rattle.kernel.specs.Machine.{IsOfRun, next_tick, picture, system_of};
 ghost use Rattle.observations.specs.Seen.{seen_of};
-ghost use Rattle.observed_runs.specs.Observed.{answered, owner_of};
-ghost use Rattle.shown_ticks.specs.Seen.{answered_in, executor_in, seen_in};
+ghost use Rattle.observed_runs.specs.Observed.{answered, failure_of, owner_of};
+ghost use Rattle.shown_ticks.specs.Seen.{answered_in, executor_in, failure_in, seen_in};
 ghost use Rattle.seen_machines.specs.Told.{IsOfAll, alarm_seen_by, routine_seen_by, task_seen_by};
 
 use crate::alarms_seen::see_alarms;
@@ -16,7 +16,7 @@ use crate::holders_seen::see_holders;
 use crate::told::Told;
 use kernel::{Blockers, Machine};
 use observations::Observation;
-use observed_runs::{answered, executor};
+use observed_runs::{answered, executor, failure};
 use osek_base::{IsrId, MAX_ARRIVALS, MAX_ROUTINES, MAX_TICKS};
 use ready_queues::ReadyQueues;
 use std::marker::Model;
@@ -52,6 +52,7 @@ impl Told {
         requires few { length arrived.now ≤ MAX_ARRIVALS }
         ensures executor { seen.new.executor ≡ option_map owner_of self.now.execution.executed }
         ensures answered { seen.new.answered ≡ answered self.now.execution.executed }
+        ensures failure { seen.new.failure ≡ failure_of self.now.execution.executed }
         ensures tasks { seen.new.tasks.items
             ≡ map (task_seen_by (system_of machine.now) self.now (picture machine.now)
             machine.now.acted) (below (length (system_of machine.now).tasks)) }
@@ -65,6 +66,7 @@ impl Told {
     {
         seen.executor = executor(&self.execution.executed);
         seen.answered = answered(&self.execution.executed);
+        seen.failure = failure(&self.execution.executed);
         self.see_tasks(machine, &mut seen.tasks);
         self.see_routines(machine, arrived, &mut seen.routines);
         see_alarms(machine, &mut seen.alarms);
@@ -103,6 +105,8 @@ impl Watcher {
             ≡ executor_in (system_of machine.old) arrived.now (picture machine.old) }
         ensures answered { self.new.answered
             ≡ answered_in (system_of machine.old) arrived.now (picture machine.old) }
+        ensures failure { self.new.failure
+            ≡ failure_in (system_of machine.old) arrived.now (picture machine.old) }
     {
         self.seen.tick = machine.next_tick();
         see_holders(machine, &mut self.seen.holders);

@@ -22,7 +22,7 @@ use Rattle.same_future.proofs.Commutes.{alarms_act}
 use Rattle.same_future.proofs.Tables.{filter_same, one_due}
 use Rattle.same_future.proofs.Ticks.{ticks_alike}
 use Rattle.same_future.proofs.Timed.{as_retimed, retimed}
-use Rattle.observed_runs.specs.Observed.{activations_by, answered, ending, executed_in, is_among, is_by, is_number, is_waiting, lost_of, one_if, owner_of, refusing, state_seen, times}
+use Rattle.observed_runs.specs.Observed.{activations_by, answered, ending, executed_in, failure_of, is_among, is_by, is_number, is_waiting, lost_of, one_if, owner_of, refusing, state_seen, times}
 use Rattle.shown_ticks.specs.Shown.{KeptTicked, ticked_in, jobs_before_in, task_seen_in, routine_seen_in, holders_seen_in, alarm_seen_in}
 use Rattle.shown_ticks.specs.ShownAlike.{AreShownAlike, AlikeShow}
 
@@ -129,6 +129,7 @@ module _ (S : System) (proper : IsProper S) (valued : ℕ → Bool) (asked : Hav
   shown = record {
     executor = ap (option_map owner_of) executed;
     answered = ap answered executed;
+    failure = ap failure_of executed;
     tasks = tasks;
     routines = routines;
     holders = ap (holders_seen_in S) at;

@@ -8,6 +8,7 @@ pub shown_by_both : ShownByBoth
 shown_by_both S x y o alike shown = record {
   executor = shown.executor ∙ alike.executor;
   answered = shown.answered ∙ alike.answered;
+  failure = shown.failure ∙ alike.failure;
   tasks = shown.tasks ∙ ap (λ f. map f (below (length S.tasks))) (fun_ext alike.tasks);
   routines = shown.routines ∙ ap (λ f. map f (below (length S.routines))) (fun_ext alike.routines);
   holders = shown.holders ∙ alike.holders;

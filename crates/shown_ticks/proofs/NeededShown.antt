@@ -24,7 +24,7 @@ use Rattle.needed_data.specs.Same.{AreStepsOfSame, HasAllowedIndices, HaveSameNe
 use Rattle.needed_data.proofs.Executed.{cleaning, fresh_clean}
 use Rattle.needed_data.proofs.Steps.{before_clean, leaves_shared, unmasked_clean}
 use Rattle.needed_data.proofs.Ticks.{ticks_keep_same}
-use Rattle.observed_runs.specs.Observed.{activates, activations_by, answered, ending, executed_in, instruction, is_accepted, is_among, is_by, is_end, is_limit, is_number, is_waiting, lost_of, one_if, owner_of, refusing, state_seen, status_of, task_of, times}
+use Rattle.observed_runs.specs.Observed.{activates, activations_by, answered, ending, executed_in, failure_by, failure_of, instruction, is_accepted, is_among, is_by, is_end, is_limit, is_number, is_waiting, lost_of, one_if, owner_of, refusing, state_seen, status_of, task_of, times}
 use Rattle.shown_ticks.specs.Shown.{KeptTicked, ticked_in, jobs_before_in, task_seen_in, routine_seen_in, holders_seen_in, alarm_seen_in}
 use Rattle.shown_ticks.specs.ShownAlike.{AreShownAlike, SameNeededShow}
 
@@ -58,6 +58,10 @@ status_blank Outcome.Control = refl
 answered_blank : (e : Option Executed) → answered e ≡ answered (blank e)
 answered_blank None = refl
 answered_blank (Some e) = status_blank e.outcome
+
+failure_blank : (e : Option Executed) → failure_of e ≡ failure_of (blank e)
+failure_blank None = refl
+failure_blank (Some e) = ap (failure_by e) (status_blank e.outcome)
 
 accepted_blank : (outcome : Outcome) → is_accepted outcome ≡ is_accepted (blanked_outcome outcome)
 accepted_blank (Outcome.Plain effect) = refl
@@ -198,6 +202,8 @@ module _ (S : System) (need : Need) where
           ∙ sym (owner_blank other.executed);
       answered = answered_blank one.executed ∙ ap answered executed
           ∙ sym (answered_blank other.executed);
+      failure = failure_blank one.executed ∙ ap failure_of executed
+          ∙ sym (failure_blank other.executed);
       tasks = tasks;
       routines = routines;
       holders = ap (holders_seen_in S) at;

@@ -36,7 +36,7 @@ use Rattle.kernel.proofs.KeepingLemmas.{step_is}
 use Rattle.kernel.proofs.RunLemmas.{unwritten_more}
 use Rattle.kernel.proofs.SeenLemmas.{counted, own, raised, state_is}
 use Rattle.kernel.proofs.ToldLemmas.{acted_told}
-use Rattle.observed_runs.specs.Observed.{Ticked, activations_by, alarm_seen, answered, ending, executed_in, holders_seen, is_among, is_by, is_number, is_waiting, lost_of, one_if, owner_of, refusing, routine_seen, state_seen, task_seen, tick_at, times}
+use Rattle.observed_runs.specs.Observed.{Ticked, activations_by, alarm_seen, answered, ending, executed_in, failure_of, holders_seen, is_among, is_by, is_number, is_waiting, lost_of, one_if, owner_of, refusing, routine_seen, state_seen, task_seen, tick_at, times}
 use Rattle.shown_ticks.specs.Shown.{KeptTicked, task_seen_in, routine_seen_in, holders_seen_in, alarm_seen_in, ShowTheSame, kept_tick_at, RunsShow, SeenIsShown}
 
 -- ---- the tick's instruction
@@ -216,6 +216,7 @@ seen_is_shown S mode arrivals n o proper going seen =
     record {
       executor = seen.executor ∙ ap (option_map owner_of) same.executed;
       answered = seen.answered ∙ ap answered same.executed;
+      failure = seen.failure ∙ ap failure_of same.executed;
       tasks = seen.tasks ∙ ap (λ f. map f (below (length S.tasks))) (fun_ext same.tasks);
       routines = seen.routines ∙ ap (λ f. map f (below (length S.routines)))
           (fun_ext same.routines);

@@ -7,7 +7,8 @@ use Rattle.osek_base.specs.Lists.{below}
 use Rattle.osek_base.specs.System.{System}
 use Rattle.kept_state.specs.Kept.{Kept}
 use Rattle.observations.specs.Seen.{Seen}
-use Rattle.observed_runs.specs.Observed.{answered, owner_of}
+use Rattle.observations.specs.declared.failure.Failure.{Failure}
+use Rattle.observed_runs.specs.Observed.{answered, failure_of, owner_of}
 use Rattle.shown_ticks.specs.Shown.{KeptTicked, alarm_seen_in, holders_seen_in, routine_seen_in, task_seen_in, ticked_in}
 
 abbrev pub seen_by : System → KeptTicked → Seen
@@ -30,3 +31,7 @@ executor_in S arrived o = option_map owner_of (ticked_in S false arrived o).exec
 
 unfoldable pub answered_in : System → List ℕ → Kept → Option Status
 answered_in S arrived o = answered (ticked_in S false arrived o).executed
+
+-- the instruction of such a tick, if it is a service that is answered other than E_OK
+unfoldable pub failure_in : System → List ℕ → Kept → Option Failure
+failure_in S arrived o = failure_of (ticked_in S false arrived o).executed

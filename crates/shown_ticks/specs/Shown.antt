@@ -20,7 +20,7 @@ use Rattle.same_future.specs.Spans.{is_pending_in}
 use Rattle.services.specs.Seen.{holder_in, routine_of}
 use Rattle.kernel.specs.declared.acted.Acted.{Acted}
 use Rattle.kernel.specs.Told.{acted_in, task_at_in}
-use Rattle.observed_runs.specs.Observed.{Ticked, IsSeen, activations_by, alarm_seen, answered, ending, executed_in, holders_seen, is_among, is_by, is_number, is_waiting, lost_of, one_if, owner_of, refusing, routine_seen, state_seen, task_seen, tick_at, times}
+use Rattle.observed_runs.specs.Observed.{Ticked, IsSeen, activations_by, alarm_seen, answered, ending, executed_in, failure_of, holders_seen, is_among, is_by, is_number, is_waiting, lost_of, one_if, owner_of, refusing, routine_seen, state_seen, task_seen, tick_at, times}
 
 -- whether a tick is the first; what is kept before it, where its instruction is executed, and after
 -- it; what it executed; the alarms that act; the routines of the interrupts that arrive
@@ -91,6 +91,7 @@ alarm_seen_in k a =
 pub record IsShown (S : System) (k : KeptTicked) (o : Observation) : Type 0 where
   pub executor : o.executor ≡ option_map owner_of k.executed
   pub answered : o.answered ≡ answered k.executed
+  pub failure : o.failure ≡ failure_of k.executed
   pub tasks : o.tasks.items ≡ map (task_seen_in S k) (below (length S.tasks))
   pub routines : o.routines.items ≡ map (routine_seen_in k) (below (length S.routines))
   pub holders : o.holders.items ≡ holders_seen_in S k.at

@@ -8,13 +8,14 @@ use Rattle.same_future.specs.Alike.{AreAlikeBy}
 use Rattle.needed_data.specs.Need.{HaveAsked, Need, Suffices}
 use Rattle.needed_data.specs.Same.{HasAllowedIndices, HaveSameNeeded}
 use Rattle.observations.specs.declared.observation.Observation.{Observation}
-use Rattle.observed_runs.specs.Observed.{answered, owner_of}
+use Rattle.observed_runs.specs.Observed.{answered, failure_of, owner_of}
 use Rattle.shown_ticks.specs.Shown.{KeptTicked, IsShown, alarm_seen_in, holders_seen_in, routine_seen_in, task_seen_in, ticked_in}
 
 -- two ticks show the same
 pub record AreShownAlike (S : System) (x y : KeptTicked) : Type 0 where
   pub executor : option_map owner_of x.executed ≡ option_map owner_of y.executed
   pub answered : answered x.executed ≡ answered y.executed
+  pub failure : failure_of x.executed ≡ failure_of y.executed
   pub tasks : (t : ℕ) → task_seen_in S x t ≡ task_seen_in S y t
   pub routines : (i : ℕ) → routine_seen_in x i ≡ routine_seen_in y i
   pub holders : holders_seen_in S x.at ≡ holders_seen_in S y.at

@@ -1,4 +1,3 @@
-pub mod DigitLemmas
 pub mod Steps
 pub mod SetLemmas
 pub mod ReadyLemmas

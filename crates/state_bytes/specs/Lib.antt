@@ -1,4 +1,3 @@
-pub mod Limit
 pub mod Parts
 pub mod Sets
 pub mod Told

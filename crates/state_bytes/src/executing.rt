@@ -8,10 +8,10 @@ ghost use Rattle.needs.specs.Table.{need_of};
 ghost use Rattle.state_keys.specs.Bytes.{each, needed, number, optional};
 ghost use Rattle.state_keys.specs.Key.{context_key, executing_key, routine_key};
 
-use crate::numbers::{push_byte, push_flag, push_number};
 use crate::sets::has;
 use machine::Cpu;
 use needs::Needs;
+use number_bytes::{push_byte, push_flag, push_number};
 use osek_base::{Owner, REGISTERS, Register, TaskId};
 use services::{Active, CompactQueues, Objects};
 use std::alloc::AllocError;

@@ -5,7 +5,7 @@ ghost use Rattle.services.specs.Objects.{kept_in};
 ghost use Rattle.state_keys.specs.Bytes.{each, flag};
 ghost use Rattle.state_keys.specs.Key.{interrupts_key};
 
-use crate::numbers::{push_flag, push_number};
+use number_bytes::{push_flag, push_number};
 use osek_base::{IsrId, System};
 use services::{CompactQueues, Objects};
 use std::alloc::AllocError;

@@ -8,7 +8,6 @@
 mod executing;
 mod interrupts;
 mod laws;
-mod numbers;
 mod ready;
 mod sets;
 mod tasks;

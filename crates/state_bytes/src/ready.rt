@@ -8,8 +8,8 @@ ghost use Rattle.state_keys.specs.Bytes.{each};
 ghost use Rattle.state_keys.specs.Key.{level_key, ready_key};
 ghost use Rattle.state_bytes.specs.Parts.{entry_key};
 
-use crate::numbers::push_number;
 use crate::sets::{next_in, with_number};
+use number_bytes::push_number;
 use services::{CompactQueues, ReadyEntry};
 use std::alloc::AllocError;
 

@@ -10,8 +10,8 @@ ghost use Rattle.state_keys.specs.Key.{job_key, resource_key, resources_key, tas
 ghost use Rattle.state_bytes.specs.Parts.{first_of_job, jobs_key};
 
 use crate::executing::push_context;
-use crate::numbers::{push_flag, push_number, push_optional};
 use needs::Needs;
+use number_bytes::{push_flag, push_number, push_optional};
 use osek_base::{MAX_RESOURCES, Owner, ResId, System, TaskId};
 use services::{CompactQueues, Objects, Slot};
 use std::alloc::AllocError;

@@ -12,8 +12,8 @@ ghost use Rattle.state_keys.specs.Bytes.{each, needed, number};
 ghost use Rattle.state_keys.specs.Key.{alarm_key};
 ghost use Rattle.state_bytes.specs.Parts.{at_tick, count_of, left_key, less_by, times_key};
 
-use crate::numbers::{push_byte, push_number};
 use needs::Needs;
+use number_bytes::{push_byte, push_number};
 use osek_base::{AlarmId, Counter, CounterId, System};
 use services::{CompactQueues, Objects};
 use std::alloc::AllocError;

@@ -9,10 +9,10 @@ ghost use Rattle.needs.specs.Table.{need_of};
 ghost use Rattle.state_keys.specs.Bytes.{each, number};
 ghost use Rattle.state_keys.specs.Key.{shared_key, window_key, words_key};
 
-use crate::numbers::push_number;
 use crate::sets::next_in;
 use kernel::{Blockers, Machine};
 use needs::Needs;
+use number_bytes::push_number;
 use osek_base::{IsrId, Owner, ResourceNumber, SHARED_WORDS, System, TaskId};
 use services::CompactQueues;
 use std::alloc::AllocError;

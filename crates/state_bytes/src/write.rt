@@ -9,13 +9,13 @@ ghost use Rattle.state_bytes.specs.Parts.{jobs_part};
 
 use crate::executing::push_executing;
 use crate::interrupts::push_interrupts;
-use crate::numbers::push_flag;
 use crate::ready::push_ready;
 use crate::tasks::push_tasks;
 use crate::times::push_times;
 use crate::words::push_words;
 use kernel::{Blockers, Machine};
 use needs::Needs;
+use number_bytes::push_flag;
 use osek_base::System;
 use services::{CompactQueues, Objects};
 use std::alloc::AllocError;

@@ -1,13 +1,12 @@
 //! From a description to the three texts, or to all that is wrong with it.
 
-use crate::arrival_text::{Arrivals, arrivals, write_arrivals};
-use crate::checks::tell_all;
-use crate::described::Described;
-use crate::fault::{Fault, Wrong};
-use crate::nodes::{Node, nodes_of};
-use crate::oil_text::write_oil;
-use crate::program_text::write_programs;
-use crate::sections::described;
+use crate::nodes::nodes_of;
+use description_reader::described;
+use description_texts::{Arrivals, arrivals, write_arrivals, write_oil, write_programs};
+use descriptions::checks::tell_all;
+use descriptions::described::Described;
+use descriptions::fault::{Fault, Wrong, tell};
+use descriptions::node::Node;
 use osek_base::MAX_ARRIVALS;
 use std::alloc::{AllocError, Global};
 use std::collections::BTreeSet;
@@ -15,7 +14,7 @@ use std::io;
 use toml_parser::ParseError;
 
 /// The texts of a system.
-#[derive(Debug, Drop)]
+#[derive(Drop)]
 pub struct Made {
     pub oil: Vec<u8>,
     pub asm: Vec<u8>,
@@ -23,14 +22,14 @@ pub struct Made {
 }
 
 /// What is wrong, and the place in bytes.
-#[derive(Debug, Drop)]
+#[derive(Drop)]
 pub struct Remark {
     pub place: usize,
     pub text: String,
 }
 
 /// What comes of a description.
-#[derive(Debug, Drop)]
+#[derive(Drop)]
 pub enum Answer {
     Made(Made),
     /// All that is wrong, by place.
@@ -99,10 +98,7 @@ fn make_nodes(alloc: Global, nodes: &[Node]) -> io::Result<Answer> {
     tell_all(alloc, nodes, &described, &mut faults)?;
     let arrivals = arrivals(alloc, nodes, &described)?;
     if arrivals.is_none() {
-        faults.push(Fault {
-            place: 0,
-            wrong: Wrong::TooMany(MAX_ARRIVALS, "arrivals"),
-        })?;
+        tell(&mut faults, 0, Wrong::TooMany(MAX_ARRIVALS, "arrivals"))?;
     }
     match arrivals {
         Some(arrivals) if faults.is_empty() => {

@@ -1,38 +1,12 @@
 //! A TOML text as the list of its keys and values with their places. The crate `toml` reads the text first and says what is
 //! no TOML; it keeps no places of values, so the text is gone over once more, by the readers of `toml_parser`.
 
+use descriptions::node::{Kind, Node};
 use std::alloc::{AllocError, Global};
 use toml_parser::text::{first, skip_blank, skip_ws};
 use toml_parser::{Key, ParseError, Scalar, dotted_key, quoted, starts_string, unquoted};
 
-/// Of what kind a value is.
-#[derive(Clone, Copy, Debug, PartialEq, Eq)]
-pub(crate) enum Kind {
-    Text,
-    Number(i64),
-    Boolean(bool),
-    List,
-    Table,
-    /// `[NAME]` or `[[NAME]]`, up to the next such line.
-    Section,
-    /// What no description has: a float, a date or a time.
-    Other,
-}
-
-/// A value, in the order of the text: those in it stand behind it, and are one deeper.
-#[derive(Debug, Drop)]
-pub(crate) struct Node {
-    pub depth: usize,
-    pub kind: Kind,
-    /// The key that it stands at, its parts joined by dots; empty in a list.
-    pub key: String,
-    pub key_place: usize,
-    pub place: usize,
-    /// A text, empty for every other kind.
-    pub text: String,
-}
-
-#[derive(Clone, Copy, Debug, PartialEq, Eq)]
+#[derive(Clone, Copy)]
 enum Bracket {
     List,
     Table,

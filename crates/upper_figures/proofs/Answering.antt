@@ -34,7 +34,7 @@ nobody_fails : (a b : Bool) → a ≡ false → (a && b) ≡ false
 nobody_fails true b none = absurd (true≢false none)
 nobody_fails false b none = refl
 
-of_executions : (S : System) (p : ℕ) (e : TraceEvent) → is_executed e ≡ false
+pub of_executions : (S : System) (p : ℕ) (e : TraceEvent) → is_executed e ≡ false
     → upper_execution S p e ≡ None
 of_executions S p (TraceEvent.Executed who place what outcome) none =
     absurd (true≢false none)

@@ -1,4 +1,5 @@
 pub mod Executing
+pub mod Failing
 pub mod Instructions
 pub mod Answering
 pub mod AlarmsSeen

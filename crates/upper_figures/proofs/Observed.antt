@@ -8,7 +8,7 @@ use Rattle.osek_base.specs.Proper.{IsProper}
 use Rattle.osek_base.specs.System.{System}
 use Rattle.osek_base.specs.Trace.{run}
 use Rattle.observations.specs.declared.observation.Observation.{Observation}
-use Rattle.observed_runs.specs.Observed.{Ticked, alarm_seen, answered, holders_seen, owner_of, routine_seen, task_seen, tick_at}
+use Rattle.observed_runs.specs.Observed.{Ticked, alarm_seen, answered, failure_of, holders_seen, owner_of, routine_seen, task_seen, tick_at}
 use Rattle.same_future.proofs.Tables.{length-table, table_at}
 use Rattle.figures.specs.AlarmSums.{alarm_figures}
 use Rattle.figures.specs.Counts.{capped}
@@ -25,6 +25,7 @@ module _ (S : System) (mode : ℕ) (arrivals : List Arrival) where
         tick = n;
         executor = option_map owner_of k.executed;
         answered = answered k.executed;
+        failure = failure_of k.executed;
         blockers = None;
         tasks = record { items = map (task_seen S k) (below (length S.tasks)) };
         routines = record { items = map (routine_seen k) (below (length S.routines)) };
@@ -47,6 +48,7 @@ module _ (S : System) (mode : ℕ) (arrivals : List Arrival) where
       seen = record {
         executor = refl;
         answered = refl;
+        failure = refl;
         tasks = refl;
         routines = refl;
         holders = refl;

@@ -4,6 +4,7 @@ use Rattle.std.specs.Prelude.{◌==◌, Option, Some, None, slice_index_or}
 use Rattle.std.specs.List.{filter, list_any}
 use Rattle.std.specs.Option.{option_map}
 use Rattle.osek_base.specs.declared.arrivals.Arrival.{Arrival}
+use Rattle.osek_base.specs.declared.executed.Executed.{Executed}
 use Rattle.osek_base.specs.declared.ids.Owner.{Owner}
 use Rattle.osek_base.specs.declared.ids.ResId.{ResId}
 use Rattle.osek_base.specs.Alarm.{alarms_advanced, due_alarms}
@@ -22,15 +23,16 @@ use Rattle.services.specs.Seen.{routine_of}
 use Rattle.kernel.specs.Shown.{holder, oldest_job}
 use Rattle.same_future.specs.Alike.{records_at}
 use Rattle.shown_ticks.proofs.Shown.{runs_show}
-use Rattle.observed_runs.specs.Observed.{Ticked, activations_by, alarm_seen, ending, executed_in, is_among, is_by, is_number, is_waiting, lost_of, one_if, refusing, routine_seen, state_seen, task_seen, tick_at, times}
+use Rattle.observed_runs.specs.Observed.{Ticked, activations_by, alarm_seen, ending, executed_in, failure_of, is_among, is_by, is_number, is_waiting, lost_of, one_if, refusing, routine_seen, state_seen, task_seen, tick_at, times}
 use Rattle.figures.specs.FigureSums.{is_routine, is_task}
 use Rattle.upper_bounds.specs.Above.{IsUpperTask, IsTheSameAlarm, IsTheSameResource, AreOneAbove}
 use Rattle.upper_bounds.specs.AlarmsAbove.{AlarmsAreAnsweredTheSame}
 use Rattle.upper_bounds.specs.ExecutedAbove.{ExecuteTheSame}
 use Rattle.upper_bounds.specs.StatesAbove.{HaveTheSameStates, IsSeenTheSame, executes, executing_at, holder as kept_holder}
-use Rattle.upper_figures.specs.ShownAbove.{ShowTheSameAbove, routine_fails, task_fails}
+use Rattle.upper_figures.specs.ShownAbove.{ShowTheSameAbove, if_upper, routine_fails, task_fails}
 use Rattle.upper_figures.proofs.AlarmsSeen.{activations_are, due_is, has_number, is_refusal, refused_is, refuses}
 use Rattle.upper_figures.proofs.Answering.{failed_is, fails, has_failed}
+use Rattle.upper_figures.proofs.Failing.{failure_is, failure_told}
 use Rattle.upper_figures.proofs.Executing.{TickTells, executed_of_one, tick_tells_one}
 use Rattle.upper_figures.proofs.Held.{holder_declared, holder_scheduler}
 use Rattle.upper_figures.proofs.Instructions.{ending_is, ends_job, is_any, refusing_is}
@@ -289,6 +291,17 @@ module _ (S B : System) (p : ℕ) (pair : AreOneAbove S B p) (states : HaveTheSa
   routine_fails_same i =
       failing_same (λ who. is_routine who i) refl (other_routine S p i) (other_routine B p i)
 
+  failure_same : if_upper S p (failure_of mine.executed)
+      ≡ if_upper B p (failure_of theirs.executed)
+  failure_same =
+      ap (λ (e : Option Executed). if_upper S p (failure_of e))
+      (executed_is S pair.proper mode arrivals n going)
+      ∙ failure_is S p (records_at S mode arrivals n) told_here.one
+      ∙ ap failure_told (executions.executions mode arrivals n)
+      ∙ sym (failure_is B p (records_at B mode arrivals n) told_there.one)
+      ∙ sym (ap (λ (e : Option Executed). if_upper B p (failure_of e))
+      (executed_is B pair.proper_there mode arrivals n going_there))
+
   pub tick_shows_the_same : ShowTheSameAbove S B p mine theirs
   tick_shows_the_same = record {
     tasks = task_same;
@@ -298,4 +311,5 @@ module _ (S B : System) (p : ℕ) (pair : AreOneAbove S B p) (states : HaveTheSa
     alarms = alarm_same;
     errors = task_fails_same;
     routine_errors = routine_fails_same;
+    failures = failure_same;
   }

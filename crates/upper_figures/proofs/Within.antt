@@ -1,6 +1,6 @@
 -- Where each tick shows the same of the upper part, bounds of one system hold in the other.
-use Rattle.std.proofs.Common.{◌≡◌, ℕ, zero, suc, ◌<◌, inl, inr, true, false, List, [], ◌∷◌, map, length, sym, ◌∙◌, ap, ap₂, subst, arith}
-use Rattle.std.specs.Prelude.{IsTrue, slice_index_or}
+use Rattle.std.proofs.Common.{◌≡◌, ℕ, zero, suc, ◌<◌, inl, inr, Bool, true, false, List, [], ◌∷◌, map, length, sym, ◌∙◌, ap, ap₂, subst, arith}
+use Rattle.std.specs.Prelude.{Contains, IfSome, IsTrue, Option, Some, None, if◌then◌else◌, slice_index_or}
 use Rattle.std.specs.List.{AllByRecursion}
 use Rattle.std.proofs.lemmas.Bool.{cases_lt}
 use Rattle.osek_base.specs.declared.arrivals.Arrival.{Arrival}
@@ -8,8 +8,11 @@ use Rattle.osek_base.specs.Agree.{is_upper_declared}
 use Rattle.osek_base.specs.Proper.{IsProper}
 use Rattle.osek_base.specs.System.{System}
 use Rattle.osek_base.specs.Trace.{run}
-use Rattle.osek_base.specs.Upper.{is_upper_alarm}
+use Rattle.osek_base.specs.Upper.{is_upper_alarm, is_upper_owner}
+use Rattle.observations.specs.declared.failure.Failure.{Failure}
 use Rattle.observations.specs.declared.observation.Observation.{Observation}
+use Rattle.observations.specs.declared.task_seen.TaskSeen.{TaskSeen}
+use Rattle.observed_runs.specs.Observed.{failure_of, task_seen, tick_at}
 use Rattle.figures.specs.declared.alarm_figures.AlarmFigures.{AlarmFigures}
 use Rattle.figures.specs.declared.resource_figures.ResourceFigures.{ResourceFigures}
 use Rattle.figures.specs.declared.routine_figures.RoutineFigures.{RoutineFigures}
@@ -22,11 +25,11 @@ use Rattle.figures.specs.RoutineSums.{routine_figures}
 use Rattle.figure_laws.specs.Labels.{IsWithin}
 use Rattle.figure_laws.specs.Times.{response_time, routine_time}
 use Rattle.run_figures.specs.RunFigures.{AreRunFigures, AreTicksOf}
-use Rattle.bound_labels.specs.Peaks.{Peaks, peak}
-use Rattle.run_bounds.specs.Bounds.{AreBounds, AreBoundsUpTo, AreWithin, KeepDistances}
+use Rattle.bound_peaks.specs.Peaks.{Peaks, peak}
+use Rattle.run_bounds.specs.Bounds.{AreBounds, AreBoundsUpTo, AreWithin, IsTickWithin, KeepDistances}
 use Rattle.upper_bounds.specs.Above.{IsTheSameAlarm, IsTheSameResource, IsUpperTask}
 use Rattle.upper_figures.specs.FiguresAbove.{AreBoundsAbove, AreBoundsAboveUpTo, AreWithinAbove, alarm_in_part, resource_in_part}
-use Rattle.upper_figures.specs.ShownAbove.{TicksShowTheSame}
+use Rattle.upper_figures.specs.ShownAbove.{TicksShowTheSame, if_upper}
 use Rattle.upper_figures.proofs.Bare.{bare_task, task_errors_bare, task_refused_bare, task_responses_bare}
 use Rattle.upper_figures.proofs.Carried.{alarms_same, declared_same, last_same, routines_same, scheduler_same, tasks_same}
 use Rattle.upper_figures.proofs.Observed.{are_figures, are_run_figures, figures_of, observed_before}
@@ -238,6 +241,17 @@ module _ (S B : System) (p : ℕ) (numbers : AreNumbered S B p) (shown : TicksSh
 
 -- ---- the law for two systems
 
+-- what is of the upper part is among some where it is among them
+if_upper_within : (B : System) (p : ℕ) (failures : List Failure) (failure : Option Failure)
+    → IfSome failure (λ x. Contains failures x)
+    → IfSome (if_upper B p failure) (λ x. Contains failures x)
+if_upper_within B p failures None there = tt
+if_upper_within B p failures (Some x) there = go (is_upper_owner B p x.owner)
+  where
+    go : (upper : Bool) → IfSome (if upper then Some x else None) (λ y. Contains failures y)
+    go true = there
+    go false = tt
+
 pub bounds_there_up_to : (S B : System) (p : ℕ) → AreNumbered S B p → IsProper B
     → TicksShowTheSame S B p
     → ((mode : ℕ) (arrivals : List Arrival) (n : ℕ)
@@ -245,15 +259,36 @@ pub bounds_there_up_to : (S B : System) (p : ℕ) → AreNumbered S B p → IsPr
     → (mode : ℕ) (distances : List ℕ) (cap : ℕ) (peaks : Peaks) (count : ℕ)
     → AreBoundsUpTo B mode distances cap peaks count
     → AreBoundsAboveUpTo S p mode distances cap peaks count
-bounds_there_up_to S B p numbers proper shown over mode distances cap peaks count bounds arrivals n f
-    few keep are =
-    let going : (i : ℕ) → i < n → (run B mode arrivals i).state.over ≡ false =
-    λ i low. sym (over mode arrivals i)
-    ∙ going_at S mode arrivals n are.seen are.ticks i low in
-    within_above S B p numbers shown mode cap peaks arrivals n f are
-    (bounds arrivals n (figures_there S B p numbers shown mode cap peaks arrivals n f are) few
-    (distances_there S B distances arrivals numbers.routines keep)
-    (are_run_figures B mode arrivals n proper are.small going))
+bounds_there_up_to S B p numbers proper shown over mode distances cap peaks count bounds = record {
+  figures = λ arrivals n f few keep are.
+      let going : (i : ℕ) → i < n → (run B mode arrivals i).state.over ≡ false =
+      λ i low. sym (over mode arrivals i)
+      ∙ going_at S mode arrivals n are.seen are.ticks i low in
+      within_above S B p numbers shown mode cap peaks arrivals n f are
+      (bounds.figures arrivals n (figures_there S B p numbers shown mode cap peaks arrivals n f are)
+      few (distances_there S B distances arrivals numbers.routines keep)
+      (are_run_figures B mode arrivals n proper are.small going));
+  ticks = λ arrivals n early keep going.
+      let same = shown mode arrivals n going in
+      let there : IsTickWithin B mode peaks arrivals n =
+      bounds.ticks arrivals n early
+      (distances_there S B distances arrivals numbers.routines keep)
+      (sym (over mode arrivals n) ∙ going) in
+      record {
+        failures =
+            subst (λ (f : Option Failure). IfSome f (λ x. Contains peaks.failures x))
+            (sym same.failures)
+            (if_upper_within B p peaks.failures (failure_of (tick_at B mode arrivals n).executed)
+            there.failures);
+        jobs = λ t is.
+            let few = there.jobs t (numbers.tasks t is).known in
+            let alike : (task_seen S (tick_at S mode arrivals n) t).jobs
+            ≡ (task_seen B (tick_at B mode arrivals n) t).jobs =
+            ap (λ (x : TaskSeen). x.jobs) (same.tasks t is) in
+            omega (arith, few, alike);
+        shutdown = λ none. over mode arrivals (suc n) ∙ there.shutdown none;
+      };
+}
 
 pub bounds_there : (S B : System) (p : ℕ) → AreNumbered S B p → IsProper B
     → TicksShowTheSame S B p
@@ -261,6 +296,5 @@ pub bounds_there : (S B : System) (p : ℕ) → AreNumbered S B p → IsProper B
     → (run S mode arrivals n).state.over ≡ (run B mode arrivals n).state.over)
     → (mode : ℕ) (distances : List ℕ) (cap : ℕ) (peaks : Peaks)
     → AreBounds B mode distances cap peaks → AreBoundsAbove S p mode distances cap peaks
-bounds_there S B p numbers proper shown over mode distances cap peaks bounds arrivals n f keep are =
-    bounds_there_up_to S B p numbers proper shown over mode distances cap peaks n
-    (λ others m g few. bounds others m g) arrivals n f (omega arith) keep are
+bounds_there S B p numbers proper shown over mode distances cap peaks bounds count =
+    bounds_there_up_to S B p numbers proper shown over mode distances cap peaks count (bounds count)

@@ -1,12 +1,14 @@
 -- Partitions, no part of the standards. Bounds that are found in the upper part by itself hold in
 -- every system with that part.
-use Rattle.std.specs.Prelude.{ℕ, ◌≡◌, ◌<◌, ◌≤◌, false, IsTrue, List, [], length, slice_index_or}
+use Rattle.std.specs.Prelude.{ℕ, suc, ◌≡◌, ◌<◌, ◌≤◌, false, Contains, IfSome, IsTrue, List, [], length, slice_index_or}
 use Rattle.osek_base.specs.declared.arrivals.Arrival.{Arrival}
 use Rattle.osek_base.specs.System.{System}
+use Rattle.osek_base.specs.Trace.{run}
 use Rattle.osek_base.specs.Agree.{is_upper_declared, rank, upper_part}
 use Rattle.osek_base.specs.Proper.{IsProper}
 use Rattle.osek_base.specs.Separable.{Separable}
 use Rattle.osek_base.specs.Upper.{is_upper_alarm}
+use Rattle.observed_runs.specs.Observed.{failure_of, task_seen, tick_at}
 use Rattle.figures.specs.AlarmSums.{alarm_figures}
 use Rattle.figures.specs.FigureSums.{RunFigures, task_figures}
 use Rattle.figures.specs.ResourceSums.{resource_figures}
@@ -14,9 +16,10 @@ use Rattle.figures.specs.RoutineSums.{routine_figures}
 use Rattle.figure_laws.specs.Labels.{IsWithin}
 use Rattle.figure_laws.specs.Times.{response_time, routine_time}
 use Rattle.run_figures.specs.RunFigures.{AreRunFigures}
-use Rattle.bound_labels.specs.Peaks.{Peaks, has_come, peak}
+use Rattle.bound_peaks.specs.Peaks.{Peaks, has_come, peak, routine_fails, task_fails}
 use Rattle.run_bounds.specs.Bounds.{AreBounds, AreBoundsUpTo, KeepDistances}
 use Rattle.upper_bounds.specs.Above.{AreOneAbove, IsUpperTask}
+use Rattle.upper_figures.specs.ShownAbove.{if_upper}
 
 -- the numbers that an upper resource and an upper alarm have in the upper part by itself. Upper
 -- tasks and routines keep theirs, and RES_SCHEDULER stands behind the declared resources there too
@@ -56,23 +59,35 @@ pub record AreWithinAbove (S : System) (p cap : ℕ) (peaks : Peaks) (f : RunFig
   pub actions : (a : ℕ) → a < length S.alarms → IsTrue (is_upper_alarm S p a)
       → has_come peaks.actions (alarm_in_part S p a) ≡ false
       → (slice_index_or f.alarms a (alarm_figures [])).refused ≡ 0
-  pub errors : (t : ℕ) → IsUpperTask S p t → has_come peaks.errors t ≡ false
+  pub errors : (t : ℕ) → IsUpperTask S p t → task_fails peaks.failures t ≡ false
       → (slice_index_or f.tasks t (task_figures [])).counts.errors ≡ 0
-  pub routine_errors : (i : ℕ) → i < length S.routines → has_come peaks.routine_errors i ≡ false
+  pub routine_errors : (i : ℕ) → i < length S.routines → routine_fails peaks.failures i ≡ false
       → (slice_index_or f.routines i (routine_figures [])).errors ≡ 0
 
--- whatever arrives that keeps the distances, and for however many ticks
+-- of tick n of a run what the upper part shows is within them: a service of it that is answered
+-- other than E_OK is one of theirs, no upper task has more jobs, and the run is over behind it only
+-- where they say so
+pub record IsTickWithinAbove (S : System) (p mode : ℕ) (peaks : Peaks) (arrivals : List Arrival)
+    (n : ℕ) : Type 0 where
+  pub failures : IfSome (if_upper S p (failure_of (tick_at S mode arrivals n).executed))
+      (λ x. Contains peaks.failures x)
+  pub jobs : (t : ℕ) → IsUpperTask S p t
+      → (task_seen S (tick_at S mode arrivals n) t).jobs ≤ peak peaks.jobs t
+  pub shutdown : peaks.shuts_down ≡ false → (run S mode arrivals (suc n)).state.over ≡ false
+
+-- whatever arrives that keeps the distances, for so many ticks at most
+pub record AreBoundsAboveUpTo (S : System) (p mode : ℕ) (distances : List ℕ) (cap : ℕ)
+    (peaks : Peaks) (count : ℕ) : Type 0 where
+  pub figures : (arrivals : List Arrival) (n : ℕ) (f : RunFigures) → n ≤ count
+      → KeepDistances S distances arrivals → AreRunFigures S mode arrivals n f
+      → AreWithinAbove S p cap peaks f
+  pub ticks : (arrivals : List Arrival) (n : ℕ) → n < count → KeepDistances S distances arrivals
+      → (run S mode arrivals n).state.over ≡ false → IsTickWithinAbove S p mode peaks arrivals n
+
+-- and for however many ticks
 abbrev pub AreBoundsAbove : System → ℕ → ℕ → List ℕ → ℕ → Peaks → Type 0
 AreBoundsAbove S p mode distances cap peaks =
-    (arrivals : List Arrival) (n : ℕ) (f : RunFigures) → KeepDistances S distances arrivals
-    → AreRunFigures S mode arrivals n f → AreWithinAbove S p cap peaks f
-
--- and for so many ticks at most
-abbrev pub AreBoundsAboveUpTo : System → ℕ → ℕ → List ℕ → ℕ → Peaks → ℕ → Type 0
-AreBoundsAboveUpTo S p mode distances cap peaks count =
-    (arrivals : List Arrival) (n : ℕ) (f : RunFigures) → n ≤ count
-    → KeepDistances S distances arrivals → AreRunFigures S mode arrivals n f
-    → AreWithinAbove S p cap peaks f
+    (count : ℕ) → AreBoundsAboveUpTo S p mode distances cap peaks count
 
 -- bounds of the upper part of a system by itself hold in another one, for as many ticks
 pub record BoundsHoldIn (S B : System) (p : ℕ) : Type 0 where

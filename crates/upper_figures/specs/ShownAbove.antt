@@ -1,13 +1,15 @@
 -- Partitions, no part of the standards. What each tick shows of the upper part is the same in
 -- systems that agree.
-use Rattle.std.specs.Prelude.{ℕ, ◌≡◌, Bool, false, ◌&&◌, List}
+use Rattle.std.specs.Prelude.{ℕ, ◌≡◌, Bool, false, if◌then◌else◌, ◌&&◌, List, Option, Some, None}
 use Rattle.std.specs.Option.{option_map}
 use Rattle.osek_base.specs.declared.arrivals.Arrival.{Arrival}
 use Rattle.osek_base.specs.declared.ids.ResId.{ResId}
 use Rattle.osek_base.specs.System.{System}
 use Rattle.osek_base.specs.Trace.{run}
+use Rattle.osek_base.specs.Upper.{is_upper_owner}
 use Rattle.kernel.specs.Shown.{holder}
-use Rattle.observed_runs.specs.Observed.{Ticked, alarm_seen, answered, owner_of, routine_seen, task_seen, tick_at}
+use Rattle.observations.specs.declared.failure.Failure.{Failure}
+use Rattle.observed_runs.specs.Observed.{Ticked, alarm_seen, answered, failure_of, owner_of, routine_seen, task_seen, tick_at}
 use Rattle.figures.specs.FigureSums.{is_error, is_routine, is_task}
 use Rattle.upper_bounds.specs.Above.{IsUpperTask, IsTheSameResource, IsTheSameAlarm, IsThatOfTheUpperPart}
 
@@ -17,6 +19,11 @@ task_fails k t = is_task (option_map owner_of k.executed) t && is_error (answere
 
 abbrev pub routine_fails : Ticked → ℕ → Bool
 routine_fails k i = is_routine (option_map owner_of k.executed) i && is_error (answered k.executed)
+
+-- the instruction of a tick that fails, where it is of the upper part
+abbrev pub if_upper : System → ℕ → Option Failure → Option Failure
+if_upper S p None = None
+if_upper S p (Some x) = if is_upper_owner S p x.owner then Some x else None
 
 -- a tick of one system and one of another show the same of each upper task, of each routine, of who
 -- holds each upper resource and RES_SCHEDULER, of each upper alarm, and of the services of upper
@@ -30,6 +37,8 @@ pub record ShowTheSameAbove (S B : System) (p : ℕ) (k j : Ticked) : Type 0 whe
   pub alarms : (a c : ℕ) → IsTheSameAlarm S B p a c → alarm_seen k a ≡ alarm_seen j c
   pub errors : (t : ℕ) → IsUpperTask S p t → task_fails k t ≡ task_fails j t
   pub routine_errors : (i : ℕ) → routine_fails k i ≡ routine_fails j i
+  pub failures :
+      if_upper S p (failure_of k.executed) ≡ if_upper B p (failure_of j.executed)
 
 -- in each mode and under the same arrivals, each tick before which the run isn't over
 abbrev pub TicksShowTheSame : System → System → ℕ → Type 0

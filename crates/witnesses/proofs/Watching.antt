@@ -2,6 +2,7 @@
 use Rattle.std.proofs.Common.{ℕ, suc, ◌≡◌, ◌<◌, ◌≤◌, ◌+◌, ◌-◌, ◌^◌, Bool, true, false, List, [], ◌∷◌, map, length, refl, sym, ◌∙◌, ap, subst, arith, add-one, true≢false}
 use Rattle.std.specs.Prelude.{◌||◌, IfSome, Option, Some, nat_le, nat_lt, not, slice_index_or}
 use Rattle.osek_base.specs.declared.arrivals.Arrival.{Arrival}
+use Rattle.std.proofs.lemmas.Bool.{leb-true}
 use Rattle.osek_base.specs.declared.limits.TheConstants.{MAX_TICKS}
 use Rattle.osek_base.specs.Proper.{IsProper}
 use Rattle.osek_base.specs.System.{System}
@@ -20,10 +21,10 @@ use Rattle.figure_laws.specs.Times.{response_time, routine_time}
 use Rattle.upper_figures.proofs.Bare.{bare_task, task_errors_bare, task_refused_bare, task_responses_bare}
 use Rattle.upper_figures.proofs.Observed.{are_figures, figures_of}
 use Rattle.bounds.specs.declared.figure.Figure.{Figure}
-use Rattle.bounds.specs.declared.figure.Figure.TheVariants.{Errors, Hold, Latency, Loss, Refusal, RefusedAction, Response, RoutineErrors}
+use Rattle.bounds.specs.declared.figure.Figure.TheVariants.{Errors, Hold, Jobs, Latency, Loss, Refusal, RefusedAction, Response, RoutineErrors, Shutdown}
 use Rattle.bounds.specs.Figures.{one_if}
 use Rattle.witnesses.specs.declared.watched.Watched.{Watched}
-use Rattle.witnesses.specs.Running.{Watches, number_of}
+use Rattle.witnesses.specs.Running.{Watches, WatchesTicks, number_of}
 use Rattle.witnesses.specs.Shown.{IsOf, Shows, shown}
 use Rattle.witnesses.specs.Watched.{AreWatched, bare_task_tick, shown_of, ticks_of}
 
@@ -32,7 +33,7 @@ use Rattle.witnesses.specs.Watched.{AreWatched, bare_task_tick, shown_of, ticks_
 -- a run is n ticks behind another one, and the things of a number were watched up to there
 pub record IsWatched (first now : Run) (n k : ℕ) (w : Watched) : Type 0 where
   pub same : now ≡ record first { ticks = n }
-  pub watches : Watches first.system first.mode first.arrivals n k w
+  pub watches : WatchesTicks first.system first.mode first.arrivals n k w
 
 pub begun : (first : Run) (k : ℕ) (w : Watched) → first.ticks ≡ 0 → AreWatched k [] w
     → IsWatched first first 0 k w
@@ -87,6 +88,36 @@ one_more first old new n k v w o is goes step observed more =
       };
     })
 
+-- one tick more tells whether a run is over
+pub told_by_one_more : (r : Run) (goes : Bool) → r.ticks < MAX_TICKS → goes ≡ not (is_over r)
+    → not goes ≡ (run_of r).state.over
+told_by_one_more r goes low is =
+    ap not is ∙ go (nat_le MAX_TICKS r.ticks) (run_of r).state.over refl
+  where
+    go : (b over : Bool) → nat_le MAX_TICKS r.ticks ≡ b → not (not (b || over)) ≡ over
+    go false false is = refl
+    go false true is = refl
+    go true over is = let high = leb-true MAX_TICKS r.ticks is in absurd (omega (arith, low, high))
+
+pub ended : (first now : Run) (n k : ℕ) (w : Watched) (over : Bool) → IsWatched first now n k w
+    → over ≡ (run_of now).state.over
+    → Watches first.system first.mode first.arrivals n k (record w { is_over = over })
+ended first now n k w over is ends = record {
+  figures = record {
+    seen = is.watches.seen;
+    ticks = is.watches.ticks;
+    are = record {
+      task = is.watches.are.task;
+      routine = is.watches.are.routine;
+      resource = is.watches.are.resource;
+      alarm = is.watches.are.alarm;
+      last = is.watches.are.last;
+      jobs = is.watches.are.jobs;
+    };
+  };
+  over = ends ∙ ap (λ (r : Run). (run_of r).state.over) is.same;
+}
+
 -- ---- what is shown
 
 tasks_same : (levels : List ℕ) (k : ℕ) (seen : List Observation)
@@ -97,7 +128,7 @@ tasks_same levels k (o ∷ before) =
     ap (λ (ts : List TaskTick). bare_task (bare_task_tick o k) ∷ ts) (tasks_same levels k before)
 
 module _ (S : System) (seen : List Observation) (f : RunFigures) (are : AreFigures S seen f)
-    (w : Watched) where
+    (w : Watched) (over : Bool) (ends : w.is_over ≡ over) where
   responses : (k : ℕ) → AreWatched k seen w → k < length S.tasks
       → (slice_index_or f.tasks k (task_figures [])).responses ≡ w.task.responses
   responses k watched low =
@@ -130,9 +161,10 @@ module _ (S : System) (seen : List Observation) (f : RunFigures) (are : AreFigur
   last k watched = are.last ∙ sym watched.last
 
   shown_same : (figure : Figure) → AreWatched (number_of figure) seen w → IsOf S figure
-      → shown f figure ≡ shown_of w figure
+      → shown f seen over figure ≡ shown_of w figure
   shown_same (Response k) watched low = λ i.
       ticks_of (response_time (last k watched i) (responses k watched low i))
+  shown_same (Jobs k) watched low = sym watched.jobs
   shown_same (Refusal k) watched low = ap (λ n. one_if (nat_lt 0 n)) (refused k watched low)
   shown_same (Latency k) watched low = λ i.
       ticks_of (routine_time (last k watched i) (routine k watched low i))
@@ -147,6 +179,7 @@ module _ (S : System) (seen : List Observation) (f : RunFigures) (are : AreFigur
   shown_same (Errors k) watched low = ap (λ n. one_if (nat_lt 0 n)) (errors k watched low)
   shown_same (RoutineErrors k) watched low =
       ap (λ (g : RoutineFigures). one_if (nat_lt 0 g.errors)) (routine k watched low)
+  shown_same Shutdown watched low = ap one_if (sym ends)
 
 -- what was watched of a run is what its figures show
 pub shows : (S : System) (mode : ℕ) (arrivals : List Arrival) (n : ℕ) (figure : Figure)
@@ -154,18 +187,19 @@ pub shows : (S : System) (mode : ℕ) (arrivals : List Arrival) (n : ℕ) (figur
     → Watches S mode arrivals n (number_of figure) w
     → Shows S mode arrivals n figure (shown_of w figure)
 shows S mode arrivals n figure w proper small of watches = record {
-  figures = figures_of S watches.seen;
+  figures = figures_of S watches.figures.seen;
   are = record {
-    seen = watches.seen;
+    seen = watches.figures.seen;
     proper = proper;
     small = small;
-    ticks = watches.ticks;
-    figures = are_figures S watches.seen;
+    ticks = watches.figures.ticks;
+    figures = are_figures S watches.figures.seen;
   };
   of = of;
   shown =
-      shown_same S watches.seen (figures_of S watches.seen) (are_figures S watches.seen) w figure
-      watches.are of;
+      shown_same S watches.figures.seen (figures_of S watches.figures.seen)
+      (are_figures S watches.figures.seen) w (run S mode arrivals n).state.over watches.over figure
+      watches.figures.are of;
 }
 
 -- the same, of a run that was begun with this system, this mode and these arrivals

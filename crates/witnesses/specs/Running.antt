@@ -1,17 +1,19 @@
 -- A run that is watched.
-use Rattle.std.specs.Prelude.{ℕ, List}
+use Rattle.std.specs.Prelude.{ℕ, ◌≡◌, List}
 use Rattle.osek_base.specs.declared.arrivals.Arrival.{Arrival}
 use Rattle.osek_base.specs.System.{System}
+use Rattle.osek_base.specs.Trace.{run}
 use Rattle.observations.specs.declared.observation.Observation.{Observation}
 use Rattle.run_figures.specs.RunFigures.{AreTicksOf}
 use Rattle.bounds.specs.declared.figure.Figure.{Figure}
-use Rattle.bounds.specs.declared.figure.Figure.TheVariants.{Errors, Hold, Latency, Loss, Refusal, RefusedAction, Response, RoutineErrors}
+use Rattle.bounds.specs.declared.figure.Figure.TheVariants.{Errors, Hold, Jobs, Latency, Loss, Refusal, RefusedAction, Response, RoutineErrors, Shutdown}
 use Rattle.witnesses.specs.declared.watched.Watched.{Watched}
 use Rattle.witnesses.specs.Watched.{AreWatched}
 
 -- the number of the thing of a figure
 abbrev pub number_of : Figure → ℕ
 number_of (Response k) = k
+number_of (Jobs k) = k
 number_of (Refusal k) = k
 number_of (Latency i) = i
 number_of (Loss i) = i
@@ -19,10 +21,17 @@ number_of (Hold r) = r
 number_of (RefusedAction a) = a
 number_of (Errors k) = k
 number_of (RoutineErrors i) = i
+number_of Shutdown = 0
 
 -- figures of the things of a number over the first n ticks of a run
-pub record Watches (S : System) (mode : ℕ) (arrivals : List Arrival) (n k : ℕ)
+pub record WatchesTicks (S : System) (mode : ℕ) (arrivals : List Arrival) (n k : ℕ)
     (w : Watched) : Type 0 where
   pub seen : List Observation
   pub ticks : AreTicksOf S mode arrivals n seen
   pub are : AreWatched k seen w
+
+-- and whether the run is over behind them
+pub record Watches (S : System) (mode : ℕ) (arrivals : List Arrival) (n k : ℕ)
+    (w : Watched) : Type 0 where
+  pub figures : WatchesTicks S mode arrivals n k w
+  pub over : w.is_over ≡ (run S mode arrivals n).state.over

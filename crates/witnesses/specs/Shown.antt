@@ -1,7 +1,9 @@
 -- What a run shows of figures, and runs that show what bounds tell.
-use Rattle.std.specs.Prelude.{ℕ, ◌≡◌, ◌<◌, List, [], nat_lt, length, slice_index_or}
+use Rattle.std.specs.Prelude.{ℕ, ◌≡◌, ◌<◌, Bool, List, [], nat_lt, length, slice_index_or}
 use Rattle.osek_base.specs.declared.arrivals.Arrival.{Arrival}
 use Rattle.osek_base.specs.System.{System}
+use Rattle.osek_base.specs.Trace.{run}
+use Rattle.observations.specs.declared.observation.Observation.{Observation}
 use Rattle.figures.specs.AlarmSums.{alarm_figures}
 use Rattle.figures.specs.FigureSums.{RunFigures, held_count, task_figures}
 use Rattle.figures.specs.ResourceSums.{resource_figures}
@@ -9,36 +11,40 @@ use Rattle.figures.specs.RoutineSums.{routine_figures}
 use Rattle.figure_laws.specs.Times.{response_time, routine_time}
 use Rattle.run_figures.specs.RunFigures.{AreRunFigures}
 use Rattle.run_bounds.specs.Bounds.{KeepDistances}
-use Rattle.bound_labels.specs.Peaks.{Peaks}
+use Rattle.bound_peaks.specs.Peaks.{Peaks}
 use Rattle.bounds.specs.declared.figure.Figure.{Figure}
-use Rattle.bounds.specs.declared.figure.Figure.TheVariants.{Errors, Hold, Latency, Loss, Refusal, RefusedAction, Response, RoutineErrors}
+use Rattle.bounds.specs.declared.figure.Figure.TheVariants.{Errors, Hold, Jobs, Latency, Loss, Refusal, RefusedAction, Response, RoutineErrors, Shutdown}
 use Rattle.bounds.specs.declared.finding.Bounds.{Bounds}
 use Rattle.bounds.specs.Figures.{one_if, told}
 use Rattle.witnesses.specs.declared.witness.Witness.{Witness}
-use Rattle.witnesses.specs.Watched.{ticks_of}
+use Rattle.witnesses.specs.Watched.{most_jobs, ticks_of}
 
--- what the figures of a run show: the longest time of a task or a routine, or the age of what
--- hasn't ended or started behind the last tick, if that is greater; the longest hold; and of what
--- is lost, refused or answered other than E_OK 1 where anything is
-abbrev pub shown : RunFigures → Figure → ℕ
-shown f (Response k) =
+-- what a run shows by its figures, its observations and whether it is over: the longest time of a
+-- task or a routine, or the age of what hasn't ended or started behind the last tick, if that is
+-- greater; the most jobs at once; the longest hold; of what is lost, refused or answered other than
+-- E_OK 1 where anything is; and 1 where a ShutdownOS has ended it
+abbrev pub shown : RunFigures → List Observation → Bool → Figure → ℕ
+shown f seen over (Response k) =
     ticks_of (response_time f.last (slice_index_or f.tasks k (task_figures [])).responses)
-shown f (Refusal k) =
+shown f seen over (Jobs k) = most_jobs k seen
+shown f seen over (Refusal k) =
     one_if (nat_lt 0 (slice_index_or f.tasks k (task_figures [])).counts.refused)
-shown f (Latency i) =
+shown f seen over (Latency i) =
     ticks_of (routine_time f.last (slice_index_or f.routines i (routine_figures [])))
-shown f (Loss i) = one_if (nat_lt 0 (slice_index_or f.routines i (routine_figures [])).losses)
-shown f (Hold r) = ticks_of (slice_index_or f.resources r (resource_figures [])).longest
-shown f (RefusedAction a) =
+shown f seen over (Loss i) = one_if (nat_lt 0 (slice_index_or f.routines i (routine_figures [])).losses)
+shown f seen over (Hold r) = ticks_of (slice_index_or f.resources r (resource_figures [])).longest
+shown f seen over (RefusedAction a) =
     one_if (nat_lt 0 (slice_index_or f.alarms a (alarm_figures [])).refused)
-shown f (Errors k) =
+shown f seen over (Errors k) =
     one_if (nat_lt 0 (slice_index_or f.tasks k (task_figures [])).counts.errors)
-shown f (RoutineErrors i) =
+shown f seen over (RoutineErrors i) =
     one_if (nat_lt 0 (slice_index_or f.routines i (routine_figures [])).errors)
+shown f seen over Shutdown = one_if over
 
 -- a system has the thing of a figure
 abbrev pub IsOf : System → Figure → Type 0
 IsOf S (Response k) = k < length S.tasks
+IsOf S (Jobs k) = k < length S.tasks
 IsOf S (Refusal k) = k < length S.tasks
 IsOf S (Latency i) = i < length S.routines
 IsOf S (Loss i) = i < length S.routines
@@ -46,17 +52,20 @@ IsOf S (Hold r) = r < held_count S
 IsOf S (RefusedAction a) = a < length S.alarms
 IsOf S (Errors k) = k < length S.tasks
 IsOf S (RoutineErrors i) = i < length S.routines
+IsOf S Shutdown = Unit {0}
 
 -- what is told of a figure isn't above a cap
 abbrev pub IsBelow : ℕ → Peaks → Figure → Type 0
 IsBelow cap peaks (Response k) = told peaks (Response k) < cap
 IsBelow cap peaks (Latency i) = told peaks (Latency i) < cap
 IsBelow cap peaks (Hold r) = told peaks (Hold r) < cap
+IsBelow cap peaks (Jobs k) = Unit {0}
 IsBelow cap peaks (Refusal k) = Unit {0}
 IsBelow cap peaks (Loss i) = Unit {0}
 IsBelow cap peaks (RefusedAction a) = Unit {0}
 IsBelow cap peaks (Errors k) = Unit {0}
 IsBelow cap peaks (RoutineErrors i) = Unit {0}
+IsBelow cap peaks Shutdown = Unit {0}
 
 -- the first n ticks of a run show so much of a figure
 pub record Shows (S : System) (mode : ℕ) (arrivals : List Arrival) (n : ℕ) (figure : Figure)
@@ -64,7 +73,7 @@ pub record Shows (S : System) (mode : ℕ) (arrivals : List Arrival) (n : ℕ) (
   pub figures : RunFigures
   pub are : AreRunFigures S mode arrivals n figures
   pub of : IsOf S figure
-  pub shown : shown figures figure ≡ value
+  pub shown : shown figures are.seen (run S mode arrivals n).state.over figure ≡ value
 
 -- the arrivals of a witness keep distances, and its run shows what bounds tell of a figure
 pub record IsWitness (S : System) (mode : ℕ) (distances : List ℕ) (found : Bounds)

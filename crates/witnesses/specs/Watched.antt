@@ -1,5 +1,5 @@
 -- Figures of the things of one number, over observations, newest first.
-use Rattle.std.specs.Prelude.{ℕ, ◌≡◌, false, ◌&&◌, List, map, Option, Some, None, nat_lt, slice_index_or}
+use Rattle.std.specs.Prelude.{ℕ, ◌≡◌, false, ◌&&◌, List, [], ◌∷◌, map, max, Option, Some, None, nat_lt, slice_index_or}
 use Rattle.observations.specs.declared.observation.Observation.{Observation}
 use Rattle.figures.specs.declared.reached.Reached.{Reached}
 use Rattle.figures.specs.declared.task_tick.TaskTick.{TaskTick}
@@ -9,7 +9,7 @@ use Rattle.figures.specs.ResourceSums.{resource_figures}
 use Rattle.figures.specs.RoutineSums.{routine_figures}
 use Rattle.figure_laws.specs.Times.{response_time, routine_time}
 use Rattle.bounds.specs.declared.figure.Figure.{Figure}
-use Rattle.bounds.specs.declared.figure.Figure.TheVariants.{Errors, Hold, Latency, Loss, Refusal, RefusedAction, Response, RoutineErrors}
+use Rattle.bounds.specs.declared.figure.Figure.TheVariants.{Errors, Hold, Jobs, Latency, Loss, Refusal, RefusedAction, Response, RoutineErrors, Shutdown}
 use Rattle.bounds.specs.Figures.{one_if}
 use Rattle.witnesses.specs.declared.watched.Watched.{Watched}
 
@@ -24,6 +24,11 @@ bare_task_tick o k =
       blockers = None;
     }
 
+-- the most jobs of a task at once
+abbrev pub most_jobs : ℕ → List Observation → ℕ
+most_jobs k [] = 0
+most_jobs k (o ∷ before) = max (slice_index_or o.tasks.items k unseen_task).jobs (most_jobs k before)
+
 -- the figures of the things of a number, over observations
 pub record AreWatched (k : ℕ) (seen : List Observation) (w : Watched) : Type 0 where
   pub task : w.task ≡ task_figures (map (λ o. bare_task_tick o k) seen)
@@ -31,6 +36,7 @@ pub record AreWatched (k : ℕ) (seen : List Observation) (w : Watched) : Type 0
   pub resource : w.resource ≡ resource_figures (map (λ o. holder_tick o k) seen)
   pub alarm : w.alarm ≡ alarm_figures (map (λ o. alarm_tick o k) seen)
   pub last : w.last ≡ last_tick seen
+  pub jobs : w.jobs ≡ most_jobs k seen
 
 -- the ticks of a figure, 0 where there is none
 abbrev pub ticks_of : Option Reached → ℕ
@@ -40,6 +46,7 @@ ticks_of (Some r) = r.ticks
 -- what they show of a figure
 abbrev pub shown_of : Watched → Figure → ℕ
 shown_of w (Response k) = ticks_of (response_time w.last w.task.responses)
+shown_of w (Jobs k) = w.jobs
 shown_of w (Refusal k) = one_if (nat_lt 0 w.task.counts.refused)
 shown_of w (Latency i) = ticks_of (routine_time w.last w.routine)
 shown_of w (Loss i) = one_if (nat_lt 0 w.routine.losses)
@@ -47,3 +54,4 @@ shown_of w (Hold r) = ticks_of w.resource.longest
 shown_of w (RefusedAction a) = one_if (nat_lt 0 w.alarm.refused)
 shown_of w (Errors k) = one_if (nat_lt 0 w.task.counts.errors)
 shown_of w (RoutineErrors i) = one_if (nat_lt 0 w.routine.errors)
+shown_of w Shutdown = one_if w.is_over

@@ -12,13 +12,17 @@ ghost use Rattle.witnesses.specs.Endless.{IsEndless};
 use crate::again::{again, come_before};
 use crate::apart::{are_of_routines, keep_distances};
 use crate::candidate::arrivals_of;
+use crate::going_on::{GoingOn, go_on};
 use crate::lasso::comes_twice;
 use crate::suspect::suspected;
 use bounds::{Bounds, Figure};
 use endless_runs::lassos_are_endless;
 use needs::{Needs, needed_data};
-use osek_base::{Arrival, Arrivals, MAX_ARRIVALS, ModeId, System};
+use osek_base::{Arrival, Arrivals, MAX_ARRIVALS, MAX_TICKS, ModeId, System};
 use std::alloc::{AllocError, Global};
+
+/// As how many times the ticks of a path a run that goes on behind it is walked.
+const LENGTHS: u32 = 5;
 
 /// A run that comes twice to one state while a job of a task stands, so that it can be gone on
 /// without end: what arrives from the one tick on comes once more behind the other, and so on.
@@ -133,14 +137,52 @@ fn find_in(
     )
 }
 
+/// As [`find_endless`], by the run by which a search has come to the task's greatest response, where
+/// interrupts go on behind it as is said.
+fn find_by(
+    alloc: Global,
+    system: &System,
+    mode: ModeId,
+    distances: &[u32],
+    path: &[u64],
+    how: GoingOn,
+    task: usize,
+) -> Result<Option<Endless>, AllocError>
+    ensures { IfOk result (λ endless.
+        IfSome endless (IsEndless system.now mode distances.now task)) }
+{
+    let count = system.routine_count();
+    let mut arrivals = arrivals_of(alloc, path, count)?;
+    let ticks = path.len().min(MAX_TICKS as usize) as u32;
+    let until = MAX_TICKS.min(ticks.saturating_mul(LENGTHS));
+    go_on(alloc, &mut arrivals, how, distances, count, ticks, until)?;
+    arrivals.truncate(MAX_ARRIVALS);
+    let Some(arrivals) = Arrivals::new(arrivals) else {
+        return Ok(None);
+    };
+    if !are_of_routines(system, arrivals.list()) {
+        return Ok(None);
+    }
+    find_in(
+        alloc,
+        system,
+        mode,
+        distances,
+        &arrivals,
+        until as usize,
+        task,
+    )
+}
+
 /// Whether a task can be kept from ending for ever: a run, where one is found, that comes twice to
 /// one state while a job of the task stands ready or runs, and neither ends nor begins to wait. So
 /// no number of ticks bounds the task's greatest response. Tasks are numbered from 0.
 /// Its interrupts keep the distances, in ticks by routine, 1 where none is given, also where those
 /// between the two states come again.
 ///
-/// The run that is tried is that by which a search has come to the task's greatest response, so it
-/// may be that none is found. An error is want of memory.
+/// The run that is tried is that by which a search has come to the task's greatest response, and
+/// behind it no interrupt comes, or else each as soon as it may; so it may be that none is found. An
+/// error is want of memory.
 pub fn find_endless(
     alloc: Global,
     system: &System,
@@ -153,16 +195,12 @@ pub fn find_endless(
         IfSome endless (IsEndless system.now mode distances.now task)) }
 {
     let path = found.trails.path(alloc, Figure::Response(task))?;
-    let mut arrivals = arrivals_of(alloc, &path, system.routine_count())?;
-    arrivals.truncate(MAX_ARRIVALS);
-    let Some(arrivals) = Arrivals::new(arrivals) else {
-        return Ok(None);
-    };
-    if !are_of_routines(system, arrivals.list()) {
-        return Ok(None);
+    let endless = find_by(alloc, system, mode, distances, &path, GoingOn::Never, task)?;
+    if endless.is_some() {
+        return Ok(endless);
     }
-    let ticks = path.len();
-    find_in(alloc, system, mode, distances, &arrivals, ticks, task)
+    let how = GoingOn::AsSoonAsTheyMay;
+    find_by(alloc, system, mode, distances, &path, how, task)
 }
 
 /// Whether the greatest response of a task is told to reach the cap, and the task can be kept from

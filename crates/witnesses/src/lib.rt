@@ -7,6 +7,7 @@ mod apart;
 mod came;
 mod candidate;
 mod endless;
+mod going_on;
 mod lasso;
 mod reached;
 mod running;

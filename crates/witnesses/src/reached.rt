@@ -16,11 +16,13 @@ fn is_below(found: &Bounds, figure: Figure) -> bool
     match figure {
         Figure::Response(_) | Figure::Latency(_) | Figure::Hold(_) => figure.told(&found.peaks)
             < found.cap,
-        Figure::Refusal(_)
+        Figure::Jobs(_)
+        | Figure::Refusal(_)
         | Figure::Loss(_)
         | Figure::RefusedAction(_)
         | Figure::Errors(_)
-        | Figure::RoutineErrors(_) => true,
+        | Figure::RoutineErrors(_)
+        | Figure::Shutdown => true,
     }
 }
 

@@ -2,7 +2,7 @@
 
 ghost use Rattle.std.specs.Prelude.{◌≡◌, IfOk, IfSome, IsTrue, Some};
 ghost use Rattle.figures.specs.FigureSums.{held_count};
-ghost use Rattle.kernel.specs.Run.{AreKnown};
+ghost use Rattle.kernel.specs.Run.{AreKnown, run_of};
 ghost use Rattle.osek_base.specs.Names.{number_of as number_of_name};
 ghost use Rattle.witnesses.specs.Running.{Watches, number_of};
 ghost use Rattle.witnesses.specs.Shown.{IsOf, Shows};
@@ -11,7 +11,7 @@ use crate::watched::Watched;
 use bounds::Figure;
 use kernel::{BootFault, NotCounted};
 use observed_runs::ObservedRun;
-use osek_base::{Arrivals, ModeId, System};
+use osek_base::{Arrivals, MAX_TICKS, ModeId, System};
 use std::alloc::{AllocError, Global};
 
 /// The number of the thing of a figure.
@@ -20,6 +20,7 @@ fn number_of(figure: Figure) -> usize
 {
     match figure {
         Figure::Response(number)
+        | Figure::Jobs(number)
         | Figure::Refusal(number)
         | Figure::Latency(number)
         | Figure::Loss(number)
@@ -27,6 +28,7 @@ fn number_of(figure: Figure) -> usize
         | Figure::RefusedAction(number)
         | Figure::Errors(number)
         | Figure::RoutineErrors(number) => number,
+        Figure::Shutdown => 0,
     }
 }
 
@@ -47,14 +49,27 @@ fn is_of(system: &System, figure: Figure) -> bool
     ensures { IsTrue result → IsOf system.now figure }
 {
     match figure {
-        Figure::Response(task) | Figure::Refusal(task) | Figure::Errors(task) => {
-            task < system.task_count()
-        }
+        Figure::Response(task)
+        | Figure::Jobs(task)
+        | Figure::Refusal(task)
+        | Figure::Errors(task) => task < system.task_count(),
         Figure::Latency(routine) | Figure::Loss(routine) | Figure::RoutineErrors(routine) => {
             routine < system.routine_count()
         }
         Figure::Hold(resource) => resource < held_count(system),
         Figure::RefusedAction(alarm) => alarm < system.alarm_count(),
+        Figure::Shutdown => true,
+    }
+}
+
+/// Whether a run is over by a ShutdownOS, which one tick more tells; not where it can't be done.
+fn is_shut_down(run: &mut ObservedRun<'_, NotCounted>) -> Option<bool>
+    ensures { IfSome result (λ over. over ≡ (run_of run.old).state.over) }
+{
+    if run.ticks_done() < MAX_TICKS {
+        Some(!run.advance())
+    } else {
+        None
     }
 }
 
@@ -71,6 +86,7 @@ fn watch(run: &mut ObservedRun<'_, NotCounted>, number: usize, ticks: u32) -> Op
         }
         watched.observe(number, run.observation());
     }
+    watched.is_over = is_shut_down(run)?;
     Some(watched)
 }
 

@@ -3,6 +3,7 @@
 
 ghost use Rattle.kernel.specs.Run.{AreKnown};
 
+use crate::going_on::distance_of;
 use crate::walk::Walk;
 use needs::Needs;
 use osek_base::{Arrival, Arrivals, ModeId, System};
@@ -13,14 +14,6 @@ use std::alloc::{AllocError, Global};
 struct Mark {
     tick: u32,
     key: Vec<u8>,
-}
-
-/// How many ticks apart two arrivals of a routine are at least.
-fn distance_of(distances: &[u32], routine: usize) -> u32 {
-    match distances.get(routine) {
-        Some(distance) => *distance,
-        None => 1,
-    }
 }
 
 /// Whether what arrives of a routine from a tick on and before another can come once more behind

@@ -112,6 +112,13 @@ fn task_tick(seen: &Observation, number: usize) -> TaskTick
     }
 }
 
+/// How many jobs a task has in a tick.
+fn jobs_seen(seen: &Observation, number: usize) -> u32
+    ensures { result ≡ (slice_index_or seen.now.tasks.items number unseen_task).jobs }
+{
+    u32::from(task_seen(seen.tasks.as_slice(), number).jobs)
+}
+
 /// A routine in a tick.
 fn routine_tick(seen: &Observation, number: usize) -> RoutineTick
     ensures { result ≡ routine_tick seen.now number }
@@ -142,7 +149,8 @@ fn alarm_tick(seen: &Observation, number: usize) -> AlarmTick
 }
 
 /// Figures of the task, the routine, the resource and the alarm of one number, as far as such a
-/// thing was seen, and the last tick. Blockers aren't counted, nor ticks in which a lower task
+/// thing was seen, the last tick, the most jobs of the task at once, and whether a ShutdownOS has
+/// ended the run. Blockers aren't counted, nor ticks in which a lower task
 /// executes.
 #[derive(Drop)]
 pub(crate) struct Watched {
@@ -151,6 +159,8 @@ pub(crate) struct Watched {
     pub(crate) resource: ResourceFigures,
     pub(crate) alarm: AlarmFigures,
     pub(crate) last: u32,
+    pub(crate) jobs: u32,
+    pub(crate) is_over: bool,
 }
 
 /// The ticks of a figure, 0 where there is none.
@@ -181,6 +191,8 @@ impl Watched {
             resource: ResourceFigures::new(),
             alarm: AlarmFigures::new(),
             last: 0,
+            jobs: 0,
+            is_over: false,
         }
     }
 
@@ -194,14 +206,17 @@ impl Watched {
         self.resource.observe(&holder_tick(seen, number));
         self.alarm.observe(&alarm_tick(seen, number));
         self.last = seen.tick;
+        self.jobs = jobs_seen(seen, number).max(self.jobs);
     }
 
-    /// What is shown of a figure: ticks of a time, and of what comes or not 1 where it has come.
+    /// What is shown of a figure: ticks of a time, a number of jobs, and of what comes or not 1 where
+    /// it has come.
     pub(crate) fn shown(&self, figure: Figure) -> u32
         ensures { result ≡ shown_of self.now figure }
     {
         match figure {
             Figure::Response(_) => ticks_of(self.task.worst(self.last)),
+            Figure::Jobs(_) => self.jobs,
             Figure::Refusal(_) => coming(self.task.counts.refused),
             Figure::Latency(_) => ticks_of(self.routine.worst(self.last)),
             Figure::Loss(_) => coming(self.routine.losses),
@@ -209,6 +224,7 @@ impl Watched {
             Figure::RefusedAction(_) => coming(self.alarm.refused),
             Figure::Errors(_) => coming(self.task.counts.errors),
             Figure::RoutineErrors(_) => coming(self.routine.errors),
+            Figure::Shutdown => coming(u32::from(self.is_over)),
         }
     }
 }

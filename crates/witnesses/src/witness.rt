@@ -60,7 +60,7 @@ fn tried(
 }
 
 /// A run that shows what is told of a figure: exactly so many ticks, those of the cap where it is
-/// told no higher, or that something is lost, refused or answered other than E_OK, where that has
+/// told no higher, exactly so many jobs, or that something is lost, refused or answered other than E_OK, where that has
 /// come, and that nothing is, where it hasn't. Its interrupts keep the distances, in ticks by
 /// routine, 1 where none is given.
 ///

@@ -1,10 +1,11 @@
-use Rattle.std.proofs.Common.{◌≡◌, map}
+use Rattle.std.proofs.Common.{◌≡◌, length, map, take}
 use Rattle.osek_base.specs.Lists.{below}
 use Rattle.same_future.specs.Spans.{is_pending_in}
-use Rattle.kernel.specs.Machine.{picture}
+use Rattle.kernel.specs.Machine.{picture, system_of}
 use Rattle.seen_machines.proofs.before.see_pending.Given as goal
 
 -- what is seen of those gone over
 abbrev pub invariant-loop-number : goal.invariant-loop-number
 invariant-loop-number g l =
-    l.pending.items ≡ map (is_pending_in (picture l.machine)) (below l.number)
+    (length l.places ≡ length (system_of l.machine).routines) × (
+    take l.number l.places ≡ map (is_pending_in (picture l.machine)) (below l.number))

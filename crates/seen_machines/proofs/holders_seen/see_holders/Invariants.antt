@@ -1,4 +1,4 @@
-use Rattle.std.proofs.Common.{◌≡◌, map}
+use Rattle.std.proofs.Common.{◌≡◌, length, map, take}
 use Rattle.osek_base.specs.Lists.{below}
 use Rattle.osek_base.specs.declared.ids.ResId.{ResId}
 use Rattle.services.specs.Seen.{holder_in}
@@ -8,6 +8,7 @@ use Rattle.seen_machines.proofs.holders_seen.see_holders.Given as goal
 -- what is seen of those gone over
 abbrev pub invariant-loop-number : goal.invariant-loop-number
 invariant-loop-number g l =
-    l.holders.items
+    (length l.places ≡ length l.initial.places)
+    × (take l.number l.places
     ≡ map (λ r. holder_in (system_of l.machine) (picture l.machine) (ResId.Declared r))
-    (below l.number)
+    (below l.number))

@@ -1,5 +1,5 @@
-use Rattle.std.proofs.Common.{◌≤◌, rules}
-use Rattle.run_bounds.specs.Nodes.{Node}
+use Rattle.std.proofs.Common.{◌≤◌, rules, sym, ◌∙◌}
+use Rattle.packed_labels.specs.Unpacked.{unpacked}
 use Rattle.bounds.specs.Exploring.{Explorer, setting_of}
 use Rattle.bounds.proofs.Exploring.{free_choices, next_choice, no_choice}
 use Rattle.bounds.proofs.explorer.ExplorerSteps.choice_from.Goals as goal
@@ -14,20 +14,15 @@ returns-clause-next g c =
       cap = c.self.inside.cap;
       peaks = c.self.inside.peaks;
     } in
-    let x : Node =
-    record {
-      key = c.node.inside.key.items;
-      over = c.node.inside.is_over;
-      labels = c.node.inside.labels;
-    } in
+    let x = c.args.node.now in
     let whole = c.free_routines-free.result in
     let few : c.routine_count.result ≤ 16 = search rules in
     next_choice (setting_of c.args.self.now) c.args.node.now whole c.args.from
     c.routine_count.result
-    (free_choices c.args.self.now e c.args.node.now x c.routine_count.result whole
-    c.subsets_may.ensures c.self.view_is c.node.view_is
-    c.if-node.false c.routine_count.ensures.value c.free_routines-free.ensures.free
-    c.free_routines-free.ensures.others
+    (free_choices c.args.self.now e x (unpacked c.packed.result.now) c.routine_count.result whole
+    c.subsets_may.ensures c.self.view_is c.packed.ensures
+    (sym c.is_over.ensures ∙ c.if-is_over.false) c.routine_count.ensures.value
+    c.free_routines-free.ensures.free c.free_routines-free.ensures.others
     c.free_routines-free.ensures.low)
     c.free_routines-free.ensures.low few c.subset_from.result c.subset_from.ensures.from
     c.subset_from.ensures.subset
@@ -43,17 +38,12 @@ returns-clause-none g c =
       cap = c.self.inside.cap;
       peaks = c.self.inside.peaks;
     } in
-    let x : Node =
-    record {
-      key = c.node.inside.key.items;
-      over = c.node.inside.is_over;
-      labels = c.node.inside.labels;
-    } in
+    let x = c.args.node.now in
     let whole = c.free_routines-free.result in
     no_choice (setting_of c.args.self.now) c.args.node.now whole c.args.from
-    (free_choices c.args.self.now e c.args.node.now x c.routine_count.result whole
-    c.subsets_may.ensures c.self.view_is c.node.view_is
-    c.if-node.false c.routine_count.ensures.value c.free_routines-free.ensures.free
-    c.free_routines-free.ensures.others
+    (free_choices c.args.self.now e x (unpacked c.packed.result.now) c.routine_count.result whole
+    c.subsets_may.ensures c.self.view_is c.packed.ensures
+    (sym c.is_over.ensures ∙ c.if-is_over.false) c.routine_count.ensures.value
+    c.free_routines-free.ensures.free c.free_routines-free.ensures.others
     c.free_routines-free.ensures.low)
     c.subset_from.result c.subset_from.ensures.none

@@ -1,11 +1,12 @@
-use Rattle.std.proofs.Common.{◌≡◌, map}
+use Rattle.std.proofs.Common.{◌≡◌, length, map, take}
 use Rattle.osek_base.specs.Lists.{below}
-use Rattle.kernel.specs.Machine.{picture}
+use Rattle.kernel.specs.Machine.{picture, system_of}
 use Rattle.seen_machines.specs.Told.{routine_seen_by}
 use Rattle.seen_machines.proofs.told.Told.see_routines.Given as goal
 
 -- what is seen of those gone over
 abbrev pub invariant-loop-number : goal.invariant-loop-number
 invariant-loop-number g l =
-    l.routines.items
-    ≡ map (routine_seen_by l.self (picture l.machine) l.arrived) (below l.number)
+    (length l.places ≡ length (system_of l.machine).routines) × (
+    take l.number l.places
+    ≡ map (routine_seen_by l.self (picture l.machine) l.arrived) (below l.number))

@@ -8,7 +8,7 @@ use Rattle.kernel.specs.declared.acted.Acted.{Acted}
 use Rattle.shown_ticks.specs.Shown.{KeptTicked, ticked_in}
 use Rattle.seen_machines.specs.Told.{IsOfAll, alarm_seen_by, routine_seen_by, task_seen_by}
 use Rattle.seen_machines.proofs.Acting.{refused_known}
-use Rattle.seen_machines.proofs.Shows.{alarms_are, answered_is, executor_is, of_all, routines_are, seen_is, tasks_are}
+use Rattle.seen_machines.proofs.Shows.{alarms_are, answered_is, executor_is, failure_is, of_all, routines_are, seen_is, tasks_are}
 use Rattle.seen_machines.proofs.Stays.{holders_stay, pending_stays}
 use Rattle.seen_machines.proofs.watcher.Watcher.tick.Goals as goal
 
@@ -67,4 +67,11 @@ returns-clause-answered g c =
     let m = c.args.machine.now in
     c.see.ensures.answered
     ∙ answered_is (system_of m) c.args.arrived.now (picture m) c.tick.new.self.execution.executed
+    c.tick.ensures.told.executed
+
+pub returns-clause-failure : goal.returns-clause-failure
+returns-clause-failure g c =
+    let m = c.args.machine.now in
+    c.see.ensures.failure
+    ∙ failure_is (system_of m) c.args.arrived.now (picture m) c.tick.new.self.execution.executed
     c.tick.ensures.told.executed

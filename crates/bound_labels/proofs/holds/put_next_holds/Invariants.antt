@@ -1,0 +1,10 @@
+use Rattle.std.proofs.Common.{◌≡◌, map}
+use Rattle.osek_base.specs.Lists.{below}
+use Rattle.observations.specs.Seen.{seen_of}
+use Rattle.bound_labels.specs.Parts.{hold_behind}
+use Rattle.bound_labels.proofs.holds.put_next_holds.Given as goal
+
+-- the holds of those gone over
+abbrev pub invariant-loop-resource : goal.invariant-loop-resource
+invariant-loop-resource l =
+    l.next.items ≡ map (hold_behind l.cap (seen_of l.seen) l.holds) (below l.resource)

@@ -1,0 +1,28 @@
+use Rattle.std.proofs.Common.{ℕ, ◌≡◌, List, Option, ◌∙◌, ap}
+use Rattle.figure_laws.specs.Holding.{Hold}
+use Rattle.observations.specs.Seen.{seen_of}
+use Rattle.bound_labels.specs.Labels.{Labels, next_labels}
+use Rattle.bound_labels.specs.Parts.{ages_behind, each_of, hold_behind, pending_behind, wait_behind}
+use Rattle.bound_labels.proofs.LabelLemmas.{labels_same}
+use Rattle.bound_labels.proofs.labels.Labels.become_next.Goals as goal
+
+-- list by list, the old labels seen as their fields
+pub returns : goal.returns
+returns c =
+    let cap = c.args.cap in
+    let distances = c.args.distances.now in
+    let set = c.args.set in
+    let seen = seen_of c.args.seen.now in
+    labels_same _ (next_labels cap distances set seen c.args.old.now)
+    (c.in_ok-put_next_waits.ensures
+    ∙ ap (λ (v : List ℕ). each_of (wait_behind distances set) v)
+    (c.deref.ensures.value ∙ ap (λ (l : Labels). l.waits) c.old.view_is))
+    (c.in_ok-become_next.ensures
+    ∙ ap (λ (v : List (List ℕ)). each_of (ages_behind cap seen) v)
+    (ap (λ (l : Labels). l.ages) c.old.view_is))
+    (c.in_ok-put_next_pending.ensures
+    ∙ ap (λ (v : List (Option ℕ)). each_of (pending_behind cap seen) v)
+    (c.deref-2.ensures.value ∙ ap (λ (l : Labels). l.pending) c.old.view_is))
+    (c.in_ok-put_next_holds.ensures
+    ∙ ap (λ (v : List Hold). each_of (hold_behind cap seen) v)
+    (c.deref-3.ensures.value ∙ ap (λ (l : Labels). l.holds) c.old.view_is))

@@ -1,9 +1,0 @@
-use Rattle.std.proofs.Common.{◌≡◌, map}
-use Rattle.osek_base.specs.Lists.{below}
-use Rattle.bound_labels.specs.Parts.{wait_behind}
-use Rattle.bound_labels.proofs.waits.next_waits.Given as goal
-
--- the waits of those gone over
-abbrev pub invariant-loop-routine : goal.invariant-loop-routine
-invariant-loop-routine l =
-    l.next.items ≡ map (wait_behind l.distances l.set l.waits) (below l.routine)

@@ -1,0 +1,8 @@
+//! The greatest times that ticks have shown, and what has happened in any. No part of the standards.
+#![tactic(auto)]
+
+mod failures;
+mod peaks;
+mod raising;
+
+pub use peaks::Peaks;

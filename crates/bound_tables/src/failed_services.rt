@@ -1,0 +1,27 @@
+//! The services that may be answered other than E_OK, behind the tables of figures.
+
+use crate::failed_service::{behind_tick, put_failure};
+use crate::told::Told;
+use osek_base::System;
+use std::io::{self, Write};
+use trace_lines::LineText;
+
+/// Writes a line for each service that may be answered other than E_OK, as a trace writes it but for
+/// the tick, behind an empty line and a heading; nothing where none may. An error is a failed write.
+pub fn write_services<W: Write>(
+    system: &System,
+    told: Told<'_, '_>,
+    out: &mut W,
+) -> io::Result<()> {
+    let failures = told.bounds.peaks.failures();
+    if failures.is_empty() {
+        return Ok(());
+    }
+    out.write_all(b"\nservices answered other than E_OK\n")?;
+    let mut text = LineText::new();
+    for failure in failures {
+        put_failure(system, failure, &mut text);
+        writeln!(out, "{}", behind_tick(&text))?;
+    }
+    Ok(())
+}

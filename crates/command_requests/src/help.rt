@@ -1,0 +1,200 @@
+//! The texts of the help and of the version.
+
+pub(crate) const OIL: &str = "The OIL file: the objects of the system";
+
+pub(crate) const ASM: &str = "The programs of its tasks and interrupt routines";
+
+pub(crate) const IRQ: &str =
+    "The arrival list: at which ticks which interrupts arrive; may be empty";
+
+pub(crate) const MODE: &str =
+    "The application mode to start in: the name of an APPMODE of the OIL file";
+
+pub(crate) const TICKS: &str = "How many ticks are run, 0 to 1000000";
+
+pub(crate) const PRIORITY: &str =
+    "The priority of the cut, 0 to 63: tasks of this priority or more are upper, the others lower";
+
+pub(crate) const ALONE: &str = "Runs the upper part by itself; what is printed is the same";
+
+pub(crate) const ALL: &str = "Prints all denials, a line each, in the order of the rules";
+
+pub(crate) const JOINED: &str = "Prints neighbouring priorities with one verdict as one line";
+
+pub(crate) const BLOCKING: &str =
+    "Prints ` ! N` behind a job's first instruction since it became ready: N jobs of lower priority executed meanwhile";
+
+pub(crate) const FROM: &str = "The first tick that is shown, 0 to 1000000; 0 unless it is said";
+
+pub(crate) const TO: &str =
+    "The tick behind the last that is shown, 0 to 1000000; the run's end unless it is said";
+
+pub(crate) const ROWS: &str =
+    "The names of the tasks and routines that are drawn, with commas between them; all unless it is said";
+
+pub(crate) const CSV: &str = "Prints comma-separated values, a line a figure";
+
+pub(crate) const JSON: &str = "Prints JSON: an object by kinds, and in it by names";
+
+pub(crate) const FIRST: &str = "The first tick that counts, 0 to 1000000; 0 unless it is said";
+
+pub(crate) const LAST: &str =
+    "The tick behind the last that counts, 0 to 1000000; the run's end unless it is said";
+
+pub(crate) const LIMIT: &str =
+    "Exits with 6 where a response of the task, or the latency of the routine, takes more ticks";
+
+pub(crate) const NO_LOSS: &str = "Exits with 6 where an interrupt is lost";
+
+pub(crate) const NO_REFUSAL: &str =
+    "Exits with 6 where an activation or an alarm's action is refused";
+
+pub(crate) const NO_LIMIT: &str = "a limit is NAME=TICKS, with TICKS from 0 to 1000000";
+
+pub(crate) const NO_TICK_SHOWN: &str = "no tick is shown: --from lies behind TICKS or --to";
+
+pub(crate) const TOO_MANY_DRAWN: &str =
+    "a picture has at most 5000 ticks: --from and --to choose them";
+
+pub(crate) const IN: &str =
+    "In place of the files: the folder of system.oil, programs.asm and arrivals.irq; a lone mode may be left out then";
+
+pub(crate) const TWO_FOLDERS: &str = "--in stands once, in place of the files";
+
+pub(crate) const EXPLAIN: &str =
+    "Says behind a refusal or a denial, on standard error, where it is and what would be allowed";
+
+pub(crate) const TRACE_EXAMPLE: &str = "Example, ten ticks in the mode Normal:
+  osek trace system.oil programs.asm arrivals.irq Normal 10
+
+With the numbers of blockers:
+  osek trace --blocking system.oil programs.asm arrivals.irq Normal 10
+
+The files system.oil, programs.asm and arrivals.irq of a folder:
+  osek trace --in FOLDER Normal 10";
+
+pub(crate) const UPPER_EXAMPLE: &str =
+    "Example, ten ticks in the mode Normal, seen from priority 5 upward:
+  osek upper system.oil programs.asm arrivals.irq Normal 10 5";
+
+pub(crate) const VCD_EXAMPLE: &str = "Example, a thousand ticks in the mode Normal, for GTKWave:
+  osek vcd system.oil programs.asm arrivals.irq Normal 1000 > run.vcd";
+
+pub(crate) const TIMELINE_EXAMPLE: &str =
+    "At most 5000 ticks are drawn. Example, the ticks 900 to 999 in the mode Normal:
+  osek timeline system.oil programs.asm arrivals.irq Normal 1000 --from 900 > run.svg";
+
+pub(crate) const STATS_EXAMPLE: &str = "Example, a million ticks in the mode Normal:
+  osek stats system.oil programs.asm arrivals.irq Normal 1000000
+
+Held to limits, for scripts:
+  osek stats system.oil programs.asm arrivals.irq Normal 1000 --limit Control=20 --no-loss";
+
+pub(crate) const CHECK_EXAMPLE: &str =
+    "Prints `accepted`, or `denied:` with the first rule that is broken, and where.
+
+Example, the cut at priority 5:
+  osek check system.oil programs.asm 5
+
+All that is in its way, each explained:
+  osek check --all --explain system.oil programs.asm 5";
+
+pub(crate) const PARTITIONS_EXAMPLE: &str =
+    "Prints a line for each priority: `P: accepted`, or `P: denied:` with the first rule that is broken, and where.
+
+Example:
+  osek partitions system.oil programs.asm
+
+Neighbours joined, as `6..10: accepted`:
+  osek partitions --joined system.oil programs.asm";
+
+pub(crate) const CLASS_EXAMPLE: &str = "Prints BCC1, BCC2, ECC1 or ECC2.
+
+Example:
+  osek class system.oil programs.asm";
+
+pub(crate) const SHOW_EXAMPLE: &str =
+    "On standard output: the class, and a table for each kind of objects, with numbers, ceilings and masks. On standard
+error: a line for each mistake, as an event that a task waits for and doesn't list, or an object that nobody uses.
+
+Example:
+  osek show system.oil programs.asm";
+
+pub(crate) const APART: &str =
+    "Interrupts of the routine come at least so many ticks apart, 1 to 1000000; 1 unless it is said";
+
+pub(crate) const STATES: &str =
+    "How many states may be kept, 1 to 100000000; 1000000 unless it is said";
+
+pub(crate) const LONGEST: &str =
+    "The time from which on none is told, 1 to 65535 ticks; 10000 unless it is said";
+
+pub(crate) const BOUNDS_UPPER: &str =
+    "Of the part from priority P upward by itself: they hold whatever runs below it";
+
+pub(crate) const BOUNDS_CSV: &str =
+    "Prints comma-separated values, a line a figure, and whether it is reached or a bound";
+
+pub(crate) const BOUNDS_JSON: &str =
+    "Prints JSON: an object by kinds, in each one by names, and in each of these one by columns";
+
+pub(crate) const WITNESS: &str =
+    "In place of the tables: the arrival list of a run that shows the figure; FIGURE greatest, jobs, refused, errors, latency, losses, longest or comes";
+
+pub(crate) const NO_FIGURE: &str =
+    "a witness is NAME or NAME=FIGURE, with FIGURE greatest, jobs, refused, errors, latency, losses, longest or comes";
+
+pub(crate) const NO_DISTANCE: &str = "a distance is ROUTINE=TICKS, with TICKS from 1 to 1000000";
+
+pub(crate) const BOUNDS_EXAMPLE: &str =
+    "Whatever interrupts arrive that keep their distances, and for however many ticks, no run shows more. Where more states
+would have to be kept, `undecided:` is printed, and the exit status is 5.
+
+Example, interrupts of Crank at least 20 ticks apart:
+  osek bounds system.oil programs.asm Normal --apart Crank=20
+
+A run in which a response of the task Inject takes as many ticks; their number stands on standard error:
+  osek bounds system.oil programs.asm Normal --apart Crank=20 --witness Inject > longest.irq";
+
+pub(crate) const FILE: &str = "The description, in TOML: tasks, interrupts and alarms";
+
+pub(crate) const FOLDER: &str =
+    "The folder that system.oil, programs.asm and arrivals.irq are written to";
+
+pub(crate) const MAKE_EXAMPLE: &str =
+    "What is wrong is told with its places, all at once, and nothing is written then.
+
+Example:
+  osek make system.toml -o system";
+
+pub(crate) const IMPORTED: &str =
+    "The OIL file, and behind it those that it includes: they are found by the last part of their path";
+
+pub(crate) const IMPORT_EXAMPLE: &str =
+    "What is left out, set or refused is told on standard error, each at its place. Where something is refused, nothing is
+printed.
+
+Example:
+  osek import application.oil implementation.oil > system.oil";
+
+pub(crate) const HINT: &str =
+    "`--help` also tells the exit statuses, `osek SUBCOMMAND --help` the words of a subcommand.";
+
+pub(crate) const STATUSES: &str = "Exit status:
+  0  done; after help too
+  1  a refused input, an unreadable file, or want of memory; standard error has the line
+  2  a refused command line
+  3  a denied partition; standard output has the denial
+  4  a failed write
+  5  an undecided search of `bounds`; standard output has how far it came
+  6  a limit of `stats` is broken; standard error has a line for each
+
+`osek SUBCOMMAND --help` tells the words of a subcommand.";
+
+pub(crate) const VERSION: &str = "0.1.0";
+
+pub(crate) const LONG_VERSION: &str = "0.1.0
+Proofs: rattle-kit-13f logic dac8208d650f15bf checks them, and `rt run` builds what is proved alone.
+Proved: what `trace` writes is the schedule that the definitions give the system read; where `check`
+accepts two systems that agree from P upward, their upper parts have equal views in every run.
+Not proved: a program that was built in another way, as by `rt try`, and its command line.";

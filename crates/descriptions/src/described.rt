@@ -1,0 +1,120 @@
+//! What a description has. Names are those of the text; places are those of the keys or values that say so.
+
+/// One step of a body.
+#[derive(Clone, Copy)]
+pub enum Does<'a> {
+    /// So many ticks, 1 to 1,000,000.
+    Work(u32),
+    Get(&'a str),
+    Release(&'a str),
+    Activate(&'a str),
+    Chain(&'a str),
+    /// Sets events for a task. The number is that of the node of the list of their names.
+    Set(&'a str, usize),
+    /// Waits for events, or clears them.
+    Wait(usize),
+    Clear(usize),
+    /// The steps up to the `End` of the same depth, so many times, 1 to 1,000,000.
+    Repeat(u32),
+    End,
+}
+
+/// A step, and the place of its value.
+#[derive(Clone, Copy)]
+pub struct Step<'a> {
+    pub place: usize,
+    pub does: Does<'a>,
+}
+
+/// The steps of a task or of a routine.
+#[derive(Drop)]
+pub struct Body<'a> {
+    /// The place of the list, or of the section where there is none.
+    pub place: usize,
+    pub steps: Vec<Step<'a>>,
+    /// Whether it is repeated for ever, and so has no end.
+    pub is_looped: bool,
+}
+
+/// At which ticks an interrupt arrives.
+#[derive(Clone, Copy)]
+pub enum Arriving {
+    Never,
+    /// At `offset`, and then every `period` ticks, each time later by up to `jitter`.
+    Periodic {
+        period: u32,
+        offset: u32,
+        jitter: u32,
+        seed: u32,
+    },
+    /// The number of the node of the list of ticks.
+    Listed(usize),
+    /// Each `least` to `most` ticks behind the one before, the first behind tick 0.
+    Random {
+        least: u32,
+        most: u32,
+        seed: u32,
+    },
+}
+
+/// How the jobs of a task come about, besides those that others activate.
+#[derive(Clone, Copy)]
+pub enum Release {
+    Others,
+    /// By an alarm of its own, first at `offset`.
+    Periodic { period: u32, offset: u32 },
+    /// By a routine of its own.
+    Sporadic(Arriving),
+}
+
+#[derive(Drop)]
+pub struct Task<'a> {
+    pub name: &'a str,
+    pub place: usize,
+    pub priority: u32,
+    pub activations: u32,
+    pub is_non: bool,
+    pub starts: bool,
+    pub release: Release,
+    pub body: Body<'a>,
+}
+
+#[derive(Drop)]
+pub struct Interrupt<'a> {
+    pub name: &'a str,
+    pub place: usize,
+    pub priority: u32,
+    pub arriving: Arriving,
+    pub body: Body<'a>,
+}
+
+/// What an alarm does.
+#[derive(Clone, Copy)]
+pub enum Action<'a> {
+    Activate(&'a str),
+    /// Sets an event for a task.
+    Set(&'a str, &'a str),
+}
+
+/// An alarm that expires first at `offset`, and then every `period` ticks.
+#[derive(Drop)]
+pub struct Alarm<'a> {
+    pub name: &'a str,
+    pub place: usize,
+    pub action_place: usize,
+    pub period: u32,
+    pub offset: u32,
+    pub action: Action<'a>,
+}
+
+/// A whole description.
+#[derive(Drop)]
+pub struct Described<'a> {
+    pub name: &'a str,
+    pub mode: &'a str,
+    /// Interrupts arrive before this tick.
+    pub ticks: u32,
+    pub tasks: Vec<Task<'a>>,
+    pub interrupts: Vec<Interrupt<'a>>,
+    pub alarms: Vec<Alarm<'a>>,
+}

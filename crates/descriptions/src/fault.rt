@@ -1,0 +1,91 @@
+//! What is wrong in a description, and where.
+
+use osek_base::MAX_NAME;
+use std::alloc::AllocError;
+use thiserror::Error;
+
+/// What is wrong at a place.
+#[derive(Clone, Copy, Debug, Drop, Error)]
+pub enum Wrong<'a> {
+    #[error("unknown section {0}; there are [[task]], [[interrupt]] and [[alarm]]")]
+    UnknownSection(&'a str),
+    #[error("unknown key {0} of {1}")]
+    UnknownKey(&'a str, &'static str),
+    #[error("{0} is missing here")]
+    Missing(&'static str),
+    #[error("{0} has to be a text in quotation marks")]
+    NoText(&'static str),
+    #[error("{0} has to be a whole number from {1} to {2}")]
+    NoNumber(&'static str, u32, u32),
+    #[error("{0} has to be true or false")]
+    NoBoolean(&'static str),
+    #[error("{0} has to be a list in [ ]")]
+    NoList(&'static str),
+    #[error("{0} is no name: 1 to {MAX_NAME} letters, digits and _, no digit first, and no word of programs")]
+    NoName(&'a str),
+    #[error("schedule is FULL or NON, not {0}")]
+    NoSchedule(&'a str),
+    #[error("a step is a table in braces, as {{ work = 10 }}")]
+    NoStep,
+    #[error("a step is one of work, get, release, activate, chain, set, wait, clear and repeat; this has none")]
+    EmptyStep,
+    #[error("a step is one thing: {0} and {1} stand in one")]
+    TwoSteps(&'static str, &'static str),
+    #[error("{0} stands twice among the names of its kind")]
+    Twice(&'a str),
+    #[error("what is made for this task is called {0}{1}, and that name stands already")]
+    MadeTwice(&'static str, &'a str),
+    #[error("what is made for this task is called {0}{1}, which has more than {MAX_NAME} letters")]
+    MadeTooLong(&'static str, &'a str),
+    #[error("{0} can't stand beside {1}")]
+    Beside(&'static str, &'static str),
+    #[error("{0} means nothing without {1}")]
+    Without(&'static str, &'static str),
+    #[error("no task is called {0}")]
+    UnknownTask(&'a str),
+    #[error("task {0} neither waits for {1} nor clears it, so it doesn't have that event")]
+    NotItsEvent(&'a str, &'a str),
+    #[error("a routine can't {0}")]
+    ByRoutine(&'static str),
+    #[error("a task that has events has activations = 1")]
+    ExtendedActivations,
+    #[error("{0} is held already")]
+    HeldAlready(&'a str),
+    #[error("{0} isn't the resource that was got last and is held")]
+    NotGotLast(&'a str),
+    #[error("{0} is still held at the end of this body")]
+    StillHeld(&'a str),
+    #[error("{0} is held here, so the task can't wait or chain")]
+    Holds(&'a str),
+    #[error("no step behind chain is reached")]
+    BehindChain,
+    #[error("repeat stands in at most one other repeat")]
+    TooDeep,
+    #[error("a body that is looped needs a step")]
+    EmptyLoop,
+    #[error("the program would have more than 1024 instructions")]
+    TooLong,
+    #[error("least is above most")]
+    LeastAboveMost,
+    #[error("jitter has to be below the period")]
+    JitterTooGreat,
+    #[error("there are more than {0} {1}")]
+    TooMany(usize, &'static str),
+}
+
+/// What is wrong, and the place in bytes.
+#[derive(Clone, Copy, Drop)]
+pub struct Fault<'a> {
+    pub place: usize,
+    pub wrong: Wrong<'a>,
+}
+
+/// Adds a fault to those that are told.
+pub fn tell<'a>(
+    faults: &mut Vec<Fault<'a>>,
+    place: usize,
+    wrong: Wrong<'a>,
+) -> Result<(), AllocError> {
+    faults.push(Fault { place, wrong })?;
+    Ok(())
+}

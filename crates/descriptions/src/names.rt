@@ -1,0 +1,21 @@
+//! Names in lists.
+
+use std::alloc::AllocError;
+
+/// Whether a name stands in a list.
+pub fn is_among(names: &[&str], name: &str) -> bool {
+    for other in names {
+        if *other == name {
+            return true;
+        }
+    }
+    false
+}
+
+/// Adds a name where it isn't there yet.
+pub fn add<'a>(names: &mut Vec<&'a str>, name: &'a str) -> Result<(), AllocError> {
+    if !is_among(names, name) {
+        names.push(name)?;
+    }
+    Ok(())
+}

@@ -1,0 +1,4 @@
+pub mod UnpackingLemmas
+pub mod WorkedLemmas
+pub mod PackingLemmas
+pub mod FreeLemmas

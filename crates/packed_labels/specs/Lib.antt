@@ -1,0 +1,3 @@
+pub mod Packed
+pub mod Unpacked
+pub mod Worked

@@ -1,0 +1,30 @@
+-- Labels that were packed by hand.
+use Rattle.std.specs.Prelude.{ℕ, ◌≡◌, List, [], ◌∷◌, Some, None}
+use Rattle.bound_labels.specs.Labels.{Labels, no_hold}
+use Rattle.packed_labels.specs.Packed.{packed}
+use Rattle.packed_labels.specs.Unpacked.{unpacked}
+
+-- of two routines, one of which waits for 300 ticks yet and one has an interrupt that pends for 5;
+-- of two tasks, one of which has jobs of ages 7 and 130; and of two resources, one of which task 1
+-- has held for 9 ticks
+abbrev pub worked_labels : Labels
+worked_labels =
+    record {
+      waits = 300 ∷ 0 ∷ [];
+      ages = [] ∷ (130 ∷ 7 ∷ []) ∷ [];
+      pending = None ∷ Some 5 ∷ [];
+      holds = no_hold ∷ record { holder = Some 1; held = 9 } ∷ [];
+    }
+
+abbrev pub worked_bytes : List ℕ
+worked_bytes =
+    2 ∷ 172 ∷ 2 ∷ 0
+    ∷ 2 ∷ 0 ∷ 2 ∷ 130 ∷ 1 ∷ 7
+    ∷ 2 ∷ 0 ∷ 1 ∷ 5
+    ∷ 2 ∷ 0 ∷ 0 ∷ 1 ∷ 1 ∷ 9 ∷ []
+
+pub record WorkedLabels : Type 0 where
+  pub bytes : packed worked_labels ≡ worked_bytes
+  pub back : unpacked worked_bytes ≡ worked_labels
+  -- beyond their end bytes tell nothing
+  pub none : unpacked [] ≡ record { waits = []; ages = []; pending = []; holds = [] }

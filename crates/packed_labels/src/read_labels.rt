@@ -1,0 +1,91 @@
+//! Labels that bytes tell.
+
+ghost use Rattle.std.specs.Prelude.{◌≡◌, IfSome, IsTrue};
+ghost use Rattle.packed_labels.specs.Unpacked.{unpacked};
+
+use crate::laws::packed_are_told;
+use crate::packing::pack;
+use crate::reading::read_into;
+use bound_labels::Labels;
+use std::alloc::{AllocError, Global};
+use std::marker::Model;
+
+/// The labels that were read last, in room that is used again. Contracts see nothing of which these
+/// are.
+#[derive(Drop)]
+pub struct ReadLabels {
+    labels: Labels,
+    /// Their bytes, once they are known.
+    bytes: Vec<u8>,
+    is_known: bool,
+}
+
+impl Model for ReadLabels {
+    ghost use Rattle.std.specs.Prelude.{◌≡◌, true};
+    ghost use Rattle.packed_labels.specs.Packed.{packed};
+
+    ghost Value = { Unit {0} };
+
+    ghost view = { λ r. tt };
+
+    ghost invariant = { λ r. r.is_known ≡ true → r.bytes.items ≡ packed r.labels };
+}
+
+/// Whether bytes are the same.
+fn are_equal(one: &[u8], other: &[u8]) -> bool
+    ensures { IsTrue result → one.now ≡ other.now }
+{
+    one == other
+}
+
+impl ReadLabels {
+    /// None were read yet.
+    pub fn new(alloc: Global) -> Self {
+        ReadLabels {
+            labels: Labels::new(alloc),
+            bytes: Vec::new(alloc),
+            is_known: false,
+        }
+    }
+
+    /// Whether bytes were read last.
+    fn has_read(&self, bytes: &[u8]) -> bool {
+        self.is_known && are_equal(&self.bytes, bytes)
+    }
+
+    /// Reads bytes, unless they were read last. An error is that there is no memory.
+    pub fn read(&mut self, bytes: &[u8]) -> Result<(), AllocError> {
+        if self.has_read(bytes) {
+            return Ok(());
+        }
+        self.is_known = false;
+        read_into(&mut self.labels, bytes)?;
+        self.bytes.clear();
+        pack(&self.labels, &mut self.bytes)?;
+        self.is_known = true;
+        Ok(())
+    }
+
+    /// The labels that bytes tell; none where others were read last, or where no labels have such
+    /// bytes.
+    pub fn of(&self, bytes: &[u8]) -> Option<&Labels>
+        ensures { IfSome result (λ l. unpacked bytes.now ≡ l.now) }
+    {
+        packed_are_told();
+        if !self.is_known || !are_equal(&self.bytes, bytes) {
+            return None;
+        }
+        Some(&self.labels)
+    }
+
+    /// The same, to keep.
+    pub fn into_labels(self, bytes: &[u8]) -> Option<Labels>
+        ensures { IfSome result (λ l. unpacked bytes.now ≡ l) }
+    {
+        packed_are_told();
+        if !self.is_known || !are_equal(&self.bytes, bytes) {
+            return None;
+        }
+        Some(self.labels)
+    }
+}

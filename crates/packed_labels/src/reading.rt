@@ -1,0 +1,85 @@
+//! Labels are read from bytes. What is read is compared with the bytes afterwards, so no clause is
+//! needed here.
+
+use bound_labels::Labels;
+use number_bytes::{read_count, read_number, read_optional};
+use osek_base::TaskId;
+use std::alloc::AllocError;
+
+/// A number of 32 bits. What is greater was never written.
+fn short(number: u64) -> u32 {
+    u32::try_from(number).unwrap_or(u32::MAX)
+}
+
+/// How many things follow. Each takes a byte at least.
+fn count_in(bytes: &[u8]) -> (usize, &[u8]) {
+    let (count, rest) = read_count(bytes);
+    let most = rest.len();
+    (usize::try_from(count).unwrap_or(most).min(most), rest)
+}
+
+fn read_waits<'b>(labels: &mut Labels, bytes: &'b [u8]) -> Result<&'b [u8], AllocError> {
+    let (count, mut rest) = count_in(bytes);
+    for _routine in 0..count {
+        let (wait, behind) = read_number(rest);
+        labels.push_wait(short(wait))?;
+        rest = behind;
+    }
+    Ok(rest)
+}
+
+/// Reads the ages of one task's jobs.
+fn read_task<'b>(labels: &mut Labels, bytes: &'b [u8]) -> Result<&'b [u8], AllocError> {
+    let (count, mut rest) = count_in(bytes);
+    for _job in 0..count {
+        let (age, behind) = read_number(rest);
+        labels.push_age(short(age))?;
+        rest = behind;
+    }
+    labels.end_task()?;
+    Ok(rest)
+}
+
+fn read_ages<'b>(labels: &mut Labels, bytes: &'b [u8]) -> Result<&'b [u8], AllocError> {
+    let (count, mut rest) = count_in(bytes);
+    for _task in 0..count {
+        rest = read_task(labels, rest)?;
+    }
+    Ok(rest)
+}
+
+fn read_pending<'b>(labels: &mut Labels, bytes: &'b [u8]) -> Result<&'b [u8], AllocError> {
+    let (count, mut rest) = count_in(bytes);
+    for _routine in 0..count {
+        let (age, behind) = read_optional(rest);
+        labels.push_pending(age.map(short))?;
+        rest = behind;
+    }
+    Ok(rest)
+}
+
+/// The task of a number. Those that were written are below 64.
+fn task_of(number: u64) -> TaskId {
+    TaskId::new((number % 64) as u8)
+}
+
+fn read_holds<'b>(labels: &mut Labels, bytes: &'b [u8]) -> Result<&'b [u8], AllocError> {
+    let (count, mut rest) = count_in(bytes);
+    for _resource in 0..count {
+        let (holder, behind) = read_optional(rest);
+        let (held, behind) = read_number(behind);
+        labels.push_hold(holder.map(task_of), short(held))?;
+        rest = behind;
+    }
+    Ok(rest)
+}
+
+/// Reads bytes into labels, in place of what they were.
+pub(crate) fn read_into(labels: &mut Labels, bytes: &[u8]) -> Result<(), AllocError> {
+    labels.clear();
+    let rest = read_waits(labels, bytes)?;
+    let rest = read_ages(labels, rest)?;
+    let rest = read_pending(labels, rest)?;
+    let _rest = read_holds(labels, rest)?;
+    Ok(())
+}
