@@ -96,8 +96,10 @@ impl Alarms {
     pub fn set_rel(&mut self, system: &System, alarm: AlarmId, increment: u32, cycle: u32) -> Status
         requires table { IsTableOf system.now self.old }
         requires alarm { alarm < length system.now.alarms }
-        ensures status { result ≡ status_of system.now self.old (Service.SetRelAlarm (Some alarm) increment cycle) }
-        ensures alarms { self.new ≡ after_call system.now self.old (Service.SetRelAlarm (Some alarm) increment cycle) }
+        ensures status { result
+            ≡ status_of system.now self.old (Service.SetRelAlarm (Some alarm) increment cycle) }
+        ensures alarms { self.new
+            ≡ after_call system.now self.old (Service.SetRelAlarm (Some alarm) increment cycle) }
         ensures table { IsTableOf system.now self.new }
     {
         let counter = counter_of(system, alarm);
@@ -120,8 +122,10 @@ impl Alarms {
     pub fn set_abs(&mut self, system: &System, alarm: AlarmId, start: u32, cycle: u32) -> Status
         requires table { IsTableOf system.now self.old }
         requires alarm { alarm < length system.now.alarms }
-        ensures status { result ≡ status_of system.now self.old (Service.SetAbsAlarm (Some alarm) start cycle) }
-        ensures alarms { self.new ≡ after_call system.now self.old (Service.SetAbsAlarm (Some alarm) start cycle) }
+        ensures status { result
+            ≡ status_of system.now self.old (Service.SetAbsAlarm (Some alarm) start cycle) }
+        ensures alarms { self.new
+            ≡ after_call system.now self.old (Service.SetAbsAlarm (Some alarm) start cycle) }
         ensures table { IsTableOf system.now self.new }
     {
         let counter = counter_of(system, alarm);
@@ -139,8 +143,10 @@ impl Alarms {
     /// CancelAlarm: the alarm goes off. E_OS_NOFUNC where it is off; a refusal changes nothing.
     pub fn cancel(&mut self, alarm: AlarmId) -> Status
         requires { alarm < length self.old.expiries }
-        ensures status { (S : Configured) → result ≡ status_of S self.old (Service.CancelAlarm (Some alarm)) }
-        ensures alarms { (S : Configured) → self.new ≡ after_call S self.old (Service.CancelAlarm (Some alarm)) }
+        ensures status { (S : Configured)
+            → result ≡ status_of S self.old (Service.CancelAlarm (Some alarm)) }
+        ensures alarms { (S : Configured)
+            → self.new ≡ after_call S self.old (Service.CancelAlarm (Some alarm)) }
         ensures table { (S : Configured) → IsTableOf S self.old → IsTableOf S self.new }
     {
         if self.is_on(alarm) {
@@ -192,8 +198,11 @@ impl Alarms {
     #[inline(always)]
     pub fn expire(&mut self) -> DueAlarms
         requires last { self.old.tick + 1 < MAX_TICKS }
-        ensures due { (S : Configured) → IsTableOf S self.old → filter (λ a. is_raised a result) (below (length S.alarms)) ≡ due_of S (next_tick self.old) }
-        ensures alarms { (S : Configured) → IsTableOf S self.old → self.new ≡ expired S (next_tick self.old) }
+        ensures due { (S : Configured) → IsTableOf S self.old
+            → filter (λ a. is_raised a result) (below (length S.alarms))
+            ≡ due_of S (next_tick self.old) }
+        ensures alarms { (S : Configured) → IsTableOf S self.old
+            → self.new ≡ expired S (next_tick self.old) }
         ensures table { (S : Configured) → IsTableOf S self.old → IsTableOf S self.new }
     {
         let mut due = DueAlarms::none();
@@ -214,7 +223,8 @@ impl Alarms {
     /// How many counts an alarm has before it expires; None where it is off.
     fn counts_left(&self, alarm: AlarmId) -> Option<u32>
         requires { alarm < length self.now.expiries }
-        ensures { result ≡ remaining_at (count_in self.now alarm) (slice_index_or self.now.expiries alarm None) }
+        ensures { result
+            ≡ remaining_at (count_in self.now alarm) (slice_index_or self.now.expiries alarm None) }
     {
         let number = self.numbers[alarm.number() as usize];
         let counter = &self.counters[number as usize];
@@ -225,7 +235,8 @@ impl Alarms {
     fn wait_until(&self, alarm: AlarmId, start: u32) -> u32
         requires alarm { alarm < length self.now.expiries }
         requires start { start ≤ (counter_in self.now alarm).max_allowed_value }
-        ensures value { count_in self.now alarm + result ≡ next_count (counter_in self.now alarm) (count_in self.now alarm) start }
+        ensures value { count_in self.now alarm + result
+            ≡ next_count (counter_in self.now alarm) (count_in self.now alarm) start }
         ensures some { 0 < result }
     {
         let number = self.numbers[alarm.number() as usize];
@@ -239,7 +250,8 @@ impl Alarms {
         requires off { slice_index_or self.old.expiries alarm None ≡ None }
         requires wait { 0 < wait }
         ensures { self.new ≡ record self.old {
-          expiries = slice_set self.old.expiries alarm (Some (record { count = count_in self.old alarm + wait; cycle = cycle }));
+          expiries = slice_set self.old.expiries alarm
+              (Some (record { count = count_in self.old alarm + wait; cycle = cycle }));
         } }
     {
         let number = self.numbers[alarm.number() as usize];
@@ -261,7 +273,11 @@ impl Alarms {
         requires alarm { alarm < length system.now.alarms }
         requires off { slice_index_or self.old.expiries alarm None ≡ None }
         requires first { self.old.tick ≡ 0 }
-        ensures { self.new ≡ record self.old { expiries = slice_set self.old.expiries alarm (first_expiry (alarm_start_in system.now mode alarm)) } }
+        ensures { self.new
+            ≡ record self.old {
+              expiries = slice_set self.old.expiries alarm
+                  (first_expiry (alarm_start_in system.now mode alarm));
+            } }
     {
         // Who asks for the count of alarms learns that the system is proper, so that its values are within their limits.
         let _proper = system.alarm_count();

@@ -67,8 +67,13 @@ impl CounterAlarms {
         requires ready { IsReady tick self.old }
         ensures ready { IsReady (tick + 1) self.new }
         ensures counter { self.new.counter ≡ self.old.counter }
-        ensures expiries { (a : ℕ) → expiry_in (tick + 1) self.new a ≡ expired_at (count_of (tick + 1) self.old) (expiry_in tick self.old a) }
-        ensures due { (a : ℕ) → is_raised a due.new ≡ (is_raised a due.old || is_due_at (count_of (tick + 1) self.old) (expiry_in tick self.old a)) }
+        ensures expiries { (a : ℕ)
+            → expiry_in (tick + 1) self.new a
+            ≡ expired_at (count_of (tick + 1) self.old) (expiry_in tick self.old a) }
+        ensures due { (a : ℕ)
+            → is_raised a due.new
+            ≡ (is_raised a due.old
+            || is_due_at (count_of (tick + 1) self.old) (expiry_in tick self.old a)) }
     {
         if tick + 1 == self.next {
             self.next += self.counter.ticks_per_base;
@@ -82,7 +87,8 @@ impl CounterAlarms {
         requires base { 1 ≤ self.now.counter.ticks_per_base }
         requires round { self.now.counter.max_allowed_value < 2 ^ 31 }
         requires start { start ≤ self.now.counter.max_allowed_value }
-        ensures value { count_of tick self.now + result ≡ next_count self.now.counter (count_of tick self.now) start }
+        ensures value { count_of tick self.now + result
+            ≡ next_count self.now.counter (count_of tick self.now) start }
         ensures some { 0 < result }
     {
         let round = self.counter.max_allowed_value + 1;

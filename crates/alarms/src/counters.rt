@@ -74,9 +74,14 @@ pub fn advance_each(
     due: &mut DueAlarms,
 )
     requires tick { tick + 1 < MAX_TICKS }
-    requires ready { (k : ℕ) → k < length counters.old.items → IsReady tick (counter_at counters.old.items k) }
+    requires ready { (k : ℕ) → k < length counters.old.items
+        → IsReady tick (counter_at counters.old.items k) }
     ensures counters { AreAdvanced tick counters.old.items counters.new.items }
-    ensures due { (a : ℕ) → is_raised a due.new ≡ (is_raised a due.old || list_any (λ k. is_due_at (count_of (tick + 1) k) (expiry_in tick k a)) counters.old.items) }
+    ensures due { (a : ℕ)
+        → is_raised a due.new
+        ≡ (is_raised a due.old
+        || list_any (λ k. is_due_at (count_of (tick + 1) k) (expiry_in tick k a))
+        counters.old.items) }
 {
     for number in 0..counters.len() {
         let counter = &mut counters[number];
@@ -94,9 +99,11 @@ pub fn start_on(
 )
     requires number { number < length counters.old.items }
     requires room { length (counter_at counters.old.items number).running < MAX_ALARMS }
-    ensures { counters.new.items ≡ slice_set counters.old.items number (record (counter_at counters.old.items number) {
-      running = inserted (record { alarm = alarm; left = wait; cycle = cycle }) (counter_at counters.old.items number).running;
-    }) }
+    ensures { counters.new.items ≡ slice_set counters.old.items number
+        (record (counter_at counters.old.items number) {
+          running = inserted (record { alarm = alarm; left = wait; cycle = cycle })
+              (counter_at counters.old.items number).running;
+        }) }
 {
     let counter = &mut counters[number];
     counter.running.insert(alarm, wait, cycle);
@@ -109,9 +116,10 @@ pub fn cancel_on(
     alarm: AlarmId,
 )
     requires { number < length counters.old.items }
-    ensures { counters.new.items ≡ slice_set counters.old.items number (record (counter_at counters.old.items number) {
-      running = without alarm (counter_at counters.old.items number).running;
-    }) }
+    ensures { counters.new.items ≡ slice_set counters.old.items number
+        (record (counter_at counters.old.items number) {
+          running = without alarm (counter_at counters.old.items number).running;
+        }) }
 {
     let counter = &mut counters[number];
     counter.running.cancel(alarm);

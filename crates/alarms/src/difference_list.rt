@@ -79,7 +79,8 @@ impl DifferenceList {
     /// An alarm starts, to expire in `wait` counts.
     pub fn insert(&mut self, alarm: AlarmId, wait: u32, cycle: u32)
         requires { length self.old < MAX_ALARMS }
-        ensures { self.new ≡ inserted (record { alarm = alarm; left = wait; cycle = cycle }) self.old }
+        ensures { self.new
+            ≡ inserted (record { alarm = alarm; left = wait; cycle = cycle }) self.old }
     {
         let (place, left) = place_for(&self.entries, alarm, wait);
         let entry = Waiting {
@@ -137,7 +138,9 @@ impl DifferenceList {
     /// Takes the last wait out, where it is over. None where no wait is over.
     #[inline(always)]
     pub fn take_due(&mut self) -> Option<Due>
-        ensures due { IfSome result (λ d. self.old ≡ self.new ++ record { alarm = d.alarm; left = 0; cycle = d.cycle } ∷ []) }
+        ensures due { IfSome result
+            (λ d. self.old
+            ≡ self.new ++ record { alarm = d.alarm; left = 0; cycle = d.cycle } ∷ []) }
         ensures none { IfNone result (self.new ≡ self.old) }
         ensures ahead { IfNone result (are_ahead self.old ≡ true) }
     {
@@ -158,7 +161,9 @@ impl DifferenceList {
         requires ahead { are_ahead self.old ≡ true }
         requires apart { are_apart self.old ≡ true }
         ensures waits { (a : ℕ) → wait_of a self.new ≡ again (wait_of a (map one_less self.old)) }
-        ensures due { (a : ℕ) → is_raised a due.new ≡ (is_raised a due.old || is_over (wait_of a (map one_less self.old))) }
+        ensures due { (a : ℕ)
+            → is_raised a due.new
+            ≡ (is_raised a due.old || is_over (wait_of a (map one_less self.old))) }
         ensures apart { are_apart self.new ≡ true }
         ensures ahead { are_ahead self.new ≡ true }
     {
@@ -172,7 +177,8 @@ impl DifferenceList {
     fn expire(&mut self, due: &mut DueAlarms)
         requires { are_apart self.old ≡ true }
         ensures waits { (a : ℕ) → wait_of a self.new ≡ again (wait_of a self.old) }
-        ensures due { (a : ℕ) → is_raised a due.new ≡ (is_raised a due.old || is_over (wait_of a self.old)) }
+        ensures due { (a : ℕ)
+            → is_raised a due.new ≡ (is_raised a due.old || is_over (wait_of a self.old)) }
         ensures apart { are_apart self.new ≡ true }
         ensures ahead { are_ahead self.new ≡ true }
     {
@@ -198,7 +204,8 @@ impl DifferenceList {
 fn place_of(entries: &ArrayVec<Waiting, MAX_ALARMS>, alarm: AlarmId) -> usize
     ensures low { result ≤ length entries.now.items }
     ensures before { list_any (is_of alarm) (take result entries.now.items) ≡ false }
-    ensures here { result < length entries.now.items → is_of alarm (slice_index_or entries.now.items result not_waiting) ≡ true }
+    ensures here { result < length entries.now.items
+        → is_of alarm (slice_index_or entries.now.items result not_waiting) ≡ true }
 {
     for place in 0..entries.len() {
         let entry = &entries[place];
@@ -236,7 +243,9 @@ fn cycle_at(entries: &ArrayVec<Waiting, MAX_ALARMS>, place: usize) -> u32
 #[inline(always)]
 fn is_over(entries: &ArrayVec<Waiting, MAX_ALARMS>) -> bool
     ensures some { result ≡ true → 0 < length entries.now.items }
-    ensures over { result ≡ true → (slice_index_or entries.now.items (length entries.now.items - 1) not_waiting).difference ≡ 0 }
+    ensures over { result ≡ true
+        → (slice_index_or entries.now.items (length entries.now.items - 1) not_waiting).difference
+        ≡ 0 }
     ensures ahead { result ≡ false → are_ahead (waits entries.now.items) ≡ true }
 {
     let len = entries.len();
@@ -247,7 +256,8 @@ fn is_over(entries: &ArrayVec<Waiting, MAX_ALARMS>) -> bool
 #[inline(always)]
 fn take_last(entries: &mut ArrayVec<Waiting, MAX_ALARMS>) -> Waiting
     requires { 0 < length entries.old.items }
-    ensures value { result ≡ slice_index_or entries.old.items (length entries.old.items - 1) not_waiting }
+    ensures value { result
+        ≡ slice_index_or entries.old.items (length entries.old.items - 1) not_waiting }
     ensures items { entries.new.items ≡ remove entries.old.items (length entries.old.items - 1) }
 {
     match entries.pop() {
@@ -259,7 +269,9 @@ fn take_last(entries: &mut ArrayVec<Waiting, MAX_ALARMS>) -> Waiting
 /// The last wait is one count shorter. Answers whether it is over.
 #[inline(always)]
 fn cut_last(entries: &mut ArrayVec<Waiting, MAX_ALARMS>) -> bool
-    requires { 0 < length entries.old.items → 1 ≤ (slice_index_or entries.old.items (length entries.old.items - 1) not_waiting).difference }
+    requires { 0 < length entries.old.items
+        → 1
+        ≤ (slice_index_or entries.old.items (length entries.old.items - 1) not_waiting).difference }
     ensures items { entries.new.items ≡ cut_at entries.old.items (length entries.old.items) 1 }
     ensures ahead { result ≡ false → are_ahead (waits entries.new.items) ≡ true }
 {
@@ -290,8 +302,10 @@ fn take_out(entries: &mut ArrayVec<Waiting, MAX_ALARMS>, place: usize)
 fn put_in(entries: &mut ArrayVec<Waiting, MAX_ALARMS>, place: usize, entry: Waiting)
     requires place { place ≤ length entries.old.items }
     requires room { length entries.old.items < MAX_ALARMS }
-    requires low { 0 < place → entry.difference ≤ (slice_index_or entries.old.items (place - 1) not_waiting).difference }
-    ensures { entries.new.items ≡ insert (cut_at entries.old.items place entry.difference) place entry }
+    requires low { 0 < place
+        → entry.difference ≤ (slice_index_or entries.old.items (place - 1) not_waiting).difference }
+    ensures { entries.new.items
+        ≡ insert (cut_at entries.old.items place entry.difference) place entry }
 {
     if place > 0 {
         let before = &mut entries[place - 1];
@@ -308,8 +322,11 @@ fn put_in(entries: &mut ArrayVec<Waiting, MAX_ALARMS>, place: usize, entry: Wait
 fn place_for(entries: &ArrayVec<Waiting, MAX_ALARMS>, alarm: AlarmId, wait: u32) -> (usize, u32)
     ensures place { result.0 ≤ length entries.now.items }
     ensures left { result.1 + span (drop result.0 entries.now.items) ≡ wait }
-    ensures sooner { list_all (is_sooner (record { alarm = alarm; left = wait; cycle = 0 })) (waits (drop result.0 entries.now.items)) ≡ true }
-    ensures stop { 0 < result.0 → is_sooner (record { alarm = alarm; left = result.1; cycle = 0 }) (wait_before 0 (slice_index_or entries.now.items (result.0 - 1) not_waiting)) ≡ false }
+    ensures sooner { list_all (is_sooner (record { alarm = alarm; left = wait; cycle = 0 }))
+        (waits (drop result.0 entries.now.items)) ≡ true }
+    ensures stop { 0 < result.0
+        → is_sooner (record { alarm = alarm; left = result.1; cycle = 0 })
+        (wait_before 0 (slice_index_or entries.now.items (result.0 - 1) not_waiting)) ≡ false }
 {
     let mut place = entries.len();
     let mut left = wait;
@@ -326,7 +343,8 @@ fn place_for(entries: &ArrayVec<Waiting, MAX_ALARMS>, alarm: AlarmId, wait: u32)
 
 /// Whether an entry stays nearer to the end than an alarm with so much left.
 fn is_before(entry: &Waiting, alarm: AlarmId, left: u32) -> bool
-    ensures value { result ≡ is_sooner (record { alarm = alarm; left = left; cycle = 0 }) (wait_before 0 entry.now) }
+    ensures value { result
+        ≡ is_sooner (record { alarm = alarm; left = left; cycle = 0 }) (wait_before 0 entry.now) }
     ensures low { result ≡ true → entry.now.difference ≤ left }
 {
     entry.difference < left || (entry.difference == left && entry.alarm.number() < alarm.number())

@@ -45,7 +45,8 @@ impl DueAlarms {
     /// Whether no alarm is due.
     #[inline(always)]
     pub fn is_none(&self) -> bool
-        ensures { result ≡ true → (count : ℕ) → filter (λ a. is_raised a self.now) (below count) ≡ [] }
+        ensures { result ≡ true → (count : ℕ)
+            → filter (λ a. is_raised a self.now) (below count) ≡ [] }
     {
         self.word == 0
     }

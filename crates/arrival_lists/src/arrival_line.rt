@@ -103,7 +103,8 @@ pub(crate) fn place_of(byte: u8, text: &[u8]) -> Option<usize>
 
 /// The tick, cut at `MAX_TICKS`, and the name of a line of the right form.
 fn parts_of(line: &[u8]) -> Option<(u32, &[u8])>
-    ensures some { IfSome result (λ p. (tick : ℕ) × IsLineOf line.now tick p.1.now × (p.0 ≡ min tick MAX_TICKS)) }
+    ensures some { IfSome result
+        (λ p. (tick : ℕ) × IsLineOf line.now tick p.1.now × (p.0 ≡ min tick MAX_TICKS)) }
     ensures none { IfNone result ((tick : ℕ) (name : List ℕ) → IsLineOf line.now tick name → ⊥) }
 {
     let space = place_of(b' ', line)?;

@@ -35,8 +35,10 @@ fn push_arrival(list: &mut Vec<Arrival>, arrival: Arrival) -> Result<(), AllocEr
 /// Lines end with LF, which the last may lack. Ticks don't fall from line to line.
 pub fn read_arrivals(alloc: Global, text: &[u8], system: &System) -> Result<Arrivals, IrqFault>
     ensures read { IfOk result (λ arrivals. IsArrivalList system.now.names text.now arrivals) }
-    ensures known { IfOk result (λ arrivals. All (λ a. a.routine < length system.now.routines) arrivals) }
-    ensures fault { IfErr result (λ fault. (fault ≡ IrqFault.Memory) ⊎ IsFirstFault system.now.names text.now fault) }
+    ensures known { IfOk result
+        (λ arrivals. All (λ a. a.routine < length system.now.routines) arrivals) }
+    ensures fault { IfErr result
+        (λ fault. (fault ≡ IrqFault.Memory) ⊎ IsFirstFault system.now.names text.now fault) }
 {
     let names = system.names();
     let mut list = Vec::new(alloc);
@@ -57,7 +59,10 @@ pub fn read_arrivals(alloc: Global, text: &[u8], system: &System) -> Result<Arri
 /// A law of the definitions: a text is one arrival list, or has one first fault, and never both. Want of memory is no fault
 /// of a text.
 pub fn one_meaning()
-    ensures lists { (names : Names) (text : List ℕ) (all other : List Arrival) → IsArrivalList names text all → IsArrivalList names text other → all ≡ other }
-    ensures faults { (names : Names) (text : List ℕ) (e f : IrqFault) → IsFirstFault names text e → IsFirstFault names text f → e ≡ f }
-    ensures apart { (names : Names) (text : List ℕ) (all : List Arrival) (e : IrqFault) → IsArrivalList names text all → IsFirstFault names text e → ⊥ }
+    ensures lists { (names : Names) (text : List ℕ) (all other : List Arrival)
+        → IsArrivalList names text all → IsArrivalList names text other → all ≡ other }
+    ensures faults { (names : Names) (text : List ℕ) (e f : IrqFault) → IsFirstFault names text e
+        → IsFirstFault names text f → e ≡ f }
+    ensures apart { (names : Names) (text : List ℕ) (all : List Arrival) (e : IrqFault)
+        → IsArrivalList names text all → IsFirstFault names text e → ⊥ }
 {}

@@ -43,7 +43,8 @@ impl AlarmFigures {
 
     /// A tick more is seen.
     pub fn observe(&mut self, tick: &AlarmTick)
-        ensures { (before : List AlarmTick) → self.old ≡ alarm_figures before → self.new ≡ alarm_figures (tick.now ∷ before) }
+        ensures { (before : List AlarmTick) → self.old ≡ alarm_figures before
+            → self.new ≡ alarm_figures (tick.now ∷ before) }
     {
         self.expiries = counted(self.expiries, tick.seen.has_expired);
         self.refused = counted(self.refused, tick.seen.is_refused);

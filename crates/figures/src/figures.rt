@@ -84,7 +84,8 @@ impl Figures {
 
     /// A tick more is seen.
     pub fn observe(&mut self, observation: &Observation)
-        ensures { (S : System) (before : List Observation) → AreFigures S before self.old → AreFigures S (observation.now ∷ before) self.new }
+        ensures { (S : System) (before : List Observation) → AreFigures S before self.old
+            → AreFigures S (observation.now ∷ before) self.new }
     {
         self.ticks = counted(self.ticks, true);
         self.last = observation.tick;

@@ -29,7 +29,8 @@ use observations::Observation;
 #[inline(always)]
 fn observe_task(figures: &mut TaskFigures, levels: &[u8], observation: &Observation, number: usize)
     requires { number < length levels.now }
-    ensures { (before : List TaskTick) → figures.old ≡ task_figures before → figures.new ≡ task_figures (task_tick levels.now observation.now number ∷ before) }
+    ensures { (before : List TaskTick) → figures.old ≡ task_figures before
+        → figures.new ≡ task_figures (task_tick levels.now observation.now number ∷ before) }
 {
     if is_quiet_task(observation, number) {
         figures.pass();
@@ -42,7 +43,8 @@ fn observe_task(figures: &mut TaskFigures, levels: &[u8], observation: &Observat
 #[inline(never)]
 fn note_task(figures: &mut TaskFigures, levels: &[u8], observation: &Observation, number: usize)
     requires { number < length levels.now }
-    ensures { (before : List TaskTick) → figures.old ≡ task_figures before → figures.new ≡ task_figures (task_tick levels.now observation.now number ∷ before) }
+    ensures { (before : List TaskTick) → figures.old ≡ task_figures before
+        → figures.new ≡ task_figures (task_tick levels.now observation.now number ∷ before) }
 {
     figures.observe(&task_tick(levels, observation, number));
 }
@@ -50,7 +52,8 @@ fn note_task(figures: &mut TaskFigures, levels: &[u8], observation: &Observation
 // A tick more of a routine. In a quiet one nothing has to be counted.
 #[inline(always)]
 fn observe_routine(figures: &mut RoutineFigures, observation: &Observation, number: usize)
-    ensures { (before : List RoutineTick) → figures.old ≡ routine_figures before → figures.new ≡ routine_figures (routine_tick observation.now number ∷ before) }
+    ensures { (before : List RoutineTick) → figures.old ≡ routine_figures before
+        → figures.new ≡ routine_figures (routine_tick observation.now number ∷ before) }
 {
     if is_quiet_routine(observation, number) {
         return;
@@ -61,7 +64,8 @@ fn observe_routine(figures: &mut RoutineFigures, observation: &Observation, numb
 // A tick more of a routine that is asked for.
 #[inline(never)]
 fn note_routine(figures: &mut RoutineFigures, observation: &Observation, number: usize)
-    ensures { (before : List RoutineTick) → figures.old ≡ routine_figures before → figures.new ≡ routine_figures (routine_tick observation.now number ∷ before) }
+    ensures { (before : List RoutineTick) → figures.old ≡ routine_figures before
+        → figures.new ≡ routine_figures (routine_tick observation.now number ∷ before) }
 {
     figures.observe(&routine_tick(observation, number));
 }
@@ -69,7 +73,8 @@ fn note_routine(figures: &mut RoutineFigures, observation: &Observation, number:
 // A tick more of a resource. While it is free nothing has to be counted.
 #[inline(always)]
 fn observe_resource(figures: &mut ResourceFigures, observation: &Observation, number: usize)
-    ensures { (before : List HolderTick) → figures.old ≡ resource_figures before → figures.new ≡ resource_figures (holder_tick observation.now number ∷ before) }
+    ensures { (before : List HolderTick) → figures.old ≡ resource_figures before
+        → figures.new ≡ resource_figures (holder_tick observation.now number ∷ before) }
 {
     if is_free(observation, number) {
         figures.pass();
@@ -81,7 +86,8 @@ fn observe_resource(figures: &mut ResourceFigures, observation: &Observation, nu
 // A tick more of a resource that is held.
 #[inline(never)]
 fn note_resource(figures: &mut ResourceFigures, observation: &Observation, number: usize)
-    ensures { (before : List HolderTick) → figures.old ≡ resource_figures before → figures.new ≡ resource_figures (holder_tick observation.now number ∷ before) }
+    ensures { (before : List HolderTick) → figures.old ≡ resource_figures before
+        → figures.new ≡ resource_figures (holder_tick observation.now number ∷ before) }
 {
     figures.observe(&holder_tick(observation, number));
 }
@@ -89,7 +95,8 @@ fn note_resource(figures: &mut ResourceFigures, observation: &Observation, numbe
 // A tick more of an alarm. In a quiet one nothing has to be counted.
 #[inline(always)]
 fn observe_alarm(figures: &mut AlarmFigures, observation: &Observation, number: usize)
-    ensures { (before : List AlarmTick) → figures.old ≡ alarm_figures before → figures.new ≡ alarm_figures (alarm_tick observation.now number ∷ before) }
+    ensures { (before : List AlarmTick) → figures.old ≡ alarm_figures before
+        → figures.new ≡ alarm_figures (alarm_tick observation.now number ∷ before) }
 {
     if is_quiet_alarm(observation, number) {
         return;
@@ -100,7 +107,8 @@ fn observe_alarm(figures: &mut AlarmFigures, observation: &Observation, number: 
 // A tick more of an alarm that expires.
 #[inline(never)]
 fn note_alarm(figures: &mut AlarmFigures, observation: &Observation, number: usize)
-    ensures { (before : List AlarmTick) → figures.old ≡ alarm_figures before → figures.new ≡ alarm_figures (alarm_tick observation.now number ∷ before) }
+    ensures { (before : List AlarmTick) → figures.old ≡ alarm_figures before
+        → figures.new ≡ alarm_figures (alarm_tick observation.now number ∷ before) }
 {
     figures.observe(&alarm_tick(observation, number));
 }
@@ -108,7 +116,8 @@ fn note_alarm(figures: &mut AlarmFigures, observation: &Observation, number: usi
 /// A tick more of each task, by the static priorities of all tasks.
 pub fn observe_tasks(figures: &mut [TaskFigures], levels: &[u8], observation: &Observation)
     requires { length figures.old ≤ length levels.now }
-    ensures { IsListStep task_figures (task_tick levels.now observation.now) figures.old figures.new }
+    ensures { IsListStep task_figures (task_tick levels.now observation.now) figures.old
+        figures.new }
 {
     for (number, figures) in figures.iter_mut().enumerate() {
         observe_task(figures, levels, observation, number);

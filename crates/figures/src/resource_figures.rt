@@ -100,7 +100,8 @@ impl ResourceFigures {
 
     /// A tick more is seen.
     pub fn observe(&mut self, tick: &HolderTick)
-        ensures { (before : List HolderTick) → self.old ≡ resource_figures before → self.new ≡ resource_figures (tick.now ∷ before) }
+        ensures { (before : List HolderTick) → self.old ≡ resource_figures before
+            → self.new ≡ resource_figures (tick.now ∷ before) }
     {
         self.gets = counted(self.gets, is_got(tick.holder, self.holder));
         self.held = self.hold_on(tick.holder);

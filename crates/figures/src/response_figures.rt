@@ -72,7 +72,8 @@ impl ResponseFigures {
 
     /// A tick more is seen.
     pub fn observe(&mut self, tick: &TaskTick)
-        ensures { (before : List TaskTick) → self.old ≡ response_figures before → self.new ≡ response_figures (tick.now ∷ before) }
+        ensures { (before : List TaskTick) → self.old ≡ response_figures before
+            → self.new ≡ response_figures (tick.now ∷ before) }
     {
         enter(&mut self.ready_since, tick);
         let response = leave(&mut self.ready_since, tick.tick, tick.leaves());

@@ -91,7 +91,8 @@ impl RoutineFigures {
 
     /// A tick more is seen.
     pub fn observe(&mut self, tick: &RoutineTick)
-        ensures { (before : List RoutineTick) → self.old ≡ routine_figures before → self.new ≡ routine_figures (tick.now ∷ before) }
+        ensures { (before : List RoutineTick) → self.old ≡ routine_figures before
+            → self.new ≡ routine_figures (tick.now ∷ before) }
     {
         self.arrivals = added(self.arrivals, tick.seen.arrived);
         self.losses = added(self.losses, tick.seen.lost);

@@ -37,7 +37,8 @@ impl Spread {
 
     /// A number more.
     pub fn add(&mut self, reached: Reached)
-        ensures { (before : List Reached) → self.old ≡ spread before → self.new ≡ spread (reached ∷ before) }
+        ensures { (before : List Reached) → self.old ≡ spread before
+            → self.new ≡ spread (reached ∷ before) }
     {
         self.count = counted(self.count, true);
         self.sum = self.sum.saturating_add(u64::from(reached.ticks));
@@ -47,7 +48,8 @@ impl Spread {
 
     /// A number more, if there is one.
     pub fn note(&mut self, reached: Option<Reached>)
-        ensures { (before : List Reached) → self.old ≡ spread before → self.new ≡ spread (put reached before) }
+        ensures { (before : List Reached) → self.old ≡ spread before
+            → self.new ≡ spread (put reached before) }
     {
         if let Some(reached) = reached {
             self.add(reached);

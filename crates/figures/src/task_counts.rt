@@ -57,7 +57,8 @@ impl TaskCounts {
 
     /// A tick more is seen.
     pub fn observe(&mut self, tick: &TaskTick)
-        ensures { (before : List TaskTick) → self.old ≡ task_counts before → self.new ≡ task_counts (tick.now ∷ before) }
+        ensures { (before : List TaskTick) → self.old ≡ task_counts before
+            → self.new ≡ task_counts (tick.now ∷ before) }
     {
         self.activations = added(self.activations, u32::from(tick.seen.made));
         self.refused = added(self.refused, u32::from(tick.seen.refused));

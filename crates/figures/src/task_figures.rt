@@ -47,14 +47,16 @@ impl TaskFigures {
     /// A tick more is seen, in which the task has no job, doesn't execute, and nothing comes to it.
     #[inline(always)]
     pub(crate) fn pass(&mut self)
-        ensures { self.new ≡ record self.old { counts = record self.old.counts { unfinished = 0 } } }
+        ensures { self.new
+            ≡ record self.old { counts = record self.old.counts { unfinished = 0 } } }
     {
         self.counts.unfinished = 0;
     }
 
     /// A tick more is seen.
     pub fn observe(&mut self, tick: &TaskTick)
-        ensures { (before : List TaskTick) → self.old ≡ task_figures before → self.new ≡ task_figures (tick.now ∷ before) }
+        ensures { (before : List TaskTick) → self.old ≡ task_figures before
+            → self.new ≡ task_figures (tick.now ∷ before) }
     {
         self.counts.observe(tick);
         self.times.observe(tick);
@@ -63,7 +65,9 @@ impl TaskFigures {
 
     /// The greatest response, or the age of the oldest job behind a last tick, if that is greater.
     pub fn worst(&self, last: u32) -> Option<Reached>
-        ensures { result ≡ worse_of self.now.responses.spread.greatest (oldest_response last self.now.responses.ready_since) }
+        ensures { result
+            ≡ worse_of self.now.responses.spread.greatest
+            (oldest_response last self.now.responses.ready_since) }
     {
         worse_of(
             self.responses.spread().greatest,

@@ -42,7 +42,8 @@ impl TaskTimes {
 
     /// A tick more is seen.
     pub fn observe(&mut self, tick: &TaskTick)
-        ensures { (before : List TaskTick) → self.old ≡ task_times before → self.new ≡ task_times (tick.now ∷ before) }
+        ensures { (before : List TaskTick) → self.old ≡ task_times before
+            → self.new ≡ task_times (tick.now ∷ before) }
     {
         let time = tick.time(self.has_begun);
         self.executed = counted(self.executed, time.is_executed());

@@ -24,7 +24,8 @@ impl<'s, Q: ReadyQueues> Processor<'s, Q> {
     #[inline(always)]
     pub fn advance(&mut self, due: &mut DueList)
         requires { self.old.objects.tick + 1 < MAX_TICKS }
-        ensures due { due.new ≡ due_alarms (system_of self.old) (bare (picture (clocked self.old))) }
+        ensures due { due.new
+            ≡ due_alarms (system_of self.old) (bare (picture (clocked self.old))) }
         ensures advanced { Becomes advanced_in (clocked self.old) self.new }
     {
         self.core.advance(due);

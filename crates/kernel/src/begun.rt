@@ -63,9 +63,12 @@ pub fn begin<Q: ReadyQueues>(
     requires tick { tick < MAX_TICKS }
     requires low { begun.old.level ≤ MAX_TASK_PRIORITY }
     ensures low { begun.new.level ≤ MAX_TASK_PRIORITY }
-    ensures value { number_since last.new begun.new ≡ number_for (system_of processor.now) (caller_in (picture processor.now)) last.old stamps.old }
+    ensures value { number_since last.new begun.new
+        ≡ number_for (system_of processor.now) (caller_in (picture processor.now)) last.old
+        stamps.old }
     ensures stamps { stamps.new ≡ spent_of (caller_in (picture processor.now)) stamps.old }
-    ensures last { last.new ≡ noted (system_of processor.now) tick (caller_in (picture processor.now)) last.old }
+    ensures last { last.new
+        ≡ noted (system_of processor.now) tick (caller_in (picture processor.now)) last.old }
 {
     match processor.executing_task() {
         None => begun.stamp = None,

@@ -76,9 +76,11 @@ impl<B: Blockers> Blocking<B> {
     #[inline(always)]
     pub fn looked_at(&mut self, before: &Look, after: &Look, tick: u32)
         requires task { before.now.task < length self.old.stamps }
-        requires counted { B.are_counted ≡ true → length (stamps_at self.old.stamps before.now.task) ≡ before.now.count }
+        requires counted { B.are_counted ≡ true
+            → length (stamps_at self.old.stamps before.now.task) ≡ before.now.count }
         requires few { after.now.count ≤ MAX_ACTIVATION }
-        ensures stamps { B.are_counted ≡ true → self.new.stamps ≡ looked_between tick before.now after.now self.old.stamps }
+        ensures stamps { B.are_counted ≡ true
+            → self.new.stamps ≡ looked_between tick before.now after.now self.old.stamps }
         ensures told { self.new.told ≡ self.old.told }
         ensures sized { length self.new.stamps ≡ length self.old.stamps }
     {
@@ -91,7 +93,8 @@ impl<B: Blockers> Blocking<B> {
     #[inline(always)]
     pub fn preempted(&mut self, runner: Option<TaskId>, running: &Option<TaskId>, tick: u32)
         requires { IfSome runner (λ t. t < length self.old.stamps) }
-        ensures stamps { B.are_counted ≡ true → self.new.stamps ≡ preempted_by tick runner running.now self.old.stamps }
+        ensures stamps { B.are_counted ≡ true
+            → self.new.stamps ≡ preempted_by tick runner running.now self.old.stamps }
         ensures told { self.new.told ≡ self.old.told }
         ensures sized { length self.new.stamps ≡ length self.old.stamps }
     {
@@ -106,9 +109,11 @@ impl<B: Blockers> Blocking<B> {
     pub fn executed_since(&mut self, before: &Stand, after: &Stand, tick: u32)
         requires running { IfSome before.now.running (λ t. t < length self.old.stamps) }
         requires task { IfSome before.now.named (λ b. b.task < length self.old.stamps) }
-        requires counted { B.are_counted ≡ true → IfSome before.now.named (λ b. length (stamps_at self.old.stamps b.task) ≡ b.count) }
+        requires counted { B.are_counted ≡ true
+            → IfSome before.now.named (λ b. length (stamps_at self.old.stamps b.task) ≡ b.count) }
         requires few { IfSome after.now.named (λ l. l.count ≤ MAX_ACTIVATION) }
-        ensures stamps { B.are_counted ≡ true → self.new.stamps ≡ stood_between tick before.now after.now self.old.stamps }
+        ensures stamps { B.are_counted ≡ true
+            → self.new.stamps ≡ stood_between tick before.now after.now self.old.stamps }
         ensures told { self.new.told ≡ self.old.told }
         ensures sized { length self.new.stamps ≡ length self.old.stamps }
     {
@@ -122,9 +127,16 @@ impl<B: Blockers> Blocking<B> {
     pub fn begin<Q: ReadyQueues>(&mut self, processor: &Processor<'_, Q>, tick: u32)
         requires stamps { length self.old.stamps ≡ length (system_of processor.now).tasks }
         requires tick { tick < MAX_TICKS }
-        ensures stamps { B.are_counted ≡ true → self.new.stamps ≡ spent_of (caller_in (picture processor.now)) self.old.stamps }
-        ensures last { B.are_counted ≡ true → self.new.told.last ≡ noted (system_of processor.now) tick (caller_in (picture processor.now)) self.old.told.last }
-        ensures number { B.are_counted ≡ true → number_told self.new.told ≡ number_for (system_of processor.now) (caller_in (picture processor.now)) self.old.told.last self.old.stamps }
+        ensures stamps { B.are_counted ≡ true
+            → self.new.stamps ≡ spent_of (caller_in (picture processor.now)) self.old.stamps }
+        ensures last { B.are_counted ≡ true
+            → self.new.told.last
+            ≡ noted (system_of processor.now) tick (caller_in (picture processor.now))
+            self.old.told.last }
+        ensures number { B.are_counted ≡ true
+            → number_told self.new.told
+            ≡ number_for (system_of processor.now) (caller_in (picture processor.now))
+            self.old.told.last self.old.stamps }
         ensures sized { length self.new.stamps ≡ length self.old.stamps }
     {
         if B::are_counted() {

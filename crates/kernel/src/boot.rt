@@ -80,7 +80,9 @@ fn started<'s, Q: ReadyQueues>(
 ) -> Result<Core<'s, Q>, AllocError>
     requires { IsProper system.now }
     ensures system { IfOk result (λ c. c.system ≡ system.now) }
-    ensures kept { IfOk result (λ c. kept_in c ≡ all_activated_in system.now (starting_tasks system.now mode) (begun_in system.now mode)) }
+    ensures kept { IfOk result
+        (λ c. kept_in c
+        ≡ all_activated_in system.now (starting_tasks system.now mode) (begun_in system.now mode)) }
 {
     let mut core = Core::new(alloc, system)?;
     core.start_alarms(mode);
@@ -112,7 +114,8 @@ fn add_jobs(stamps: &mut JobStamps, task: TaskId, count: u8)
     requires task { task < length stamps.old }
     requires none { length (stamps_at stamps.old task) ≡ 0 }
     requires few { count ≤ MAX_ACTIVATION }
-    ensures others { (t : ℕ) → (task == t) ≡ false → stamps_at stamps.new t ≡ stamps_at stamps.old t }
+    ensures others { (t : ℕ) → (task == t) ≡ false
+        → stamps_at stamps.new t ≡ stamps_at stamps.old t }
     ensures own { stamps_at stamps.new task ≡ replicate count (Some 0) }
     ensures sized { length stamps.new ≡ length stamps.old }
 {

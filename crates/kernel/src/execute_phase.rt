@@ -30,7 +30,8 @@ impl<'s, Q: ReadyQueues> Processor<'s, Q> {
     #[inline(always)]
     pub fn next_of(&self, owner: &Owner) -> Next
         requires who { IsExecuting (picture self.now) owner.now }
-        requires placed { IsPlaced (system_of self.now) owner.now (context_in (picture self.now) owner.now) }
+        requires placed { IsPlaced (system_of self.now) owner.now
+            (context_in (picture self.now) owner.now) }
         ensures { IsNext self.now result }
     {
         let cpu = self.core.cpu_of(*owner);
@@ -58,7 +59,8 @@ impl<'s, Q: ReadyQueues> Processor<'s, Q> {
     pub fn execute_plain(&mut self, next: Next) -> Outcome
         requires next { IsNext self.old next }
         requires plain { is_plain (instr_of next.packed) ≡ true }
-        ensures { Does execute_phase_in self.old self.new [] (TraceEvent.Executed next.owner next.place (instr_of next.packed) result ∷ []) }
+        ensures { Does execute_phase_in self.old self.new []
+            (TraceEvent.Executed next.owner next.place (instr_of next.packed) result ∷ []) }
     {
         Outcome::Plain(
             self.core
@@ -73,7 +75,9 @@ impl<'s, Q: ReadyQueues> Processor<'s, Q> {
         requires may { MayExecute self.old }
         requires control { is_control (instr_of next.now.packed) ≡ true }
         requires none { behind.old ≡ [] }
-        ensures does { Does execute_phase_in self.old self.new [] (TraceEvent.Executed next.now.owner next.now.place (instr_of next.now.packed) Outcome.Control ∷ behind.new) }
+        ensures does { Does execute_phase_in self.old self.new []
+            (TraceEvent.Executed next.now.owner next.now.place (instr_of next.now.packed)
+            Outcome.Control ∷ behind.new) }
         ensures few { length behind.new ≤ 1 }
     {
         let control = next.packed.control();
@@ -95,7 +99,9 @@ impl<'s, Q: ReadyQueues> Processor<'s, Q> {
         requires may { MayExecute self.old }
         requires service { instr_of next.now.packed ≡ Instr.Service service.now }
         requires none { behind.old ≡ [] }
-        ensures does { Does execute_phase_in self.old self.new [] (TraceEvent.Executed next.now.owner next.now.place (instr_of next.now.packed) result ∷ behind.new) }
+        ensures does { Does execute_phase_in self.old self.new []
+            (TraceEvent.Executed next.now.owner next.now.place (instr_of next.now.packed) result
+            ∷ behind.new) }
         ensures few { length behind.new ≤ 1 }
     {
         let answer = self.core.serve(next.owner, service);

@@ -29,7 +29,8 @@ impl<'s, Q: ReadyQueues, B: Blockers> Watched<'s, Q, B> {
     pub fn execute_phase(&mut self, tick: u32, behind: &mut TickRecord) -> Option<Executed>
         requires begun { HasBegun B.are_counted self.old }
         requires none { behind.old ≡ [] }
-        ensures does { Watches B.are_counted executing tick self.old self.new [] (idle_or_executed (system_of self.old.processor) result ∷ behind.new) }
+        ensures does { Watches B.are_counted executing tick self.old self.new []
+            (idle_or_executed (system_of self.old.processor) result ∷ behind.new) }
         ensures there { IfSome result (StandsIn (system_of self.old.processor)) }
         ensures few { length behind.new ≤ 1 }
     {
@@ -55,7 +56,8 @@ impl<'s, Q: ReadyQueues, B: Blockers> Watched<'s, Q, B> {
         requires next { IsNext self.old.processor next }
         requires begun { HasBegun B.are_counted self.old }
         requires none { behind.old ≡ [] }
-        ensures does { Watches B.are_counted executing tick self.old self.new [] (TraceEvent.Executed next.owner next.place (instr_of next.packed) result ∷ behind.new) }
+        ensures does { Watches B.are_counted executing tick self.old self.new []
+            (TraceEvent.Executed next.owner next.place (instr_of next.packed) result ∷ behind.new) }
         ensures few { length behind.new ≤ 1 }
     {
         if next.packed.is_plain() {
@@ -76,7 +78,9 @@ impl<'s, Q: ReadyQueues, B: Blockers> Watched<'s, Q, B> {
         requires plain { is_plain (instr_of next.now.packed) ≡ false }
         requires control { is_control (instr_of next.now.packed) ≡ false }
         requires none { behind.old ≡ [] }
-        ensures does { Watches B.are_counted executing tick self.old self.new [] (TraceEvent.Executed next.now.owner next.now.place (instr_of next.now.packed) result ∷ behind.new) }
+        ensures does { Watches B.are_counted executing tick self.old self.new []
+            (TraceEvent.Executed next.now.owner next.now.place (instr_of next.now.packed) result
+            ∷ behind.new) }
         ensures few { length behind.new ≤ 1 }
     {
         let service = next.packed.service();

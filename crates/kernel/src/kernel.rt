@@ -57,7 +57,8 @@ impl<'s, Q: ReadyQueues, B: Blockers> Model for Kernel<'s, Q, B> {
       ticks = next_tick k.machine;
     } };
 
-    ghost invariant = { λ k. IsKept B.are_counted k.system.now k.mode k.arrivals k.routines.items k.earlier k.arrived k.machine };
+    ghost invariant = { λ k. IsKept B.are_counted k.system.now k.mode k.arrivals k.routines.items
+        k.earlier k.arrived k.machine };
 }
 
 /// The application mode of a name.
@@ -88,9 +89,12 @@ impl<'s, Q: ReadyQueues, B: Blockers> Kernel<'s, Q, B> {
         arrivals: Arrivals,
     ) -> Result<Self, BootFault>
         requires { AreKnown system.now arrivals }
-        ensures booted { IfOk result (λ k. (k.system ≡ system.now) × (k.arrivals ≡ arrivals) × (k.ticks ≡ 0) × (number_of mode.now system.now.names.modes ≡ Some k.mode)) }
+        ensures booted { IfOk result
+            (λ k. (k.system ≡ system.now) × (k.arrivals ≡ arrivals) × (k.ticks ≡ 0)
+            × (number_of mode.now system.now.names.modes ≡ Some k.mode)) }
         ensures lawful { IfOk result IsLawful }
-        ensures unknown { (result ≡ Err BootFault.UnknownMode) ↔ (number_of mode.now system.now.names.modes ≡ None) }
+        ensures unknown { (result ≡ Err BootFault.UnknownMode)
+            ↔ (number_of mode.now system.now.names.modes ≡ None) }
     {
         let Some(mode) = mode_of(system, mode) else {
             return Err(BootFault::UnknownMode);
@@ -144,14 +148,16 @@ impl<'s, Q: ReadyQueues, B: Blockers> Kernel<'s, Q, B> {
     pub fn shared_word(&self, resource: ResourceNumber, index: u32) -> u32
         requires resource { resource < length self.now.system.resources }
         requires index { index < SHARED_WORDS }
-        ensures { result ≡ slice_index (shared_window (run_of self.now).state.shared resource) index }
+        ensures { result
+            ≡ slice_index (shared_window (run_of self.now).state.shared resource) index }
     {
         self.machine.shared_word(resource, index)
     }
 
     /// The ready queues: for each level the tasks that are ready and don't run, oldest first.
     pub fn queues(&self) -> &Q
-        ensures { by_level (level_lists (Q.queues result.now)) ≡ (kept self.now.system (run_of self.now).state).queues }
+        ensures { by_level (level_lists (Q.queues result.now))
+            ≡ (kept self.now.system (run_of self.now).state).queues }
     {
         self.machine.queues()
     }
@@ -160,7 +166,9 @@ impl<'s, Q: ReadyQueues, B: Blockers> Kernel<'s, Q, B> {
     /// ready. None where blockers aren't counted.
     pub fn blockers(&self) -> Option<u32>
         requires { 1 ≤ self.now.ticks }
-        ensures counted { B.are_counted ≡ true → result ≡ blockers_at self.now.system self.now.mode self.now.arrivals (self.now.ticks - 1) }
+        ensures counted { B.are_counted ≡ true
+            → result
+            ≡ blockers_at self.now.system self.now.mode self.now.arrivals (self.now.ticks - 1) }
         ensures uncounted { B.are_counted ≡ false → result ≡ None }
     {
         self.machine.blockers()
@@ -169,7 +177,8 @@ impl<'s, Q: ReadyQueues, B: Blockers> Kernel<'s, Q, B> {
     /// Does one tick, and answers its records. It takes no memory and never fails.
     pub fn tick(&mut self) -> TickRecord
         requires { is_over self.old ≡ false }
-        ensures records { result ≡ record_at self.old.system self.old.mode self.old.arrivals self.old.ticks }
+        ensures records { result
+            ≡ record_at self.old.system self.old.mode self.old.arrivals self.old.ticks }
         ensures next { self.new ≡ record self.old { ticks = self.old.ticks + 1 } }
         ensures lawful { IsLawful self.new }
     {
@@ -183,7 +192,8 @@ impl<'s, Q: ReadyQueues, B: Blockers> Kernel<'s, Q, B> {
     /// another list to work in.
     pub fn tick_into(&mut self, record_of_tick: &mut TickRecord, room: &mut TickRecord)
         requires { is_over self.old ≡ false }
-        ensures records { record_of_tick.new ≡ record_at self.old.system self.old.mode self.old.arrivals self.old.ticks }
+        ensures records { record_of_tick.new
+            ≡ record_at self.old.system self.old.mode self.old.arrivals self.old.ticks }
         ensures next { self.new ≡ record self.old { ticks = self.old.ticks + 1 } }
         ensures lawful { IsLawful self.new }
     {
@@ -204,7 +214,8 @@ impl<'s, Q: ReadyQueues, B: Blockers> Kernel<'s, Q, B> {
         behind: &mut TickRecord,
     ) -> Option<Executed>
         requires { is_over self.old ≡ false }
-        ensures records { before.new ++ idle_or_executed self.old.system result ∷ behind.new ≡ record_at self.old.system self.old.mode self.old.arrivals self.old.ticks }
+        ensures records { before.new ++ idle_or_executed self.old.system result ∷ behind.new
+            ≡ record_at self.old.system self.old.mode self.old.arrivals self.old.ticks }
         ensures there { IfSome result (StandsIn self.old.system) }
         ensures few { length before.new + length behind.new < MAX_RECORDS }
         ensures next { self.new ≡ record self.old { ticks = self.old.ticks + 1 } }
@@ -222,12 +233,17 @@ impl<'s, Q: ReadyQueues, B: Blockers> Kernel<'s, Q, B> {
         at: &mut AtInstruction,
     ) -> Option<Executed>
         requires { is_over self.old ≡ false }
-        ensures records { before.new ++ idle_or_executed self.old.system result ∷ behind.new ≡ record_at self.old.system self.old.mode self.old.arrivals self.old.ticks }
+        ensures records { before.new ++ idle_or_executed self.old.system result ∷ behind.new
+            ≡ record_at self.old.system self.old.mode self.old.arrivals self.old.ticks }
         ensures there { IfSome result (StandsIn self.old.system) }
         ensures few { length before.new + length behind.new < MAX_RECORDS }
         ensures next { self.new ≡ record self.old { ticks = self.old.ticks + 1 } }
         ensures lawful { IsLawful self.new }
-        ensures seen { at.new.tasks.items ≡ map (task_at self.old.system (step_at self.old.system self.old.mode self.old.arrivals self.old.ticks).executing) (below (length self.old.system.tasks)) }
+        ensures seen { at.new.tasks.items
+            ≡ map
+            (task_at self.old.system
+            (step_at self.old.system self.old.mode self.old.arrivals self.old.ticks).executing)
+            (below (length self.old.system.tasks)) }
     {
         self.tick_with(at, before, behind)
     }
@@ -241,13 +257,16 @@ impl<'s, Q: ReadyQueues, B: Blockers> Kernel<'s, Q, B> {
         behind: &mut TickRecord,
     ) -> Option<Executed>
         requires { is_over self.old ≡ false }
-        ensures records { before.new ++ idle_or_executed self.old.system result ∷ behind.new ≡ record_at self.old.system self.old.mode self.old.arrivals self.old.ticks }
+        ensures records { before.new ++ idle_or_executed self.old.system result ∷ behind.new
+            ≡ record_at self.old.system self.old.mode self.old.arrivals self.old.ticks }
         ensures there { IfSome result (StandsIn self.old.system) }
         ensures few { length before.new + length behind.new < MAX_RECORDS }
         ensures next { self.new ≡ record self.old { ticks = self.old.ticks + 1 } }
         ensures lawful { IsLawful self.new }
         ensures proper { IsProper self.old.system }
-        ensures seen { L.HasSeen looker.new self.old.system (kept self.old.system (step_at self.old.system self.old.mode self.old.arrivals self.old.ticks).executing) }
+        ensures seen { L.HasSeen looker.new self.old.system
+            (kept self.old.system
+            (step_at self.old.system self.old.mode self.old.arrivals self.old.ticks).executing) }
     {
         let tick = self.machine.next_tick();
         let end = arrived_by(self.arrivals.list(), self.arrived, tick);
@@ -263,7 +282,8 @@ impl<'s, Q: ReadyQueues, B: Blockers> Kernel<'s, Q, B> {
 #[inline(always)]
 fn arrived_by(list: &[Arrival], arrived: usize, tick: u32) -> usize
     requires { AreLeft list.now arrived tick }
-    ensures these { arriving list.now tick ≡ slice_range (map (λ a. a.routine) list.now) arrived result }
+    ensures these { arriving list.now tick
+        ≡ slice_range (map (λ a. a.routine) list.now) arrived result }
     ensures left { AreLeft list.now result (tick + 1) }
     ensures forward { arrived ≤ result }
 {

@@ -14,7 +14,8 @@ impl<'s, Q: ReadyQueues, B: Blockers> Kernel<'s, Q, B> {
     /// The alarms that were due in the last tick, in declaration order.
     pub fn last_due(&self) -> &DueList
         requires { 1 ≤ self.now.ticks }
-        ensures { result.now ≡ due_in self.now.system self.now.mode self.now.arrivals (self.now.ticks - 1) }
+        ensures { result.now
+            ≡ due_in self.now.system self.now.mode self.now.arrivals (self.now.ticks - 1) }
     {
         self.machine.last_due()
     }
@@ -22,7 +23,8 @@ impl<'s, Q: ReadyQueues, B: Blockers> Kernel<'s, Q, B> {
     /// Those of them whose action was refused: a status other than E_OK.
     pub fn last_refused(&self) -> &DueList
         requires { 1 ≤ self.now.ticks }
-        ensures { result.now ≡ refused_in self.now.system self.now.mode self.now.arrivals (self.now.ticks - 1) }
+        ensures { result.now
+            ≡ refused_in self.now.system self.now.mode self.now.arrivals (self.now.ticks - 1) }
     {
         self.machine.last_refused()
     }

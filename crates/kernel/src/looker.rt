@@ -46,7 +46,9 @@ impl Looker for AtInstruction {
 /// Leaves what each task is.
 #[tactic(auto, using(crate::proofs::ToldLemmas::told_more, crate::proofs::ToldLemmas::told_count))]
 fn see_tasks<Q: ReadyQueues>(processor: &Processor<'_, Q>, tasks: &mut ArrayVec<TaskAt, MAX_TASKS>)
-    ensures { tasks.new.items ≡ map (task_at_in (system_of processor.now) (picture processor.now)) (below (length (system_of processor.now).tasks)) }
+    ensures { tasks.new.items
+        ≡ map (task_at_in (system_of processor.now) (picture processor.now))
+        (below (length (system_of processor.now).tasks)) }
 {
     tasks.clear();
     for number in 0..processor.task_count() {

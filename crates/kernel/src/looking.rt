@@ -106,8 +106,10 @@ impl<'s, Q: ReadyQueues> Processor<'s, Q> {
     /// Who executes: the active routine, else the running task.
     #[inline(always)]
     pub fn executor(&self) -> Option<Owner>
-        ensures value { MatchOption result (caller_in (picture self.now) ≡ ByNobody) (IsExecuting (picture self.now)) }
-        ensures placed { IfSome result (λ w. IsPlaced (system_of self.now) w (context_in (picture self.now) w)) }
+        ensures value { MatchOption result (caller_in (picture self.now) ≡ ByNobody)
+            (IsExecuting (picture self.now)) }
+        ensures placed { IfSome result
+            (λ w. IsPlaced (system_of self.now) w (context_in (picture self.now) w)) }
     {
         self.core.executor()
     }
@@ -124,7 +126,8 @@ impl<'s, Q: ReadyQueues> Processor<'s, Q> {
     /// Whether a reschedule is known to change nothing.
     #[inline(always)]
     pub fn is_dispatched(&self) -> bool
-        ensures { result ≡ true → rescheduled (system_of self.now) (picture self.now) ≡ silent_in (picture self.now) }
+        ensures { result ≡ true
+            → rescheduled (system_of self.now) (picture self.now) ≡ silent_in (picture self.now) }
     {
         self.core.is_dispatched()
     }

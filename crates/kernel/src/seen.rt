@@ -37,7 +37,9 @@ impl<'s, Q: ReadyQueues, B: Blockers> Kernel<'s, Q, B> {
     /// priority ceiling protocol).
     pub fn dynamic_priority(&self, task: TaskId) -> Option<u8>
         requires { task < length self.now.system.tasks }
-        ensures { result ≡ option_map (dynamic_priority self.now.system) (oldest_job (run_of self.now).state task) }
+        ensures { result
+            ≡ option_map (dynamic_priority self.now.system)
+            (oldest_job (run_of self.now).state task) }
     {
         self.machine.core().dynamic_priority(task)
     }
@@ -102,7 +104,8 @@ impl<'s, Q: ReadyQueues, B: Blockers> Kernel<'s, Q, B> {
     /// done last, and before the first tick at tick 0; None while it is off (alarms, GetAlarm).
     pub fn remaining(&self, alarm: AlarmId) -> Option<u32>
         requires { alarm < length self.now.system.alarms }
-        ensures { result ≡ counts_left self.now.system (at_last_tick (run_of self.now).state) alarm }
+        ensures { result
+            ≡ counts_left self.now.system (at_last_tick (run_of self.now).state) alarm }
     {
         self.machine.core().counts_left(alarm)
     }

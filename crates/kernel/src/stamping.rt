@@ -65,7 +65,8 @@ pub fn preempted(
 pub fn executed_since(stamps: &mut JobStamps, before: &Stand, after: &Stand, tick: u32)
     requires running { IfSome before.now.running (λ t. t < length stamps.old) }
     requires task { IfSome before.now.named (λ b. b.task < length stamps.old) }
-    requires counted { IfSome before.now.named (λ b. length (stamps_at stamps.old b.task) ≡ b.count) }
+    requires counted { IfSome before.now.named
+        (λ b. length (stamps_at stamps.old b.task) ≡ b.count) }
     requires few { IfSome after.now.named (λ l. l.count ≤ MAX_ACTIVATION) }
     ensures value { stamps.new ≡ stood_between tick before.now after.now stamps.old }
     ensures sized { length stamps.new ≡ length stamps.old }

@@ -52,7 +52,8 @@ impl<'s, Q: ReadyQueues, B: Blockers> Model for Machine<'s, Q, B> {
 
     ghost view = { λ m. between m.watched m.ticks m.opening m.acted };
 
-    ghost invariant = { λ m. IsMachine B.are_counted m.watched.processor.objects.tick (between m.watched m.ticks m.opening m.acted) };
+    ghost invariant = { λ m. IsMachine B.are_counted m.watched.processor.objects.tick
+        (between m.watched m.ticks m.opening m.acted) };
 }
 
 impl<'s, Q: ReadyQueues, B: Blockers> Machine<'s, Q, B> {
@@ -143,7 +144,8 @@ impl<'s, Q: ReadyQueues, B: Blockers> Machine<'s, Q, B> {
     /// the counts left of alarms are told.
     pub fn objects(&self) -> &Objects<'s, Q>
         ensures system { result.now.system ≡ system_of self.now }
-        ensures picture { kept_of (picture self.now).words (record result.now { tick = next_tick self.now }) ≡ picture self.now }
+        ensures picture { kept_of (picture self.now).words
+            (record result.now { tick = next_tick self.now }) ≡ picture self.now }
         ensures clock { result.now.tick ≡ next_tick self.now - 1 }
     {
         self.core().objects()
@@ -153,7 +155,8 @@ impl<'s, Q: ReadyQueues, B: Blockers> Machine<'s, Q, B> {
     #[inline(always)]
     pub fn core(&self) -> &Core<'s, Q>
         ensures system { result.now.system ≡ system_of self.now }
-        ensures objects { record result.now { tick = next_tick self.now } ≡ self.now.processor.objects }
+        ensures objects { record result.now { tick = next_tick self.now }
+            ≡ self.now.processor.objects }
         ensures clock { result.now.tick ≡ next_tick self.now - 1 }
     {
         &self.watched.processor.core
@@ -172,7 +175,8 @@ impl<'s, Q: ReadyQueues, B: Blockers> Machine<'s, Q, B> {
         requires on { (picture self.old).over ≡ false }
         requires limit { next_tick self.old < MAX_TICKS }
         requires known { All (λ i. i < length (system_of self.old).routines) arrived.now }
-        ensures ticks { Ticks arrived.now self.old self.new (before.new ++ idle_or_executed (system_of self.old) result ∷ behind.new) }
+        ensures ticks { Ticks arrived.now self.old self.new
+            (before.new ++ idle_or_executed (system_of self.old) result ∷ behind.new) }
         ensures goes_on { GoesOn B.are_counted arrived.now self.old self.new }
         ensures of_run { IsOfRun B.are_counted self.new }
         ensures there { IfSome result (StandsIn (system_of self.old)) }
@@ -193,13 +197,18 @@ impl<'s, Q: ReadyQueues, B: Blockers> Machine<'s, Q, B> {
         requires on { (picture self.old).over ≡ false }
         requires limit { next_tick self.old < MAX_TICKS }
         requires known { All (λ i. i < length (system_of self.old).routines) arrived.now }
-        ensures ticks { Ticks arrived.now self.old self.new (before.new ++ idle_or_executed (system_of self.old) result ∷ behind.new) }
+        ensures ticks { Ticks arrived.now self.old self.new
+            (before.new ++ idle_or_executed (system_of self.old) result ∷ behind.new) }
         ensures goes_on { GoesOn B.are_counted arrived.now self.old self.new }
         ensures was_of_run { IsOfRun B.are_counted self.old }
         ensures of_run { IsOfRun B.are_counted self.new }
         ensures there { IfSome result (StandsIn (system_of self.old)) }
         ensures few { length before.new + length behind.new < MAX_RECORDS }
-        ensures seen { at.new.tasks.items ≡ map (task_at_in (system_of self.old) (before_execution_in (system_of self.old) arrived.now (picture self.old)).state) (below (length (system_of self.old).tasks)) }
+        ensures seen { at.new.tasks.items
+            ≡ map
+            (task_at_in (system_of self.old)
+            (before_execution_in (system_of self.old) arrived.now (picture self.old)).state)
+            (below (length (system_of self.old).tasks)) }
         ensures acted { self.new.acted ≡ acted_in (system_of self.old) (picture self.old) }
     {
         self.tick_with(arrived, at, before, behind)
@@ -217,13 +226,16 @@ impl<'s, Q: ReadyQueues, B: Blockers> Machine<'s, Q, B> {
         requires on { (picture self.old).over ≡ false }
         requires limit { next_tick self.old < MAX_TICKS }
         requires known { All (λ i. i < length (system_of self.old).routines) arrived.now }
-        ensures ticks { Ticks arrived.now self.old self.new (before.new ++ idle_or_executed (system_of self.old) result ∷ behind.new) }
+        ensures ticks { Ticks arrived.now self.old self.new
+            (before.new ++ idle_or_executed (system_of self.old) result ∷ behind.new) }
         ensures goes_on { GoesOn B.are_counted arrived.now self.old self.new }
         ensures was_of_run { IsOfRun B.are_counted self.old }
         ensures of_run { IsOfRun B.are_counted self.new }
-        ensures seen { L.HasSeen looker.new (system_of self.old) (before_execution_in (system_of self.old) arrived.now (picture self.old)).state }
+        ensures seen { L.HasSeen looker.new (system_of self.old)
+            (before_execution_in (system_of self.old) arrived.now (picture self.old)).state }
         ensures acted { self.new.acted ≡ acted_in (system_of self.old) (picture self.old) }
-        ensures parts { IfSome result (StandsIn (system_of self.old)) × (length before.new + length behind.new < MAX_RECORDS) }
+        ensures parts { IfSome result (StandsIn (system_of self.old))
+            × (length before.new + length behind.new < MAX_RECORDS) }
     {
         put_first(&mut self.opening, self.ticks, before);
         behind.clear();

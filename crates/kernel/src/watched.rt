@@ -52,8 +52,10 @@ impl<'s, Q: ReadyQueues, B: Blockers> Watched<'s, Q, B> {
         requires known { All (λ i. i < length (system_of self.old.processor).routines) arrived.now }
         requires room { length before.old ≤ 3 }
         requires none_later { 1 ≤ tick → before.old ≡ [] }
-        ensures does { Watches B.are_counted (early arrived.now) tick (watched_at self.old tick) self.new before.old before.new }
-        ensures acted { acted.new ≡ acted_in (system_of self.old.processor) (picture (at_tick self.old.processor tick)) }
+        ensures does { Watches B.are_counted (early arrived.now) tick (watched_at self.old tick)
+            self.new before.old before.new }
+        ensures acted { acted.new
+            ≡ acted_in (system_of self.old.processor) (picture (at_tick self.old.processor tick)) }
         ensures few { length before.new ≤ MAX_ALARMS + 2 }
     {
         self.alarm_phase(tick, acted, before);
@@ -77,8 +79,10 @@ impl<'s, Q: ReadyQueues, B: Blockers> Watched<'s, Q, B> {
         requires may { MayAct B.are_counted self.old }
         requires room { length records.old ≤ 3 }
         requires none_later { 1 ≤ tick → records.old ≡ [] }
-        ensures does { Watches B.are_counted phase_of_alarms tick (watched_at self.old tick) self.new records.old records.new }
-        ensures acted { acted.new ≡ acted_in (system_of self.old.processor) (picture (at_tick self.old.processor tick)) }
+        ensures does { Watches B.are_counted phase_of_alarms tick (watched_at self.old tick)
+            self.new records.old records.new }
+        ensures acted { acted.new
+            ≡ acted_in (system_of self.old.processor) (picture (at_tick self.old.processor tick)) }
         ensures few { length records.new ≤ MAX_ALARMS }
     {
         if 0 < tick {
@@ -100,12 +104,15 @@ impl<'s, Q: ReadyQueues, B: Blockers> Watched<'s, Q, B> {
         refused: &mut DueList,
         records: &mut TickRecord,
     )
-        requires known { AllByRecursion (λ a. a < length (system_of self.old.processor).alarms) due.now }
+        requires known { AllByRecursion (λ a. a < length (system_of self.old.processor).alarms)
+            due.now }
         requires may { MayAct B.are_counted self.old }
         requires none { records.old ≡ [] }
         requires fresh { refused.old ≡ [] }
-        ensures does { Watches B.are_counted (all_acting due.now) tick self.old self.new [] records.new }
-        ensures refused { refused.new ≡ refused_of_in (system_of self.old.processor) due.now (picture self.old.processor) }
+        ensures does { Watches B.are_counted (all_acting due.now) tick self.old self.new []
+            records.new }
+        ensures refused { refused.new
+            ≡ refused_of_in (system_of self.old.processor) due.now (picture self.old.processor) }
         ensures few { length records.new ≤ MAX_ALARMS }
     {
         for number in 0..due.len() {
@@ -121,9 +128,11 @@ impl<'s, Q: ReadyQueues, B: Blockers> Watched<'s, Q, B> {
         requires alarm { alarm < length (system_of self.old.processor).alarms }
         requires may { MayAct B.are_counted self.old }
         requires room { length records.old < MAX_RECORDS }
-        ensures does { Watches B.are_counted (acting alarm) tick self.old self.new records.old records.new }
+        ensures does { Watches B.are_counted (acting alarm) tick self.old self.new records.old
+            records.new }
         ensures may { MayAct B.are_counted self.new }
-        ensures status { result ≡ (acting_in (system_of self.old.processor) alarm (picture self.old.processor)).status }
+        ensures status { result
+            ≡ (acting_in (system_of self.old.processor) alarm (picture self.old.processor)).status }
         ensures few { length records.new ≤ length records.old + 1 }
     {
         let task = self.processor.acted_on(alarm);
@@ -138,7 +147,8 @@ impl<'s, Q: ReadyQueues, B: Blockers> Watched<'s, Q, B> {
     #[inline(always)]
     pub fn reschedule(&mut self, tick: u32, records: &mut TickRecord)
         requires { length records.old + 2 ≤ MAX_RECORDS }
-        ensures does { Watches B.are_counted rescheduling tick self.old self.new records.old records.new }
+        ensures does { Watches B.are_counted rescheduling tick self.old self.new records.old
+            records.new }
         ensures few { length records.new ≤ length records.old + 2 }
     {
         if !self.processor.is_dispatched() {

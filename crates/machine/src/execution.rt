@@ -24,7 +24,8 @@ pub fn exec_plain(cpu: &mut Cpu, windows: &mut Windows, owner: Owner, instructio
     requires { HasNext instruction.now cpu.old }
     ensures effect { result ≡ (plain instruction.now cpu.old (word windows.old owner)).effect }
     ensures context { cpu.new ≡ (plain instruction.now cpu.old (word windows.old owner)).context }
-    ensures words { (o : Owner) (i : ℕ) → word windows.new o i ≡ words_after (word windows.old) owner result o i }
+    ensures words { (o : Owner) (i : ℕ)
+        → word windows.new o i ≡ words_after (word windows.old) owner result o i }
 {
     match *instruction {
         Plain::Nop => {
@@ -69,9 +70,12 @@ pub fn exec_packed(
 ) -> Effect
     requires plain { is_plain (instr_of packed) ≡ true }
     requires next { HasNext (plain_of (instr_of packed)) cpu.old }
-    ensures effect { result ≡ (plain (plain_of (instr_of packed)) cpu.old (word windows.old owner)).effect }
-    ensures context { cpu.new ≡ (plain (plain_of (instr_of packed)) cpu.old (word windows.old owner)).context }
-    ensures words { (o : Owner) (i : ℕ) → word windows.new o i ≡ words_after (word windows.old) owner result o i }
+    ensures effect { result
+        ≡ (plain (plain_of (instr_of packed)) cpu.old (word windows.old owner)).effect }
+    ensures context { cpu.new
+        ≡ (plain (plain_of (instr_of packed)) cpu.old (word windows.old owner)).context }
+    ensures words { (o : Owner) (i : ℕ)
+        → word windows.new o i ≡ words_after (word windows.old) owner result o i }
 {
     exec_plain(cpu, windows, owner, &packed.plain())
 }

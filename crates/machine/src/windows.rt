@@ -58,7 +58,8 @@ impl Windows {
     /// Writes the word of an owner at an index of its window. All other words stay.
     pub fn store(&mut self, owner: Owner, index: u8, new: u32)
         requires { index < WINDOW_WORDS }
-        ensures { (o : Owner) (i : ℕ) → word self.new o i ≡ with_word (word self.old) owner index new o i }
+        ensures { (o : Owner) (i : ℕ)
+            → word self.new o i ≡ with_word (word self.old) owner index new o i }
     {
         let position = position(owner, index);
         self.words[position] = new;

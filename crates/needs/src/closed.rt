@@ -25,7 +25,8 @@ use osek_base::{Instr, Line, REGISTERS, Register, System, WINDOW_WORDS};
 /// Whether an instruction is respected; at true it is.
 fn respects(own: &OwnerNeeds, shared: Numbers, place: usize, instr: &Instr) -> bool
     requires { place < length own.now.indices.items }
-    ensures { IsTrue result → (who : Owner) → Respects (need_by own.now shared) who place instr.now }
+    ensures { IsTrue result → (who : Owner)
+        → Respects (need_by own.now shared) who place instr.now }
 {
     match instr {
         Instr::Plain(plain) => {
@@ -153,8 +154,10 @@ fn routines_respect(system: &System, needs: &Needs) -> bool
 /// Whether each entry belongs to a task or routine, and needs no window but of declared resources.
 fn belongs(system: &System, needs: &Needs) -> bool
     ensures tasks { IsTrue result → length needs.now.tasks.items ≡ length system.now.tasks }
-    ensures routines { IsTrue result → length needs.now.routines.items ≡ length system.now.routines }
-    ensures shared { IsTrue result → (r : ℕ) → IsTrue (has needs.now.shared r) → r < length system.now.resources }
+    ensures routines { IsTrue result
+        → length needs.now.routines.items ≡ length system.now.routines }
+    ensures shared { IsTrue result → (r : ℕ) → IsTrue (has needs.now.shared r)
+        → r < length system.now.resources }
 {
     if needs.tasks.len() != system.task_count() {
         return false;

@@ -67,7 +67,8 @@ pub(crate) fn add_all_asked(system: &System, counters: &mut Numbers) {
 /// Whether the counter whose value an instruction asks for is among some, or it asks for none; at
 /// true it is so.
 fn is_among(system: &System, counters: Numbers, instr: &Instr) -> bool
-    ensures { IsTrue result → (c : ℕ) → asked_by system.now instr.now ≡ Some c → IsTrue (has counters c) }
+    ensures { IsTrue result → (c : ℕ) → asked_by system.now instr.now ≡ Some c
+        → IsTrue (has counters c) }
 {
     match asked_by(system, instr) {
         None => true,

@@ -111,7 +111,8 @@ fn shared_store_follows(
     index: Register,
     value: Register,
 ) -> bool
-    ensures { result ≡ service_follows own.now shared (Service.StoreShared operand.now index value) }
+    ensures { result
+        ≡ service_follows own.now shared (Service.StoreShared operand.now index value) }
 {
     match declared(operand) {
         None => true,

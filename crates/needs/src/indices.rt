@@ -21,7 +21,8 @@ pub(crate) fn indices_at(rows: &[Row], place: usize, register: Register) -> Numb
 /// Whether what register `a` may have at a place, `d` may have at `to`.
 fn passes(rows: &[Row], place: usize, a: Register, to: usize, d: Register) -> bool
     requires { place < length rows.now }
-    ensures { IsTrue result → (i : ℕ) → IsTrue (allows rows.now place a i) → IsTrue (allows rows.now to d i) }
+    ensures { IsTrue result → (i : ℕ) → IsTrue (allows rows.now place a i)
+        → IsTrue (allows rows.now to d i) }
 {
     if rows.len() <= to {
         return true;
@@ -81,7 +82,8 @@ fn others_pass(rows: &[Row], place: usize, but: Register) -> bool
 /// Whether what a register may have at a place, it may have at the next, or is another one.
 fn passes_unless(rows: &[Row], place: usize, register: Register, but: Register) -> bool
     requires { place < length rows.now }
-    ensures { IsTrue result → register ≢ but → (i : ℕ) → IsTrue (allows rows.now place register i) → IsTrue (allows rows.now (place + 1) register i) }
+    ensures { IsTrue result → register ≢ but → (i : ℕ) → IsTrue (allows rows.now place register i)
+        → IsTrue (allows rows.now (place + 1) register i) }
 {
     if register.number() == but.number() {
         return true;
@@ -111,7 +113,8 @@ fn copy_follows(rows: &[Row], place: usize, d: Register, a: Register) -> bool
 
 fn result_follows(rows: &[Row], place: usize, d: Register) -> bool
     requires { place < length rows.now }
-    ensures others { IsTrue result → PassesBut d (allows rows.now place) (allows rows.now (place + 1)) }
+    ensures others { IsTrue result
+        → PassesBut d (allows rows.now place) (allows rows.now (place + 1)) }
     ensures all { IsTrue result → MayHoldAll (allows rows.now (place + 1)) d }
 {
     if !others_pass(rows, place, d) {

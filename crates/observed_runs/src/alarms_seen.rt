@@ -27,7 +27,8 @@ impl<'s, B: Blockers> ToldRun<'s, B> {
     #[tactic(auto, using(crate::proofs::SeenSteps::seen_more, crate::proofs::SeenSteps::seen_count))]
     pub(crate) fn see_alarms(&self, alarms: &mut ArrayVec<AlarmSeen, MAX_ALARMS>)
         requires { 1 ≤ self.now.ticks }
-        ensures { alarms.new.items ≡ map (alarm_seen (last_tick self.now)) (below (length self.now.system.alarms)) }
+        ensures { alarms.new.items
+            ≡ map (alarm_seen (last_tick self.now)) (below (length self.now.system.alarms)) }
     {
         alarms.clear();
         for number in 0..self.system().alarm_count() {

@@ -34,8 +34,11 @@ impl Before {
     /// Notes what is known before the tick that a kernel does next.
     pub(crate) fn note<B: Blockers>(&mut self, kernel: &Kernel<'_, LevelQueues, B>, system: &System)
         requires { kernel.now.system ≡ system.now }
-        ensures jobs { self.new.jobs.items ≡ map (jobs_before (kernel.now.ticks == 0) (run_of kernel.now).state) (below (length system.now.tasks)) }
-        ensures pending { self.new.pending.items ≡ map (is_pending (run_of kernel.now).state) (below (length system.now.routines)) }
+        ensures jobs { self.new.jobs.items
+            ≡ map (jobs_before (kernel.now.ticks == 0) (run_of kernel.now).state)
+            (below (length system.now.tasks)) }
+        ensures pending { self.new.pending.items
+            ≡ map (is_pending (run_of kernel.now).state) (below (length system.now.routines)) }
         ensures active { self.new.active ≡ active_routine (run_of kernel.now).state }
     {
         see_jobs(kernel, system, &mut self.jobs);
@@ -64,7 +67,9 @@ fn see_jobs<B: Blockers>(
     jobs: &mut ArrayVec<u8, MAX_TASKS>,
 )
     requires { kernel.now.system ≡ system.now }
-    ensures { jobs.new.items ≡ map (jobs_before (kernel.now.ticks == 0) (run_of kernel.now).state) (below (length system.now.tasks)) }
+    ensures { jobs.new.items
+        ≡ map (jobs_before (kernel.now.ticks == 0) (run_of kernel.now).state)
+        (below (length system.now.tasks)) }
 {
     jobs.clear();
     for number in 0..system.task_count() {
@@ -80,7 +85,8 @@ fn see_pending<B: Blockers>(
     pending: &mut ArrayVec<bool, MAX_ROUTINES>,
 )
     requires { kernel.now.system ≡ system.now }
-    ensures { pending.new.items ≡ map (is_pending (run_of kernel.now).state) (below (length system.now.routines)) }
+    ensures { pending.new.items
+        ≡ map (is_pending (run_of kernel.now).state) (below (length system.now.routines)) }
 {
     pending.clear();
     for number in 0..system.routine_count() {

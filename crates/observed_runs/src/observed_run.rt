@@ -40,10 +40,13 @@ impl<'s, B: Blockers> ToldRun<'s, B> {
     /// Leaves what is seen of the tick that was done last, where its holders stand already.
     fn see(&self, seen: &mut Observation)
         requires ticked { 1 ≤ self.now.ticks }
-        requires holders { seen.old.holders.items ≡ holders_seen self.now.system (last_tick self.now).at }
+        requires holders { seen.old.holders.items
+            ≡ holders_seen self.now.system (last_tick self.now).at }
         ensures number { seen.new.tick ≡ self.now.ticks - 1 }
         ensures seen { IsSeen self.now.system (last_tick self.now) seen.new }
-        ensures counted { B.are_counted ≡ true → seen.new.blockers ≡ blockers_at self.now.system self.now.mode self.now.arrivals (self.now.ticks - 1) }
+        ensures counted { B.are_counted ≡ true
+            → seen.new.blockers
+            ≡ blockers_at self.now.system self.now.mode self.now.arrivals (self.now.ticks - 1) }
         ensures uncounted { B.are_counted ≡ false → seen.new.blockers ≡ None }
     {
         seen.tick = self.ticks() - 1;
@@ -67,8 +70,11 @@ impl<'s, B: Blockers> ObservedRun<'s, B> {
         arrivals: Arrivals,
     ) -> Result<Self, BootFault>
         requires { AreKnown system.now arrivals }
-        ensures booted { IfOk result (λ r. (r.system ≡ system.now) × (r.arrivals ≡ arrivals) × (r.ticks ≡ 0) × (number_of mode.now system.now.names.modes ≡ Some r.mode)) }
-        ensures unknown { result ≡ Err BootFault.UnknownMode → number_of mode.now system.now.names.modes ≡ None }
+        ensures booted { IfOk result
+            (λ r. (r.system ≡ system.now) × (r.arrivals ≡ arrivals) × (r.ticks ≡ 0)
+            × (number_of mode.now system.now.names.modes ≡ Some r.mode)) }
+        ensures unknown { result ≡ Err BootFault.UnknownMode
+            → number_of mode.now system.now.names.modes ≡ None }
     {
         let told = ToldRun::boot(alloc, system, mode, arrivals)?;
         Ok(ObservedRun {
@@ -95,14 +101,18 @@ impl<'s, B: Blockers> ObservedRun<'s, B> {
 
     /// What is seen of the tick that was done last; nothing before the first.
     pub fn observation(&self) -> &Observation
-        ensures { 1 ≤ self.now.ticks → IsObserved B.are_counted self.now.system self.now.mode self.now.arrivals (self.now.ticks - 1) result.now }
+        ensures { 1 ≤ self.now.ticks
+            → IsObserved B.are_counted self.now.system self.now.mode self.now.arrivals
+            (self.now.ticks - 1) result.now }
     {
         &self.seen
     }
 
     /// The records of the tick that was done last; none before the first.
     pub fn records(&self) -> &TickRecord
-        ensures { 1 ≤ self.now.ticks → result.now ≡ record_at self.now.system self.now.mode self.now.arrivals (self.now.ticks - 1) }
+        ensures { 1 ≤ self.now.ticks
+            → result.now
+            ≡ record_at self.now.system self.now.mode self.now.arrivals (self.now.ticks - 1) }
     {
         self.told.records()
     }

@@ -44,7 +44,8 @@ impl<'s, B: Blockers> ToldRun<'s, B> {
     #[tactic(auto, using(crate::proofs::SeenSteps::seen_more, crate::proofs::SeenSteps::seen_count))]
     pub(crate) fn see_routines(&self, routines: &mut ArrayVec<RoutineSeen, MAX_ROUTINES>)
         requires { 1 ≤ self.now.ticks }
-        ensures { routines.new.items ≡ map (routine_seen (last_tick self.now)) (below (length self.now.system.routines)) }
+        ensures { routines.new.items
+            ≡ map (routine_seen (last_tick self.now)) (below (length self.now.system.routines)) }
     {
         routines.clear();
         for number in 0..self.system().routine_count() {

@@ -63,7 +63,9 @@ impl<'s, B: Blockers> ToldRun<'s, B> {
     #[tactic(auto, using(crate::proofs::SeenSteps::seen_more, crate::proofs::SeenSteps::seen_count))]
     pub(crate) fn see_tasks(&self, tasks: &mut ArrayVec<TaskSeen, MAX_TASKS>)
         requires { 1 ≤ self.now.ticks }
-        ensures { tasks.new.items ≡ map (task_seen self.now.system (last_tick self.now)) (below (length self.now.system.tasks)) }
+        ensures { tasks.new.items
+            ≡ map (task_seen self.now.system (last_tick self.now))
+            (below (length self.now.system.tasks)) }
     {
         tasks.clear();
         for number in 0..self.system().task_count() {

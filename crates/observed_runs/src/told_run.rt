@@ -53,8 +53,11 @@ impl<'s, B: Blockers> ToldRun<'s, B> {
         arrivals: Arrivals,
     ) -> Result<Self, BootFault>
         requires { AreKnown system.now arrivals }
-        ensures booted { IfOk result (λ r. (r.system ≡ system.now) × (r.arrivals ≡ arrivals) × (r.ticks ≡ 0) × (number_of mode.now system.now.names.modes ≡ Some r.mode)) }
-        ensures unknown { result ≡ Err BootFault.UnknownMode → number_of mode.now system.now.names.modes ≡ None }
+        ensures booted { IfOk result
+            (λ r. (r.system ≡ system.now) × (r.arrivals ≡ arrivals) × (r.ticks ≡ 0)
+            × (number_of mode.now system.now.names.modes ≡ Some r.mode)) }
+        ensures unknown { result ≡ Err BootFault.UnknownMode
+            → number_of mode.now system.now.names.modes ≡ None }
     {
         let _few = arrivals.list();
         let kernel = Kernel::boot(alloc, system, mode, arrivals)?;
@@ -113,7 +116,9 @@ impl<'s, B: Blockers> ToldRun<'s, B> {
 
     /// The records of the tick that was done last; none before the first.
     pub(crate) fn records(&self) -> &TickRecord
-        ensures { 1 ≤ self.now.ticks → result.now ≡ record_at self.now.system self.now.mode self.now.arrivals (self.now.ticks - 1) }
+        ensures { 1 ≤ self.now.ticks
+            → result.now
+            ≡ record_at self.now.system self.now.mode self.now.arrivals (self.now.ticks - 1) }
     {
         &self.records
     }

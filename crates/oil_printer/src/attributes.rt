@@ -37,7 +37,8 @@ use std::alloc::AllocError;
 /// The first line of an object.
 #[tactic(auto, unfolding(crate::specs::Layout::object_start))]
 fn open_object(text: &mut String, kind: &str, name: &Name) -> Result<(), AllocError>
-    ensures { OnOk result (string_bytes text.new ≡ string_bytes text.old ++ object_start kind.now name.now) }
+    ensures { OnOk result
+        (string_bytes text.new ≡ string_bytes text.old ++ object_start kind.now name.now) }
 {
     text.push_str("  ")?;
     text.push_str(kind)?;
@@ -57,7 +58,8 @@ fn close_object(text: &mut String) -> Result<(), AllocError>
 /// The OS object.
 #[tactic(auto, unfolding(crate::specs::Layout::object_text))]
 pub fn push_os(text: &mut String, os: &Os) -> Result<(), AllocError>
-    ensures { OnOk result (string_bytes text.new ≡ string_bytes text.old ++ object_text (os_object os.now)) }
+    ensures { OnOk result
+        (string_bytes text.new ≡ string_bytes text.old ++ object_text (os_object os.now)) }
 {
     open_object(text, "OS", &os.name)?;
     push_line(text, "STATUS", "EXTENDED")?;
@@ -82,7 +84,8 @@ impl PrintedObject for Name {
 
 /// AUTOSTART of a task that starts by itself in these modes.
 fn push_task_start(text: &mut String, modes: &[Name]) -> Result<(), AllocError>
-    ensures { OnOk result (string_bytes text.new ≡ string_bytes text.old ++ attribute_text (task_start modes.now)) }
+    ensures { OnOk result
+        (string_bytes text.new ≡ string_bytes text.old ++ attribute_text (task_start modes.now)) }
 {
     if modes.is_empty() {
         return push_switch(text, "AUTOSTART", false);
@@ -93,7 +96,10 @@ fn push_task_start(text: &mut String, modes: &[Name]) -> Result<(), AllocError>
 }
 
 fn push_schedule(text: &mut String, schedule: Schedule) -> Result<(), AllocError>
-    ensures { OnOk result (string_bytes text.new ≡ string_bytes text.old ++ attribute_text (line (codes "SCHEDULE") (Named (schedule_word schedule)))) }
+    ensures { OnOk result
+        (string_bytes text.new
+        ≡ string_bytes text.old
+        ++ attribute_text (line (codes "SCHEDULE") (Named (schedule_word schedule)))) }
 {
     match schedule {
         Schedule::Non => push_line(text, "SCHEDULE", "NON"),
@@ -130,7 +136,10 @@ impl PrintedObject for IsrObject {
 }
 
 fn push_property(text: &mut String, property: Property) -> Result<(), AllocError>
-    ensures { OnOk result (string_bytes text.new ≡ string_bytes text.old ++ attribute_text (line (codes "RESOURCEPROPERTY") (Named (property_word property)))) }
+    ensures { OnOk result
+        (string_bytes text.new
+        ≡ string_bytes text.old
+        ++ attribute_text (line (codes "RESOURCEPROPERTY") (Named (property_word property)))) }
 {
     match property {
         Property::Standard => push_line(text, "RESOURCEPROPERTY", "STANDARD"),
@@ -150,7 +159,9 @@ impl PrintedObject for ResourceObject {
 }
 
 fn push_mask(text: &mut String, mask: Mask) -> Result<(), AllocError>
-    ensures { OnOk result (string_bytes text.new ≡ string_bytes text.old ++ attribute_text (line (codes "MASK") (mask_value mask))) }
+    ensures { OnOk result
+        (string_bytes text.new
+        ≡ string_bytes text.old ++ attribute_text (line (codes "MASK") (mask_value mask))) }
 {
     match mask {
         Mask::Auto => push_line(text, "MASK", "AUTO"),
@@ -184,7 +195,8 @@ impl PrintedObject for CounterObject {
 }
 
 fn push_action(text: &mut String, action: &ActionObject) -> Result<(), AllocError>
-    ensures { OnOk result (string_bytes text.new ≡ string_bytes text.old ++ attribute_text (action_line action.now)) }
+    ensures { OnOk result
+        (string_bytes text.new ≡ string_bytes text.old ++ attribute_text (action_line action.now)) }
 {
     match action {
         ActionObject::ActivateTask { task } => {
@@ -206,7 +218,9 @@ fn push_alarm_start(
     text: &mut String,
     autostart: &Option<AlarmStartObject>,
 ) -> Result<(), AllocError>
-    ensures { OnOk result (string_bytes text.new ≡ string_bytes text.old ++ attribute_text (alarm_start autostart.now)) }
+    ensures { OnOk result
+        (string_bytes text.new
+        ≡ string_bytes text.old ++ attribute_text (alarm_start autostart.now)) }
 {
     match autostart {
         None => push_switch(text, "AUTOSTART", false),

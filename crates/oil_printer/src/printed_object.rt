@@ -15,12 +15,15 @@ pub trait PrintedObject {
 
     /// Appends its text.
     fn push(&self, text: &mut String) -> Result<(), AllocError>
-        ensures { OnOk result (string_bytes text.new ≡ string_bytes text.old ++ object_text (object_of self.now)) };
+        ensures { OnOk result
+            (string_bytes text.new ≡ string_bytes text.old ++ object_text (object_of self.now)) };
 }
 
 /// Appends the texts of some objects, in their order.
 pub fn push_all<T: PrintedObject>(text: &mut String, objects: &[T]) -> Result<(), AllocError>
-    ensures { OnOk result (string_bytes text.new ≡ string_bytes text.old ++ flat_map object_text (map T.object_of objects.now)) }
+    ensures { OnOk result
+        (string_bytes text.new
+        ≡ string_bytes text.old ++ flat_map object_text (map T.object_of objects.now)) }
 {
     for object in objects {
         object.push(text)?;

@@ -70,7 +70,10 @@ fn setting_fault(
     is_valued: bool,
     so_far: Option<OilFault>,
 ) -> Option<OilFault>
-    ensures { result ≡ first_of_all so_far (faults_where (attribute_named allowed.now setting.entry.name.text.now) is_named is_valued (setting_of setting.entry)) }
+    ensures { result
+        ≡ first_of_all so_far
+        (faults_where (attribute_named allowed.now setting.entry.name.text.now) is_named is_valued
+        (setting_of setting.entry)) }
 {
     let Some(attribute) = attribute_named(allowed, setting.name.text) else {
         return Some(OilFault::UnknownAttribute(setting.name_place).or_earlier(so_far));
@@ -88,7 +91,8 @@ fn setting_fault(
 }
 
 fn is_lacking(attribute: AttributeName, settings: &[Setting<'_>]) -> bool
-    ensures { result ≡ not (may_lack (presence_of attribute) || is_set (settings_of settings.now) attribute) }
+    ensures { result
+        ≡ not (may_lack (presence_of attribute) || is_set (settings_of settings.now) attribute) }
 {
     !attribute.presence().may_lack() && !is_set(settings, attribute)
 }
@@ -99,7 +103,9 @@ fn settings_fault(
     allowed: &[AttributeName],
     settings: &[Setting<'_>],
 ) -> Result<Option<OilFault>, AllocError>
-    ensures { IfOk result (λ found. found ≡ first_of_all None (settings_faults allowed.now [] (settings_of settings.now))) }
+    ensures { IfOk result
+        (λ found. found
+        ≡ first_of_all None (settings_faults allowed.now [] (settings_of settings.now))) }
 {
     let mut names = BTreeSet::new(alloc);
     let mut values = BTreeSet::new(alloc);
@@ -119,7 +125,9 @@ fn scope_fault_listed(
     settings: &[Setting<'_>],
     close: usize,
 ) -> Result<Option<OilFault>, AllocError>
-    ensures { IfOk result (λ found. found ≡ first_of_all None (scope_faults allowed.now (settings_of settings.now) close)) }
+    ensures { IfOk result
+        (λ found. found
+        ≡ first_of_all None (scope_faults allowed.now (settings_of settings.now) close)) }
 {
     let mut found = settings_fault(alloc, allowed, settings)?;
     for attribute in allowed {
@@ -137,7 +145,11 @@ pub fn scope_fault(
     settings: &[Setting<'_>],
     close: usize,
 ) -> Result<Option<OilFault>, AllocError>
-    ensures { IfOk result (λ found. Finds (ScopeFault (record { allowed = allowed.now; settings = settings_of settings.now; close = close })) found) }
+    ensures { IfOk result
+        (λ found. Finds
+        (ScopeFault
+        (record { allowed = allowed.now; settings = settings_of settings.now; close = close }))
+        found) }
 {
     let found = scope_fault_listed(alloc, allowed, settings, close)?;
     Ok(found)
@@ -158,7 +170,8 @@ fn block_fault(
     allowed: &[AttributeName],
     attribute: &Attribute<'_>,
 ) -> Result<Option<OilFault>, AllocError>
-    ensures { IfOk result (λ found. Finds (BlockFault allowed.now (attribute_of attribute.now)) found) }
+    ensures { IfOk result
+        (λ found. Finds (BlockFault allowed.now (attribute_of attribute.now)) found) }
 {
     let Some(name) = attribute_named(allowed, attribute.setting.name.text) else {
         return Ok(None);
@@ -176,7 +189,8 @@ fn blocks_fault(
     allowed: &[AttributeName],
     attributes: &[Attribute<'_>],
 ) -> Result<Option<OilFault>, AllocError>
-    ensures { IfOk result (λ found. Finds (SomeFault (BlockFault allowed.now) (attributes_of attributes.now)) found) }
+    ensures { IfOk result
+        (λ found. Finds (SomeFault (BlockFault allowed.now) (attributes_of attributes.now)) found) }
 {
     let mut found = None;
     for attribute in attributes {
@@ -191,7 +205,8 @@ pub fn settings_in<'a>(
     alloc: Global,
     attributes: &[Attribute<'a>],
 ) -> Result<Vec<Setting<'a>>, AllocError>
-    ensures { IfOk result (λ v. settings_of v.items ≡ map (λ a. a.setting) (attributes_of attributes.now)) }
+    ensures { IfOk result
+        (λ v. settings_of v.items ≡ map (λ a. a.setting) (attributes_of attributes.now)) }
 {
     let mut settings = Vec::new(alloc);
     for attribute in attributes {
@@ -288,7 +303,8 @@ fn has_kind(kind: Kind, objects: &[Object<'_>]) -> bool
 
 /// The first second object of one kind and name.
 fn second_fault(alloc: Global, objects: &[Object<'_>]) -> Result<Option<OilFault>, AllocError>
-    ensures { IfOk result (λ found. found ≡ first_of_all None (seconds [] (objects_of objects.now))) }
+    ensures { IfOk result
+        (λ found. found ≡ first_of_all None (seconds [] (objects_of objects.now))) }
 {
     let mut seen = BTreeSet::new(alloc);
     let mut found = None;
@@ -319,7 +335,8 @@ fn one_object_fault(alloc: Global, object: &Object<'_>) -> Result<Option<OilFaul
 
 /// The first fault of single objects.
 fn objects_fault(alloc: Global, objects: &[Object<'_>]) -> Result<Option<OilFault>, AllocError>
-    ensures { IfOk result (λ found. Finds (SomeFault OneObjectFault (objects_of objects.now)) found) }
+    ensures { IfOk result
+        (λ found. Finds (SomeFault OneObjectFault (objects_of objects.now)) found) }
 {
     let mut found = None;
     for object in objects {
@@ -330,7 +347,9 @@ fn objects_fault(alloc: Global, objects: &[Object<'_>]) -> Result<Option<OilFaul
 
 /// Whether there is an OS and an APPMODE.
 fn has_needed(objects: &[Object<'_>]) -> bool
-    ensures { result ≡ (has_kind kind.Os (objects_of objects.now) && has_kind kind.AppMode (objects_of objects.now)) }
+    ensures { result
+        ≡ (has_kind kind.Os (objects_of objects.now)
+        && has_kind kind.AppMode (objects_of objects.now)) }
 {
     has_kind(Kind::Os, objects) && has_kind(Kind::AppMode, objects)
 }
@@ -341,7 +360,10 @@ fn names_fault_listed(
     objects: &[Object<'_>],
     close: usize,
 ) -> Result<Option<OilFault>, AllocError>
-    ensures { IfOk result (λ found. found ≡ first_of_all None (seconds [] (objects_of objects.now) ++ lacks (objects_of objects.now) close)) }
+    ensures { IfOk result
+        (λ found. found
+        ≡ first_of_all None
+        (seconds [] (objects_of objects.now) ++ lacks (objects_of objects.now) close)) }
 {
     let found = second_fault(alloc, objects)?;
     if has_needed(objects) {

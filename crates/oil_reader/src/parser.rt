@@ -109,7 +109,8 @@ impl<'t, 'a> Parser<'t, 'a> {
 
     /// The next token, which is taken.
     fn token(&mut self) -> Option<Placed<'a>>
-        ensures token { MatchOption result ((rest_of self.old ≡ []) × (rest_of self.new ≡ [])) (λ t. rest_of self.old ≡ lexeme_of t ∷ rest_of self.new) }
+        ensures token { MatchOption result ((rest_of self.old ≡ []) × (rest_of self.new ≡ []))
+            (λ t. rest_of self.old ≡ lexeme_of t ∷ rest_of self.new) }
         ensures len { self.new.len ≡ self.old.len }
     {
         if self.next >= self.tokens.len() {
@@ -122,7 +123,8 @@ impl<'t, 'a> Parser<'t, 'a> {
 
     /// A sign, by its place.
     fn sign(&mut self, sign: Sign) -> Result<usize, OilFault>
-        ensures { Reads (λ x ts rest. ts ≡ at x (Mark sign) ∷ rest) (Only sign ∷ []) self.old self.new result }
+        ensures { Reads (λ x ts rest. ts ≡ at x (Mark sign) ∷ rest) (Only sign ∷ []) self.old
+            self.new result }
     {
         let Some(token) = self.token() else {
             return Err(OilFault::Syntax(self.len));
@@ -135,7 +137,8 @@ impl<'t, 'a> Parser<'t, 'a> {
 
     /// A NAME and its place.
     fn name(&mut self) -> Result<(Ident<'a>, usize), OilFault>
-        ensures { Reads (λ x ts rest. ts ≡ at x.1 (Name x.0.text.now) ∷ rest) (AnyName ∷ []) self.old self.new result }
+        ensures { Reads (λ x ts rest. ts ≡ at x.1 (Name x.0.text.now) ∷ rest) (AnyName ∷ [])
+            self.old self.new result }
     {
         let Some(token) = self.token() else {
             return Err(OilFault::Syntax(self.len));
@@ -148,7 +151,8 @@ impl<'t, 'a> Parser<'t, 'a> {
 
     /// A value and its place.
     fn value(&mut self) -> Result<(Value<'a>, usize), OilFault>
-        ensures { Reads (λ x ts rest. ts ≡ at x.1 (value_word (value_of x.0)) ∷ rest) (AnyValue ∷ []) self.old self.new result }
+        ensures { Reads (λ x ts rest. ts ≡ at x.1 (value_word (value_of x.0)) ∷ rest)
+            (AnyValue ∷ []) self.old self.new result }
     {
         let Some(token) = self.token() else {
             return Err(OilFault::Syntax(self.len));
@@ -162,7 +166,8 @@ impl<'t, 'a> Parser<'t, 'a> {
 
     /// `NAME = value`.
     fn setting(&mut self) -> Result<Setting<'a>, OilFault>
-        ensures { Reads (λ x. IsSetting (setting_of x)) (AnyName ∷ Only Equals ∷ AnyValue ∷ []) self.old self.new result }
+        ensures { Reads (λ x. IsSetting (setting_of x)) (AnyName ∷ Only Equals ∷ AnyValue ∷ [])
+            self.old self.new result }
     {
         let (name, name_place) = self.name()?;
         self.sign(Sign::Equals)?;
@@ -177,7 +182,8 @@ impl<'t, 'a> Parser<'t, 'a> {
 
     /// `NAME = value ;`.
     fn sub(&mut self) -> Result<Setting<'a>, OilFault>
-        ensures { Reads (λ x. IsSub (setting_of x)) (AnyName ∷ Only Equals ∷ AnyValue ∷ Only Semicolon ∷ []) self.old self.new result }
+        ensures { Reads (λ x. IsSub (setting_of x))
+            (AnyName ∷ Only Equals ∷ AnyValue ∷ Only Semicolon ∷ []) self.old self.new result }
     {
         let setting = self.setting()?;
         self.sign(Sign::Semicolon)?;
@@ -186,7 +192,9 @@ impl<'t, 'a> Parser<'t, 'a> {
 
     /// What stands in braces, up to and with the closing one, and that one's place.
     fn in_braces<X: InBraces<'a>>(&mut self, alloc: Global) -> Result<(Vec<X>, usize), OilFault>
-        ensures { Reads (λ x ts rest. AreEach X.Is (map X.tree x.0.items) ts (at x.1 (Mark Close) ∷ rest)) (X.symbol ∷ []) self.old self.new result }
+        ensures { Reads
+            (λ x ts rest. AreEach X.Is (map X.tree x.0.items) ts (at x.1 (Mark Close) ∷ rest))
+            (X.symbol ∷ []) self.old self.new result }
     {
         let mut things = Vec::new(alloc);
         'each: while !self.starts_with(Sign::Close) {
@@ -199,7 +207,9 @@ impl<'t, 'a> Parser<'t, 'a> {
 
     /// What follows a value, up to the semicolon.
     fn rest(&mut self, alloc: Global) -> Result<(Option<Block<'a>>, usize), OilFault>
-        ensures { Reads (λ x ts rest. IsBlock (option_map block_of x.0) ts (at x.1 (Mark Semicolon) ∷ rest)) (Rest ∷ []) self.old self.new result }
+        ensures { Reads
+            (λ x ts rest. IsBlock (option_map block_of x.0) ts (at x.1 (Mark Semicolon) ∷ rest))
+            (Rest ∷ []) self.old self.new result }
     {
         if self.starts_with(Sign::Semicolon) {
             let end = self.sign(Sign::Semicolon)?;
@@ -213,7 +223,8 @@ impl<'t, 'a> Parser<'t, 'a> {
 
     /// An attribute.
     fn attribute(&mut self, alloc: Global) -> Result<Attribute<'a>, OilFault>
-        ensures { Reads (λ x. IsAttribute (attribute_of x)) (AnyName ∷ Only Equals ∷ AnyValue ∷ Rest ∷ []) self.old self.new result }
+        ensures { Reads (λ x. IsAttribute (attribute_of x))
+            (AnyName ∷ Only Equals ∷ AnyValue ∷ Rest ∷ []) self.old self.new result }
     {
         let setting = self.setting()?;
         let (block, end) = self.rest(alloc)?;
@@ -226,7 +237,8 @@ impl<'t, 'a> Parser<'t, 'a> {
 
     /// What follows an object's name.
     fn body(&mut self, alloc: Global) -> Result<(Vec<Attribute<'a>>, usize), OilFault>
-        ensures { Reads (λ x. IsBody (attributes_of x.0.items) x.1) (Body ∷ []) self.old self.new result }
+        ensures { Reads (λ x. IsBody (attributes_of x.0.items) x.1) (Body ∷ []) self.old self.new
+            result }
     {
         if self.starts_with(Sign::Semicolon) {
             let end = self.sign(Sign::Semicolon)?;
@@ -255,7 +267,8 @@ impl<'t, 'a> Parser<'t, 'a> {
 
     /// An object.
     fn object(&mut self, alloc: Global) -> Result<Object<'a>, OilFault>
-        ensures { Reads (λ x. IsObject (object_of x)) (AnyKind ∷ AnyName ∷ Body ∷ []) self.old self.new result }
+        ensures { Reads (λ x. IsObject (object_of x)) (AnyKind ∷ AnyName ∷ Body ∷ []) self.old
+            self.new result }
     {
         let kind = self.kind()?;
         let (name, place) = self.name()?;
@@ -271,7 +284,8 @@ impl<'t, 'a> Parser<'t, 'a> {
 
     /// A word that the grammar names.
     fn keyword(&mut self, word: &str) -> Result<usize, OilFault>
-        ensures { Reads (λ x ts rest. ts ≡ at x (Name word.now) ∷ rest) (Keyword word.now ∷ []) self.old self.new result }
+        ensures { Reads (λ x ts rest. ts ≡ at x (Name word.now) ∷ rest) (Keyword word.now ∷ [])
+            self.old self.new result }
     {
         let Some(token) = self.token() else {
             return Err(OilFault::Syntax(self.len));
@@ -286,7 +300,8 @@ impl<'t, 'a> Parser<'t, 'a> {
 
     /// The string `"2.5"`.
     fn version(&mut self) -> Result<usize, OilFault>
-        ensures { Reads (λ x ts rest. ts ≡ at x Version ∷ rest) (TheVersion ∷ []) self.old self.new result }
+        ensures { Reads (λ x ts rest. ts ≡ at x Version ∷ rest) (TheVersion ∷ []) self.old
+            self.new result }
     {
         let Some(token) = self.token() else {
             return Err(OilFault::Syntax(self.len));

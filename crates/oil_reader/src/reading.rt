@@ -57,6 +57,8 @@ pub fn read_oil(alloc: Global, text: &[u8]) -> Result<OilFile, OilFault>
 /// of a text.
 pub fn one_meaning()
     ensures files { (text : List ℕ) (c d : Configuration) → Means text c → Means text d → c ≡ d }
-    ensures faults { (text : List ℕ) (e g : OilFault) → ¬ (e ≡ Memory) → ¬ (g ≡ Memory) → HasFault text e → HasFault text g → e ≡ g }
-    ensures apart { (text : List ℕ) (c : Configuration) (e : OilFault) → ¬ (e ≡ Memory) → Means text c → HasFault text e → ⊥ }
+    ensures faults { (text : List ℕ) (e g : OilFault) → ¬ (e ≡ Memory) → ¬ (g ≡ Memory)
+        → HasFault text e → HasFault text g → e ≡ g }
+    ensures apart { (text : List ℕ) (c : Configuration) (e : OilFault) → ¬ (e ≡ Memory)
+        → Means text c → HasFault text e → ⊥ }
 {}

@@ -59,7 +59,8 @@ pub trait Token<'a>: Copy + Drop {
 
 /// The tokens of a text, in order.
 pub fn tokenize<'a, T: Token<'a>>(alloc: Global, text: &'a [u8]) -> Result<Vec<Placed<T>>, LexFault>
-    ensures tokens { IfOk result (λ tokens. Lexes T.IsPiece text.now 0 (lexemes_of T.word tokens.items)) }
+    ensures tokens { IfOk result
+        (λ tokens. Lexes T.IsPiece text.now 0 (lexemes_of T.word tokens.items)) }
     ensures fault { IfErr result (λ e. IsLexFault T.IsPiece text.now e) }
 {
     let mut tokens = Vec::new(alloc);

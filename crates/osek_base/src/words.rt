@@ -115,8 +115,10 @@ fn digit_of(byte: u8) -> u32
 fn number_of(digits: &[u8], radix: u32) -> Option<u32>
     requires low { 0 < radix }
     requires high { radix ≤ 16 }
-    ensures some { IfSome result (λ n. AreDigits radix digits.now × (n ≡ number_from radix 0 digits.now)) }
-    ensures none { IfNone result (AreDigits radix digits.now → 2 ^ 32 ≤ number_from radix 0 digits.now) }
+    ensures some { IfSome result
+        (λ n. AreDigits radix digits.now × (n ≡ number_from radix 0 digits.now)) }
+    ensures none { IfNone result
+        (AreDigits radix digits.now → 2 ^ 32 ≤ number_from radix 0 digits.now) }
 {
     if digits.is_empty() {
         return None;

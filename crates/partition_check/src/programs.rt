@@ -57,7 +57,8 @@ fn first_in_task(
     task: TaskId,
 ) -> Option<Denial>
     requires { task < length system.now.tasks }
-    ensures first { told result ≡ (if is_subject then first_place system.now p rule (Owner.Task task) 0 else None) }
+    ensures first { told result
+        ≡ (if is_subject then first_place system.now p rule (Owner.Task task) 0 else None) }
     ensures subject { IfSome result (λ d. IsOwner system.now d.subject) }
 {
     if !is_subject {
@@ -86,7 +87,9 @@ pub(crate) fn first_in_tasks(
     rule: Rule,
     number: usize,
 ) -> Option<Denial>
-    ensures first { told result ≡ first_broken system.now p rule (map Owner.Task (tasks_from system.now p is_upper number)) }
+    ensures first { told result
+        ≡ first_broken system.now p rule
+        (map Owner.Task (tasks_from system.now p is_upper number)) }
     ensures subject { IfSome result (λ d. IsOwner system.now d.subject) }
 {
     if number >= system.task_count() {
@@ -100,7 +103,8 @@ pub(crate) fn first_in_tasks(
 
 /// The first routine, of those from a number on, whose program breaks a rule, with the first place.
 pub(crate) fn first_in_routines(system: &System, p: u8, rule: Rule, number: usize) -> Option<Denial>
-    ensures first { told result ≡ first_broken system.now p rule (map Owner.Routine (routines_from system.now number)) }
+    ensures first { told result
+        ≡ first_broken system.now p rule (map Owner.Routine (routines_from system.now number)) }
     ensures subject { IfSome result (λ d. IsOwner system.now d.subject) }
 {
     if number >= system.routine_count() {

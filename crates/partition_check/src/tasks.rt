@@ -58,7 +58,8 @@ fn breaks_resources(system: &System, p: u8, task: TaskId) -> bool
 
 /// The first task below p, of those from a number on, that isn't FULL.
 pub(crate) fn first_not_full(system: &System, p: u8, number: usize) -> Option<Denial>
-    ensures first { told result ≡ first_breaking 1 (is_not_full system.now) (lower_from system.now p number) }
+    ensures first { told result
+        ≡ first_breaking 1 (is_not_full system.now) (lower_from system.now p number) }
     ensures subject { IfSome result (λ d. IsOwner system.now d.subject) }
 {
     if number >= system.task_count() {
@@ -73,7 +74,8 @@ pub(crate) fn first_not_full(system: &System, p: u8, number: usize) -> Option<De
 
 /// The first task below p, of those from a number on, that lists a resource of ceiling p or more.
 pub(crate) fn first_listing(system: &System, p: u8, number: usize) -> Option<Denial>
-    ensures first { told result ≡ first_breaking 2 (lists_upper system.now p) (lower_from system.now p number) }
+    ensures first { told result
+        ≡ first_breaking 2 (lists_upper system.now p) (lower_from system.now p number) }
     ensures subject { IfSome result (λ d. IsOwner system.now d.subject) }
 {
     if number >= system.task_count() {

@@ -73,7 +73,8 @@ impl JobStamps {
     pub fn add(&mut self, task: TaskId, tick: u32)
         requires task { task < length self.old }
         requires room { length (slice_index_or self.old task []) < MAX_ACTIVATION }
-        ensures { self.new ≡ slice_set self.old task (slice_index_or self.old task [] ++ Some tick ∷ []) }
+        ensures { self.new
+            ≡ slice_set self.old task (slice_index_or self.old task [] ++ Some tick ∷ []) }
     {
         self.tasks[task.number() as usize].add(tick);
     }
@@ -81,7 +82,8 @@ impl JobStamps {
     /// The oldest job of a task ends, if there is one.
     pub fn end(&mut self, task: TaskId)
         requires { task < length self.old }
-        ensures { self.new ≡ slice_set self.old task (without_oldest (slice_index_or self.old task [])) }
+        ensures { self.new
+            ≡ slice_set self.old task (without_oldest (slice_index_or self.old task [])) }
     {
         self.tasks[task.number() as usize].end();
     }
@@ -89,7 +91,8 @@ impl JobStamps {
     /// The oldest job of a task is ready from a tick on, where it has no stamp.
     pub fn stamp(&mut self, task: TaskId, tick: u32)
         requires { task < length self.old }
-        ensures { self.new ≡ slice_set self.old task (stamp_oldest tick (slice_index_or self.old task [])) }
+        ensures { self.new
+            ≡ slice_set self.old task (stamp_oldest tick (slice_index_or self.old task [])) }
     {
         self.tasks[task.number() as usize].stamp(tick);
     }
@@ -99,7 +102,8 @@ impl JobStamps {
     pub fn take(&mut self, task: TaskId) -> Option<u32>
         requires { task < length self.old }
         ensures stamp { result ≡ stamp_of_oldest (slice_index_or self.old task []) }
-        ensures after { self.new ≡ slice_set self.old task (spent_oldest (slice_index_or self.old task [])) }
+        ensures after { self.new
+            ≡ slice_set self.old task (spent_oldest (slice_index_or self.old task [])) }
     {
         self.tasks[task.number() as usize].take()
     }

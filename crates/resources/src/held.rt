@@ -80,7 +80,8 @@ impl Held {
     /// held; then nothing changes.
     pub fn release(&mut self, resource: ResId) -> Status
         ensures status { result ≡ (if is_last resource self.old then Status.Ok else Status.NoFunc) }
-        ensures held { self.new ≡ (if is_last resource self.old then without_last self.old else self.old) }
+        ensures held { self.new
+            ≡ (if is_last resource self.old then without_last self.old else self.old) }
     {
         if !self.is_last(resource) {
             return Status::NoFunc;

@@ -23,7 +23,8 @@ impl<'s, Q: ReadyQueues> Objects<'s, Q> {
     #[tactic(auto, unfolding(kept_state::specs::KeptService::unmasked_in))]
     pub fn set_rel_alarm(&mut self, alarm: AlarmId, increment: u32, cycle: u32) -> Status
         requires alarm { alarm < length self.old.system.alarms }
-        ensures { Serves (Service.SetRelAlarm (Some alarm) increment cycle) self.old self.new result }
+        ensures { Serves (Service.SetRelAlarm (Some alarm) increment cycle) self.old self.new
+            result }
     {
         self.alarms.set_rel(self.system, alarm, increment, cycle)
     }
@@ -52,8 +53,10 @@ impl<'s, Q: ReadyQueues> Objects<'s, Q> {
     #[inline(always)]
     pub fn get_alarm(&self, alarm: AlarmId) -> Answer
         requires alarm { alarm < length self.now.system.alarms }
-        ensures status { result.status ≡ Some (unmasked self.now (Service.GetAlarm (Some alarm))).status }
-        ensures results { result.results ≡ (unmasked self.now (Service.GetAlarm (Some alarm))).results }
+        ensures status { result.status
+            ≡ Some (unmasked self.now (Service.GetAlarm (Some alarm))).status }
+        ensures results { result.results
+            ≡ (unmasked self.now (Service.GetAlarm (Some alarm))).results }
     {
         match self.alarms.remaining(self.system, alarm) {
             None => Answer::plain(Status::NoFunc),
@@ -66,7 +69,10 @@ impl<'s, Q: ReadyQueues> Objects<'s, Q> {
     pub fn get_alarm_base(&self, alarm: AlarmId) -> Answer
         requires { alarm < length self.now.system.alarms }
         ensures status { result.status ≡ Some Status.Ok }
-        ensures results { result.results ≡ Results.Three (counter_of self.now.system alarm).max_allowed_value (counter_of self.now.system alarm).ticks_per_base (counter_of self.now.system alarm).min_cycle }
+        ensures results { result.results
+            ≡ Results.Three (counter_of self.now.system alarm).max_allowed_value
+            (counter_of self.now.system alarm).ticks_per_base
+            (counter_of self.now.system alarm).min_cycle }
     {
         let base = self.system.counter_of(alarm);
         Answer::of(Results::Three(base.max_allowed_value, base.ticks_per_base, base.min_cycle))
@@ -77,8 +83,15 @@ impl<'s, Q: ReadyQueues> Objects<'s, Q> {
     #[inline(always)]
     pub fn advance(&mut self, due: &mut DueList)
         requires { self.old.tick + 1 < MAX_TICKS }
-        ensures due { due.new ≡ due_alarms self.old.system (bare (record (kept_in self.old) { tick = self.old.tick + 1 })) }
-        ensures objects { self.new ≡ record self.old { tick = self.old.tick + 1; alarms = alarms_advanced self.old.system (bare (record (kept_in self.old) { tick = self.old.tick + 1 })) } }
+        ensures due { due.new
+            ≡ due_alarms self.old.system
+            (bare (record (kept_in self.old) { tick = self.old.tick + 1 })) }
+        ensures objects { self.new
+            ≡ record self.old {
+              tick = self.old.tick + 1;
+              alarms = alarms_advanced self.old.system
+                  (bare (record (kept_in self.old) { tick = self.old.tick + 1 }));
+            } }
     {
         self.alarms.advance(self.system, due);
     }

@@ -104,7 +104,8 @@ impl<'s, Q: ReadyQueues> Objects<'s, Q> {
     /// Whether a resource's ceiling is below the caller's static priority.
     pub fn is_above_ceiling(&self, resource: &ResId) -> bool
         requires { AreFit self.now }
-        ensures { result ≡ is_above_ceiling_in self.now.system (caller_in (kept_in self.now)) resource.now }
+        ensures { result
+            ≡ is_above_ceiling_in self.now.system (caller_in (kept_in self.now)) resource.now }
     {
         match self.calling_task() {
             None => false,
@@ -115,7 +116,8 @@ impl<'s, Q: ReadyQueues> Objects<'s, Q> {
     /// Whether the caller is a job that holds a resource.
     pub fn caller_holds(&self, resource: &ResId) -> bool
         requires { AreFit self.now }
-        ensures { result ≡ caller_holds_in (kept_in self.now) (caller_in (kept_in self.now)) resource.now }
+        ensures { result
+            ≡ caller_holds_in (kept_in self.now) (caller_in (kept_in self.now)) resource.now }
     {
         match self.calling_task() {
             None => false,
@@ -129,7 +131,8 @@ impl<'s, Q: ReadyQueues> Objects<'s, Q> {
     /// Whether a task is ready above the caller's static priority.
     pub fn is_outranked(&self) -> bool
         requires { AreFit self.now }
-        ensures { result ≡ is_outranked_in self.now.system (kept_in self.now) (caller_in (kept_in self.now)) }
+        ensures { result
+            ≡ is_outranked_in self.now.system (kept_in self.now) (caller_in (kept_in self.now)) }
     {
         match self.calling_task() {
             None => false,
@@ -191,8 +194,10 @@ impl<'s, Q: ReadyQueues> Objects<'s, Q> {
     #[inline(always)]
     pub fn executor(&self) -> Option<Owner>
         requires { AreFit self.now }
-        ensures value { MatchOption result (caller_in (kept_in self.now) ≡ ByNobody) (IsExecuting (kept_in self.now)) }
-        ensures placed { IfSome result (λ w. IsPlaced self.now.system w (context_in (kept_in self.now) w)) }
+        ensures value { MatchOption result (caller_in (kept_in self.now) ≡ ByNobody)
+            (IsExecuting (kept_in self.now)) }
+        ensures placed { IfSome result
+            (λ w. IsPlaced self.now.system w (context_in (kept_in self.now) w)) }
     {
         if let Some(active) = &self.active {
             return Some(Owner::Routine(active.routine));
@@ -254,9 +259,15 @@ impl<'s, Q: ReadyQueues> Objects<'s, Q> {
         requires plain { is_plain (instr_of packed) ≡ true }
         requires next { HasNext (plain_of (instr_of packed)) (context_in (kept_in self.old) owner) }
         ensures system { self.new.system ≡ self.old.system }
-        ensures effect { result ≡ (plain (plain_of (instr_of packed)) (context_in (kept_in self.old) owner) (word windows.old owner)).effect }
-        ensures words { (o : Owner) (i : ℕ) → word windows.new o i ≡ words_after (word windows.old) owner result o i }
-        ensures kept { kept_in self.new ≡ with_context_in (caller_as owner) (plain (plain_of (instr_of packed)) (context_in (kept_in self.old) owner) (word windows.old owner)).context (kept_in self.old) }
+        ensures effect { result
+            ≡ (plain (plain_of (instr_of packed)) (context_in (kept_in self.old) owner)
+            (word windows.old owner)).effect }
+        ensures words { (o : Owner) (i : ℕ)
+            → word windows.new o i ≡ words_after (word windows.old) owner result o i }
+        ensures kept { kept_in self.new
+            ≡ with_context_in (caller_as owner)
+            (plain (plain_of (instr_of packed)) (context_in (kept_in self.old) owner)
+            (word windows.old owner)).context (kept_in self.old) }
     {
         match owner {
             Owner::Task(task) => {
@@ -296,8 +307,11 @@ impl<'s, Q: ReadyQueues> Objects<'s, Q> {
     pub fn answer(&mut self, owner: Owner, status: Status, results: Results)
         requires fit { AreFit self.old }
         requires who { MayGoOn self.old owner }
-        requires room { IsThere self.old owner → (context_in (kept_in self.old) owner).place + 1 < MAX_INSTRUCTIONS }
-        ensures { Becomes (λ _S o. with_context_in (caller_as owner) (answered status results (context_in o owner)) o) self.old self.new }
+        requires room { IsThere self.old owner
+            → (context_in (kept_in self.old) owner).place + 1 < MAX_INSTRUCTIONS }
+        ensures { Becomes
+            (λ _S o. with_context_in (caller_as owner)
+            (answered status results (context_in o owner)) o) self.old self.new }
     {
         match owner {
             Owner::Task(task) => {

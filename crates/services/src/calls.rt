@@ -96,9 +96,12 @@ impl<'s, Q: ReadyQueues> Objects<'s, Q> {
         requires all { self.old.suspended_all + 1 < 2 ^ 32 }
         requires os { self.old.suspended_os + 1 < 2 ^ 32 }
         ensures system { self.new.system ≡ self.old.system }
-        ensures status { result.status ≡ (call_in self.old.system (kept_in self.old) call.now).status }
-        ensures results { result.results ≡ (call_in self.old.system (kept_in self.old) call.now).results }
-        ensures kept { kept_in self.new ≡ (call_in self.old.system (kept_in self.old) call.now).state }
+        ensures status { result.status
+            ≡ (call_in self.old.system (kept_in self.old) call.now).status }
+        ensures results { result.results
+            ≡ (call_in self.old.system (kept_in self.old) call.now).results }
+        ensures kept { kept_in self.new
+            ≡ (call_in self.old.system (kept_in self.old) call.now).state }
     {
         match call {
             Call::Control(control) => {
@@ -121,11 +124,19 @@ impl<'s, Q: ReadyQueues> Objects<'s, Q> {
     pub fn serve_program(&mut self, owner: Owner, service: &Service<Register>) -> Answer
         requires fit { AreFit self.old }
         requires who { IsThere self.old owner }
-        requires known { IsKnown self.old.system (at_values (context_in (kept_in self.old) owner) service.now) }
+        requires known { IsKnown self.old.system
+            (at_values (context_in (kept_in self.old) owner) service.now) }
         ensures system { self.new.system ≡ self.old.system }
-        ensures status { result.status ≡ (call_in self.old.system (kept_in self.old) (CallOf.Service (at_values (context_in (kept_in self.old) owner) service.now))).status }
-        ensures results { result.results ≡ (call_in self.old.system (kept_in self.old) (CallOf.Service (at_values (context_in (kept_in self.old) owner) service.now))).results }
-        ensures kept { kept_in self.new ≡ (call_in self.old.system (kept_in self.old) (CallOf.Service (at_values (context_in (kept_in self.old) owner) service.now))).state }
+        ensures status { result.status
+            ≡ (call_in self.old.system (kept_in self.old)
+            (CallOf.Service (at_values (context_in (kept_in self.old) owner) service.now))).status }
+        ensures results { result.results
+            ≡ (call_in self.old.system (kept_in self.old)
+            (CallOf.Service
+            (at_values (context_in (kept_in self.old) owner) service.now))).results }
+        ensures kept { kept_in self.new
+            ≡ (call_in self.old.system (kept_in self.old)
+            (CallOf.Service (at_values (context_in (kept_in self.old) owner) service.now))).state }
     {
         if self.interrupts_off() {
             return Answer::plain(Status::SysDisabled);

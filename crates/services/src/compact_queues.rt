@@ -131,7 +131,8 @@ fn put(entries: &mut Vec<ReadyEntry>, from: u8, entry: ReadyEntry)
 fn place_below(entries: &[ReadyEntry], from: u8) -> usize
     ensures low { result ≤ length entries.now }
     ensures before { list_any (is_below from) (take result entries.now) ≡ false }
-    ensures here { result < length entries.now → is_below from (slice_index_or entries.now result no_entry) ≡ true }
+    ensures here { result < length entries.now
+        → is_below from (slice_index_or entries.now result no_entry) ≡ true }
 {
     for place in 0..entries.len() {
         let entry = &entries[place];

@@ -121,7 +121,8 @@ impl<'s, Q: ReadyQueues> Objects<'s, Q> {
         requires { task < length self.old.system.tasks }
         ensures system { self.new.system ≡ self.old.system }
         ensures kept { kept_in self.new ≡ record (kept_in self.old) {
-          slots = changed_at (by_task self.old.slots) task (slot_entered self.old.system task (by_task self.old.slots task));
+          slots = changed_at (by_task self.old.slots) task
+              (slot_entered self.old.system task (by_task self.old.slots task));
           running = Some task;
           gone = false;
         } }
@@ -141,7 +142,8 @@ impl<'s, Q: ReadyQueues> Objects<'s, Q> {
         requires none { (l : ℕ) → level < l → by_level self.old.queues l ≡ [] }
         requires known { first (by_level self.old.queues level) < length self.old.system.tasks }
         requires room { length record_of_tick.old + 2 ≤ MAX_RECORDS }
-        ensures does { Does (λ S o. dispatched S level o.queues o) self.old self.new record_of_tick.old record_of_tick.new }
+        ensures does { Does (λ S o. dispatched S level o.queues o) self.old self.new
+            record_of_tick.old record_of_tick.new }
         ensures few { length record_of_tick.new ≤ length record_of_tick.old + 2 }
     {
         record_left(self.system, &self.running, record_of_tick);
@@ -160,7 +162,8 @@ impl<'s, Q: ReadyQueues> Objects<'s, Q> {
         requires none { (l : ℕ) → level < l → by_level self.old.queues l ≡ [] }
         requires known { first (by_level self.old.queues level) < length self.old.system.tasks }
         requires room { length record_of_tick.old + 2 ≤ MAX_RECORDS }
-        ensures does { Does (λ S o. dispatched S level (put_first o.queues own task) o) self.old self.new record_of_tick.old record_of_tick.new }
+        ensures does { Does (λ S o. dispatched S level (put_first o.queues own task) o) self.old
+            self.new record_of_tick.old record_of_tick.new }
         ensures few { length record_of_tick.new ≤ length record_of_tick.old + 2 }
     {
         self.put_back(own, task);
@@ -173,7 +176,8 @@ impl<'s, Q: ReadyQueues> Objects<'s, Q> {
         requires level { level ≤ top_priority self.old.system }
         requires room { total (by_level self.old.queues) < room_for self.old.system }
         ensures others { self.new ≡ record self.old { queues = self.new.queues } }
-        ensures queues { by_level self.new.queues ≡ put_first (by_level self.old.queues) level task }
+        ensures queues { by_level self.new.queues
+            ≡ put_first (by_level self.old.queues) level task }
     {
         self.ready.put_first(level, task);
     }

@@ -62,8 +62,10 @@ impl<'s, Q: ReadyQueues> Objects<'s, Q> {
     pub fn get_event(&self, task: TaskId) -> Answer
         requires fit { AreFit self.now }
         requires task { task < length self.now.system.tasks }
-        ensures status { result.status ≡ Some (unmasked self.now (Service.GetEvent (Some task))).status }
-        ensures results { result.results ≡ (unmasked self.now (Service.GetEvent (Some task))).results }
+        ensures status { result.status
+            ≡ Some (unmasked self.now (Service.GetEvent (Some task))).status }
+        ensures results { result.results
+            ≡ (unmasked self.now (Service.GetEvent (Some task))).results }
     {
         if !self.system.is_extended(task) {
             return Answer::plain(Status::Access);

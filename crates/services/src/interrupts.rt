@@ -64,9 +64,15 @@ impl Active {
     ) -> Effect
         requires plain { is_plain (instr_of packed) ≡ true }
         requires next { HasNext (plain_of (instr_of packed)) self.old.context }
-        ensures effect { result ≡ (plain (plain_of (instr_of packed)) self.old.context (word windows.old owner)).effect }
-        ensures words { (o : Owner) (i : ℕ) → word windows.new o i ≡ words_after (word windows.old) owner result o i }
-        ensures context { self.new ≡ moved (plain (plain_of (instr_of packed)) self.old.context (word windows.old owner)).context self.old }
+        ensures effect { result
+            ≡ (plain (plain_of (instr_of packed)) self.old.context
+            (word windows.old owner)).effect }
+        ensures words { (o : Owner) (i : ℕ)
+            → word windows.new o i ≡ words_after (word windows.old) owner result o i }
+        ensures context { self.new
+            ≡ moved
+            (plain (plain_of (instr_of packed)) self.old.context (word windows.old owner)).context
+            self.old }
     {
         exec_packed(&mut self.cpu, windows, owner, packed)
     }
@@ -176,7 +182,9 @@ impl<'s, Q: ReadyQueues> Objects<'s, Q> {
 #[inline(always)]
 fn best_pending(system: &System, flags: &[bool]) -> Option<IsrId>
     requires { length flags.now ≡ length system.now.routines }
-    ensures choice { result ≡ foremost (λ i. slice_index_or flags.now i false) (λ i. (routine system.now i).priority) (below (length system.now.routines)) }
+    ensures choice { result
+        ≡ foremost (λ i. slice_index_or flags.now i false) (λ i. (routine system.now i).priority)
+        (below (length system.now.routines)) }
     ensures known { IfSome result (λ i. i < length system.now.routines) }
 {
     let mut best = None;

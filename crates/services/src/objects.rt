@@ -64,7 +64,8 @@ impl<'s, Q: ReadyQueues> Model for Objects<'s, Q> {
       over = c.over;
     } };
 
-    ghost invariant = { λ c. IsSized c.system.now c.slots.items c.masks.items c.pending.items c.shared.items c.alarms c.ready.room };
+    ghost invariant = { λ c. IsSized c.system.now c.slots.items c.masks.items c.pending.items
+        c.shared.items c.alarms c.ready.room };
 }
 
 /// The sum of the ACTIVATION values.

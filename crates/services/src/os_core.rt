@@ -182,9 +182,14 @@ impl<'s, Q: ReadyQueues> Core<'s, Q> {
     pub fn activate(&mut self, task: TaskId) -> Status
         requires { task < length self.old.system.tasks }
         ensures system { self.new.system ≡ self.old.system }
-        ensures status { result ≡ (unmasked_in self.old.system ByNobody (kept_in self.old) (Service.ActivateTask (Some task))).status }
-        ensures kept { kept_in self.new ≡ (unmasked_in self.old.system ByNobody (kept_in self.old) (Service.ActivateTask (Some task))).state }
-        ensures defined { ActsAsDefined self.old self.new (Service.ActivateTask (Some task)) result }
+        ensures status { result
+            ≡ (unmasked_in self.old.system ByNobody (kept_in self.old)
+            (Service.ActivateTask (Some task))).status }
+        ensures kept { kept_in self.new
+            ≡ (unmasked_in self.old.system ByNobody (kept_in self.old)
+            (Service.ActivateTask (Some task))).state }
+        ensures defined { ActsAsDefined self.old self.new (Service.ActivateTask (Some task))
+            result }
     {
         self.is_dispatched = false;
         self.objects.activate(task)
@@ -196,9 +201,14 @@ impl<'s, Q: ReadyQueues> Core<'s, Q> {
         requires task { task < length self.old.system.tasks }
         requires ready { runner_waits (kept_in self.old) ≡ false }
         ensures system { self.new.system ≡ self.old.system }
-        ensures status { result ≡ (unmasked_in self.old.system ByNobody (kept_in self.old) (Service.SetEvent (Some task) mask)).status }
-        ensures kept { kept_in self.new ≡ (unmasked_in self.old.system ByNobody (kept_in self.old) (Service.SetEvent (Some task) mask)).state }
-        ensures defined { ActsAsDefined self.old self.new (Service.SetEvent (Some task) mask) result }
+        ensures status { result
+            ≡ (unmasked_in self.old.system ByNobody (kept_in self.old)
+            (Service.SetEvent (Some task) mask)).status }
+        ensures kept { kept_in self.new
+            ≡ (unmasked_in self.old.system ByNobody (kept_in self.old)
+            (Service.SetEvent (Some task) mask)).state }
+        ensures defined { ActsAsDefined self.old self.new (Service.SetEvent (Some task) mask)
+            result }
     {
         self.is_dispatched = false;
         self.objects.set_event(task, mask)
@@ -214,9 +224,12 @@ impl<'s, Q: ReadyQueues> Core<'s, Q> {
         requires os { self.old.suspended_os < MAX_TICKS }
         ensures system { self.new.system ≡ self.old.system }
         ensures caller { IsSameCaller self.old self.new }
-        ensures status { result.status ≡ (call_in self.old.system (kept_in self.old) call.now).status }
-        ensures results { result.results ≡ (call_in self.old.system (kept_in self.old) call.now).results }
-        ensures kept { kept_in self.new ≡ (call_in self.old.system (kept_in self.old) call.now).state }
+        ensures status { result.status
+            ≡ (call_in self.old.system (kept_in self.old) call.now).status }
+        ensures results { result.results
+            ≡ (call_in self.old.system (kept_in self.old) call.now).results }
+        ensures kept { kept_in self.new
+            ≡ (call_in self.old.system (kept_in self.old) call.now).state }
         ensures defined { CallsAsDefined self.old self.new call.now result.status result.results }
     {
         let answer = self.objects.call(call);
@@ -229,14 +242,24 @@ impl<'s, Q: ReadyQueues> Core<'s, Q> {
     #[inline(always)]
     pub fn serve(&mut self, owner: Owner, service: &Service<Register>) -> Answer
         requires who { IsExecuting (kept_in self.old) owner }
-        requires known { IsKnown self.old.system (at_values (context_in (kept_in self.old) owner) service.now) }
+        requires known { IsKnown self.old.system
+            (at_values (context_in (kept_in self.old) owner) service.now) }
         requires serves { MayServe self.old.system (kept_in self.old) }
         ensures system { self.new.system ≡ self.old.system }
         ensures caller { IsSameCaller self.old self.new }
-        ensures status { result.status ≡ (call_in self.old.system (kept_in self.old) (CallOf.Service (at_values (context_in (kept_in self.old) owner) service.now))).status }
-        ensures results { result.results ≡ (call_in self.old.system (kept_in self.old) (CallOf.Service (at_values (context_in (kept_in self.old) owner) service.now))).results }
-        ensures kept { kept_in self.new ≡ (call_in self.old.system (kept_in self.old) (CallOf.Service (at_values (context_in (kept_in self.old) owner) service.now))).state }
-        ensures defined { CallsAsDefined self.old self.new (CallOf.Service (at_values (context_in (kept_in self.old) owner) service.now)) result.status result.results }
+        ensures status { result.status
+            ≡ (call_in self.old.system (kept_in self.old)
+            (CallOf.Service (at_values (context_in (kept_in self.old) owner) service.now))).status }
+        ensures results { result.results
+            ≡ (call_in self.old.system (kept_in self.old)
+            (CallOf.Service
+            (at_values (context_in (kept_in self.old) owner) service.now))).results }
+        ensures kept { kept_in self.new
+            ≡ (call_in self.old.system (kept_in self.old)
+            (CallOf.Service (at_values (context_in (kept_in self.old) owner) service.now))).state }
+        ensures defined { CallsAsDefined self.old self.new
+            (CallOf.Service (at_values (context_in (kept_in self.old) owner) service.now))
+            result.status result.results }
     {
         let answer = self.objects.serve_program(owner, service);
         self.is_dispatched = stays_known(self.is_dispatched, &answer);
@@ -246,7 +269,8 @@ impl<'s, Q: ReadyQueues> Core<'s, Q> {
     /// Whether a reschedule is known to change nothing: none of the steps since the last one calls for another.
     #[inline(always)]
     pub fn is_dispatched(&self) -> bool
-        ensures { result ≡ true → rescheduled self.now.system (kept_in self.now) ≡ silent_in (kept_in self.now) }
+        ensures { result ≡ true
+            → rescheduled self.now.system (kept_in self.now) ≡ silent_in (kept_in self.now) }
     {
         self.is_dispatched
     }
@@ -261,7 +285,8 @@ impl<'s, Q: ReadyQueues> Core<'s, Q> {
         ensures known { IfSome result (λ t. t < length self.old.system.tasks) }
         ensures system { self.new.system ≡ self.old.system }
         ensures kept { kept_in self.new ≡ (rescheduled self.old.system (kept_in self.old)).state }
-        ensures events { record_of_tick.new ≡ record_of_tick.old ++ (rescheduled self.old.system (kept_in self.old)).events }
+        ensures events { record_of_tick.new
+            ≡ record_of_tick.old ++ (rescheduled self.old.system (kept_in self.old)).events }
         ensures few { length record_of_tick.new ≤ length record_of_tick.old + 2 }
     {
         let runner = self.objects.contender();
@@ -275,8 +300,15 @@ impl<'s, Q: ReadyQueues> Core<'s, Q> {
     #[inline(always)]
     pub fn advance(&mut self, due: &mut DueList)
         requires { self.old.tick + 1 < MAX_TICKS }
-        ensures due { due.new ≡ due_alarms self.old.system (bare (record (kept_in self.old) { tick = self.old.tick + 1 })) }
-        ensures objects { self.new ≡ record self.old { tick = self.old.tick + 1; alarms = alarms_advanced self.old.system (bare (record (kept_in self.old) { tick = self.old.tick + 1 })) } }
+        ensures due { due.new
+            ≡ due_alarms self.old.system
+            (bare (record (kept_in self.old) { tick = self.old.tick + 1 })) }
+        ensures objects { self.new
+            ≡ record self.old {
+              tick = self.old.tick + 1;
+              alarms = alarms_advanced self.old.system
+                  (bare (record (kept_in self.old) { tick = self.old.tick + 1 }));
+            } }
     {
         self.objects.advance(due);
     }
@@ -302,8 +334,10 @@ impl<'s, Q: ReadyQueues> Core<'s, Q> {
     /// Who executes: the active routine, else the running task.
     #[inline(always)]
     pub fn executor(&self) -> Option<Owner>
-        ensures value { MatchOption result (caller_in (kept_in self.now) ≡ ByNobody) (IsExecuting (kept_in self.now)) }
-        ensures placed { IfSome result (λ w. IsPlaced self.now.system w (context_in (kept_in self.now) w)) }
+        ensures value { MatchOption result (caller_in (kept_in self.now) ≡ ByNobody)
+            (IsExecuting (kept_in self.now)) }
+        ensures placed { IfSome result
+            (λ w. IsPlaced self.now.system w (context_in (kept_in self.now) w)) }
     {
         self.objects.executor()
     }
@@ -328,11 +362,19 @@ impl<'s, Q: ReadyQueues> Core<'s, Q> {
         requires who { IsExecuting (kept_in self.old) owner }
         requires plain { is_plain (instr_of packed) ≡ true }
         requires next { HasNext (plain_of (instr_of packed)) (context_in (kept_in self.old) owner) }
-        requires placed { IsPlaced self.old.system owner (plain (plain_of (instr_of packed)) (context_in (kept_in self.old) owner) (word windows.old owner)).context }
+        requires placed { IsPlaced self.old.system owner
+            (plain (plain_of (instr_of packed)) (context_in (kept_in self.old) owner)
+            (word windows.old owner)).context }
         ensures system { self.new.system ≡ self.old.system }
-        ensures effect { result ≡ (plain (plain_of (instr_of packed)) (context_in (kept_in self.old) owner) (word windows.old owner)).effect }
-        ensures words { (o : Owner) (i : ℕ) → word windows.new o i ≡ words_after (word windows.old) owner result o i }
-        ensures kept { kept_in self.new ≡ with_context_in (caller_as owner) (plain (plain_of (instr_of packed)) (context_in (kept_in self.old) owner) (word windows.old owner)).context (kept_in self.old) }
+        ensures effect { result
+            ≡ (plain (plain_of (instr_of packed)) (context_in (kept_in self.old) owner)
+            (word windows.old owner)).effect }
+        ensures words { (o : Owner) (i : ℕ)
+            → word windows.new o i ≡ words_after (word windows.old) owner result o i }
+        ensures kept { kept_in self.new
+            ≡ with_context_in (caller_as owner)
+            (plain (plain_of (instr_of packed)) (context_in (kept_in self.old) owner)
+            (word windows.old owner)).context (kept_in self.old) }
     {
         self.objects.exec_packed(windows, owner, packed)
     }
@@ -351,10 +393,15 @@ impl<'s, Q: ReadyQueues> Core<'s, Q> {
     #[inline(always)]
     pub fn answer(&mut self, owner: Owner, status: Status, results: Results)
         requires who { MayGoOn self.old owner }
-        requires room { IsThere self.old owner → (context_in (kept_in self.old) owner).place + 1 < MAX_INSTRUCTIONS }
-        requires placed { IsThere self.old owner → IsPlaced self.old.system owner (answered status results (context_in (kept_in self.old) owner)) }
+        requires room { IsThere self.old owner
+            → (context_in (kept_in self.old) owner).place + 1 < MAX_INSTRUCTIONS }
+        requires placed { IsThere self.old owner
+            → IsPlaced self.old.system owner
+            (answered status results (context_in (kept_in self.old) owner)) }
         ensures system { self.new.system ≡ self.old.system }
-        ensures kept { kept_in self.new ≡ with_context_in (caller_as owner) (answered status results (context_in (kept_in self.old) owner)) (kept_in self.old) }
+        ensures kept { kept_in self.new
+            ≡ with_context_in (caller_as owner)
+            (answered status results (context_in (kept_in self.old) owner)) (kept_in self.old) }
     {
         self.objects.answer(owner, status, results);
     }

@@ -83,7 +83,8 @@ impl<Q: ReadyQueues> ReadyList<Q> {
         requires none { (l : ℕ) → level < l → by_level self.old.lists l ≡ [] }
         requires level { level < LEVELS }
         ensures task { result ≡ first (by_level self.old.lists level) }
-        ensures lists { by_level self.new.lists ≡ without_first_at_level (by_level self.old.lists) level }
+        ensures lists { by_level self.new.lists
+            ≡ without_first_at_level (by_level self.old.lists) level }
         ensures room { self.new.room ≡ self.old.room }
     {
         match self.queues.take_first() {

@@ -61,7 +61,8 @@ impl<'s, Q: ReadyQueues> Objects<'s, Q> {
     fn get_held(&mut self, resource: &ResId)
         requires fit { AreFit self.old }
         requires free { is_held_in self.old.system (kept_in self.old) resource.now ≡ false }
-        ensures { Becomes (λ _S o. with_caller_in (caller_in o) (slot_gets resource.now) o) self.old self.new }
+        ensures { Becomes (λ _S o. with_caller_in (caller_in o) (slot_gets resource.now) o)
+            self.old self.new }
     {
         if let Some(task) = self.calling_task() {
             let slot = &mut self.slots[task.number() as usize];
@@ -74,8 +75,13 @@ impl<'s, Q: ReadyQueues> Objects<'s, Q> {
     fn release_held(&mut self, resource: &ResId) -> Status
         requires { AreFit self.old }
         ensures system { self.new.system ≡ self.old.system }
-        ensures status { result ≡ (if got_last_in (kept_in self.old) (caller_in (kept_in self.old)) resource.now then Status.Ok else Status.NoFunc) }
-        ensures kept { kept_in self.new ≡ (if got_last_in (kept_in self.old) (caller_in (kept_in self.old)) resource.now then with_caller_in (caller_in (kept_in self.old)) slot_releases (kept_in self.old) else kept_in self.old) }
+        ensures status { result
+            ≡ (if got_last_in (kept_in self.old) (caller_in (kept_in self.old)) resource.now
+            then Status.Ok else Status.NoFunc) }
+        ensures kept { kept_in self.new
+            ≡ (if got_last_in (kept_in self.old) (caller_in (kept_in self.old)) resource.now
+            then with_caller_in (caller_in (kept_in self.old)) slot_releases (kept_in self.old)
+            else kept_in self.old) }
     {
         match self.calling_task() {
             None => Status::NoFunc,

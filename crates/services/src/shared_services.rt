@@ -23,8 +23,10 @@ impl<'s, Q: ReadyQueues> Objects<'s, Q> {
     pub fn load_shared(&self, resource: &ResId, index: u32) -> Answer
         requires fit { AreFit self.now }
         requires known { IsSharedOperand self.now.system (Some resource.now) }
-        ensures status { result.status ≡ Some (unmasked self.now (Service.LoadShared (Some resource.now) index)).status }
-        ensures results { result.results ≡ (unmasked self.now (Service.LoadShared (Some resource.now) index)).results }
+        ensures status { result.status
+            ≡ Some (unmasked self.now (Service.LoadShared (Some resource.now) index)).status }
+        ensures results { result.results
+            ≡ (unmasked self.now (Service.LoadShared (Some resource.now) index)).results }
     {
         if self.by_routine() {
             return Answer::plain(Status::Access);
@@ -44,7 +46,8 @@ impl<'s, Q: ReadyQueues> Objects<'s, Q> {
     pub fn store_shared(&mut self, resource: &ResId, index: u32, new: u32) -> Status
         requires fit { AreFit self.old }
         requires known { IsSharedOperand self.old.system (Some resource.now) }
-        ensures { Serves (Service.StoreShared (Some resource.now) index new) self.old self.new result }
+        ensures { Serves (Service.StoreShared (Some resource.now) index new) self.old self.new
+            result }
     {
         if self.by_routine() {
             return Status::Access;
@@ -74,7 +77,8 @@ impl<'s, Q: ReadyQueues> Objects<'s, Q> {
     /// A word of a resource's window gets a value; RES_SCHEDULER has none.
     fn store_word(&mut self, resource: &ResId, index: u32, new: u32)
         requires { IsSharedOperand self.old.system (Some resource.now) }
-        ensures { self.new ≡ record self.old { shared = word_stored resource.now index new self.old.shared } }
+        ensures { self.new
+            ≡ record self.old { shared = word_stored resource.now index new self.old.shared } }
     {
         if let ResId::Declared(number) = resource {
             self.put_shared_word(*number, index, new);
@@ -93,7 +97,8 @@ impl<'s, Q: ReadyQueues> Objects<'s, Q> {
     /// A word of a declared resource's window gets a value.
     fn put_shared_word(&mut self, resource: ResourceNumber, index: u32, new: u32)
         requires { resource < length self.old.system.resources }
-        ensures { self.new ≡ record self.old { shared = with_shared self.old.shared resource index new } }
+        ensures { self.new
+            ≡ record self.old { shared = with_shared self.old.shared resource index new } }
     {
         let window = &mut self.shared[resource.number() as usize];
         window.store(index, new);

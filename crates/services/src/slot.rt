@@ -222,8 +222,12 @@ impl Slot {
     /// The oldest job releases a resource. E_OS_NOFUNC where it isn't the last that it got and still holds; then nothing
     /// changes.
     pub fn release(&mut self, resource: &ResId) -> Status
-        ensures status { result ≡ (if is_resource (last_of self.old.held) resource.now then Status.Ok else Status.NoFunc) }
-        ensures slot { self.new ≡ (if is_resource (last_of self.old.held) resource.now then slot_releases self.old else self.old) }
+        ensures status { result
+            ≡ (if is_resource (last_of self.old.held) resource.now then Status.Ok
+            else Status.NoFunc) }
+        ensures slot { self.new
+            ≡ (if is_resource (last_of self.old.held) resource.now then slot_releases self.old
+            else self.old) }
     {
         self.held.release(*resource)
     }
@@ -254,9 +258,15 @@ impl Slot {
     ) -> Effect
         requires plain { is_plain (instr_of packed) ≡ true }
         requires next { HasNext (plain_of (instr_of packed)) self.old.context }
-        ensures effect { result ≡ (plain (plain_of (instr_of packed)) self.old.context (word windows.old owner)).effect }
-        ensures words { (o : Owner) (i : ℕ) → word windows.new o i ≡ words_after (word windows.old) owner result o i }
-        ensures context { self.new ≡ slot_moved (plain (plain_of (instr_of packed)) self.old.context (word windows.old owner)).context self.old }
+        ensures effect { result
+            ≡ (plain (plain_of (instr_of packed)) self.old.context
+            (word windows.old owner)).effect }
+        ensures words { (o : Owner) (i : ℕ)
+            → word windows.new o i ≡ words_after (word windows.old) owner result o i }
+        ensures context { self.new
+            ≡ slot_moved
+            (plain (plain_of (instr_of packed)) self.old.context (word windows.old owner)).context
+            self.old }
     {
         exec_packed(&mut self.cpu, windows, owner, packed)
     }

@@ -76,7 +76,9 @@ impl<'s, Q: ReadyQueues> Objects<'s, Q> {
     fn is_chain_full(&self, task: TaskId) -> bool
         requires fit { AreFit self.now }
         requires task { task < length self.now.system.tasks }
-        ensures { result ≡ (not (is_own_in (caller_in (kept_in self.now)) task) && is_full_in self.now.system (kept_in self.now) task) }
+        ensures { result
+            ≡ (not (is_own_in (caller_in (kept_in self.now)) task)
+            && is_full_in self.now.system (kept_in self.now) task) }
     {
         let other = !self.is_own_task(task);
         other && self.is_full(task)

@@ -121,7 +121,9 @@ fn owner_tables<'a>(
     counters: &[Name],
 ) -> Result<Owners<'a>, AllocError>
     requires { AreDistinct (declared_by names.now counters.now) }
-    ensures { IfOk result (λ t. (t.modes ≡ names.now.modes) × (t.tasks ≡ names.now.tasks) × (t.routines ≡ names.now.routines)) }
+    ensures { IfOk result
+        (λ t. (t.modes ≡ names.now.modes) × (t.tasks ≡ names.now.tasks)
+        × (t.routines ≡ names.now.routines)) }
 {
     let modes = NameTable::new(alloc, names.modes.as_slice())?;
     let tasks = NameTable::new(alloc, names.tasks.as_slice())?;
@@ -139,7 +141,8 @@ fn listed_tables<'a>(
     counters: &[Name],
 ) -> Result<Listed<'a>, AllocError>
     requires { AreDistinct (declared_by names.now counters.now) }
-    ensures { IfOk result (λ t. (t.resources ≡ names.now.resources) × (t.events ≡ names.now.events)) }
+    ensures { IfOk result
+        (λ t. (t.resources ≡ names.now.resources) × (t.events ≡ names.now.events)) }
 {
     let resources = NameTable::new(alloc, names.resources.as_slice())?;
     let events = NameTable::new(alloc, names.events.as_slice())?;

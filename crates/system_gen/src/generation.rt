@@ -290,7 +290,9 @@ fn tasks_of(
     order: &[usize],
 ) -> Result<Vec<Task>, AllocError>
     requires { ArePlaces (length objects.now) order.now }
-    ensures { IfOk result (λ tasks. tasks.items ≡ map (task_declared resolver.now programs.now objects.now) order.now) }
+    ensures { IfOk result
+        (λ tasks. tasks.items
+        ≡ map (task_declared resolver.now programs.now objects.now) order.now) }
 {
     let mut tasks = Vec::new(alloc);
     for place in order {
@@ -308,7 +310,8 @@ fn task_at(
     place: usize,
 ) -> Result<Task, AllocError>
     requires { place < length objects.now }
-    ensures { IfOk result (λ task. task ≡ task_declared resolver.now programs.now objects.now place) }
+    ensures { IfOk result
+        (λ task. task ≡ task_declared resolver.now programs.now objects.now place) }
 {
     match objects.get(place) {
         Some(object) => resolver.task(alloc, object, programs),
@@ -322,7 +325,9 @@ fn routines_of(
     objects: &[IsrObject],
     programs: &[NamedProgram],
 ) -> Result<Vec<Routine>, AllocError>
-    ensures { IfOk result (λ routines. routines.items ≡ map (resolved_routine resolver.now programs.now) objects.now) }
+    ensures { IfOk result
+        (λ routines. routines.items
+        ≡ map (resolved_routine resolver.now programs.now) objects.now) }
 {
     let mut routines = Vec::new(alloc);
     for object in objects {

@@ -113,7 +113,8 @@ fn check_programs(
     file: &OilFile,
     programs: &[NamedProgram],
 ) -> Result<(), GenFault>
-    ensures answers { Answers (first_of (program_reference file.now declared.now) programs.now) result }
+    ensures answers { Answers (first_of (program_reference file.now declared.now) programs.now)
+        result }
     ensures typed { OnOk result (IsTrue (are_typed programs.now)) }
 {
     for program in programs {
@@ -145,7 +146,8 @@ fn check_owner(declared: &Declared, kind: ProgramKind, name: &Name) -> Result<()
 }
 
 fn check_lines(declared: &Declared, file: &OilFile, lines: &[NamedLine]) -> Result<(), GenFault>
-    ensures answers { Answers (first_of (instruction_reference file.now declared.now) lines.now) result }
+    ensures answers { Answers (first_of (instruction_reference file.now declared.now) lines.now)
+        result }
     ensures typed { OnOk result (IsTrue (list_all is_typed lines.now)) }
 {
     for line in lines {

@@ -110,7 +110,8 @@ impl<'d, 'a, 'm> Resolver<'d, 'a, 'm> {
     }
 
     fn modes(&self, alloc: Global, names: &[Name]) -> Result<Vec<ModeId>, AllocError>
-        ensures { IfOk result (λ modes. modes.items ≡ map (number self.now.declared.modes) names.now) }
+        ensures { IfOk result
+            (λ modes. modes.items ≡ map (number self.now.declared.modes) names.now) }
     {
         let mut modes = Vec::new(alloc);
         for name in names {
@@ -120,7 +121,8 @@ impl<'d, 'a, 'm> Resolver<'d, 'a, 'm> {
     }
 
     fn resources(&self, alloc: Global, names: &[Name]) -> Result<Vec<ResourceNumber>, AllocError>
-        ensures { IfOk result (λ numbers. numbers.items ≡ map (number self.now.declared.resources) names.now) }
+        ensures { IfOk result
+            (λ numbers. numbers.items ≡ map (number self.now.declared.resources) names.now) }
     {
         let mut resources = Vec::new(alloc);
         for name in names {

@@ -86,7 +86,8 @@ fn programs(
     targets: &[Place],
 ) -> Result<Vec<NamedProgram>, AllocError>
     requires { length statements.items ≡ length targets.now }
-    ensures { IfOk result (λ programs. programs.items ≡ programs_with statements.entry.items targets.now) }
+    ensures { IfOk result
+        (λ programs. programs.items ≡ programs_with statements.entry.items targets.now) }
 {
     let mut programs = Vec::new(alloc);
     let mut lines = Vec::new(alloc);
@@ -134,7 +135,10 @@ pub fn assemble(alloc: Global, text: &[u8]) -> Result<Vec<NamedProgram>, AsmFaul
 /// A program text has one list of programs, and then no fault; it has one fault at most. Of want of memory nothing is
 /// said. (Laws about the definitions; the function does nothing.)
 pub fn one_meaning()
-    ensures programs { (text : List ℕ) (ps qs : List Program) → IsProgramText text ps → IsProgramText text qs → ps ≡ qs }
-    ensures faultless { (text : List ℕ) (ps : List Program) (e : AsmFault) → IsProgramText text ps → HasFault text e → e ≡ Memory }
-    ensures fault { (text : List ℕ) (e f : AsmFault) → HasFault text e → HasFault text f → e ≢ Memory → f ≢ Memory → e ≡ f }
+    ensures programs { (text : List ℕ) (ps qs : List Program) → IsProgramText text ps
+        → IsProgramText text qs → ps ≡ qs }
+    ensures faultless { (text : List ℕ) (ps : List Program) (e : AsmFault) → IsProgramText text ps
+        → HasFault text e → e ≡ Memory }
+    ensures fault { (text : List ℕ) (e f : AsmFault) → HasFault text e → HasFault text f
+        → e ≢ Memory → f ≢ Memory → e ≡ f }
 {}

@@ -38,7 +38,8 @@ impl<'t, 'a> Operands<'t, 'a> {
     ghost use Rattle.task_asm.specs.Rest.{rest_of};
 
     fn jump_if(&mut self, test: Comparison) -> Result<Written<'a>, Refusal>
-        ensures { AnswersWritten (plain_instruction (Plain.JumpIf test tt tt tt) (rest_of self.old)) result }
+        ensures { AnswersWritten
+            (plain_instruction (Plain.JumpIf test tt tt tt) (rest_of self.old)) result }
     {
         let left = self.register()?;
         let right = self.next_register()?;

@@ -64,7 +64,8 @@ fn line_len(tokens: &[Placed<'_>]) -> usize
 
 /// The label at the front: a word and a colon.
 fn label_at<'a>(tokens: &[Placed<'a>]) -> Option<&'a str>
-    ensures { MatchOption result (label_at (lexemes_of tokens.now) ≡ None) (λ w. label_at (lexemes_of tokens.now) ≡ Some w.now) }
+    ensures { MatchOption result (label_at (lexemes_of tokens.now) ≡ None)
+        (λ w. label_at (lexemes_of tokens.now) ≡ Some w.now) }
 {
     if tokens.len() < 2 {
         return None;

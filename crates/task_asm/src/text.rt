@@ -160,7 +160,8 @@ fn write_three(
     third: &OperandText,
 )
     requires { length word.now ≤ 5 }
-    ensures { text.new.bytes ≡ written word.now (first.now.bytes ∷ second.now.bytes ∷ third.now.bytes ∷ []) }
+    ensures { text.new.bytes
+        ≡ written word.now (first.now.bytes ∷ second.now.bytes ∷ third.now.bytes ∷ []) }
 {
     write_two(text, word, first, second);
     text.push_str(", ");
@@ -200,7 +201,8 @@ fn write_plain(text: &mut InstrText, plain: &Plain)
 }
 
 fn write_service(text: &mut InstrText, service: &Service<Register>, names: &Names)
-    ensures { text.new.bytes ≡ written (service_word service.now) (service_operands names.now service.now) }
+    ensures { text.new.bytes
+        ≡ written (service_word service.now) (service_operands names.now service.now) }
 {
     let word = service.word();
     match *service {

@@ -56,7 +56,10 @@ impl<'t> ProgramNames<'t> {
     }
 
     fn add(&mut self, kind: ProgramKind, name: &'t str) -> Result<(), AllocError>
-        ensures { OnOk result ((k : ProgramKind) (w : List ℕ) → has_name self.new k w ≡ (if is_kind kind k && bytes_eq name.now w then true else has_name self.old k w)) }
+        ensures { OnOk result
+            ((k : ProgramKind) (w : List ℕ)
+            → has_name self.new k w
+            ≡ (if is_kind kind k && bytes_eq name.now w then true else has_name self.old k w)) }
     {
         match kind {
             ProgramKind::Task => self.tasks.insert(name)?,
@@ -78,7 +81,8 @@ impl<'a> Open<'a> {
     /// The program whose statements begin at a number.
     fn of(alloc: Global, statements: &[Statement<'a>], start: usize) -> Result<Self, AllocError>
         requires { start ≤ length statements.now }
-        ensures { IfOk result (λ o. (o.start ≡ start) × Knows o.labels (drop start statements.now)) }
+        ensures { IfOk result
+            (λ o. (o.start ≡ start) × Knows o.labels (drop start statements.now)) }
     {
         Ok(Open {
             start,
@@ -122,7 +126,8 @@ impl<'a> Open<'a> {
         place: usize,
         written: &Option<Written<'_>>,
     ) -> Option<AsmFault>
-        ensures { result ≡ open_instruction_fault self.now passed place (option_map written_value written.now) }
+        ensures { result
+            ≡ open_instruction_fault self.now passed place (option_map written_value written.now) }
     {
         let Some(written) = written else {
             return Some(AsmFault::Operand(place));
@@ -160,7 +165,10 @@ fn note_program<'t>(
     kind: ProgramKind,
     title: &'t Option<Title>,
 ) -> Result<(), AllocError>
-    ensures { OnOk result ((k : ProgramKind) (w : List ℕ) → has_name names.new k w ≡ (if has_title kind title.now k w then true else has_name names.old k w)) }
+    ensures { OnOk result
+        ((k : ProgramKind) (w : List ℕ)
+        → has_name names.new k w
+        ≡ (if has_title kind title.now k w then true else has_name names.old k w)) }
 {
     if let Some(title) = title {
         names.add(kind, title.name.as_str())?;
@@ -179,7 +187,10 @@ fn statement_fault(
     requires within { at < length statements.now }
     requires program { IfSome program.now (IsOpen statements.now at passed) }
     requires names { KnowsNames names.now (take at statements.now) }
-    ensures { result ≡ front_fault (take at statements.now) (own_of statements.now at (option_map (λ o. o.start) program.now)) (drop at statements.now) }
+    ensures { result
+        ≡ front_fault (take at statements.now)
+        (own_of statements.now at (option_map (λ o. o.start) program.now))
+        (drop at statements.now) }
 {
     let statement = &statements[at];
     let place = statement.place;

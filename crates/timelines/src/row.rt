@@ -44,7 +44,9 @@ impl Row {
     /// one, the stretches are those of all of them. An error is want of memory; then nothing changes.
     pub fn add(&mut self, tick: u32, moment: Moment) -> Result<(), AllocError>
         ensures step { OnOk result (self.new ≡ added tick moment self.old) }
-        ensures stretches { (start : ℕ) (moments : List Moment) → self.old ≡ stretches start moments → tick ≡ start + length moments → OnOk result (self.new ≡ stretches start (moments ++ moment ∷ [])) }
+        ensures stretches { (start : ℕ) (moments : List Moment)
+            → self.old ≡ stretches start moments → tick ≡ start + length moments
+            → OnOk result (self.new ≡ stretches start (moments ++ moment ∷ [])) }
         ensures unchanged { OnErr result (self.new ≡ self.old) }
     {
         match self.last {

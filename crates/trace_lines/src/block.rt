@@ -179,7 +179,8 @@ pub fn flush<S: Sink>(text: &mut Block, out: &mut S) -> Result<(), SinkFault>
 pub(crate) fn make_room<S: Sink>(text: &mut Block, out: &mut S) -> Result<(), SinkFault>
     requires { S.has_failed out.old ≡ false }
     ensures room { OnOk result (length text.new + RECORD_SIZE ≤ BLOCK_SIZE) }
-    ensures written { OnOk result (Passes (S.taken out.old) (S.taken out.new) text.old text.new []) }
+    ensures written { OnOk result
+        (Passes (S.taken out.old) (S.taken out.new) text.old text.new []) }
     ensures beginning { OnErr result (AppendsSome (S.taken out.old) (S.taken out.new) text.old) }
     ensures still { OnOk result (S.has_failed out.new ≡ false) }
     ensures failed { OnErr result (S.has_failed out.new ≡ true) }

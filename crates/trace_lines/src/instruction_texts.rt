@@ -54,7 +54,8 @@ fn routine_texts(alloc: Global, system: &System) -> Result<Vec<ProgramTexts>, Al
 fn push_unkept(system: &System, executed: Executed, text: &mut Block)
     requires placed { StandsIn system.now executed }
     requires room { length text.old + 240 ≤ BLOCK_SIZE }
-    ensures same { text.new ≡ text.old ++ event_text system.now.names (executed_record system.now executed) }
+    ensures same { text.new
+        ≡ text.old ++ event_text system.now.names (executed_record system.now executed) }
     ensures short { length text.new ≤ length text.old + 222 }
 {
     push_event(text, system.names(), &executed.record_in(system));
@@ -113,7 +114,8 @@ impl<'s> InstructionTexts<'s> {
     pub(crate) fn push_executed_line(&self, tick: &TickText, executed: &Executed, text: &mut Block)
         requires placed { StandsIn self.now executed.now }
         requires room { length text.old + RECORD_SIZE ≤ BLOCK_SIZE }
-        ensures same { text.new ≡ text.old ++ line self.now.names tick.now (executed_record self.now executed.now) }
+        ensures same { text.new
+            ≡ text.old ++ line self.now.names tick.now (executed_record self.now executed.now) }
         ensures short { length text.new ≤ length text.old + 238 }
     {
         tick.push_to(text);

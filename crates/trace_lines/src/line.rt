@@ -134,7 +134,8 @@ pub(crate) fn push_executed<T: Text>(
     what: &Instr,
 )
     requires { length (T.bytes text.old) + 172 ≤ T.room }
-    ensures same { T.bytes text.new ≡ T.bytes text.old ++ executed_text names.now who.now place what.now }
+    ensures same { T.bytes text.new
+        ≡ T.bytes text.old ++ executed_text names.now who.now place what.now }
     ensures short { length (T.bytes text.new) ≤ length (T.bytes text.old) + 172 }
 {
     push_owner(text, names, *who);
@@ -248,7 +249,9 @@ pub(crate) fn push_event<T: Text>(text: &mut T, names: &Names, event: &TraceEven
 #[inline(always)]
 pub(crate) fn push_blocker_count<T: Text>(text: &mut T, number: Option<u32>)
     requires { length (T.bytes text.old) + 13 ≤ T.room }
-    ensures same { (who : Owner) (place : ℕ) (what : Instr) (outcome : Outcome) → T.bytes text.new ≡ T.bytes text.old ++ blockers_text number (TraceEvent.Executed who place what outcome) }
+    ensures same { (who : Owner) (place : ℕ) (what : Instr) (outcome : Outcome)
+        → T.bytes text.new
+        ≡ T.bytes text.old ++ blockers_text number (TraceEvent.Executed who place what outcome) }
     ensures short { length (T.bytes text.new) ≤ length (T.bytes text.old) + 13 }
 {
     if let Some(number) = number {

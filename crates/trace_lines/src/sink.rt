@@ -25,7 +25,8 @@ pub trait Sink {
     fn write(&mut self, bytes: &[u8]) -> Result<usize, SinkFault>
         ensures bound { IfOk result (λ n. n ≤ length bytes.now) }
         ensures bytes { WriteAppends (taken self.old) (taken self.new) result bytes.now }
-        ensures failed { has_failed self.new ≡ (has_failed self.old || is_failed_write result (length bytes.now)) };
+        ensures failed { has_failed self.new
+            ≡ (has_failed self.old || is_failed_write result (length bytes.now)) };
 
     /// Whether a write answered an error, or took none of at least one byte.
     fn failed(&self) -> bool

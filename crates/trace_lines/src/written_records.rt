@@ -46,8 +46,12 @@ fn write_record<S: Sink>(
 ) -> Result<(), SinkFault>
     requires listed { IsOfProgram texts.now event.now }
     requires fresh { S.has_failed out.old ≡ false }
-    ensures written { OnOk result (Passes (S.taken out.old) (S.taken out.new) text.old text.new (record_text texts.now.names tick.now number event.now)) }
-    ensures beginning { OnErr result (AppendsSome (S.taken out.old) (S.taken out.new) (text.old ++ record_text texts.now.names tick.now number event.now)) }
+    ensures written { OnOk result
+        (Passes (S.taken out.old) (S.taken out.new) text.old text.new
+        (record_text texts.now.names tick.now number event.now)) }
+    ensures beginning { OnErr result
+        (AppendsSome (S.taken out.old) (S.taken out.new)
+        (text.old ++ record_text texts.now.names tick.now number event.now)) }
     ensures still { OnOk result (S.has_failed out.new ≡ false) }
     ensures failed { OnErr result (S.has_failed out.new ≡ true) }
 {
@@ -68,8 +72,12 @@ fn write_records<S: Sink>(
 ) -> Result<(), SinkFault>
     requires listed { AllByRecursion (IsOfProgram texts.now) entries.now }
     requires fresh { S.has_failed out.old ≡ false }
-    ensures written { OnOk result (Passes (S.taken out.old) (S.taken out.new) text.old text.new (tick_text texts.now.names tick.now number entries.now)) }
-    ensures beginning { OnErr result (AppendsSome (S.taken out.old) (S.taken out.new) (text.old ++ tick_text texts.now.names tick.now number entries.now)) }
+    ensures written { OnOk result
+        (Passes (S.taken out.old) (S.taken out.new) text.old text.new
+        (tick_text texts.now.names tick.now number entries.now)) }
+    ensures beginning { OnErr result
+        (AppendsSome (S.taken out.old) (S.taken out.new)
+        (text.old ++ tick_text texts.now.names tick.now number entries.now)) }
     ensures still { OnOk result (S.has_failed out.new ≡ false) }
     ensures failed { OnErr result (S.has_failed out.new ≡ true) }
 {
@@ -91,8 +99,12 @@ pub fn write_tick<S: Sink>(
 ) -> Result<(), SinkFault>
     requires listed { AllByRecursion (IsOfProgram texts.now) records.now }
     requires fresh { S.has_failed out.old ≡ false }
-    ensures written { OnOk result (Passes (S.taken out.old) (S.taken out.new) text.old text.new (tick_text texts.now.names tick.now number records.now)) }
-    ensures beginning { OnErr result (AppendsSome (S.taken out.old) (S.taken out.new) (text.old ++ tick_text texts.now.names tick.now number records.now)) }
+    ensures written { OnOk result
+        (Passes (S.taken out.old) (S.taken out.new) text.old text.new
+        (tick_text texts.now.names tick.now number records.now)) }
+    ensures beginning { OnErr result
+        (AppendsSome (S.taken out.old) (S.taken out.new)
+        (text.old ++ tick_text texts.now.names tick.now number records.now)) }
     ensures still { OnOk result (S.has_failed out.new ≡ false) }
     ensures failed { OnErr result (S.has_failed out.new ≡ true) }
 {
@@ -122,7 +134,9 @@ fn push_executed_record(
 )
     requires placed { StandsIn texts.now executed.now }
     requires room { length text.old + RECORD_SIZE ≤ BLOCK_SIZE }
-    ensures { text.new ≡ text.old ++ record_text texts.now.names tick.now number (executed_record texts.now executed.now) }
+    ensures { text.new
+        ≡ text.old
+        ++ record_text texts.now.names tick.now number (executed_record texts.now executed.now) }
 {
     texts.push_executed_line(tick, executed, text);
     push_blocker_count(text, number);
@@ -141,8 +155,13 @@ fn write_executed<S: Sink>(
 ) -> Result<(), SinkFault>
     requires placed { IfSome executed.now (StandsIn texts.now) }
     requires fresh { S.has_failed out.old ≡ false }
-    ensures written { OnOk result (Passes (S.taken out.old) (S.taken out.new) text.old text.new (record_text texts.now.names tick.now number (idle_or_executed texts.now executed.now))) }
-    ensures beginning { OnErr result (AppendsSome (S.taken out.old) (S.taken out.new) (text.old ++ record_text texts.now.names tick.now number (idle_or_executed texts.now executed.now))) }
+    ensures written { OnOk result
+        (Passes (S.taken out.old) (S.taken out.new) text.old text.new
+        (record_text texts.now.names tick.now number (idle_or_executed texts.now executed.now))) }
+    ensures beginning { OnErr result
+        (AppendsSome (S.taken out.old) (S.taken out.new)
+        (text.old
+        ++ record_text texts.now.names tick.now number (idle_or_executed texts.now executed.now))) }
     ensures still { OnOk result (S.has_failed out.new ≡ false) }
     ensures failed { OnErr result (S.has_failed out.new ≡ true) }
 {
@@ -171,8 +190,15 @@ pub fn write_tick_parts<S: Sink>(
     requires placed { IfSome executed.now (StandsIn texts.now) }
     requires behind { AllByRecursion (IsOfProgram texts.now) behind.now }
     requires fresh { S.has_failed out.old ≡ false }
-    ensures written { OnOk result (Passes (S.taken out.old) (S.taken out.new) text.old text.new (tick_text texts.now.names tick.now number (before.now ++ idle_or_executed texts.now executed.now ∷ behind.now))) }
-    ensures beginning { OnErr result (AppendsSome (S.taken out.old) (S.taken out.new) (text.old ++ tick_text texts.now.names tick.now number (before.now ++ idle_or_executed texts.now executed.now ∷ behind.now))) }
+    ensures written { OnOk result
+        (Passes (S.taken out.old) (S.taken out.new) text.old text.new
+        (tick_text texts.now.names tick.now number
+        (before.now ++ idle_or_executed texts.now executed.now ∷ behind.now))) }
+    ensures beginning { OnErr result
+        (AppendsSome (S.taken out.old) (S.taken out.new)
+        (text.old
+        ++ tick_text texts.now.names tick.now number
+        (before.now ++ idle_or_executed texts.now executed.now ∷ behind.now))) }
     ensures still { OnOk result (S.has_failed out.new ≡ false) }
     ensures failed { OnErr result (S.has_failed out.new ≡ true) }
 {

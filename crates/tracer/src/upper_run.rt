@@ -42,7 +42,9 @@ fn write_view<S: Sink>(
     requires separable { Separable system.now p }
     requires ticks { ticks ≤ MAX_TICKS }
     requires fresh { S.has_failed out.old ≡ false }
-    ensures { Writes S.taken S.has_failed (IsShown system.now (Shown.View p) irqs.now mode.now ticks) (RefusesStart system.now irqs.now mode.now) out.old out.new result }
+    ensures { Writes S.taken S.has_failed
+        (IsShown system.now (Shown.View p) irqs.now mode.now ticks)
+        (RefusesStart system.now irqs.now mode.now) out.old out.new result }
 {
     if !alone {
         return write_run(alloc, system, Shown::View(p), irqs, mode, ticks, out);
@@ -69,7 +71,8 @@ pub fn run_upper<S: Sink>(
 ) -> Result<(), RunFault>
     requires ticks { ticks ≤ MAX_TICKS }
     requires fresh { S.has_failed out.old ≡ false }
-    ensures { Writes S.taken S.has_failed (IsView oil.now asm.now irqs.now mode.now ticks p) (IsFirstViewRefusal oil.now asm.now irqs.now mode.now p) out.old out.new result }
+    ensures { Writes S.taken S.has_failed (IsView oil.now asm.now irqs.now mode.now ticks p)
+        (IsFirstViewRefusal oil.now asm.now irqs.now mode.now p) out.old out.new result }
 {
     let system = read_system(alloc, oil, asm)?;
     check_upper(&system, p)?;

@@ -44,7 +44,8 @@ fn write_kernel_run<B: Blockers, S: Sink>(
     requires counted { shown ≡ Shown.Blocking → B.are_counted ≡ true }
     requires ticks { ticks ≤ MAX_TICKS }
     requires fresh { S.has_failed out.old ≡ false }
-    ensures { Writes S.taken S.has_failed (IsShown system.now shown irqs.now mode.now ticks) (RefusesStart system.now irqs.now mode.now) out.old out.new result }
+    ensures { Writes S.taken S.has_failed (IsShown system.now shown irqs.now mode.now ticks)
+        (RefusesStart system.now irqs.now mode.now) out.old out.new result }
 {
     let mut kernel: Kernel<'_, LevelQueues, B> = begin(alloc, system, irqs, mode)?;
     let texts = InstructionTexts::new(alloc, system)?;
@@ -65,7 +66,8 @@ pub(crate) fn write_run<S: Sink>(
 ) -> Result<(), RunFault>
     requires ticks { ticks ≤ MAX_TICKS }
     requires fresh { S.has_failed out.old ≡ false }
-    ensures { Writes S.taken S.has_failed (IsShown system.now shown irqs.now mode.now ticks) (RefusesStart system.now irqs.now mode.now) out.old out.new result }
+    ensures { Writes S.taken S.has_failed (IsShown system.now shown irqs.now mode.now ticks)
+        (RefusesStart system.now irqs.now mode.now) out.old out.new result }
 {
     match shown {
         Shown::Blocking => write_kernel_run::<Counted, S>(
@@ -90,7 +92,9 @@ fn write_system<S: Sink>(
 ) -> Result<(), RunFault>
     requires ticks { ticks ≤ MAX_TICKS }
     requires fresh { S.has_failed out.old ≡ false }
-    ensures { Writes S.taken S.has_failed (IsShownOf oil.now asm.now shown irqs.now mode.now ticks) (IsFirstRefusal oil.now asm.now irqs.now mode.now) out.old out.new result }
+    ensures { Writes S.taken S.has_failed
+        (IsShownOf oil.now asm.now shown irqs.now mode.now ticks)
+        (IsFirstRefusal oil.now asm.now irqs.now mode.now) out.old out.new result }
 {
     let system = read_system(alloc, oil, asm)?;
     write_run(alloc, &system, shown, irqs, mode, ticks, out)
@@ -111,7 +115,8 @@ pub fn run<S: Sink>(
 ) -> Result<(), RunFault>
     requires ticks { ticks ≤ MAX_TICKS }
     requires fresh { S.has_failed out.old ≡ false }
-    ensures { Writes S.taken S.has_failed (IsTrace oil.now asm.now irqs.now mode.now ticks) (IsFirstRefusal oil.now asm.now irqs.now mode.now) out.old out.new result }
+    ensures { Writes S.taken S.has_failed (IsTrace oil.now asm.now irqs.now mode.now ticks)
+        (IsFirstRefusal oil.now asm.now irqs.now mode.now) out.old out.new result }
 {
     write_system(alloc, oil, asm, Shown::All, irqs, mode, ticks, out)
 }
@@ -129,7 +134,9 @@ pub fn run_blocking<S: Sink>(
 ) -> Result<(), RunFault>
     requires ticks { ticks ≤ MAX_TICKS }
     requires fresh { S.has_failed out.old ≡ false }
-    ensures { Writes S.taken S.has_failed (IsBlockingTrace oil.now asm.now irqs.now mode.now ticks) (IsFirstRefusal oil.now asm.now irqs.now mode.now) out.old out.new result }
+    ensures { Writes S.taken S.has_failed
+        (IsBlockingTrace oil.now asm.now irqs.now mode.now ticks)
+        (IsFirstRefusal oil.now asm.now irqs.now mode.now) out.old out.new result }
 {
     write_system(alloc, oil, asm, Shown::Blocking, irqs, mode, ticks, out)
 }

@@ -37,8 +37,15 @@ fn pass_viewed<B: Blockers, S: Sink>(
     requires counted { digits.now ≡ kernel.old.ticks }
     requires going { is_over kernel.old ≡ false }
     requires fresh { S.has_failed out.old ≡ false }
-    ensures written { OnOk result (Passes (S.taken out.old) (S.taken out.new) text.old text.new (tick_text_shown system.now (Shown.View p) kernel.old.system kernel.old.mode kernel.old.arrivals kernel.old.ticks)) }
-    ensures beginning { OnErr result (AppendsSome (S.taken out.old) (S.taken out.new) (text.old ++ tick_text_shown system.now (Shown.View p) kernel.old.system kernel.old.mode kernel.old.arrivals kernel.old.ticks)) }
+    ensures written { OnOk result
+        (Passes (S.taken out.old) (S.taken out.new) text.old text.new
+        (tick_text_shown system.now (Shown.View p) kernel.old.system kernel.old.mode
+        kernel.old.arrivals kernel.old.ticks)) }
+    ensures beginning { OnErr result
+        (AppendsSome (S.taken out.old) (S.taken out.new)
+        (text.old
+        ++ tick_text_shown system.now (Shown.View p) kernel.old.system kernel.old.mode
+        kernel.old.arrivals kernel.old.ticks)) }
     ensures next { kernel.new ≡ record kernel.old { ticks = kernel.old.ticks + 1 } }
     ensures still { OnOk result (S.has_failed out.new ≡ false) }
     ensures failed { OnErr result (S.has_failed out.new ≡ true) }
@@ -53,7 +60,9 @@ fn pass_viewed<B: Blockers, S: Sink>(
 fn number_shown<B: Blockers>(kernel: &Kernel<'_, LevelQueues, B>, shown: Shown) -> Option<u32>
     requires blockers { shown ≡ Shown.Blocking → B.are_counted ≡ true }
     requires done { 1 ≤ kernel.now.ticks }
-    ensures { result ≡ numbers_shown shown kernel.now.system kernel.now.mode kernel.now.arrivals (kernel.now.ticks - 1) }
+    ensures { result
+        ≡ numbers_shown shown kernel.now.system kernel.now.mode kernel.now.arrivals
+        (kernel.now.ticks - 1) }
 {
     match shown {
         Shown::Blocking => kernel.blockers(),
@@ -82,8 +91,15 @@ fn pass_whole<B: Blockers, S: Sink>(
     requires counted { digits.now ≡ kernel.old.ticks }
     requires going { is_over kernel.old ≡ false }
     requires fresh { S.has_failed out.old ≡ false }
-    ensures written { OnOk result (Passes (S.taken out.old) (S.taken out.new) text.old text.new (tick_text_shown _system.now shown kernel.old.system kernel.old.mode kernel.old.arrivals kernel.old.ticks)) }
-    ensures beginning { OnErr result (AppendsSome (S.taken out.old) (S.taken out.new) (text.old ++ tick_text_shown _system.now shown kernel.old.system kernel.old.mode kernel.old.arrivals kernel.old.ticks)) }
+    ensures written { OnOk result
+        (Passes (S.taken out.old) (S.taken out.new) text.old text.new
+        (tick_text_shown _system.now shown kernel.old.system kernel.old.mode kernel.old.arrivals
+        kernel.old.ticks)) }
+    ensures beginning { OnErr result
+        (AppendsSome (S.taken out.old) (S.taken out.new)
+        (text.old
+        ++ tick_text_shown _system.now shown kernel.old.system kernel.old.mode kernel.old.arrivals
+        kernel.old.ticks)) }
     ensures next { kernel.new ≡ record kernel.old { ticks = kernel.old.ticks + 1 } }
     ensures still { OnOk result (S.has_failed out.new ≡ false) }
     ensures failed { OnErr result (S.has_failed out.new ≡ true) }
@@ -112,8 +128,15 @@ fn pass_tick<B: Blockers, S: Sink>(
     requires counted { digits.now ≡ kernel.old.ticks }
     requires going { is_over kernel.old ≡ false }
     requires fresh { S.has_failed out.old ≡ false }
-    ensures written { OnOk result (Passes (S.taken out.old) (S.taken out.new) text.old text.new (tick_text_shown system.now shown kernel.old.system kernel.old.mode kernel.old.arrivals kernel.old.ticks)) }
-    ensures beginning { OnErr result (AppendsSome (S.taken out.old) (S.taken out.new) (text.old ++ tick_text_shown system.now shown kernel.old.system kernel.old.mode kernel.old.arrivals kernel.old.ticks)) }
+    ensures written { OnOk result
+        (Passes (S.taken out.old) (S.taken out.new) text.old text.new
+        (tick_text_shown system.now shown kernel.old.system kernel.old.mode kernel.old.arrivals
+        kernel.old.ticks)) }
+    ensures beginning { OnErr result
+        (AppendsSome (S.taken out.old) (S.taken out.new)
+        (text.old
+        ++ tick_text_shown system.now shown kernel.old.system kernel.old.mode kernel.old.arrivals
+        kernel.old.ticks)) }
     ensures next { kernel.new ≡ record kernel.old { ticks = kernel.old.ticks + 1 } }
     ensures still { OnOk result (S.has_failed out.new ≡ false) }
     ensures failed { OnErr result (S.has_failed out.new ≡ true) }
@@ -142,8 +165,17 @@ fn pass_ticks<B: Blockers, S: Sink>(
     requires begun { kernel.old.ticks ≡ 0 }
     requires ticks { ticks ≤ MAX_TICKS }
     requires fresh { S.has_failed out.old ≡ false }
-    ensures written { OnOk result (Passes (S.taken out.old) (S.taken out.new) text.old text.new (text_shown system.now shown (numbers_shown shown kernel.old.system kernel.old.mode kernel.old.arrivals) (run kernel.old.system kernel.old.mode kernel.old.arrivals ticks))) }
-    ensures beginning { OnErr result (AppendsSome (S.taken out.old) (S.taken out.new) (text.old ++ text_shown system.now shown (numbers_shown shown kernel.old.system kernel.old.mode kernel.old.arrivals) (run kernel.old.system kernel.old.mode kernel.old.arrivals ticks))) }
+    ensures written { OnOk result
+        (Passes (S.taken out.old) (S.taken out.new) text.old text.new
+        (text_shown system.now shown
+        (numbers_shown shown kernel.old.system kernel.old.mode kernel.old.arrivals)
+        (run kernel.old.system kernel.old.mode kernel.old.arrivals ticks))) }
+    ensures beginning { OnErr result
+        (AppendsSome (S.taken out.old) (S.taken out.new)
+        (text.old
+        ++ text_shown system.now shown
+        (numbers_shown shown kernel.old.system kernel.old.mode kernel.old.arrivals)
+        (run kernel.old.system kernel.old.mode kernel.old.arrivals ticks))) }
     ensures still { OnOk result (S.has_failed out.new ≡ false) }
     ensures failed { OnErr result (S.has_failed out.new ≡ true) }
 {
@@ -185,8 +217,16 @@ pub(crate) fn write_ticks<B: Blockers, S: Sink>(
     requires begun { kernel.old.ticks ≡ 0 }
     requires ticks { ticks ≤ MAX_TICKS }
     requires fresh { S.has_failed out.old ≡ false }
-    ensures written { OnOk result (Appends (S.taken out.old) (S.taken out.new) (text_shown system.now shown (numbers_shown shown kernel.old.system kernel.old.mode kernel.old.arrivals) (run kernel.old.system kernel.old.mode kernel.old.arrivals ticks))) }
-    ensures beginning { OnErr result (AppendsSome (S.taken out.old) (S.taken out.new) (text_shown system.now shown (numbers_shown shown kernel.old.system kernel.old.mode kernel.old.arrivals) (run kernel.old.system kernel.old.mode kernel.old.arrivals ticks))) }
+    ensures written { OnOk result
+        (Appends (S.taken out.old) (S.taken out.new)
+        (text_shown system.now shown
+        (numbers_shown shown kernel.old.system kernel.old.mode kernel.old.arrivals)
+        (run kernel.old.system kernel.old.mode kernel.old.arrivals ticks))) }
+    ensures beginning { OnErr result
+        (AppendsSome (S.taken out.old) (S.taken out.new)
+        (text_shown system.now shown
+        (numbers_shown shown kernel.old.system kernel.old.mode kernel.old.arrivals)
+        (run kernel.old.system kernel.old.mode kernel.old.arrivals ticks))) }
     ensures still { OnOk result (S.has_failed out.new ≡ false) }
     ensures failed { OnErr result (S.has_failed out.new ≡ true) }
 {

@@ -29,7 +29,10 @@ impl UpperPart<'_> {
     #[tactic(auto, using(crate::proofs::KeptSteps::kept_in, crate::proofs::KeptSteps::kept_out))]
     fn task_names(&self, alloc: Global, names: &[Name]) -> Result<Vec<Name>, AllocError>
         requires { length names.now ≤ MAX_TASKS }
-        ensures { IfOk result (λ r. r.items ≡ map (name_at names.now) (kept (is_upper_task self.now.system self.now.p) (length names.now))) }
+        ensures { IfOk result
+            (λ r. r.items
+            ≡ map (name_at names.now)
+            (kept (is_upper_task self.now.system self.now.p) (length names.now))) }
     {
         let mut upper = Vec::new(alloc);
         for number in 0..names.len() {
@@ -43,7 +46,10 @@ impl UpperPart<'_> {
     #[tactic(auto, using(crate::proofs::KeptSteps::kept_in, crate::proofs::KeptSteps::kept_out))]
     fn resource_names(&self, alloc: Global, names: &[Name]) -> Result<Vec<Name>, AllocError>
         requires { length names.now ≤ MAX_RESOURCES }
-        ensures { IfOk result (λ r. r.items ≡ map (name_at names.now) (kept (is_upper_declared self.now.system self.now.p) (length names.now))) }
+        ensures { IfOk result
+            (λ r. r.items
+            ≡ map (name_at names.now)
+            (kept (is_upper_declared self.now.system self.now.p) (length names.now))) }
     {
         let mut upper = Vec::new(alloc);
         for number in 0..names.len() {
@@ -57,7 +63,10 @@ impl UpperPart<'_> {
     #[tactic(auto, using(crate::proofs::KeptSteps::kept_in, crate::proofs::KeptSteps::kept_out))]
     fn alarm_names(&self, alloc: Global, names: &[Name]) -> Result<Vec<Name>, AllocError>
         requires { length names.now ≤ MAX_ALARMS }
-        ensures { IfOk result (λ r. r.items ≡ map (name_at names.now) (kept (is_upper_alarm self.now.system self.now.p) (length names.now))) }
+        ensures { IfOk result
+            (λ r. r.items
+            ≡ map (name_at names.now)
+            (kept (is_upper_alarm self.now.system self.now.p) (length names.now))) }
     {
         let mut upper = Vec::new(alloc);
         for number in 0..names.len() {

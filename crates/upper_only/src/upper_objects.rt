@@ -11,7 +11,8 @@ use std::alloc::{AllocError, Global};
 impl UpperPart<'_> {
     #[tactic(auto, using(crate::proofs::KeptSteps::kept_in, crate::proofs::KeptSteps::kept_out))]
     pub(crate) fn tasks(&self, alloc: Global) -> Result<Vec<Task>, AllocError>
-        ensures { IfOk result (λ tasks. tasks.items ≡ (upper_part self.now.system self.now.p).tasks) }
+        ensures { IfOk result
+            (λ tasks. tasks.items ≡ (upper_part self.now.system self.now.p).tasks) }
     {
         let mut tasks = Vec::new(alloc);
         for number in 0..self.system().task_count() {
@@ -43,7 +44,9 @@ impl UpperPart<'_> {
         alloc: Global,
         resources: &[ResourceNumber],
     ) -> Result<Vec<ResourceNumber>, AllocError>
-        ensures { IfOk result (λ r. r.items ≡ map (rank (is_upper_declared self.now.system self.now.p)) resources.now) }
+        ensures { IfOk result
+            (λ r. r.items
+            ≡ map (rank (is_upper_declared self.now.system self.now.p)) resources.now) }
     {
         let mut listed = Vec::new(alloc);
         for resource in resources {
@@ -53,7 +56,8 @@ impl UpperPart<'_> {
     }
 
     pub(crate) fn routines(&self, alloc: Global) -> Result<Vec<Routine>, AllocError>
-        ensures { IfOk result (λ routines. routines.items ≡ (upper_part self.now.system self.now.p).routines) }
+        ensures { IfOk result
+            (λ routines. routines.items ≡ (upper_part self.now.system self.now.p).routines) }
     {
         let mut routines = Vec::new(alloc);
         for routine in self.system().parts().routines.as_slice() {
@@ -67,7 +71,8 @@ impl UpperPart<'_> {
 
     #[tactic(auto, using(crate::proofs::KeptSteps::kept_in, crate::proofs::KeptSteps::kept_out))]
     pub(crate) fn resources(&self, alloc: Global) -> Result<Vec<Property>, AllocError>
-        ensures { IfOk result (λ resources. resources.items ≡ (upper_part self.now.system self.now.p).resources) }
+        ensures { IfOk result
+            (λ resources. resources.items ≡ (upper_part self.now.system self.now.p).resources) }
     {
         let mut resources = Vec::new(alloc);
         for number in 0..self.system().resource_count() {
@@ -87,7 +92,8 @@ impl UpperPart<'_> {
 
     #[tactic(auto, using(crate::proofs::KeptSteps::kept_in, crate::proofs::KeptSteps::kept_out))]
     pub(crate) fn alarms(&self, alloc: Global) -> Result<Vec<Alarm>, AllocError>
-        ensures { IfOk result (λ alarms. alarms.items ≡ (upper_part self.now.system self.now.p).alarms) }
+        ensures { IfOk result
+            (λ alarms. alarms.items ≡ (upper_part self.now.system self.now.p).alarms) }
     {
         let mut alarms = Vec::new(alloc);
         for number in 0..self.system().alarm_count() {
