@@ -13,6 +13,8 @@ const SHUTDOWN: &str = "ShutdownOS";
 pub enum Column {
     /// The greatest response of a task.
     Response,
+    /// The most ticks for which a task's oldest job is blocked.
+    Blocked,
     /// The most jobs of a task at once.
     Jobs,
     /// Whether an activation of a task may be refused.
@@ -38,6 +40,7 @@ impl Column {
     pub fn word(self) -> &'static str {
         match self {
             Column::Response => "greatest",
+            Column::Blocked => "blocked",
             Column::Jobs => "jobs",
             Column::Latency => "latency",
             Column::Loss => "losses",
@@ -86,6 +89,7 @@ impl Kind {
         match self {
             Kind::Task => &[
                 Column::Response,
+                Column::Blocked,
                 Column::Jobs,
                 Column::Refusal,
                 Column::Errors,
@@ -162,6 +166,11 @@ pub fn column_of(kind: Kind, word: Option<&str>) -> Option<Column> {
         }
     }
     None
+}
+
+/// The place of a service that a word tells, as a figure is told by the word of its column.
+pub fn place_of(word: &str) -> Option<u16> {
+    word.parse::<u16>().ok()
 }
 
 /// Whether a column has that word.

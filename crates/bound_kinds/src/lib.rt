@@ -3,4 +3,4 @@
 
 mod kinds;
 
-pub use kinds::{Column, KINDS, Kind, column_of, is_column, width_of};
+pub use kinds::{Column, KINDS, Kind, column_of, is_column, place_of, width_of};

@@ -1,5 +1,5 @@
 -- Labels of which each list is known.
-use Rattle.std.proofs.Common.{ℕ, zero, suc, ◌≡◌, ◌&&◌, Bool, true, false, cond, if◌then◌else◌, min, is_some, nat_lt, List, [], length, get_or, Option, Some, None, Vec, Global, refl, sym, ◌∙◌, ap, subst, arith}
+use Rattle.std.proofs.Common.{ℕ, zero, suc, ◌≡◌, ◌&&◌, Bool, true, false, cond, if◌then◌else◌, max, min, is_some, nat_lt, List, [], length, get_or, Option, Some, None, Vec, Global, refl, sym, ◌∙◌, ap, subst, arith}
 use Rattle.std.proofs.lemmas.Bool.{ltb-false}
 use Rattle.std.proofs.lemmas.List.{with_items_is}
 use Rattle.std.specs.Prelude.{◌==◌}
@@ -15,10 +15,12 @@ use Rattle.bound_labels.specs.Parts.{hold_at}
 use Rattle.bound_labels.specs.Joining.{AreJoinable, AreOfAsMany, IsJoined, has_held, joined_hold}
 
 pub labels_same : (l m : Labels) → l.waits ≡ m.waits → l.ages ≡ m.ages → l.pending ≡ m.pending
-    → l.holds ≡ m.holds → l ≡ m
-labels_same l m w a p h =
+    → l.holds ≡ m.holds → l.blocked ≡ m.blocked → l ≡ m
+labels_same l m w a p h b =
     ap (λ v. record l { waits = v }) w ∙ ap (λ v. record l { waits = m.waits; ages = v }) a
-    ∙ ap (λ v. record m { pending = v; holds = l.holds }) p ∙ ap (λ v. record m { holds = v }) h
+    ∙ ap (λ v. record m { pending = v; holds = l.holds; blocked = l.blocked }) p
+    ∙ ap (λ v. record m { holds = v; blocked = l.blocked }) h
+    ∙ ap (λ v. record m { blocked = v }) b
 
 -- ---- two lists joined
 
@@ -102,17 +104,20 @@ pub labels_joined : (l m joined : Labels) → AreOfAsMany l m
     → IsListJoined min 0 l.waits m.waits joined.waits
     → IsListJoined merged_ages [] l.ages m.ages joined.ages
     → IsListJoined merged_age None l.pending m.pending joined.pending
-    → IsListJoined joined_hold no_hold l.holds m.holds joined.holds → IsJoined l m joined
-labels_joined l m joined many joinable w a p held = record {
+    → IsListJoined joined_hold no_hold l.holds m.holds joined.holds
+    → IsListJoined max 0 l.blocked m.blocked joined.blocked → IsJoined l m joined
+labels_joined l m joined many joinable w a p held b = record {
   waits = w.each;
   ages = a.each;
   pending = p.each;
   holds = held.each;
+  blocked = b.each;
   one = record {
     routines = w.count;
     tasks = a.count;
     interrupts = p.count;
     resources = held.count;
+    blockable = b.count;
     sooner = λ i. omega (arith, w.each i);
     ages = λ k. subst (λ v. AreOlder v (ages_of l k)) (sym (a.each k))
         (labels_merge.ages (ages_of l k) (ages_of m k)).one;
@@ -120,12 +125,14 @@ labels_joined l m joined many joinable w a p held = record {
         (labels_merge.pending (pending_of l i) (pending_of m i)).one;
     holds = λ r. subst (λ v. IsLonger v (hold_of l r)) (sym (held.each r))
         (hold_one (hold_of l r) (hold_of m r) (joinable r));
+    blocked = λ k. omega (arith, b.each k);
   };
   other = record {
     routines = w.count ∙ many.routines;
     tasks = a.count ∙ many.tasks;
     interrupts = p.count ∙ many.interrupts;
     resources = held.count ∙ many.resources;
+    blockable = b.count ∙ many.blockable;
     sooner = λ i. omega (arith, w.each i);
     ages = λ k. subst (λ v. AreOlder v (ages_of m k)) (sym (a.each k))
         (labels_merge.ages (ages_of l k) (ages_of m k)).other;
@@ -133,12 +140,14 @@ labels_joined l m joined many joinable w a p held = record {
         (labels_merge.pending (pending_of l i) (pending_of m i)).other;
     holds = λ r. subst (λ v. IsLonger v (hold_of m r)) (sym (held.each r))
         (hold_other (hold_of l r) (hold_of m r) (joinable r));
+    blocked = λ k. omega (arith, b.each k);
   };
   least = λ n h k. record {
     routines = h.routines ∙ sym w.count;
     tasks = h.tasks ∙ sym a.count;
     interrupts = h.interrupts ∙ sym p.count;
     resources = h.resources ∙ sym held.count;
+    blockable = h.blockable ∙ sym b.count;
     sooner = λ i. omega (arith, w.each i, h.sooner i, k.sooner i);
     ages = λ j. subst (λ v. AreOlder (ages_of n j) v) (sym (a.each j))
         ((labels_merge.ages (ages_of l j) (ages_of m j)).least (ages_of n j) (h.ages j) (k.ages j));
@@ -147,5 +156,6 @@ labels_joined l m joined many joinable w a p held = record {
         (h.pending i) (k.pending i));
     holds = λ r. subst (λ v. IsLonger (hold_of n r) v) (sym (held.each r))
         (hold_least (hold_of l r) (hold_of m r) (joinable r) (hold_of n r) (h.holds r) (k.holds r));
+    blocked = λ j. omega (arith, b.each j, h.blocked j, k.blocked j);
   };
 }

@@ -1,6 +1,7 @@
 pub mod AgeLemmas
 pub mod ListLemmas
 pub mod LabelLemmas
+pub mod LevelLemmas
 pub mod MapLemmas
 pub mod PairLemmas
 pub mod SetLemmas

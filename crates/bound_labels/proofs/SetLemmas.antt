@@ -1,5 +1,5 @@
 -- Sets of routines, as numbers of 64 bits.
-use Rattle.std.proofs.Common.{ℕ, ◌≡◌, ◌<◌, ◌≤◌, ◌^◌, Bool, false, sym, ap}
+use Rattle.std.proofs.Common.{ℕ, ◌≡◌, ◌<◌, ◌≤◌, ◌^◌, false, sym, ap}
 use Rattle.std.proofs.lemmas.Nat.Bits.{bit_at_above}
 use Rattle.std.specs.Prelude.{◌==◌}
 use Rattle.bound_labels.specs.Labels.{arrives_in}

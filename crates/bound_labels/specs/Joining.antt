@@ -1,8 +1,8 @@
 -- Labels that stand for two.
-use Rattle.std.specs.Prelude.{ℕ, ◌≡◌, Bool, true, false, if◌then◌else◌, ◌&&◌, is_some, length, min, nat_lt}
+use Rattle.std.specs.Prelude.{ℕ, ◌≡◌, Bool, true, false, if◌then◌else◌, ◌&&◌, is_some, length, max, min, nat_lt}
 use Rattle.figure_laws.specs.Holding.{Hold}
 use Rattle.figure_laws.specs.Merging.{merged_age, merged_ages, merged_hold}
-use Rattle.bound_labels.specs.Labels.{Labels, IsAtLeast, ages_of, hold_of, pending_of, wait_of}
+use Rattle.bound_labels.specs.Labels.{Labels, IsAtLeast, ages_of, blocked_of, hold_of, pending_of, wait_of}
 
 -- labels of as many things
 pub record AreOfAsMany (l m : Labels) : Type 0 where
@@ -10,6 +10,7 @@ pub record AreOfAsMany (l m : Labels) : Type 0 where
   pub tasks : length l.ages ≡ length m.ages
   pub interrupts : length l.pending ≡ length m.pending
   pub resources : length l.holds ≡ length m.holds
+  pub blockable : length l.blocked ≡ length m.blocked
 
 -- a task has held the resource
 abbrev pub has_held : Hold → Bool
@@ -30,6 +31,7 @@ pub record IsJoined (l m joined : Labels) : Type 0 where
   pub ages : (k : ℕ) → ages_of joined k ≡ merged_ages (ages_of l k) (ages_of m k)
   pub pending : (i : ℕ) → pending_of joined i ≡ merged_age (pending_of l i) (pending_of m i)
   pub holds : (r : ℕ) → hold_of joined r ≡ joined_hold (hold_of l r) (hold_of m r)
+  pub blocked : (k : ℕ) → blocked_of joined k ≡ max (blocked_of l k) (blocked_of m k)
   pub one : IsAtLeast joined l
   pub other : IsAtLeast joined m
   pub least : (n : Labels) → IsAtLeast n l → IsAtLeast n m → IsAtLeast n joined

@@ -1,15 +1,16 @@
 -- What labels tell, list by list, and what they show in a tick.
-use Rattle.std.specs.Prelude.{ℕ, if◌then◌else◌, ◌-◌, min, List, [], map, length, Option, None, slice_index_or}
+use Rattle.std.specs.Prelude.{ℕ, Bool, if◌then◌else◌, ◌-◌, min, List, [], map, length, Option, None, slice_index_or}
 use Rattle.std.specs.Option.{option_map}
 use Rattle.osek_base.specs.Lists.{below}
 use Rattle.figure_laws.specs.Ages.{ages_next, oldest_age}
+use Rattle.figure_laws.specs.Blocking.{blocked_in, blocked_next}
 use Rattle.figure_laws.specs.Holding.{Hold, held_ticks, hold_next}
 use Rattle.figure_laws.specs.Merging.{merged_ages}
 use Rattle.figure_laws.specs.Pending.{pending_next}
 use Rattle.figure_laws.specs.Times.{waited}
 use Rattle.observations.specs.Seen.{Seen}
-use Rattle.bound_labels.specs.Labels.{Labels, ages_of, arrives_in, capped_hold, distance_of, hold_of, no_hold, pending_of}
-use Rattle.bound_labels.specs.Ticks.{holder_tick, routine_tick, task_tick}
+use Rattle.bound_labels.specs.Labels.{Labels, ages_of, arrives_in, blocked_of, capped_hold, distance_of, hold_of, no_hold, pending_of}
+use Rattle.bound_labels.specs.Ticks.{blocked_tick, holder_tick, routine_tick, task_tick}
 
 abbrev pub wait_at : List ℕ → ℕ → ℕ
 wait_at waits i = slice_index_or waits i 0
@@ -22,6 +23,9 @@ pending_at pending i = slice_index_or pending i None
 
 abbrev pub hold_at : List Hold → ℕ → Hold
 hold_at holds r = slice_index_or holds r no_hold
+
+abbrev pub blocked_at : List ℕ → ℕ → ℕ
+blocked_at blocked k = slice_index_or blocked k 0
 
 -- ---- behind a tick
 
@@ -40,6 +44,10 @@ abbrev pub hold_behind : ℕ → Seen → List Hold → ℕ → Hold
 hold_behind cap seen holds r =
     capped_hold cap (hold_next (holder_tick seen r) (hold_at holds r))
 
+abbrev pub blocked_behind : (ℕ → Bool) → ℕ → Seen → List ℕ → ℕ → ℕ
+blocked_behind lower cap seen blocked k =
+    min cap (blocked_next (blocked_tick lower seen k) (blocked_at blocked k))
+
 abbrev pub merged_lists : List (List ℕ) → List (List ℕ) → ℕ → List ℕ
 merged_lists others ages k = merged_ages (ages_at ages k) (ages_at others k)
 
@@ -57,3 +65,7 @@ shown_wait cap seen l i = option_map (min cap) (waited (routine_tick seen i) (pe
 
 abbrev pub shown_hold : ℕ → Seen → Labels → ℕ → Option ℕ
 shown_hold cap seen l r = option_map (min cap) (held_ticks (holder_tick seen r) (hold_of l r))
+
+abbrev pub shown_blocked : (ℕ → Bool) → ℕ → Seen → Labels → ℕ → ℕ
+shown_blocked lower cap seen l k =
+    min cap (blocked_in (blocked_tick lower seen k) (blocked_of l k))

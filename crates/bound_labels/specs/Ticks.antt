@@ -1,5 +1,5 @@
 -- What is seen of things in a tick, one by one, and as ticks of figures.
-use Rattle.std.specs.Prelude.{ℕ, false, None, slice_index_or}
+use Rattle.std.specs.Prelude.{ℕ, Bool, false, None, slice_index_or}
 use Rattle.osek_base.specs.declared.status.TaskState.{TaskState}
 use Rattle.observations.specs.declared.alarm_seen.AlarmSeen.{AlarmSeen}
 use Rattle.observations.specs.declared.routine_seen.RoutineSeen.{RoutineSeen}
@@ -48,6 +48,10 @@ task_tick seen k =
       has_failed = false;
       blockers = None;
     }
+
+-- and where it is known below which tasks the one is that executes, if one does
+abbrev pub blocked_tick : (ℕ → Bool) → Seen → ℕ → TaskTick
+blocked_tick lower seen k = record (task_tick seen k) { lower_executes = lower k }
 
 abbrev pub routine_tick : Seen → ℕ → RoutineTick
 routine_tick seen i = record { tick = 0; seen = routine_in seen i; has_failed = false }

@@ -1,10 +1,12 @@
 //! Labels of a state that may come in many runs.
 
-ghost use Rattle.std.specs.Prelude.{ℕ, ◌≡◌, ◌<◌, ◌≤◌, ◌^◌, IfOk, IsTrue, OnOk, length, min};
+ghost use Rattle.std.specs.Prelude.{ℕ, ◌≡◌, ◌<◌, ◌≤◌, ◌^◌, ◌++◌, ◌∷◌, [], IfOk, IsTrue, OnOk, length, min};
 ghost use Rattle.std.specs.Int.{bit_at};
 ghost use Rattle.std.specs.Option.{option_map};
 ghost use Rattle.osek_base.specs.declared.limits.TheConstants.{MAX_ROUTINES};
+ghost use Rattle.figures.specs.FigureSums.{levels_of, lower_executes};
 ghost use Rattle.figure_laws.specs.Ages.{AreOlder, oldest_age};
+ghost use Rattle.figure_laws.specs.Blocking.{blocked_in};
 ghost use Rattle.figure_laws.specs.Holding.{IsLonger, held_ticks};
 ghost use Rattle.figure_laws.specs.Pending.{IsOlder};
 ghost use Rattle.figure_laws.specs.Times.{waited};
@@ -12,6 +14,7 @@ ghost use Rattle.observations.specs.Seen.{seen_of};
 ghost use Rattle.bound_labels.specs.Labels.{
   IsAtLeast,
   ages_of,
+  blocked_of,
   first_labels,
   hold_of,
   next_labels,
@@ -21,6 +24,9 @@ ghost use Rattle.bound_labels.specs.Labels.{
 ghost use Rattle.bound_labels.specs.Joining.{AreOfAsMany, Joins};
 
 use crate::age_lists::{AgeLists, are_older as are_jobs_older};
+use crate::blocked::{
+    are_at_least, blocked_in, blocked_of, first_blocked, join_blocked, put_next_blocked,
+};
 use crate::holds::{
     Hold, are_joinable, are_longer, first_holds, hold_of, join_holds, put_next_holds,
 };
@@ -30,12 +36,12 @@ use crate::pending::{
 use crate::waits::{are_sooner, first_waits, join_waits, put_next_waits, wait_of};
 use figures::{HolderTick, RoutineTick, TaskTick};
 use observations::Observation;
-use osek_base::TaskId;
+use osek_base::{System, TaskId};
 use std::alloc::{AllocError, Global};
 use std::marker::Model;
 
 /// For how many ticks yet interrupts can't arrive, and for how many ticks jobs stand ready or run,
-/// interrupts are pending and resources are held at most, each up to a cap.
+/// interrupts are pending, resources are held and jobs have been blocked at most, each up to a cap.
 #[derive(Drop)]
 pub struct Labels {
     /// By routine, for how many ticks yet it can't arrive.
@@ -46,6 +52,8 @@ pub struct Labels {
     pending: Vec<Option<u32>>,
     /// By resource.
     holds: Vec<Hold>,
+    /// By task, for how many ticks its oldest job has been blocked.
+    blocked: Vec<u32>,
 }
 
 impl Model for Labels {
@@ -58,6 +66,7 @@ impl Model for Labels {
       ages = l.ages;
       pending = l.pending.items;
       holds = l.holds.items;
+      blocked = l.blocked.items;
     } };
 }
 
@@ -77,6 +86,7 @@ impl Labels {
             ages: AgeLists::none(alloc, tasks)?,
             pending: first_pending(alloc, routines)?,
             holds: first_holds(alloc, held)?,
+            blocked: first_blocked(alloc, tasks)?,
         })
     }
 
@@ -89,27 +99,31 @@ impl Labels {
             ages: AgeLists::new(alloc),
             pending: Vec::new(alloc),
             holds: Vec::new(alloc),
+            blocked: Vec::new(alloc),
         }
     }
 
-    /// They become those behind a tick in which the routines of a set arrive. Distances are in
-    /// ticks, and so is the cap, up to which ages go. An error is that there is no memory; the
-    /// labels may have any values then.
+    /// They become those behind a tick of a system in which the routines of a set arrive. Distances
+    /// are in ticks, and so is the cap, up to which ages go. An error is that there is no memory;
+    /// the labels may have any values then.
     pub fn become_next(
         &mut self,
+        system: &System,
         cap: u32,
         distances: &[u32],
         set: u64,
         seen: &Observation,
         old: &Labels,
     ) -> Result<(), AllocError>
-        ensures { OnOk result
-            (self.new ≡ next_labels cap distances.now set (seen_of seen.now) old.now) }
+        ensures { OnOk result (self.new ≡ next_labels
+            (lower_executes (levels_of system.now) seen.now.executor)
+            cap distances.now set (seen_of seen.now) old.now) }
     {
         put_next_waits(&mut self.waits, distances, set, &old.waits)?;
         self.ages.become_next(cap, seen, &old.ages)?;
         put_next_pending(&mut self.pending, cap, seen, &old.pending)?;
         put_next_holds(&mut self.holds, cap, seen, &old.holds)?;
+        put_next_blocked(&mut self.blocked, system, cap, seen, &old.blocked)?;
         Ok(())
     }
 
@@ -162,6 +176,13 @@ impl Labels {
         &self.holds
     }
 
+    /// By task, for how many ticks its oldest job has been blocked.
+    pub fn blocked(&self) -> &[u32]
+        ensures { result.now ≡ self.now.blocked }
+    {
+        &self.blocked
+    }
+
     /// The age of a task's oldest job in a tick, up to a cap.
     #[inline(always)]
     pub fn oldest_age(&self, cap: u32, tick: &TaskTick, task: usize) -> Option<u32>
@@ -186,6 +207,14 @@ impl Labels {
         hold_of(&self.holds, resource).held_ticks(cap, tick)
     }
 
+    /// For how many ticks a task's oldest job has been blocked, up to a cap, a tick counted.
+    #[inline(always)]
+    pub fn blocked_ticks(&self, cap: u32, tick: &TaskTick, task: usize) -> u32
+        ensures { result ≡ min cap (blocked_in tick.now (blocked_of self.now task)) }
+    {
+        blocked_in(cap, tick, blocked_of(&self.blocked, task))
+    }
+
     /// Whether two are of as many things.
     fn is_of_as_many(&self, other: &Labels) -> bool
         ensures { IsTrue result → AreOfAsMany self.now other.now }
@@ -194,6 +223,7 @@ impl Labels {
             && self.ages.len() == other.ages.len()
             && self.pending.len() == other.pending.len()
             && self.holds.len() == other.holds.len()
+            && self.blocked.len() == other.blocked.len()
     }
 
     /// Whether the jobs of a task are at least as old as with other labels; at true they are.
@@ -222,6 +252,14 @@ impl Labels {
         hold_of(&self.holds, resource).is_longer(hold_of(&other.holds, resource))
     }
 
+    /// Whether a task's oldest job has been blocked for at least as many ticks as with other labels;
+    /// at true it has.
+    pub fn has_more_blocked(&self, other: &Labels, task: usize) -> bool
+        ensures { IsTrue result → blocked_of other.now task ≤ blocked_of self.now task }
+    {
+        blocked_of(&self.blocked, task) >= blocked_of(&other.blocked, task)
+    }
+
     /// Whether what may arrive with others may with these, and nothing is older there; at true it
     /// is so.
     pub fn is_at_least(&self, other: &Labels) -> bool
@@ -233,6 +271,7 @@ impl Labels {
         are_sooner(&self.waits, &other.waits)
             && are_older(&self.pending, &other.pending)
             && are_longer(&self.holds, &other.holds)
+            && are_at_least(&self.blocked, &other.blocked)
             && are_jobs_older(&self.ages, &other.ages)
     }
 
@@ -249,6 +288,7 @@ impl Labels {
         join_waits(&mut self.waits, &other.waits);
         join_pending(&mut self.pending, &other.pending);
         join_holds(&mut self.holds, &other.holds);
+        join_blocked(&mut self.blocked, &other.blocked);
         Ok(true)
     }
 }
@@ -264,10 +304,14 @@ impl Labels {
         self.ages.clear();
         self.pending.clear();
         self.holds.clear();
+        self.blocked.clear();
     }
 
     /// One more routine, and for how many ticks yet it can't arrive.
-    pub fn push_wait(&mut self, wait: u32) -> Result<(), AllocError> {
+    pub fn push_wait(&mut self, wait: u32) -> Result<(), AllocError>
+        ensures { OnOk result
+            (self.new ≡ record self.old { waits = self.old.waits ++ wait ∷ [] }) }
+    {
         self.waits.push(wait)?;
         Ok(())
     }
@@ -283,14 +327,30 @@ impl Labels {
     }
 
     /// The age of one more routine's interrupt, if one is pending.
-    pub fn push_pending(&mut self, age: Option<u32>) -> Result<(), AllocError> {
+    pub fn push_pending(&mut self, age: Option<u32>) -> Result<(), AllocError>
+        ensures { OnOk result
+            (self.new ≡ record self.old { pending = self.old.pending ++ age ∷ [] }) }
+    {
         self.pending.push(age)?;
         Ok(())
     }
 
     /// One more resource, who holds it, and for how many ticks.
-    pub fn push_hold(&mut self, holder: Option<TaskId>, held: u32) -> Result<(), AllocError> {
+    pub fn push_hold(&mut self, holder: Option<TaskId>, held: u32) -> Result<(), AllocError>
+        ensures { OnOk result (self.new ≡ record self.old {
+          holds = self.old.holds ++ record { holder = holder; held = held } ∷ [];
+        }) }
+    {
         self.holds.push(Hold::new(holder, held))?;
+        Ok(())
+    }
+
+    /// One more task, and for how many ticks its oldest job has been blocked.
+    pub fn push_blocked(&mut self, ticks: u32) -> Result<(), AllocError>
+        ensures { OnOk result
+            (self.new ≡ record self.old { blocked = self.old.blocked ++ ticks ∷ [] }) }
+    {
+        self.blocked.push(ticks)?;
         Ok(())
     }
 }

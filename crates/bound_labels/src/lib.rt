@@ -3,6 +3,7 @@
 
 mod age_lists;
 mod ages;
+mod blocked;
 mod counting;
 mod holds;
 mod labels;
@@ -12,4 +13,4 @@ mod waits;
 
 pub use holds::Hold;
 pub use labels::Labels;
-pub use ticks::{holder_tick, routine_tick, task_tick};
+pub use ticks::{blocked_tick, holder_tick, routine_tick, task_tick};

@@ -1,10 +1,12 @@
 //! What is seen of things in a tick, one by one, and as ticks of figures.
 
-ghost use Rattle.std.specs.Prelude.{◌≡◌, None, slice_index_or};
+ghost use Rattle.std.specs.Prelude.{◌≡◌, None, length, nat_lt, slice_index_or};
+ghost use Rattle.figures.specs.FigureSums.{levels_of, lower_executes};
 ghost use Rattle.observations.specs.Seen.{seen_of};
 ghost use Rattle.bound_labels.specs.Ticks.{
   no_task,
   no_routine,
+  blocked_tick,
   task_tick,
   routine_tick,
   holder_tick,
@@ -12,7 +14,7 @@ ghost use Rattle.bound_labels.specs.Ticks.{
 
 use figures::{HolderTick, RoutineTick, TaskTick};
 use observations::{Holder, Observation, RoutineSeen, TaskSeen};
-use osek_base::TaskState;
+use osek_base::{Owner, System, TaskId, TaskState};
 
 #[inline(always)]
 fn task_in(tasks: &[TaskSeen], number: usize) -> TaskSeen
@@ -69,6 +71,53 @@ pub fn task_tick(seen: &Observation, number: usize) -> TaskTick
         lower_executes: false,
         has_failed: false,
         blockers: None,
+    }
+}
+
+/// Whether a system has a task of a number.
+#[tactic(auto, using(crate::proofs::LevelLemmas::has_level))]
+#[inline(always)]
+fn has_task(system: &System, number: usize) -> bool
+    ensures { result ≡ nat_lt number (length (levels_of system.now)) }
+{
+    number < system.task_count()
+}
+
+/// The static priority of a task; 0 beyond the last task.
+#[tactic(auto, using(crate::proofs::LevelLemmas::level_is, crate::proofs::LevelLemmas::no_level))]
+#[inline(always)]
+fn level_of(system: &System, number: usize) -> u8
+    ensures { result ≡ slice_index_or (levels_of system.now) number 0 }
+{
+    if number >= system.task_count() {
+        return 0;
+    }
+    system.priority_of(TaskId::new(number as u8))
+}
+
+/// Whether a task executes whose static priority is lower than that of another.
+#[inline(always)]
+fn lower_executes(system: &System, executor: &Option<Owner>, number: usize) -> bool
+    ensures { result ≡ lower_executes (levels_of system.now) executor.now number }
+{
+    match executor {
+        Some(Owner::Task(task)) => {
+            let task = task.number() as usize;
+            has_task(system, task) && level_of(system, task) < level_of(system, number)
+        }
+        _ => false,
+    }
+}
+
+/// A task in a tick, by its number, and whether one of lower static priority executes.
+#[inline(always)]
+pub fn blocked_tick(system: &System, seen: &Observation, number: usize) -> TaskTick
+    ensures { result ≡ blocked_tick
+        (lower_executes (levels_of system.now) seen.now.executor) (seen_of seen.now) number }
+{
+    TaskTick {
+        lower_executes: lower_executes(system, &seen.executor, number),
+        ..task_tick(seen, number)
     }
 }
 

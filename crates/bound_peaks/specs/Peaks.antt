@@ -3,24 +3,27 @@ use Rattle.std.specs.Prelude.{ℕ, ◌≡◌, ◌<◌, ◌≤◌, Bool, false, m
 use Rattle.std.specs.List.{list_any}
 use Rattle.std.specs.Option.{option_map}
 use Rattle.osek_base.specs.declared.limits.TheConstants.{MAX_ALARMS, MAX_ROUTINES, MAX_TASKS}
+use Rattle.osek_base.specs.declared.ids.Owner.{Owner}
 use Rattle.observations.specs.declared.failure.Failure.{Failure}
 use Rattle.observations.specs.declared.observation.Observation.{Observation}
 use Rattle.observations.specs.declared.observation.TheConstants.{MAX_HELD}
 use Rattle.observations.specs.Seen.{Seen, seen_of}
-use Rattle.figures.specs.FigureSums.{is_routine, is_task}
+use Rattle.figures.specs.FigureSums.{is_routine, is_task, lower_executes}
 use Rattle.figure_laws.specs.Ages.{oldest_age}
+use Rattle.figure_laws.specs.Blocking.{blocked_in}
 use Rattle.figure_laws.specs.Holding.{held_ticks}
 use Rattle.figure_laws.specs.Labels.{IsAtMost}
 use Rattle.figure_laws.specs.Times.{waited}
-use Rattle.bound_labels.specs.Ticks.{alarm_in, holder_tick, routine_in, routine_tick, task_in, task_tick}
-use Rattle.bound_labels.specs.Labels.{Labels, ages_of, hold_of, pending_of}
+use Rattle.bound_labels.specs.Ticks.{alarm_in, blocked_tick, holder_tick, routine_in, routine_tick, task_in, task_tick}
+use Rattle.bound_labels.specs.Labels.{Labels, ages_of, blocked_of, hold_of, pending_of}
 
--- the greatest age of each task's jobs and the most of them at once, the longest wait of each
--- routine's interrupts and hold of each resource; whether an interrupt was lost, an activation of a
--- task refused, an action of an alarm refused; the services that were answered other than E_OK; and
--- whether a tick has ended a run
+-- the greatest age of each task's jobs, the most ticks that one was blocked and the most of them at
+-- once, the longest wait of each routine's interrupts and hold of each resource; whether an
+-- interrupt was lost, an activation of a task refused, an action of an alarm refused; the services
+-- that were answered other than E_OK; and whether a tick has ended a run
 pub record Peaks : Type 0 where
   pub responses : List ℕ
+  pub blocked : List ℕ
   pub jobs : List ℕ
   pub latencies : List ℕ
   pub holds : List ℕ
@@ -43,21 +46,28 @@ task_fails failures k = list_any (λ (x : Failure). is_task (Some x.owner) k) fa
 abbrev pub routine_fails : List Failure → ℕ → Bool
 routine_fails failures i = list_any (λ (x : Failure). is_routine (Some x.owner) i) failures
 
--- what a tick shows: what is seen in it, its instruction if that is a service answered other than
--- E_OK, and whether the run is over behind it
+-- what a tick shows: who executes its instruction, what is seen in it, that instruction if it is a
+-- service answered other than E_OK, and whether the run is over behind it
 pub record TickShown : Type 0 where
+  pub executor : Option Owner
   pub seen : Seen
   pub failure : Option Failure
   pub over : Bool
 
 abbrev pub shown_by : Observation → Bool → TickShown
-shown_by o over = record { seen = seen_of o; failure = o.failure; over = over }
+shown_by o over =
+    record { executor = o.executor; seen = seen_of o; failure = o.failure; over = over }
 
--- what a tick shows with the labels before it is in the peaks, times up to the cap
-pub record IsNoted (cap : ℕ) (peaks : Peaks) (t : TickShown) (l : Labels) : Type 0 where
+-- what a tick shows with the labels before it is in the peaks, times up to the cap, by the static
+-- priorities of all tasks
+pub record IsNoted (levels : List ℕ) (cap : ℕ) (peaks : Peaks) (t : TickShown)
+    (l : Labels) : Type 0 where
   pub responses : (k : ℕ) → k < length t.seen.tasks
       → IsAtMost (peak peaks.responses k)
       (option_map (min cap) (oldest_age (task_tick t.seen k) (ages_of l k)))
+  pub blocked : (k : ℕ) → k < length t.seen.tasks
+      → min cap (blocked_in (blocked_tick (lower_executes levels t.executor) t.seen k)
+      (blocked_of l k)) ≤ peak peaks.blocked k
   pub jobs : (k : ℕ) → k < length t.seen.tasks → (task_in t.seen k).jobs ≤ peak peaks.jobs k
   pub latencies : (i : ℕ) → i < length t.seen.routines
       → IsAtMost (peak peaks.latencies i)
@@ -77,6 +87,7 @@ pub record IsNoted (cap : ℕ) (peaks : Peaks) (t : TickShown) (l : Labels) : Ty
 -- peaks are no lower than others, and all that had come has
 pub record AreAtLeast (peaks others : Peaks) : Type 0 where
   pub responses : (k : ℕ) → peak others.responses k ≤ peak peaks.responses k
+  pub blocked : (k : ℕ) → peak others.blocked k ≤ peak peaks.blocked k
   pub jobs : (k : ℕ) → peak others.jobs k ≤ peak peaks.jobs k
   pub latencies : (i : ℕ) → peak others.latencies i ≤ peak peaks.latencies i
   pub holds : (r : ℕ) → peak others.holds r ≤ peak peaks.holds r
@@ -89,14 +100,15 @@ pub record AreAtLeast (peaks others : Peaks) : Type 0 where
 -- so what is in the others is in them
 abbrev pub NotesStay : Type 0
 NotesStay =
-    (cap : ℕ) (peaks others : Peaks) (t : TickShown) (l : Labels)
-    → AreAtLeast peaks others → IsNoted cap others t l → IsNoted cap peaks t l
+    (levels : List ℕ) (cap : ℕ) (peaks others : Peaks) (t : TickShown) (l : Labels)
+    → AreAtLeast peaks others → IsNoted levels cap others t l → IsNoted levels cap peaks t l
 
 -- before the first tick
 abbrev pub no_peaks : Peaks
 no_peaks =
     record {
       responses = replicate MAX_TASKS 0;
+      blocked = replicate MAX_TASKS 0;
       jobs = replicate MAX_TASKS 0;
       latencies = replicate MAX_ROUTINES 0;
       holds = replicate MAX_HELD 0;

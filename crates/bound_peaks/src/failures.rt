@@ -1,6 +1,6 @@
 //! OSEK/VDX OS: error handling. Services that were answered other than E_OK.
 
-ghost use Rattle.std.specs.Prelude.{◌≡◌, Contains, IfOk, IfSome, IsTrue};
+ghost use Rattle.std.specs.Prelude.{◌≡◌, Contains, IfOk, IfSome, IsFalse, IsTrue};
 ghost use Rattle.figures.specs.FigureSums.{is_routine, is_task};
 ghost use Rattle.observations.specs.declared.failure.Failure.{Failure};
 ghost use Rattle.bound_peaks.specs.Peaks.{routine_fails, task_fails};
@@ -29,6 +29,8 @@ pub(crate) fn note_failure(
     ensures noted { IfOk result
         (λ _. IfSome failure.now (λ x. Contains failures.new.items x)) }
     ensures rises { (x : Failure) → Contains failures.old.items x → Contains failures.new.items x }
+    ensures stays { IfOk result
+        (λ is_new. IsFalse is_new → failures.new.items ≡ failures.old.items) }
 {
     match failure {
         Some(failure) if !is_among(failures, failure) => {

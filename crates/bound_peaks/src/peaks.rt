@@ -1,11 +1,12 @@
 //! The greatest times that ticks have shown.
 
-ghost use Rattle.std.specs.Prelude.{ℕ, ◌≡◌, ◌<◌, ◌≤◌, false, IfOk, Some, length};
+ghost use Rattle.std.specs.Prelude.{ℕ, ◌≡◌, ◌<◌, ◌≤◌, false, IfOk, IsFalse, Some, length};
 ghost use Rattle.osek_base.specs.declared.limits.TheConstants.{MAX_ALARMS, MAX_ROUTINES, MAX_TASKS};
 ghost use Rattle.observations.specs.declared.observation.TheConstants.{MAX_HELD};
+ghost use Rattle.figures.specs.FigureSums.{levels_of, lower_executes};
 ghost use Rattle.figure_laws.specs.Labels.{IsAtMost};
 ghost use Rattle.observations.specs.Seen.{seen_of};
-ghost use Rattle.bound_labels.specs.Parts.{shown_age, shown_hold, shown_wait};
+ghost use Rattle.bound_labels.specs.Parts.{shown_age, shown_blocked, shown_hold, shown_wait};
 ghost use Rattle.bound_labels.specs.Ticks.{alarm_in, holder_tick, routine_in, routine_tick, task_in, task_tick};
 ghost use Rattle.bound_peaks.specs.Peaks.{
   AreAtLeast,
@@ -20,9 +21,9 @@ ghost use Rattle.bound_peaks.specs.Peaks.{
 
 use crate::failures::{note_failure, routine_fails, task_fails};
 use crate::raising::{has_come, mark, peak, raise};
-use bound_labels::{Labels, holder_tick, routine_tick, task_tick};
+use bound_labels::{Labels, blocked_tick, holder_tick, routine_tick, task_tick};
 use observations::{Failure, MAX_HELD, Observation};
-use osek_base::{MAX_ALARMS, MAX_ROUTINES, MAX_TASKS};
+use osek_base::{MAX_ALARMS, MAX_ROUTINES, MAX_TASKS, System};
 use std::alloc::{AllocError, Global};
 use std::marker::Model;
 
@@ -32,6 +33,8 @@ use std::marker::Model;
 pub struct Peaks {
     /// By task, the greatest age of its jobs.
     responses: [u32; MAX_TASKS],
+    /// By task, for how many ticks at most its oldest job was blocked.
+    blocked: [u32; MAX_TASKS],
     /// By task, the most of its jobs at once.
     jobs: [u32; MAX_TASKS],
     /// By routine, the longest wait of its interrupts.
@@ -57,6 +60,7 @@ impl Model for Peaks {
 
     ghost view = { λ p. record {
       responses = p.responses;
+      blocked = p.blocked;
       jobs = p.jobs;
       latencies = p.latencies;
       holds = p.holds;
@@ -75,6 +79,7 @@ fn note_responses(peaks: &mut [u32], cap: u32, seen: &Observation, labels: &Labe
     ensures noted { (k : ℕ) → k < length seen.now.tasks.items → IsAtMost (peak peaks.new k)
         (shown_age cap (seen_of seen.now) labels.now k) }
     ensures rises { (k : ℕ) → peak peaks.old k ≤ peak peaks.new k }
+    ensures stays { IsFalse result → peaks.new ≡ peaks.old }
 {
     let mut rises = false;
     for task in 0..seen.tasks.len() {
@@ -87,6 +92,30 @@ fn note_responses(peaks: &mut [u32], cap: u32, seen: &Observation, labels: &Labe
     rises
 }
 
+/// Notes for how many ticks the tasks' oldest jobs have been blocked, a tick counted.
+fn note_blocked(
+    peaks: &mut [u32],
+    system: &System,
+    cap: u32,
+    seen: &Observation,
+    labels: &Labels,
+) -> bool
+    requires { length peaks.old ≡ MAX_TASKS }
+    ensures count { length peaks.new ≡ length peaks.old }
+    ensures noted { (k : ℕ) → k < length seen.now.tasks.items → IsAtMost (peak peaks.new k)
+        (Some (shown_blocked (lower_executes (levels_of system.now) seen.now.executor) cap
+        (seen_of seen.now) labels.now k)) }
+    ensures rises { (k : ℕ) → peak peaks.old k ≤ peak peaks.new k }
+    ensures stays { IsFalse result → peaks.new ≡ peaks.old }
+{
+    let mut rises = false;
+    for task in 0..seen.tasks.len() {
+        let tick = blocked_tick(system, seen, task);
+        rises |= raise(peaks, task, Some(labels.blocked_ticks(cap, &tick, task)));
+    }
+    rises
+}
+
 /// Notes how many jobs the tasks have in a tick.
 fn note_jobs(peaks: &mut [u32], seen: &Observation) -> bool
     requires { length peaks.old ≡ MAX_TASKS }
@@ -94,6 +123,7 @@ fn note_jobs(peaks: &mut [u32], seen: &Observation) -> bool
     ensures noted { (k : ℕ) → k < length seen.now.tasks.items → IsAtMost (peak peaks.new k)
         (Some (task_in (seen_of seen.now) k).jobs) }
     ensures rises { (k : ℕ) → peak peaks.old k ≤ peak peaks.new k }
+    ensures stays { IsFalse result → peaks.new ≡ peaks.old }
 {
     let mut rises = false;
     for task in 0..seen.tasks.len() {
@@ -109,6 +139,7 @@ fn note_latencies(peaks: &mut [u32], cap: u32, seen: &Observation, labels: &Labe
     ensures noted { (i : ℕ) → i < length seen.now.routines.items → IsAtMost (peak peaks.new i)
         (shown_wait cap (seen_of seen.now) labels.now i) }
     ensures rises { (i : ℕ) → peak peaks.old i ≤ peak peaks.new i }
+    ensures stays { IsFalse result → peaks.new ≡ peaks.old }
 {
     let mut rises = false;
     for routine in 0..seen.routines.len() {
@@ -128,6 +159,7 @@ fn note_holds(peaks: &mut [u32], cap: u32, seen: &Observation, labels: &Labels) 
     ensures noted { (r : ℕ) → r < length seen.now.holders.items → IsAtMost (peak peaks.new r)
         (shown_hold cap (seen_of seen.now) labels.now r) }
     ensures rises { (r : ℕ) → peak peaks.old r ≤ peak peaks.new r }
+    ensures stays { IsFalse result → peaks.new ≡ peaks.old }
 {
     let mut rises = false;
     for resource in 0..seen.holders.len() {
@@ -147,6 +179,7 @@ fn note_losses(marks: &mut [bool], seen: &Observation) -> bool
     ensures noted { (i : ℕ) → i < length seen.now.routines.items → has_come marks.new i ≡ false
         → (routine_in (seen_of seen.now) i).lost ≡ 0 }
     ensures rises { (i : ℕ) → has_come marks.new i ≡ false → has_come marks.old i ≡ false }
+    ensures stays { IsFalse result → marks.new ≡ marks.old }
 {
     let mut rises = false;
     for routine in 0..seen.routines.len() {
@@ -162,6 +195,7 @@ fn note_refusals(marks: &mut [bool], seen: &Observation) -> bool
     ensures noted { (k : ℕ) → k < length seen.now.tasks.items → has_come marks.new k ≡ false
         → (task_in (seen_of seen.now) k).refused ≡ 0 }
     ensures rises { (k : ℕ) → has_come marks.new k ≡ false → has_come marks.old k ≡ false }
+    ensures stays { IsFalse result → marks.new ≡ marks.old }
 {
     let mut rises = false;
     for task in 0..seen.tasks.len() {
@@ -177,6 +211,7 @@ fn note_actions(marks: &mut [bool], seen: &Observation) -> bool
     ensures noted { (a : ℕ) → a < length seen.now.alarms.items → has_come marks.new a ≡ false
         → (alarm_in (seen_of seen.now) a).is_refused ≡ false }
     ensures rises { (a : ℕ) → has_come marks.new a ≡ false → has_come marks.old a ≡ false }
+    ensures stays { IsFalse result → marks.new ≡ marks.old }
 {
     let mut rises = false;
     for alarm in 0..seen.alarms.len() {
@@ -192,6 +227,7 @@ impl Peaks {
     {
         Peaks {
             responses: [0; MAX_TASKS],
+            blocked: [0; MAX_TASKS],
             jobs: [0; MAX_TASKS],
             latencies: [0; MAX_ROUTINES],
             holds: [0; MAX_HELD],
@@ -203,21 +239,24 @@ impl Peaks {
         }
     }
 
-    /// Notes what a tick shows with the labels before it, up to a cap in ticks, and whether the run is
-    /// over behind it; answers whether that is more than was noted before. An error is want of memory
-    /// for a service more that is answered other than E_OK.
+    /// Notes what a tick of a run of the system shows with the labels before it, up to a cap in
+    /// ticks, and whether the run is over behind it; answers whether that is more than was noted
+    /// before. An error is want of memory for a service more that is answered other than E_OK.
     pub fn note(
         &mut self,
+        system: &System,
         cap: u32,
         seen: &Observation,
         is_over: bool,
         labels: &Labels,
     ) -> Result<bool, AllocError>
-        ensures noted { IfOk result
-            (λ _. IsNoted cap self.new (shown_by seen.now is_over) labels.now) }
+        ensures noted { IfOk result (λ _. IsNoted (levels_of system.now) cap self.new
+            (shown_by seen.now is_over) labels.now) }
         ensures rises { AreAtLeast self.new self.old }
+        ensures stays { IfOk result (λ rises. IsFalse rises → self.new ≡ self.old) }
     {
         let longer = note_responses(&mut self.responses, cap, seen, labels)
+            | note_blocked(&mut self.blocked, system, cap, seen, labels)
             | note_latencies(&mut self.latencies, cap, seen, labels)
             | note_holds(&mut self.holds, cap, seen, labels);
         let more = note_jobs(&mut self.jobs, seen)
@@ -235,6 +274,13 @@ impl Peaks {
         ensures { result ≡ peak self.now.responses task }
     {
         peak(&self.responses, task)
+    }
+
+    /// For how many ticks at most a task's oldest job was blocked; 0 beyond the last task.
+    pub fn blocked(&self, task: usize) -> u32
+        ensures { result ≡ peak self.now.blocked task }
+    {
+        peak(&self.blocked, task)
     }
 
     /// The most jobs of a task at once; 0 beyond the last task.

@@ -1,6 +1,6 @@
 //! Greatest numbers and marks by number, which only rise.
 
-ghost use Rattle.std.specs.Prelude.{ℕ, ◌≡◌, ◌<◌, ◌≤◌, false, length};
+ghost use Rattle.std.specs.Prelude.{ℕ, ◌≡◌, ◌<◌, ◌≤◌, false, IsFalse, length};
 ghost use Rattle.figure_laws.specs.Labels.{IsAtMost};
 ghost use Rattle.bound_peaks.specs.Peaks.{has_come, peak};
 
@@ -11,6 +11,7 @@ pub(crate) fn raise(peaks: &mut [u32], number: usize, shown: Option<u32>) -> boo
     ensures count { length peaks.new ≡ length peaks.old }
     ensures noted { IsAtMost (peak peaks.new number) shown }
     ensures rises { (k : ℕ) → peak peaks.old k ≤ peak peaks.new k }
+    ensures stays { IsFalse result → peaks.new ≡ peaks.old }
 {
     match shown {
         Some(shown) if peaks[number] < shown => {
@@ -28,6 +29,7 @@ pub(crate) fn mark(marks: &mut [bool], number: usize, comes: bool) -> bool
     ensures count { length marks.new ≡ length marks.old }
     ensures noted { has_come marks.new number ≡ false → comes ≡ false }
     ensures rises { (k : ℕ) → has_come marks.new k ≡ false → has_come marks.old k ≡ false }
+    ensures stays { IsFalse result → marks.new ≡ marks.old }
 {
     if !comes || marks[number] {
         return false;

@@ -25,13 +25,10 @@ fn write_object<W: Write>(
 /// A line for each service that may be answered other than E_OK: whose it is, its place and the number
 /// of the status.
 fn write_services<W: Write>(system: &System, told: Told<'_, '_>, out: &mut W) -> io::Result<()> {
-    for failure in told.bounds.peaks.failures() {
+    for (number, failure) in told.bounds.peaks.failures().iter().enumerate() {
         let (name, place) = (name_of(system, failure.owner), failure.place.number());
-        writeln!(
-            out,
-            "service,{name},{place},{},above",
-            failure.status.number()
-        )?;
+        let (status, standing) = (failure.status.number(), told.standing_of(number));
+        writeln!(out, "service,{name},{place},{status},{standing}")?;
     }
     Ok(())
 }

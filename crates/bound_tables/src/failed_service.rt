@@ -6,6 +6,7 @@ ghost use Rattle.osek_base.specs.System.{program};
 
 use observations::Failure;
 use osek_base::{Outcome, Owner, Results, System, TraceEvent};
+use std::alloc::{AllocError, Global};
 use trace_lines::{LineText, line_text};
 
 /// The beginning of a line of a trace at tick 0: the tick, and a space.
@@ -35,7 +36,7 @@ fn has_place(system: &System, failure: &Failure) -> bool
 }
 
 /// The name of a task or routine.
-pub fn name_of(system: &System, owner: Owner) -> &str {
+pub(crate) fn name_of(system: &System, owner: Owner) -> &str {
     let names = system.names();
     let name = match owner {
         Owner::Task(task) => names.tasks.get(task.number() as usize),
@@ -57,9 +58,9 @@ fn record_of(system: &System, failure: &Failure) -> Option<TraceEvent> {
     Some(TraceEvent::Executed(failure.owner, failure.place, instruction, outcome))
 }
 
-/// Leaves a service that may fail as a trace writes it, without a tick: who, at which place, which,
-/// and the number of the status. Nothing, where the system has no such place.
-pub fn put_failure(system: &System, failure: &Failure, text: &mut LineText) {
+/// Leaves a service that may fail as a trace writes it at tick 0: who, at which place, which, and the
+/// number of the status. Nothing, where the system has no such place.
+pub(crate) fn put_failure(system: &System, failure: &Failure, text: &mut LineText) {
     text.clear();
     if let Some(record) = record_of(system, failure) {
         line_text(system.names(), 0, &record, text);
@@ -67,6 +68,17 @@ pub fn put_failure(system: &System, failure: &Failure, text: &mut LineText) {
 }
 
 /// What stands behind the tick of a line.
-pub fn behind_tick(text: &LineText) -> &str {
+pub(crate) fn behind_tick(text: &LineText) -> &str {
     text.as_str().get(TICK..).unwrap_or("")
+}
+
+/// A service that may fail as a trace writes it, without a tick.
+pub fn service_text(
+    alloc: Global,
+    system: &System,
+    failure: &Failure,
+) -> Result<String, AllocError> {
+    let mut text = LineText::new();
+    put_failure(system, failure, &mut text);
+    String::from_str(alloc, behind_tick(&text))
 }

@@ -7,7 +7,8 @@ use std::io::{self, Write};
 use trace_lines::LineText;
 
 /// Writes a line for each service that may be answered other than E_OK, as a trace writes it but for
-/// the tick, behind an empty line and a heading; nothing where none may. An error is a failed write.
+/// the tick, behind `<=` where no run is known in which it is, all behind an empty line and a
+/// heading; nothing where none may. An error is a failed write.
 pub fn write_services<W: Write>(
     system: &System,
     told: Told<'_, '_>,
@@ -19,9 +20,10 @@ pub fn write_services<W: Write>(
     }
     out.write_all(b"\nservices answered other than E_OK\n")?;
     let mut text = LineText::new();
-    for failure in failures {
+    for (number, failure) in failures.iter().enumerate() {
         put_failure(system, failure, &mut text);
-        writeln!(out, "{}", behind_tick(&text))?;
+        let mark = if told.is_failing(number) { "" } else { "<=" };
+        writeln!(out, "{mark}{}", behind_tick(&text))?;
     }
     Ok(())
 }

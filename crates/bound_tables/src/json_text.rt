@@ -66,9 +66,14 @@ fn objects(
     Ok(Value::Object(objects))
 }
 
-/// A service that may be answered other than E_OK: whose it is, its place and the number of the
-/// status.
-fn service(alloc: Global, system: &System, failure: &Failure) -> Result<Value, AllocError> {
+/// A service that may be answered other than E_OK: whose it is, its place, the number of the status,
+/// and what is promised of it.
+fn service(
+    alloc: Global,
+    system: &System,
+    failure: &Failure,
+    standing: &str,
+) -> Result<Value, AllocError> {
     let mut told = Map::new(alloc);
     let name = String::from_str(alloc, name_of(system, failure.owner))?;
     put(alloc, &mut told, "name", Value::String(name))?;
@@ -76,13 +81,15 @@ fn service(alloc: Global, system: &System, failure: &Failure) -> Result<Value, A
     put(alloc, &mut told, "place", Value::from(place))?;
     let status = u32::from(failure.status.number());
     put(alloc, &mut told, "status", Value::from(status))?;
+    let standing = String::from_str(alloc, standing)?;
+    put(alloc, &mut told, "standing", Value::String(standing))?;
     Ok(Value::Object(told))
 }
 
 fn services(alloc: Global, system: &System, told: Told<'_, '_>) -> Result<Value, AllocError> {
     let mut services = Vec::new(alloc);
-    for failure in told.bounds.peaks.failures() {
-        services.push(service(alloc, system, failure)?)?;
+    for (number, failure) in told.bounds.peaks.failures().iter().enumerate() {
+        services.push(service(alloc, system, failure, told.standing_of(number))?)?;
     }
     Ok(Value::Array(services))
 }

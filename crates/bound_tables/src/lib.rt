@@ -14,8 +14,9 @@ mod told;
 mod writing;
 
 pub use csv_text::write_lines;
+pub use failed_service::service_text;
 pub use json_text::json_of;
-pub use naming::{NamedFigure, figure_named};
+pub use naming::{NamedFigure, figure_named, is_known, service_named};
 pub use remarks::write_remarks;
 pub use told::Told;
 pub use writing::{write_decided, write_undecided, write_up_to};

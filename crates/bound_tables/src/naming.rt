@@ -1,8 +1,9 @@
 //! Figures by the names of objects and the words of columns.
 
+use crate::failed_service::name_of;
 use crate::told::figure_of;
-use bound_kinds::{KINDS, Kind, column_of};
-use bounds::Figure;
+use bound_kinds::{KINDS, Kind, column_of, place_of};
+use bounds::{Bounds, Figure};
 use osek_base::System;
 
 /// A figure, with the words of its kind and of its column.
@@ -35,6 +36,34 @@ pub fn figure_named(system: &System, name: &str, word: Option<&str>) -> Option<N
                     column: column.word(),
                 });
             }
+        }
+    }
+    None
+}
+
+/// Whether a word may be asked for of the thing of a name: that of a column, or of a task or routine
+/// the place of a service.
+pub fn is_known(system: &System, name: &str, word: Option<&str>) -> bool {
+    if figure_named(system, name, word).is_some() {
+        return true;
+    }
+    let is_owner = number_of(system, Kind::Task, name).is_some()
+        || number_of(system, Kind::Routine, name).is_some();
+    is_owner && word.and_then(place_of).is_some()
+}
+
+/// The number of the first service that may be answered other than E_OK, of the task or routine of
+/// that name, at the place that a word tells.
+pub fn service_named(
+    system: &System,
+    found: &Bounds,
+    name: &str,
+    word: Option<&str>,
+) -> Option<usize> {
+    let place = place_of(word?)?;
+    for (number, failure) in found.peaks.failures().iter().enumerate() {
+        if name_of(system, failure.owner) == name && failure.place.number() == place {
+            return Some(number);
         }
     }
     None

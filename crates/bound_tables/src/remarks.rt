@@ -18,7 +18,8 @@ fn meaning(column: Column) -> &'static str {
         Column::Errors | Column::RoutineErrors =>
             "a service is answered other than E_OK; --witness shows a run in which one is",
         Column::Shutdown => "some run ends by a ShutdownOS",
-        Column::Response | Column::Jobs | Column::Latency | Column::Hold => "it lasts",
+        Column::Response | Column::Blocked | Column::Jobs | Column::Latency | Column::Hold =>
+            "it lasts",
     }
 }
 

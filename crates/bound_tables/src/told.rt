@@ -4,13 +4,15 @@ use crate::cells::Cell;
 use bound_kinds::Column;
 use bounds::{Bounds, Figure};
 
-/// The bounds of a system, the figures that a run is known to show as they are told, and the tasks,
-/// by number, that a run is known to keep from ending for as long as one likes.
+/// The bounds of a system, the figures that a run is known to show as they are told, the tasks, by
+/// number, that a run is known to keep from ending for as long as one likes, and the services, by
+/// number among those of the bounds, that a run is known to answer other than E_OK as they tell.
 #[derive(Clone, Copy)]
 pub struct Told<'b, 'r> {
     pub bounds: &'b Bounds,
     pub reached: &'r [Figure],
     pub endless: &'r [usize],
+    pub failing: &'r [usize],
 }
 
 impl Told<'_, '_> {
@@ -37,6 +39,25 @@ impl Told<'_, '_> {
         false
     }
 
+    /// Whether a run is known in which the service of a number is answered as it is told.
+    pub(crate) fn is_failing(self, service: usize) -> bool {
+        for known in self.failing {
+            if *known == service {
+                return true;
+            }
+        }
+        false
+    }
+
+    /// What is promised of the service of a number: `reached` where a run is known, else `bound`.
+    pub(crate) fn standing_of(self, service: usize) -> &'static str {
+        if self.is_failing(service) {
+            "reached"
+        } else {
+            "bound"
+        }
+    }
+
     /// What is told in a column of the object of a number.
     pub(crate) fn cell(self, column: Column, number: usize) -> Cell {
         let figure = figure_of(column, number);
@@ -46,7 +67,7 @@ impl Told<'_, '_> {
             return Cell::Unbounded;
         }
         match column {
-            Column::Response | Column::Latency | Column::Hold => Cell::of_time(
+            Column::Response | Column::Blocked | Column::Latency | Column::Hold => Cell::of_time(
                 value,
                 self.bounds.cap,
                 is_reached,
@@ -69,6 +90,7 @@ impl Told<'_, '_> {
 pub(crate) fn figure_of(column: Column, number: usize) -> Figure {
     match column {
         Column::Response => Figure::Response(number),
+        Column::Blocked => Figure::Blocked(number),
         Column::Jobs => Figure::Jobs(number),
         Column::Refusal => Figure::Refusal(number),
         Column::Latency => Figure::Latency(number),

@@ -1,5 +1,5 @@
 -- What comes of a machine comes of each state that its node stands for.
-use Rattle.std.proofs.Common.{ℕ, ◌≡◌, ◌<◌, ◌≤◌, ◌^◌, arith, Bool, true, false, List, [], refl, sym, ◌∙◌, ap, subst}
+use Rattle.std.proofs.Common.{ℕ, ◌≡◌, ◌<◌, ◌≤◌, ◌^◌, arith, Bool, true, false, List, [], refl, sym, ◌∙◌, ap, ap₂, subst}
 use Rattle.std.specs.Prelude.{◌==◌, Option, Some, None, IfSome, IfNone, length}
 use Rattle.std.proofs.Math.Pow.{pow_mono}
 use Rattle.std.specs.Int.{bit_at}
@@ -7,8 +7,9 @@ use Rattle.std.proofs.lemmas.Bool.{eq-eqb, ne_eqb, eqb-true, true≢false}
 use Rattle.osek_base.specs.System.{System}
 use Rattle.kept_state.specs.Kept.{Kept}
 use Rattle.kept_state.specs.KeptTick.{boot_in, tick_in}
+use Rattle.osek_base.specs.declared.ids.Owner.{Owner}
 use Rattle.observations.specs.Seen.{Seen}
-use Rattle.shown_ticks.specs.Seen.{failure_in, seen_in}
+use Rattle.shown_ticks.specs.Seen.{executor_in, failure_in, seen_in}
 use Rattle.needs.specs.Table.{need_of}
 use Rattle.kernel.specs.Machine.{IsBooted, IsOfRun, Machine, next_tick, picture, system_of}
 use Rattle.same_future.specs.Alike.{kept_after}
@@ -16,7 +17,7 @@ use Rattle.state_keys.specs.Key.{key}
 use Rattle.search.specs.Rules.{IsNextChoice, NoMoreMay, StaysNoted}
 use Rattle.search.specs.Subsets.{IsSubset, NoSubset}
 use Rattle.bound_labels.specs.Labels.{IsAtLeast, Labels, arrives_in, first_labels, next_labels, wait_of}
-use Rattle.figures.specs.FigureSums.{held_count}
+use Rattle.figures.specs.FigureSums.{held_count, levels_of, lower_executes}
 use Rattle.bound_peaks.specs.Peaks.{AreAtLeast, IsNoted, NotesStay, Peaks, TickShown}
 use Rattle.run_bounds.specs.Nodes.{AreNoted, Comes, IsAfter, IsFirst, IsNext, Node, Setting, StandsFor, labels_at_boot, routines_of, rules_of, tick_shown_in}
 use Rattle.run_bounds.specs.Trying.{AreFree, MaySubsets, OneStateTells, SubsetsMay}
@@ -52,15 +53,22 @@ pub record Ticked (e : Explorer) (x : Node) (set : ℕ) (m n : Machine) (t : Tic
   pub system : system_of n ≡ system_of m
   pub after : picture n
       ≡ (tick_in (system_of m) (routines_of (setting_of e) set) (picture m)).after
+  pub executor : t.executor
+      ≡ executor_in (system_of m) (routines_of (setting_of e) set) (picture m)
   pub seen : t.seen ≡ seen_in (system_of m) (routines_of (setting_of e) set) (picture m)
   pub failure : t.failure ≡ failure_in (system_of m) (routines_of (setting_of e) set) (picture m)
   pub over : t.over ≡ (picture n).over
 
+-- the labels behind it, by who executes in it and what is seen
+abbrev pub labels_behind : Explorer → ℕ → Option Owner → Seen → Labels → Labels
+labels_behind e set executor seen l =
+    next_labels (lower_executes (levels_of e.ground.system) executor) e.cap e.distances set seen l
+
 -- and the node that is made of that
-pub record IsMade (e : Explorer) (x y : Node) (set : ℕ) (n : Machine) (seen : Seen) : Type 0 where
+pub record IsMade (e : Explorer) (x y : Node) (set : ℕ) (n : Machine) (t : TickShown) : Type 0 where
   pub key : y.key ≡ key (system_of n) (need_of e.ground.needs) (picture n)
   pub over : y.over ≡ (picture n).over
-  pub labels : y.labels ≡ next_labels e.cap e.distances set seen x.labels
+  pub labels : y.labels ≡ labels_behind e set t.executor t.seen x.labels
 
 module _ (e : Explorer) (x : Node) (set : ℕ) (m n : Machine) (t : TickShown)
     (ticked : Ticked e x set m n t) where
@@ -73,6 +81,10 @@ module _ (e : Explorer) (x : Node) (set : ℕ) (m n : Machine) (t : TickShown)
   same_seen : t.seen ≡ seen_in e.ground.system arrived (picture m)
   same_seen = ticked.seen ∙ ap (λ S. seen_in S arrived (picture m)) ticked.is.system
 
+  same_executor : t.executor ≡ executor_in e.ground.system arrived (picture m)
+  same_executor =
+      ticked.executor ∙ ap (λ S. executor_in S arrived (picture m)) ticked.is.system
+
   same_failure : t.failure ≡ failure_in e.ground.system arrived (picture m)
   same_failure = ticked.failure ∙ ap (λ S. failure_in S arrived (picture m)) ticked.is.system
 
@@ -81,6 +93,7 @@ module _ (e : Explorer) (x : Node) (set : ℕ) (m n : Machine) (t : TickShown)
 
   same_shown : t ≡ tick_shown_in e.ground.system arrived (picture m)
   same_shown = λ i. record {
+    executor = same_executor i;
     seen = same_seen i;
     failure = same_failure i;
     over = same_over i;
@@ -93,34 +106,39 @@ module _ (e : Explorer) (x : Node) (set : ℕ) (m n : Machine) (t : TickShown)
       ap (λ S. key S (need_of e.ground.needs) (picture n)) (ticked.system ∙ ticked.is.system)
       ∙ ap (key e.ground.system (need_of e.ground.needs)) same_after
 
-  is_after : (y : Node) → IsMade e x y set n t.seen → IsAfter (setting_of e) x set y (picture m)
+  -- the labels behind the tick of the state
+  abbrev behind : Labels
+  behind =
+      labels_behind e set (executor_in e.ground.system arrived (picture m))
+      (seen_in e.ground.system arrived (picture m)) x.labels
+
+  is_after : (y : Node) → IsMade e x y set n t → IsAfter (setting_of e) x set y (picture m)
   is_after y made = record {
     key = sym (made.key ∙ same_key);
     over = sym (made.over ∙ ap (λ (o : Kept). o.over) same_after);
     labels =
-        subst (λ (l : Labels). IsAtLeast l
-        (next_labels e.cap e.distances set (seen_in e.ground.system arrived (picture m)) x.labels))
+        subst (λ (l : Labels). IsAtLeast l behind)
         (sym (made.labels
-        ∙ ap (λ (s : Seen). next_labels e.cap e.distances set s x.labels) same_seen))
-        (labels_are_ordered.itself
-        (next_labels e.cap e.distances set (seen_in e.ground.system arrived (picture m))
-        x.labels));
+        ∙ ap₂ (λ (o : Option Owner) (s : Seen). labels_behind e set o s x.labels)
+        same_executor same_seen))
+        (labels_are_ordered.itself behind);
   }
 
   pub is_next : OneStateTells → IsGround e.ground → x.over ≡ false → (y : Node)
-      → IsMade e x y set n t.seen → IsNext (setting_of e) x set y
+      → IsMade e x y set n t → IsNext (setting_of e) x set y
   is_next tells ground going y made =
       (tells (setting_of e) x set (picture m) ground.proper ground.suffices ground.own going
       (stands e x m ticked.is ticked.going)).next y
       (is_after y made)
 
   pub are_noted : OneStateTells → IsGround e.ground → x.over ≡ false → (peaks : Peaks)
-      → IsNoted e.cap peaks t x.labels
+      → IsNoted (levels_of e.ground.system) e.cap peaks t x.labels
       → AreNoted (setting_of e) peaks x set
   are_noted tells ground going peaks noted =
       (tells (setting_of e) x set (picture m) ground.proper ground.suffices ground.own going
       (stands e x m ticked.is ticked.going)).noted peaks
-      (subst (λ (s : TickShown). IsNoted e.cap peaks s x.labels) same_shown noted)
+      (subst (λ (s : TickShown). IsNoted (levels_of e.ground.system) e.cap peaks s x.labels)
+      same_shown noted)
 
 -- the labels after boot
 pub first_is : (S : System) (tasks routines held : ℕ) → tasks ≡ length S.tasks
@@ -150,7 +168,7 @@ pub stays_noted : (e f : Explorer) → NotesStay → setting_of f ≡ setting_of
     → AreAtLeast f.peaks e.peaks → StaysNoted AreNotedIn e f
 stays_noted e f stay same rises x set noted =
     subst (λ (s : Setting). AreNoted s f.peaks x set) (sym same)
-    (λ o is. stay e.cap f.peaks e.peaks _ x.labels rises (noted o is))
+    (λ o is. stay (levels_of e.ground.system) e.cap f.peaks e.peaks _ x.labels rises (noted o is))
 
 pub same_stay : (e f : Explorer) → f ≡ e → StaysNoted AreNotedIn e f
 same_stay e f same x set noted = subst (λ (g : Explorer). AreNotedIn g x set) (sym same) noted

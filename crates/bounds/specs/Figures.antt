@@ -2,7 +2,7 @@
 use Rattle.std.specs.Prelude.{ℕ, Bool, cond}
 use Rattle.bound_peaks.specs.Peaks.{Peaks, has_come, peak, routine_fails, task_fails}
 use Rattle.bounds.specs.declared.figure.Figure.{Figure}
-use Rattle.bounds.specs.declared.figure.Figure.TheVariants.{Errors, Hold, Jobs, Latency, Loss, Refusal, RefusedAction, Response, RoutineErrors, Shutdown}
+use Rattle.bounds.specs.declared.figure.Figure.TheVariants.{Blocked, Errors, Hold, Jobs, Latency, Loss, Refusal, RefusedAction, Response, RoutineErrors, Shutdown}
 
 abbrev pub one_if : Bool → ℕ
 one_if comes = cond comes 1 0
@@ -11,6 +11,7 @@ one_if comes = cond comes 1 0
 -- has come
 abbrev pub told : Peaks → Figure → ℕ
 told peaks (Response k) = peak peaks.responses k
+told peaks (Blocked k) = peak peaks.blocked k
 told peaks (Jobs k) = peak peaks.jobs k
 told peaks (Refusal k) = one_if (has_come peaks.refusals k)
 told peaks (Latency i) = peak peaks.latencies i

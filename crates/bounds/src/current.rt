@@ -4,7 +4,7 @@ ghost use Rattle.std.specs.Prelude.{◌≡◌, ◌<◌, ◌≤◌, IsTrue, IfOk,
 ghost use Rattle.std.specs.List.{All};
 ghost use Rattle.kept_state.specs.KeptTick.{boot_in, tick_in};
 ghost use Rattle.observations.specs.Seen.{seen_of};
-ghost use Rattle.shown_ticks.specs.Seen.{failure_in, seen_in};
+ghost use Rattle.shown_ticks.specs.Seen.{executor_in, failure_in, seen_in};
 ghost use Rattle.kernel.specs.Machine.{IsOfRun, next_tick, picture, system_of};
 ghost use Rattle.needs.specs.Table.{need_of};
 ghost use Rattle.state_keys.specs.Key.{key};
@@ -64,6 +64,8 @@ pub(crate) fn tick_from<'s>(
         ≡ (tick_in (system_of from.now) arrived.now (picture from.now)).after }
     ensures seen { seen_of watcher.new
         ≡ seen_in (system_of from.now) arrived.now (picture from.now) }
+    ensures executor { watcher.new.executor
+        ≡ executor_in (system_of from.now) arrived.now (picture from.now) }
     ensures failure { watcher.new.failure
         ≡ failure_in (system_of from.now) arrived.now (picture from.now) }
     ensures of_run { IsOfRun false machine.new }

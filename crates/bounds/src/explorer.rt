@@ -201,8 +201,7 @@ impl<'s, 'w, W: Watch> Steps for Explorer<'s, 'w, W> {
         notes_stay();
         tick_from(machine, &mut self.current, &self.arrived, &mut self.watcher);
         let seen = self.watcher.seen();
-        self.labels
-            .become_next(self.cap, self.distances, choice, seen, labels)?;
+        self.labels.become_next(self.system, self.cap, self.distances, choice, seen, labels)?;
         let Some(node) = node_of(
             alloc,
             &self.current,
@@ -214,8 +213,10 @@ impl<'s, 'w, W: Watch> Steps for Explorer<'s, 'w, W> {
             return Ok(None);
         };
         let is_over = self.current.is_shut_down();
-        let rises = self.peaks.note(self.cap, seen, is_over, labels)?;
-        self.trails.came(from.entry(), choice, rises, &self.peaks);
+        let rises = self
+            .peaks
+            .note(self.system, self.cap, seen, is_over, labels)?;
+        self.trails.came(from.entry(), choice, rises, &self.peaks)?;
         Ok(Some(node))
     }
 

@@ -14,6 +14,8 @@ use std::alloc::{AllocError, Global};
 pub enum Figure {
     /// The greatest response of a task.
     Response(usize),
+    /// The most ticks for which a task's oldest job is blocked.
+    Blocked(usize),
     /// The most jobs of a task at once.
     Jobs(usize),
     /// Whether an activation of a task is refused.
@@ -49,6 +51,7 @@ impl Figure {
     {
         match self {
             Figure::Response(task) => peaks.response(task),
+            Figure::Blocked(task) => peaks.blocked(task),
             Figure::Jobs(task) => peaks.jobs(task),
             Figure::Refusal(task) => coming(peaks.has_refusal(task)),
             Figure::Latency(routine) => peaks.latency(routine),
@@ -79,6 +82,7 @@ pub fn figures_of(alloc: Global, system: &System) -> Result<Vec<Figure>, AllocEr
     let mut figures = Vec::new(alloc);
     for task in 0..system.task_count() {
         figures.push(Figure::Response(task))?;
+        figures.push(Figure::Blocked(task))?;
         figures.push(Figure::Jobs(task))?;
         figures.push(Figure::Refusal(task))?;
         figures.push(Figure::Errors(task))?;

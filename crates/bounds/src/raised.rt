@@ -38,7 +38,7 @@ impl Raised {
             resources: 0,
         };
         for task in 0..system.task_count() {
-            if !labels.has_older_jobs(others, task) {
+            if !labels.has_older_jobs(others, task) || !labels.has_more_blocked(others, task) {
                 raised.tasks = with(raised.tasks, task);
             }
         }
@@ -58,7 +58,7 @@ impl Raised {
     /// Whether the label by which a figure goes is raised.
     pub(crate) fn has(self, figure: Figure) -> bool {
         match figure {
-            Figure::Response(task) => has(self.tasks, task),
+            Figure::Response(task) | Figure::Blocked(task) => has(self.tasks, task),
             Figure::Latency(routine) => has(self.routines, routine),
             Figure::Hold(resource) => has(self.resources, resource),
             Figure::Jobs(_)

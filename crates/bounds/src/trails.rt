@@ -29,6 +29,8 @@ pub struct Trails {
     entries: Vec<Kept>,
     raised: Vec<Raised>,
     origins: Vec<Origin>,
+    /// The tick in which each service was answered other than E_OK first, in the order of the peaks.
+    failed: Vec<Step>,
     last: Step,
 }
 
@@ -53,21 +55,26 @@ impl Trails {
             entries: Vec::new(alloc),
             raised: Vec::new(alloc),
             origins,
+            failed: Vec::new(alloc),
             last: NO_STEP,
         })
     }
 
     /// A tick was made from the node of an entry, in which the routines of a set arrive. Where peaks
-    /// rise by it, it is the first that shows them.
-    pub(crate) fn came(&mut self, before: Option<usize>, set: u64, rises: bool, peaks: &Peaks) {
+    /// rise by it, it is the first that shows them. An error is want of memory.
+    pub(crate) fn came(
+        &mut self,
+        before: Option<usize>,
+        set: u64,
+        rises: bool,
+        peaks: &Peaks,
+    ) -> Result<(), AllocError> {
         self.last = Step { before, set };
-        if rises {
-            self.compare(peaks);
-        }
+        if rises { self.compare(peaks) } else { Ok(()) }
     }
 
     /// The last tick may have shown more than was seen before.
-    fn compare(&mut self, peaks: &Peaks) {
+    fn compare(&mut self, peaks: &Peaks) -> Result<(), AllocError> {
         let step = self.last;
         for origin in self.origins.iter_mut() {
             let value = origin.figure.told(peaks);
@@ -76,6 +83,10 @@ impl Trails {
                 origin.step = step;
             }
         }
+        for _service in self.failed.len()..peaks.failures().len() {
+            self.failed.push(step)?;
+        }
+        Ok(())
     }
 
     /// One more entry, and its number.
@@ -124,10 +135,10 @@ impl Trails {
         None
     }
 
-    /// Which of two entries tells how the label of a figure came to be.
-    fn side(&self, number: usize, older: u32, raised: u32, figure: Figure) -> usize {
-        match self.raised.get(raised as usize) {
-            Some(raised) if raised.has(figure) => number.saturating_sub(1),
+    /// Which of two entries tells how the label of a figure came to be, if it goes by one.
+    fn side(&self, number: usize, older: u32, raised: u32, figure: Option<Figure>) -> usize {
+        match (self.raised.get(raised as usize), figure) {
+            (Some(raised), Some(figure)) if raised.has(figure) => number.saturating_sub(1),
             _ => older as usize,
         }
     }
@@ -159,10 +170,30 @@ impl Trails {
     /// The sets of routines that arrive in the ticks of a run that may show what is told of a
     /// figure, the last tick first. An error is want of memory.
     pub fn path(&self, alloc: Global, figure: Figure) -> Result<Vec<u64>, AllocError> {
+        match self.origin(figure) {
+            Some(step) => self.path_to(alloc, step, Some(figure)),
+            None => Ok(Vec::new(alloc)),
+        }
+    }
+
+    /// The same of a run in whose last tick the service of a number among the peaks' is answered
+    /// other than E_OK.
+    pub fn path_of_service(&self, alloc: Global, number: usize) -> Result<Vec<u64>, AllocError> {
+        match self.failed.get(number) {
+            Some(step) => self.path_to(alloc, *step, None),
+            None => Ok(Vec::new(alloc)),
+        }
+    }
+
+    /// The sets of routines that arrive in the ticks up to a step, the last tick first, by which the
+    /// label of a figure came to be, if it goes by one.
+    fn path_to(
+        &self,
+        alloc: Global,
+        step: Step,
+        figure: Option<Figure>,
+    ) -> Result<Vec<u64>, AllocError> {
         let mut sets = Vec::new(alloc);
-        let Some(step) = self.origin(figure) else {
-            return Ok(sets);
-        };
         sets.push(step.set)?;
         let mut at = step.before;
         for _entry in 0..self.entries.len() {

@@ -3,7 +3,7 @@
 use crate::search_watch::SearchWatch;
 use crate::witnessing::write_witness;
 use bound_tables::{
-    Told, figure_named, json_of, write_decided, write_lines, write_remarks, write_undecided,
+    Told, is_known, json_of, write_decided, write_lines, write_remarks, write_undecided,
     write_up_to,
 };
 use bounds::{Bounds, Extent, find_bounds};
@@ -18,7 +18,7 @@ use search::{Outcome, Progress};
 use std::alloc::{AllocError, Global};
 use std::io::Write;
 use tracer::RunFault;
-use witnesses::{endless_tasks, reached_figures};
+use witnesses::{endless_tasks, failing_services, reached_figures};
 
 /// What is asked of bounds, and whether it is said what the figures mean.
 #[derive(Clone, Copy, Debug)]
@@ -104,9 +104,10 @@ fn distance_fault<'v>(system: &System, distances: &[Distance<'v>]) -> Option<Dis
 /// The figure of which a run is wanted, where nothing of the system has it.
 fn unknown_figure<'v>(system: &System, line: BoundsLine<'v>) -> Option<Wanted<'v>> {
     let wanted = line.witness?;
-    match figure_named(system, wanted.name, wanted.column) {
-        Some(_named) => None,
-        None => Some(wanted),
+    if is_known(system, wanted.name, wanted.column) {
+        None
+    } else {
+        Some(wanted)
     }
 }
 
@@ -164,6 +165,7 @@ fn write_found<'v, O: Write>(
                 bounds: found,
                 reached: &[],
                 endless: &[],
+                failing: &[],
             };
             write_undecided(obstacle, progress, out)?;
             if line.form == Form::Table && line.witness.is_none() {
@@ -180,10 +182,12 @@ fn write_found<'v, O: Write>(
     }
     let reached = reached_figures(alloc, system, mode, distances, found)?;
     let endless = endless_tasks(alloc, system, mode, distances, found)?;
+    let failing = failing_services(alloc, system, mode, distances, found)?;
     let told = Told {
         bounds: found,
         reached: &reached,
         endless: &endless,
+        failing: &failing,
     };
     write_bounds(alloc, system, told, progress, line.form, out)?;
     Ok(Verdict::Searched {

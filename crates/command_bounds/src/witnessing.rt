@@ -1,6 +1,6 @@
 //! What is written of a run that shows a figure: its arrivals, and how many ticks show it.
 
-use bound_tables::{NamedFigure, figure_named};
+use bound_tables::{NamedFigure, figure_named, service_named, service_text};
 use bounds::{Bounds, Figure};
 use command_answers::Verdict;
 use command_requests::Wanted;
@@ -8,7 +8,7 @@ use osek_base::{Arrivals, ModeId, System};
 use std::alloc::{AllocError, Global};
 use std::io::{self, Write};
 use tracer::RunFault;
-use witnesses::{Endless, Witness, find_endless, find_witness};
+use witnesses::{Endless, Witness, find_endless, find_failing, find_witness};
 
 /// Writes arrivals as a list.
 fn write_arrivals<O: Write>(system: &System, arrivals: &Arrivals, out: &mut O) -> io::Result<()> {
@@ -64,7 +64,32 @@ fn add_endless(alloc: Global, endless: &Endless, lines: &mut String) -> Result<(
     lines.push_str(&line)
 }
 
-/// Writes the arrivals of a run that shows what is told of a figure.
+/// Writes the arrivals of a run in whose last tick a service is answered as it is told.
+fn write_failing<'v, O: Write>(
+    alloc: Global,
+    system: &System,
+    mode: ModeId,
+    distances: &[u32],
+    found: &Bounds,
+    wanted: Wanted<'v>,
+    out: &mut O,
+) -> Result<Verdict<'v>, RunFault> {
+    let Some(number) = service_named(system, found, wanted.name, wanted.column) else {
+        return Ok(Verdict::NoFigure(wanted));
+    };
+    let Some(failure) = found.peaks.failures().get(number) else {
+        return Ok(Verdict::NoFigure(wanted));
+    };
+    let Some(witness) = find_failing(alloc, system, mode, distances, found, number)? else {
+        return Ok(Verdict::NoWitness(wanted));
+    };
+    let service = service_text(alloc, system, failure)?;
+    let line = format!(in alloc; "{} ticks: service {service}\n", witness.ticks)?;
+    write_arrivals(system, &witness.arrivals, out)?;
+    Ok(Verdict::Witnessed(line))
+}
+
+/// Writes the arrivals of a run that shows what is told of a figure, or of a service.
 pub(crate) fn write_witness<'v, O: Write>(
     alloc: Global,
     system: &System,
@@ -75,7 +100,7 @@ pub(crate) fn write_witness<'v, O: Write>(
     out: &mut O,
 ) -> Result<Verdict<'v>, RunFault> {
     let Some(named) = figure_named(system, wanted.name, wanted.column) else {
-        return Ok(Verdict::NoFigure(wanted));
+        return write_failing(alloc, system, mode, distances, found, wanted, out);
     };
     let Some(witness) = find_witness(alloc, system, mode, distances, found, named.figure)? else {
         return Ok(Verdict::NoWitness(wanted));

@@ -2,7 +2,7 @@
 
 use crate::help;
 use crate::request::form;
-use bound_kinds::is_column;
+use bound_kinds::{is_column, place_of};
 use clap::ArgMatches;
 use figures::Form;
 use osek_base::MAX_TICKS;
@@ -40,7 +40,7 @@ pub struct BoundsLine<'a> {
 pub struct Wanted<'a> {
     /// The name of a task, routine, resource or alarm.
     pub name: &'a str,
-    /// The word of its column; None for the first.
+    /// The word of its column, or the place of a service; None for the first column.
     pub column: Option<&'a str>,
 }
 
@@ -95,7 +95,7 @@ fn figure_wanted<'a>(matches: &ArgMatches<'a>) -> Option<Wanted<'a>> {
     }
 }
 
-/// Whether a run is wanted of a figure that no column has.
+/// Whether a run is wanted of a figure that no column has, and that is no place of a service.
 fn has_unknown_column(matches: &ArgMatches<'_>) -> bool {
     match figure_wanted(matches) {
         Some(
@@ -103,7 +103,7 @@ fn has_unknown_column(matches: &ArgMatches<'_>) -> bool {
                 column: Some(word),
                 ..
             },
-        ) => !is_column(word),
+        ) => !is_column(word) && place_of(word).is_none(),
         _ => false,
     }
 }

@@ -3,6 +3,7 @@ pub mod Ages
 pub mod AgeOrder
 pub mod Pending
 pub mod Holding
+pub mod Blocking
 pub mod Counts
 pub mod Times
 pub mod Merging

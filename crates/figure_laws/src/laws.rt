@@ -6,6 +6,7 @@ ghost use Rattle.figure_laws.specs.Ages.{
   OldestIsAge,
   ResponsesAreAges,
 };
+ghost use Rattle.figure_laws.specs.Blocking.{BlockedIsCounted, BlockingKeepsOrder};
 ghost use Rattle.figure_laws.specs.Counts.{CountsTell};
 ghost use Rattle.figure_laws.specs.Holding.{HoldingKeepsOrder, HoldsAreKnown, HoldsAreLabels};
 ghost use Rattle.figure_laws.specs.Merging.{LabelsMerge};
@@ -62,6 +63,17 @@ pub fn holds_are_labels()
 /// A longer hold stays longer, and shows no less.
 pub fn holding_keeps_order()
     ensures { HoldingKeepsOrder }
+{}
+
+/// The ticks in which a task is READY while a lower one executes are those that figures count as
+/// blocked.
+pub fn blocked_is_counted()
+    ensures { BlockedIsCounted }
+{}
+
+/// Where a job has been blocked for at least as many ticks, it stays so, and shows no fewer.
+pub fn blocking_keeps_order()
+    ensures { BlockingKeepsOrder }
 {}
 
 /// Refusals, losses and errors are 0, and no first one is told, exactly where none is seen in any

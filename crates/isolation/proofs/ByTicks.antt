@@ -1,6 +1,6 @@
 -- Figures of a task but for blockers go by what is seen of it, by whether its service fails, and by
 -- whether a lower task executes while it is ready.
-use Rattle.std.proofs.Common.{◌≡◌, ℕ, ◌+◌, Bool, true, false, ◌&&◌, cond, nat_lt, List, [], ◌∷◌, map, refl, sym, ◌∙◌, ap, ap₂}
+use Rattle.std.proofs.Common.{◌≡◌, ℕ, ◌+◌, Bool, ◌&&◌, cond, nat_lt, List, [], ◌∷◌, map, refl, sym, ◌∙◌, ap, ap₂}
 use Rattle.std.specs.Prelude.{None}
 use Rattle.std.specs.List.{fold}
 use Rattle.osek_base.specs.declared.status.TaskState.{TaskState}
@@ -14,11 +14,8 @@ use Rattle.figures.specs.Reaching.{first_tick, put}
 use Rattle.figures.specs.ResponseSums.{entered, later, oldest_response, ready_since, response_figures, responses, spread}
 use Rattle.figures.specs.StateSums.{begun, has_begun, is_blocked, is_executed, is_preempted, is_ready, is_waited, leaves, ready_time, task_times, time_of, times}
 use Rattle.figures.specs.TaskSums.{first_refusal, task_counts, unfinished}
+use Rattle.figure_laws.specs.Blocking.{stands_ready}
 use Rattle.isolation.specs.SameFigures.{but_blockers}
-
-abbrev pub stands_ready : TaskState → Bool
-stands_ready TaskState.Ready = true
-stands_ready _ = false
 
 -- what of a tick counts
 abbrev pub plain_tick : TaskTick → TaskTick

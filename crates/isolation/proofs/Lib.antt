@@ -1,5 +1,2 @@
 pub mod ByTicks
-pub mod Below
-pub mod Levels
-pub mod SameTicks
 pub mod Runs

@@ -16,6 +16,7 @@ use Rattle.figures.specs.Counts.{capped}
 use Rattle.figures.specs.FigureSums.{RunFigures, held_count, is_error, is_task, levels_of, lower_executes, task_figures, task_tick, unseen_task}
 use Rattle.figures.specs.ResourceSums.{resource_figures}
 use Rattle.figures.specs.RoutineSums.{routine_figures}
+use Rattle.figure_laws.specs.Blocking.{stands_ready}
 use Rattle.run_figures.specs.RunFigures.{AreRunFigures, AreTicksOf, IsTickOf}
 use Rattle.upper_bounds.specs.Above.{AreOneAbove, IsTheSameAlarm, IsTheSameResource, IsUpperTask}
 use Rattle.upper_bounds.proofs.Sides.{routine_count, upper_there, with_part}
@@ -24,8 +25,7 @@ use Rattle.upper_figures.proofs.Carried.{alarms_same, declared_same, last_same, 
 use Rattle.upper_figures.proofs.Part.{upper_parts_show_the_same}
 use Rattle.isolation.specs.Everywhere.{IsTheSameEverywhere}
 use Rattle.isolation.specs.SameFigures.{AreTheSameAbove, FiguresAreTheSame, but_blockers}
-use Rattle.isolation.proofs.ByTicks.{plain_tick, stands_ready, task_figures_same}
-use Rattle.isolation.proofs.SameTicks.{lower_ready_same, shown}
+use Rattle.isolation.proofs.ByTicks.{plain_tick, task_figures_same}
 
 -- ---- observations of one run
 
@@ -94,7 +94,7 @@ module _ (S B : System) (p : ℕ) (pair : AreOneAbove S B p) (mode : ℕ)
     number_same = is.number ∙ sym there.number
 
     shown_here : ShowTheSameAbove S B p mine theirs
-    shown_here = shown S B p pair mode arrivals n is.going
+    shown_here = shows mode arrivals n is.going
 
     module _ (t : ℕ) (high : IsUpperTask S p t) (high_there : IsUpperTask B p t) where
       abbrev seen : TaskSeen
@@ -118,7 +118,7 @@ module _ (S B : System) (p : ℕ) (pair : AreOneAbove S B p) (mode : ℕ)
       lower_one =
           ap₂ (λ (x : TaskSeen) who. stands_ready x.state && lower_executes (levels_of S) who t)
           seen_is is.seen.executor
-          ∙ lower_ready_same S B p pair mode arrivals n is.going t high high_there
+          ∙ shown_here.blocked t high
           ∙ sym (ap₂
           (λ (x : TaskSeen) who. stands_ready x.state && lower_executes (levels_of B) who t)
           seen_there_is there.seen.executor)

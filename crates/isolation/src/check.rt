@@ -20,9 +20,10 @@ use upper_figures::upper_parts_show_the_same;
 /// system's upper part run by itself, and every proper system that is separable at p and agrees with
 /// this one from p upward, has the same view at p, in every mode, under every arrival list and for
 /// every number of ticks. Each tick shows the same of upper tasks (their states, priorities, jobs
-/// and refusals), of routines (what arrives, is lost and starts), of who holds upper resources, of
-/// upper alarms, and of the services of upper tasks and routines that fail. So all figures of these
-/// are the same: of upper tasks all but the number of blockers.
+/// and refusals, and whether they are READY while a lower task executes), of routines (what
+/// arrives, is lost and starts), of who holds upper resources, of upper alarms, and of the services
+/// of upper tasks and routines that fail. So all figures of these are the same: of upper tasks all
+/// but the number of blockers.
 pub fn check_isolation(system: &System, p: u8) -> Result<(), Denial>
     ensures denies { denied result ≡ first_denial system.now p }
     ensures accepts { IsOk result ↔ Separable system.now p }

@@ -1,3 +1,5 @@
+pub mod BareLemmas
+pub mod UnbareLemmas
 pub mod UnpackingLemmas
 pub mod WorkedLemmas
 pub mod PackingLemmas

@@ -3,10 +3,16 @@ use Rattle.std.proofs.Common.{refl}
 use Rattle.state_keys.specs.Bytes.{digits, number}
 use Rattle.number_bytes.specs.Counts.{count_bytes}
 use Rattle.number_bytes.specs.Taken.{taken_count, taken_digits, taken_number, taken_optional}
-use Rattle.packed_labels.specs.Packed.{packed}
+use Rattle.packed_labels.specs.Packed.{bare, packed}
 use Rattle.packed_labels.specs.Unpacked.{unpacked}
 use Rattle.packed_labels.specs.Worked.{WorkedLabels}
 
 pub worked : WorkedLabels
-unfolding packed unpacked count_bytes number digits taken_count taken_number taken_digits taken_optional
-worked = record { bytes = refl; back = refl; none = refl }
+unfolding bare packed unpacked count_bytes number digits taken_count taken_number taken_digits taken_optional
+worked = record {
+  bytes = refl;
+  back = refl;
+  blocked = refl;
+  blocked_back = refl;
+  none = refl;
+}

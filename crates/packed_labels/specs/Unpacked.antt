@@ -25,13 +25,23 @@ taken_hold bytes =
     let held = taken_number holder.1 in
     (record { holder = holder.0; held = held.0 }, held.1)
 
+-- beyond the end of bytes stand zeros
 unfoldable pub unpacked : List ℕ → Labels
 unpacked bytes =
     let waits = taken_list taken_number bytes in
     let ages = taken_list (taken_list taken_number) waits.1 in
     let pending = taken_list taken_optional ages.1 in
-    let holds = taken_list taken_hold pending.1 in
-    record { waits = waits.0; ages = ages.0; pending = pending.0; holds = holds.0 }
+    let resources = taken_count pending.1 in
+    let tasks = taken_count resources.1 in
+    let holds = taken_many taken_hold resources.0 tasks.1 in
+    let blocked = taken_many taken_number tasks.0 holds.1 in
+    record {
+      waits = waits.0;
+      ages = ages.0;
+      pending = pending.0;
+      holds = holds.0;
+      blocked = blocked.0;
+    }
 
 -- a wait, where one is told
 abbrev pub taken_wait : Bool → List ℕ → ℕ × List ℕ

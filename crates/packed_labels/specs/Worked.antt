@@ -5,8 +5,8 @@ use Rattle.packed_labels.specs.Packed.{packed}
 use Rattle.packed_labels.specs.Unpacked.{unpacked}
 
 -- of two routines, one of which waits for 300 ticks yet and one has an interrupt that pends for 5;
--- of two tasks, one of which has jobs of ages 7 and 130; and of two resources, one of which task 1
--- has held for 9 ticks
+-- of two tasks, one of which has jobs of ages 7 and 130; of two resources, one of which task 1 has
+-- held for 9 ticks; no job has been blocked
 abbrev pub worked_labels : Labels
 worked_labels =
     record {
@@ -14,6 +14,7 @@ worked_labels =
       ages = [] ∷ (130 ∷ 7 ∷ []) ∷ [];
       pending = None ∷ Some 5 ∷ [];
       holds = no_hold ∷ record { holder = Some 1; held = 9 } ∷ [];
+      blocked = 0 ∷ 0 ∷ [];
     }
 
 abbrev pub worked_bytes : List ℕ
@@ -21,10 +22,25 @@ worked_bytes =
     2 ∷ 172 ∷ 2 ∷ 0
     ∷ 2 ∷ 0 ∷ 2 ∷ 130 ∷ 1 ∷ 7
     ∷ 2 ∷ 0 ∷ 1 ∷ 5
-    ∷ 2 ∷ 0 ∷ 0 ∷ 1 ∷ 1 ∷ 9 ∷ []
+    ∷ 2 ∷ 2 ∷ 0 ∷ 0 ∷ 1 ∷ 1 ∷ 9 ∷ []
+
+-- and where nobody holds a resource, and the first job of the first task has been blocked for 4
+-- ticks
+abbrev pub blocked_labels : Labels
+blocked_labels =
+    record worked_labels { holds = no_hold ∷ no_hold ∷ []; blocked = 4 ∷ 0 ∷ [] }
+
+abbrev pub blocked_bytes : List ℕ
+blocked_bytes =
+    2 ∷ 172 ∷ 2 ∷ 0
+    ∷ 2 ∷ 0 ∷ 2 ∷ 130 ∷ 1 ∷ 7
+    ∷ 2 ∷ 0 ∷ 1 ∷ 5
+    ∷ 2 ∷ 2 ∷ 0 ∷ 0 ∷ 0 ∷ 0 ∷ 4 ∷ []
 
 pub record WorkedLabels : Type 0 where
   pub bytes : packed worked_labels ≡ worked_bytes
   pub back : unpacked worked_bytes ≡ worked_labels
+  pub blocked : packed blocked_labels ≡ blocked_bytes
+  pub blocked_back : unpacked blocked_bytes ≡ blocked_labels
   -- beyond their end bytes tell nothing
-  pub none : unpacked [] ≡ record { waits = []; ages = []; pending = []; holds = [] }
+  pub none : unpacked [] ≡ record { waits = []; ages = []; pending = []; holds = []; blocked = [] }

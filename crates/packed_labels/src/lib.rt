@@ -6,6 +6,7 @@ mod laws;
 mod packing;
 mod read_labels;
 mod reading;
+mod zeros;
 
 pub use free::free_routines;
 pub use laws::{packed_are_told, worked_labels};

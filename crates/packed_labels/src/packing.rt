@@ -1,10 +1,12 @@
 //! Labels are written as bytes.
 
-ghost use Rattle.std.specs.Prelude.{◌≡◌, ◌++◌, OnOk};
+ghost use Rattle.std.specs.Prelude.{◌≡◌, ◌++◌, OnOk, length};
 ghost use Rattle.std.specs.List.{flat_map};
 ghost use Rattle.state_keys.specs.Bytes.{number, optional};
-ghost use Rattle.packed_labels.specs.Packed.{hold_bytes, listed, packed};
+ghost use Rattle.number_bytes.specs.Counts.{count_bytes};
+ghost use Rattle.packed_labels.specs.Packed.{hold_bytes, listed, packed, parts};
 
+use crate::zeros::drop_zeros;
 use bound_labels::{Hold, Labels};
 use number_bytes::{push_count, push_number, push_optional};
 use std::alloc::AllocError;
@@ -99,13 +101,30 @@ fn push_each_hold(out: &mut Vec<u8>, holds: &[Hold]) -> Result<(), AllocError>
     Ok(())
 }
 
-/// Adds how many holds there are, and each.
-#[tactic(auto, using(std::proofs::lemmas::List::append_assoc))]
-fn push_holds(out: &mut Vec<u8>, holds: &[Hold]) -> Result<(), AllocError>
-    ensures { OnOk result (out.new.items ≡ out.old.items ++ listed hold_bytes holds.now) }
+/// Adds of how many resources and tasks there are holds and blocked ticks, and each.
+#[tactic(auto, using(crate::proofs::PackingLemmas::behind_counts))]
+fn push_nearly_zero(out: &mut Vec<u8>, holds: &[Hold], blocked: &[u32]) -> Result<(), AllocError>
+    ensures { OnOk result (out.new.items ≡ out.old.items
+        ++ (count_bytes (length holds.now)
+        ++ (count_bytes (length blocked.now)
+        ++ (flat_map hold_bytes holds.now
+        ++ flat_map number blocked.now)))) }
 {
     push_count(out, holds.len())?;
-    push_each_hold(out, holds)
+    push_count(out, blocked.len())?;
+    push_each_hold(out, holds)?;
+    push_each(out, blocked)
+}
+
+/// Adds the bytes of each part of labels.
+#[tactic(auto, using(crate::proofs::PackingLemmas::all_parts))]
+fn push_parts(out: &mut Vec<u8>, labels: &Labels) -> Result<(), AllocError>
+    ensures { OnOk result (out.new.items ≡ out.old.items ++ parts labels.now) }
+{
+    push_numbers(out, labels.waits())?;
+    push_ages(out, labels)?;
+    push_pending(out, labels.pending())?;
+    push_nearly_zero(out, labels.holds(), labels.blocked())
 }
 
 /// Adds the bytes of labels. An error is that there is no memory; any bytes may have been added
@@ -114,8 +133,8 @@ fn push_holds(out: &mut Vec<u8>, holds: &[Hold]) -> Result<(), AllocError>
 pub fn pack(labels: &Labels, out: &mut Vec<u8>) -> Result<(), AllocError>
     ensures { OnOk result (out.new.items ≡ out.old.items ++ packed labels.now) }
 {
-    push_numbers(out, labels.waits())?;
-    push_ages(out, labels)?;
-    push_pending(out, labels.pending())?;
-    push_holds(out, labels.holds())
+    let begin = out.len();
+    push_parts(out, labels)?;
+    drop_zeros(out, begin);
+    Ok(())
 }

@@ -11,11 +11,14 @@ fn short(number: u64) -> u32 {
     u32::try_from(number).unwrap_or(u32::MAX)
 }
 
-/// How many things follow. Each takes a byte at least.
+/// No list of labels is longer.
+const MOST: u64 = 256;
+
+/// How many things follow. The bytes that are left don't bound them, since zeros at the end don't
+/// stand there.
 fn count_in(bytes: &[u8]) -> (usize, &[u8]) {
     let (count, rest) = read_count(bytes);
-    let most = rest.len();
-    (usize::try_from(count).unwrap_or(most).min(most), rest)
+    (count.min(MOST) as usize, rest)
 }
 
 fn read_waits<'b>(labels: &mut Labels, bytes: &'b [u8]) -> Result<&'b [u8], AllocError> {
@@ -63,8 +66,12 @@ fn task_of(number: u64) -> TaskId {
     TaskId::new((number % 64) as u8)
 }
 
-fn read_holds<'b>(labels: &mut Labels, bytes: &'b [u8]) -> Result<&'b [u8], AllocError> {
-    let (count, mut rest) = count_in(bytes);
+fn read_holds<'b>(
+    labels: &mut Labels,
+    bytes: &'b [u8],
+    count: usize,
+) -> Result<&'b [u8], AllocError> {
+    let mut rest = bytes;
     for _resource in 0..count {
         let (holder, behind) = read_optional(rest);
         let (held, behind) = read_number(behind);
@@ -74,12 +81,24 @@ fn read_holds<'b>(labels: &mut Labels, bytes: &'b [u8]) -> Result<&'b [u8], Allo
     Ok(rest)
 }
 
+fn read_blocked(labels: &mut Labels, bytes: &[u8], count: usize) -> Result<(), AllocError> {
+    let mut rest = bytes;
+    for _task in 0..count {
+        let (ticks, behind) = read_number(rest);
+        labels.push_blocked(short(ticks))?;
+        rest = behind;
+    }
+    Ok(())
+}
+
 /// Reads bytes into labels, in place of what they were.
 pub(crate) fn read_into(labels: &mut Labels, bytes: &[u8]) -> Result<(), AllocError> {
     labels.clear();
     let rest = read_waits(labels, bytes)?;
     let rest = read_ages(labels, rest)?;
     let rest = read_pending(labels, rest)?;
-    let _rest = read_holds(labels, rest)?;
-    Ok(())
+    let (resources, rest) = count_in(rest);
+    let (tasks, rest) = count_in(rest);
+    let rest = read_holds(labels, rest, resources)?;
+    read_blocked(labels, rest, tasks)
 }

@@ -19,7 +19,7 @@ use Rattle.observed_runs.specs.Observed.{failure_of, task_seen, tick_at}
 use Rattle.same_future.specs.Alike.{kept_after}
 use Rattle.same_future.proofs.Covered.{none_waits}
 use Rattle.same_future.proofs.Futures.{kept_more}
-use Rattle.figures.specs.FigureSums.{RunFigures, held_count}
+use Rattle.figures.specs.FigureSums.{RunFigures, held_count, levels_of}
 use Rattle.figure_laws.specs.Ages.{ages, oldest_age}
 use Rattle.figure_laws.specs.Counts.{one_if}
 use Rattle.figure_laws.specs.Holding.{held_ticks}
@@ -40,6 +40,7 @@ use Rattle.state_keys.specs.Key.{key}
 use Rattle.run_bounds.specs.Bounds.{AreWithin, IsTickWithin, KeepDistances, LevelsBound, SearchesBound}
 use Rattle.run_bounds.specs.Nodes.{AreNoted, IsAfter, May, Node, Setting, StandsFor, routines_of, rules_of, tick_shown_from}
 use Rattle.run_bounds.proofs.Arrived.{StandFor, in_set, set_at, set_is_low, set_stands}
+use Rattle.run_bounds.proofs.Blocked.{blocked_low}
 use Rattle.run_bounds.proofs.Capped.{held_within, latency_within, leaving_within, oldest_within, waited_within}
 use Rattle.run_bounds.proofs.Failing.{failure_same, no_routine_error, no_task_error}
 use Rattle.run_bounds.proofs.Going.{boot_state}
@@ -178,7 +179,7 @@ module _ (s : Setting) (peaks : Peaks) (count : ℕ) (levels : ℕ → List Node
     abbrev seen : Seen
     seen = shown.seen
 
-    noted : IsNoted s.cap peaks shown has.node.labels
+    noted : IsNoted (levels_of S) s.cap peaks shown has.node.labels
     noted = (tried n going has).noted (after n) has.stands
 
     oldest_low : (k : ℕ) → k < length S.tasks → peak peaks.responses k < s.cap
@@ -253,7 +254,7 @@ module _ (s : Setting) (peaks : Peaks) (count : ℕ) (levels : ℕ → List Node
         (no_routine_error S s.mode arrivals n (routines_of s (set n)) (arrived n) peaks.failures
         noted.failures i none)
 
-    tick_within : IsTickWithin S s.mode peaks arrivals n
+    tick_within : IsTickWithin S s.mode s.cap peaks arrivals n
     tick_within =
         let told = runs_show S s.mode arrivals n proper going in
         let size = seen_tasks S (routines_of s (set n)) (after n) in
@@ -270,6 +271,9 @@ module _ (s : Setting) (peaks : Peaks) (count : ℕ) (levels : ℕ → List Node
               ap (λ (t : TaskSeen). t.jobs) (told.tasks k)
               ∙ jobs_same S s.mode arrivals n (routines_of s (set n)) (arrived n) k low in
               omega (arith, few, same);
+          blocked = λ k low below_cap.
+              blocked_low s arrivals n has.node.labels proper going (arrived n) has.bounds k
+              (peak peaks.blocked k) low below_cap (noted.blocked k (omega (arith, low, size)));
           shutdown = λ none.
               ap (λ (o : Kept). o.over) (sym (after_tick n going)) ∙ noted.shutdown none;
         }
@@ -369,10 +373,10 @@ levels_bound s peaks count levels proper enough own all = record {
 }
 
 -- nodes that stand for all that can come do for any number of steps
-levels_of : (s : Setting) (peaks : Peaks) (nodes : List Node)
+as_levels : (s : Setting) (peaks : Peaks) (nodes : List Node)
     → AreAll (rules_of s) (AreNoted s peaks) nodes
     → (count : ℕ) → AreLevels (rules_of s) (AreNoted s peaks) count (λ _. nodes)
-levels_of s peaks nodes all count = record {
+as_levels s peaks nodes all count = record {
   first = λ _. all.first;
   visited =
       λ k low x there. record { node = x; above = inl refl; visited = all.visited x there };
@@ -380,4 +384,4 @@ levels_of s peaks nodes all count = record {
 
 pub searches_bound : SearchesBound
 searches_bound s peaks nodes proper enough own all count =
-    levels_bound s peaks count (λ _. nodes) proper enough own (levels_of s peaks nodes all count)
+    levels_bound s peaks count (λ _. nodes) proper enough own (as_levels s peaks nodes all count)

@@ -1,6 +1,6 @@
 -- Labels up to a cap: a step of capped labels is a capped step, and what they show below the cap is
 -- what is shown without it.
-use Rattle.std.proofs.Common.{ℕ, suc, ◌≡◌, ◌<◌, ◌≤◌, ◌-◌, Bool, true, false, cond, min, List, [], ◌∷◌, ◌++◌, map, replicate, length, Option, Some, None, option_map, refl, sym, ◌∙◌, ap, ap₂, subst, arith}
+use Rattle.std.proofs.Common.{ℕ, suc, ◌≡◌, ◌<◌, ◌≤◌, ◌+◌, ◌-◌, Bool, true, false, cond, min, List, [], ◌∷◌, ◌++◌, map, replicate, length, Option, Some, None, option_map, refl, sym, ◌∙◌, ap, ap₂, subst, arith}
 use Rattle.std.specs.Prelude.{is_some, ◌||◌}
 use Rattle.std.proofs.lemmas.List.{length-map}
 use Rattle.figures.specs.declared.task_tick.TaskTick.{TaskTick}
@@ -11,6 +11,7 @@ use Rattle.figures.specs.ResponseSums.{later}
 use Rattle.figures.specs.StateSums.{leaves}
 use Rattle.figure_laws.specs.Labels.{IsAtMost}
 use Rattle.figure_laws.specs.Ages.{AreOlder, ages_in, ages_next, followed, leaving_age, oldest_age}
+use Rattle.figure_laws.specs.Blocking.{blocked_in, blocked_next, is_blocked_in}
 use Rattle.figure_laws.specs.Pending.{IsOlder, pending_in, pending_next, start_latency}
 use Rattle.figure_laws.specs.Holding.{Hold, IsLonger, held_in, held_ticks, hold_next}
 use Rattle.figure_laws.specs.Times.{waited}
@@ -154,6 +155,17 @@ module _ (cap : ℕ) where
       (longer_capped (hold_next h l) (hold_next h (capped_hold cap hold))
       (holding_keeps_order.order.next h l (capped_hold cap hold) longer))
 
+  more_blocked : (here l n : ℕ) → min cap n ≤ l → min cap (n + here) ≤ min cap (l + here)
+  more_blocked here l n more = omega (arith, more)
+
+  pub blocked_step : (t : TaskTick) (l n : ℕ) → min cap n ≤ l
+      → min cap (blocked_next t n) ≤ min cap (blocked_next t l)
+  blocked_step t l n more = go (leaves t)
+    where
+      go : (b : Bool) → min cap (cond b 0 (blocked_in t n)) ≤ min cap (cond b 0 (blocked_in t l))
+      go true = omega arith
+      go false = more_blocked (cond (is_blocked_in t) 1 0) l n more
+
   -- ---- what is shown below the cap
 
   module _ (m : ℕ) (below_cap : m < cap) where
@@ -243,3 +255,12 @@ module _ (cap : ℕ) where
         held_uncapped h hold
         (holding_keeps_order.held h l (capped_hold cap hold) m longer
         (uncapped (held_ticks h l) low))
+
+    -- ---- of blocked tasks
+
+    few_blocked : (here l n : ℕ) → min cap n ≤ l → min cap (l + here) ≤ m → n + here ≤ m
+    few_blocked here l n more low = omega (arith, more, low, below_cap)
+
+    pub blocked_within : (t : TaskTick) (l n : ℕ) → min cap n ≤ l → min cap (blocked_in t l) ≤ m
+        → blocked_in t n ≤ m
+    blocked_within t l n more low = few_blocked (cond (is_blocked_in t) 1 0) l n more low

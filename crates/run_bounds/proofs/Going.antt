@@ -18,7 +18,7 @@ use Rattle.needed_data.proofs.Runs.{runs_keep_indices}
 use Rattle.same_future.specs.Alike.{AreAlikeBy, kept_after}
 use Rattle.same_future.specs.AlikeIn.{AreAlikeIn, TicksAreAlikeIn}
 use Rattle.same_future.proofs.AlikeIn.{alike_in_ticks}
-use Rattle.shown_ticks.specs.Seen.{failure_in, seen_by, seen_in}
+use Rattle.shown_ticks.specs.Seen.{executor_in, failure_in, seen_by, seen_in}
 use Rattle.shown_ticks.specs.Shown.{KeptTicked, ticked_in}
 use Rattle.shown_ticks.specs.ShownAlike.{AreShownAlike}
 use Rattle.shown_ticks.proofs.AlikeShown.{alike_show}
@@ -80,6 +80,10 @@ module _ (S : System) (need : Need) (proper : IsProper S) (enough : Suffices S n
     unfolding seen_in
     alike_seen =
         seen_same S first_tick tick_between by_times ∙ seen_same S tick_between other_tick by_datas
+
+    alike_executor : executor_in S arrived o ≡ executor_in S arrived p
+    unfolding executor_in
+    alike_executor = by_times.executor ∙ by_datas.executor
 
     alike_failure : failure_in S arrived o ≡ failure_in S arrived p
     unfolding failure_in
@@ -151,6 +155,7 @@ module _ (tell : KeysTell) (one_key : AlikeHaveOneKey) (ranged : RunsAreInRange)
             (in_range S proper ranged (tick_in S arrived p).after
             (goes_on S proper p arrived second going_too)) both.after;
         over = ap (λ (x : Kept). x.over) both.after.rest;
+        executor = alike_executor S need proper enough o p held held_too alike arrived;
         seen = alike_seen S need proper enough o p held held_too alike arrived;
         failure = alike_failure S need proper enough o p held held_too alike arrived;
       }

@@ -8,5 +8,6 @@ pub mod Going
 pub mod Seen
 pub mod Failing
 pub mod Standing
+pub mod Blocked
 pub mod Bounding
 pub mod Trying

@@ -16,8 +16,12 @@ still_noted xs ys more None there = tt
 still_noted xs ys more (Some x) there = more x there
 
 pub notes_stay : NotesStay
-notes_stay cap peaks others t l rise noted = record {
+notes_stay levels cap peaks others t l rise noted = record {
   responses = λ k low. no_more _ _ _ (rise.responses k) (noted.responses k low);
+  blocked = λ k low.
+      let before = noted.blocked k low in
+      let more = rise.blocked k in
+      omega (arith, before, more);
   jobs = λ k low.
       let before = noted.jobs k low in
       let more = rise.jobs k in

@@ -17,18 +17,20 @@ use Rattle.kernel.specs.Told.{acted_in, task_at_in}
 use Rattle.observations.specs.Seen.{Seen}
 use Rattle.observations.specs.declared.routine_seen.RoutineSeen.{RoutineSeen}
 use Rattle.observations.specs.declared.task_seen.TaskSeen.{TaskSeen}
-use Rattle.observed_runs.specs.Observed.{activations_by, ending, executed_in, is_by, is_number, is_waiting, lost_of, one_if, refusing, state_seen}
+use Rattle.observed_runs.specs.Observed.{activations_by, ending, executed_in, is_by, is_number, is_waiting, lost_of, one_if, owner_of, refusing, state_seen}
 use Rattle.same_future.specs.Alike.{kept_after}
 use Rattle.same_future.specs.Spans.{is_pending_in}
 use Rattle.same_future.proofs.Tables.{length-table, table_at}
-use Rattle.shown_ticks.specs.Seen.{seen_in}
+use Rattle.shown_ticks.specs.Seen.{executor_in, seen_in}
 use Rattle.shown_ticks.specs.Shown.{KeptTicked, alarm_seen_in, holders_seen_in, kept_tick_at, routine_seen_in, scheduler_seen_in, task_seen_in, ticked_in}
-use Rattle.figures.specs.FigureSums.{held_count}
+use Rattle.figures.specs.declared.task_tick.TaskTick.{TaskTick}
+use Rattle.figures.specs.FigureSums.{held_count, levels_of, lower_executes}
+use Rattle.figure_laws.specs.Blocking.{blocked_in, blocked_next}
 use Rattle.figure_laws.specs.Holding.{Hold}
 use Rattle.figure_laws.specs.Seen.{AgesAgree, HoldsAgree, PendingAgrees}
 use Rattle.figure_laws.proofs.Seen.{labels_go_by_seen}
-use Rattle.run_figures.specs.RunFigures.{alarm_ticks, holder_ticks, routine_ticks, task_ticks}
-use Rattle.bound_labels.specs.Ticks.{alarm_in, holder_tick, no_alarm, no_routine, no_task, routine_in, routine_tick, task_in, task_tick}
+use Rattle.run_figures.specs.RunFigures.{alarm_ticks, executors, holder_ticks, routine_ticks, task_ticks}
+use Rattle.bound_labels.specs.Ticks.{alarm_in, blocked_tick, holder_tick, no_alarm, no_routine, no_task, routine_in, routine_tick, task_in, task_tick}
 use Rattle.run_bounds.proofs.Arrived.{StandFor}
 
 -- ---- the lists
@@ -87,6 +89,11 @@ module _ (S : System) (chosen : List ℕ) (o : Kept) where
 
 -- ---- a tick of a run
 
+-- a task is blocked in both of two ticks, or in none, and they leave the same
+pub record BlockedAgrees (t u : TaskTick) (n : ℕ) : Type 0 where
+  pub next : blocked_next t n ≡ blocked_next u n
+  pub blocked : blocked_in t n ≡ blocked_in u n
+
 module _ (S : System) (mode : ℕ) (arrivals : List Arrival) (n : ℕ) (chosen : List ℕ)
     (stand : StandFor S mode arrivals n chosen) where
   abbrev here : Kept
@@ -144,6 +151,10 @@ module _ (S : System) (mode : ℕ) (arrivals : List Arrival) (n : ℕ) (chosen :
       ap (λ (r : KeptRecorded). slice_index_or (holders_seen_in S r.state) k None) stand.before
       ∙ sym (holder_at S chosen here k)
 
+  executor_same : executors S mode arrivals n ≡ executor_in S chosen here
+  unfolding executor_in
+  executor_same = λ i. option_map owner_of (executed_in (stand.tick i).events)
+
   -- ---- labels
 
   pub ages_agree : (k : ℕ) → k < length S.tasks → (old : List ℕ)
@@ -166,6 +177,19 @@ module _ (S : System) (mode : ℕ) (arrivals : List Arrival) (n : ℕ) (chosen :
   holds_agree k hold =
       labels_go_by_seen.holds (holder_ticks S mode arrivals k n) (holder_tick seen k) hold
       (holder_same k)
+
+  pub blocked_agrees : (k : ℕ) → k < length S.tasks → (old : ℕ)
+      → BlockedAgrees (task_ticks S mode arrivals k n)
+      (blocked_tick (lower_executes (levels_of S) (executor_in S chosen here)) seen k) old
+  blocked_agrees k low old =
+      let told_as = λ (t : TaskSeen) (who : Option Owner). record (task_tick seen k) {
+        seen = t;
+        lower_executes = lower_executes (levels_of S) who k;
+      } in
+      record {
+        next = λ i. blocked_next (told_as (task_same k low i) (executor_same i)) old;
+        blocked = λ i. blocked_in (told_as (task_same k low i) (executor_same i)) old;
+      }
 
   -- ---- counts
 

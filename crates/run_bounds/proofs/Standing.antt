@@ -1,5 +1,5 @@
 -- Labels that are at least those of a run, up to a cap, stay so in each tick.
-use Rattle.std.proofs.Common.{ℕ, zero, suc, ◌≡◌, ◌<◌, ◌≤◌, ◌-◌, Bool, true, false, cond, List, [], replicate, length, get_or, Option, None, sym, ◌∙◌, ap, subst, subst₂, arith}
+use Rattle.std.proofs.Common.{ℕ, zero, suc, ◌≡◌, ◌<◌, ◌≤◌, ◌-◌, Bool, true, false, cond, min, List, [], replicate, length, get_or, Option, None, sym, ◌∙◌, ap, subst, subst₂, arith}
 use Rattle.std.proofs.lemmas.List.{length-replicate}
 use Rattle.osek_base.specs.declared.arrivals.Arrival.{Arrival}
 use Rattle.osek_base.specs.System.{System}
@@ -10,18 +10,19 @@ use Rattle.same_future.specs.Shown.{arrives}
 use Rattle.same_future.proofs.Tables.{length-table, table_at}
 use Rattle.figures.specs.FigureSums.{held_count}
 use Rattle.figure_laws.specs.Ages.{AreOlder, ages, ages_next}
+use Rattle.figure_laws.specs.Blocking.{blocked_next, blocking}
 use Rattle.figure_laws.specs.Pending.{IsOlder, pending, pending_next}
 use Rattle.figure_laws.specs.Holding.{Hold, IsLonger, hold_next, holding}
 use Rattle.figure_laws.proofs.AgeOrder.{ages_keep_order}
 use Rattle.figure_laws.proofs.Pending.{pending_keeps_order}
 use Rattle.figure_laws.proofs.Holding.{holding_keeps_order}
 use Rattle.run_figures.specs.RunFigures.{holder_ticks, label_before, routine_ticks, task_ticks}
-use Rattle.bound_labels.specs.Labels.{IsAtLeast, Labels, ages_of, capped_hold, distance_of, hold_of, next_ages, next_hold, next_labels, next_pending, next_wait, no_hold, pending_of, wait_of}
-use Rattle.bound_labels.specs.Ticks.{holder_tick, routine_tick, task_tick}
-use Rattle.run_bounds.specs.Nodes.{Setting, labels_at_boot, routines_of, seen_from}
+use Rattle.bound_labels.specs.Labels.{IsAtLeast, Labels, ages_of, blocked_of, capped_hold, distance_of, hold_of, next_ages, next_blocked, next_hold, next_labels, next_pending, next_wait, no_hold, pending_of, wait_of}
+use Rattle.bound_labels.specs.Ticks.{blocked_tick, holder_tick, routine_tick, task_tick}
+use Rattle.run_bounds.specs.Nodes.{Setting, labels_at_boot, lower_from, routines_of, seen_from}
 use Rattle.run_bounds.proofs.Arrived.{StandFor, in_set, set_at}
-use Rattle.run_bounds.proofs.Capped.{ages_step, capped_age, capped_ages, holds_step, pending_step}
-use Rattle.run_bounds.proofs.Seen.{ages_agree, holds_agree, pending_agrees}
+use Rattle.run_bounds.proofs.Capped.{ages_step, blocked_step, capped_age, capped_ages, holds_step, pending_step}
+use Rattle.run_bounds.proofs.Seen.{ages_agree, blocked_agrees, holds_agree, pending_agrees}
 
 module _ (s : Setting) (arrivals : List Arrival) where
   abbrev S : System
@@ -41,12 +42,16 @@ module _ (s : Setting) (arrivals : List Arrival) where
   abbrev pub hold_at : ℕ → ℕ → Hold
   hold_at r n = label_before holding (holder_ticks S s.mode arrivals r) n
 
+  abbrev pub blocked_before : ℕ → ℕ → ℕ
+  blocked_before k n = label_before blocking (task_ticks S s.mode arrivals k) n
+
   -- labels are at least those, up to the cap
   pub record AreBoundsAt (n : ℕ) (l : Labels) : Type 0 where
     pub routines : length l.waits ≡ length S.routines
     pub tasks : length l.ages ≡ length S.tasks
     pub interrupts : length l.pending ≡ length S.routines
     pub resources : length l.holds ≡ held_count S
+    pub blockable : length l.blocked ≡ length S.tasks
     pub sooner : (i : ℕ) → i < length S.routines → wait_of l i ≤ waits_at n i
     pub ages : (k : ℕ) → k < length S.tasks
         → AreOlder (ages_of l k) (capped_ages s.cap (ages_at k n))
@@ -54,6 +59,7 @@ module _ (s : Setting) (arrivals : List Arrival) where
         → IsOlder (pending_of l i) (capped_age s.cap (pending_at i n))
     pub holds : (r : ℕ) → r < held_count S
         → IsLonger (hold_of l r) (capped_hold s.cap (hold_at r n))
+    pub blocked : (k : ℕ) → k < length S.tasks → min s.cap (blocked_before k n) ≤ blocked_of l k
 
   -- ---- greater labels, and those after boot
 
@@ -63,6 +69,7 @@ module _ (s : Setting) (arrivals : List Arrival) where
     tasks = more.tasks ∙ bounds.tasks;
     interrupts = more.interrupts ∙ bounds.interrupts;
     resources = more.resources ∙ bounds.resources;
+    blockable = more.blockable ∙ bounds.blockable;
     sooner = λ i low.
         let one = more.sooner i in
         let other = bounds.sooner i low in
@@ -76,6 +83,10 @@ module _ (s : Setting) (arrivals : List Arrival) where
     holds =
         λ r low. holding_keeps_order.order.joined (hold_of l r) (hold_of m r)
         (capped_hold s.cap (hold_at r n)) (more.holds r) (bounds.holds r low);
+    blocked = λ k low.
+        let one = more.blocked k in
+        let other = bounds.blocked k low in
+        omega (arith, one, other);
   }
 
   no_wait : (i : ℕ) → wait_of (labels_at_boot S) i ≤ 0
@@ -92,10 +103,12 @@ module _ (s : Setting) (arrivals : List Arrival) where
     tasks = length-replicate (length S.tasks) [];
     interrupts = length-replicate (length S.routines) None;
     resources = length-replicate (held_count S) no_hold;
+    blockable = length-replicate (length S.tasks) 0;
     sooner = λ i low. no_wait i;
     ages = λ k low. tt;
     pending = λ i low. tt;
     holds = λ r low t. omega arith;
+    blocked = λ k low. omega arith;
   }
 
   -- ---- a tick
@@ -108,8 +121,11 @@ module _ (s : Setting) (arrivals : List Arrival) where
     abbrev seen : Seen
     seen = seen_from s set (kept_after S s.mode arrivals n)
 
+    abbrev lower : ℕ → Bool
+    lower = lower_from s set (kept_after S s.mode arrivals n)
+
     abbrev next : Labels
-    next = next_labels s.cap s.distances set seen l
+    next = next_labels lower s.cap s.distances set seen l
 
     waits_less : (chosen : Bool) (d m k : ℕ) → m ≤ k → cond chosen d m - 1 ≤ cond chosen d k - 1
     waits_less true d m k low = omega arith
@@ -167,6 +183,21 @@ module _ (s : Setting) (arrivals : List Arrival) where
         subst₂ IsLonger (sym here) (ap (capped_hold s.cap) (sym same))
         (holds_step s.cap (holder_tick seen r) (hold_of l r) (hold_at r n) (bounds.holds r low))
 
+    blocks : (k : ℕ) → k < length S.tasks
+        → min s.cap (blocked_before k (suc n)) ≤ blocked_of next k
+    blocks k low =
+        let size = bounds.blockable in
+        let here : blocked_of next k ≡ next_blocked lower s.cap seen l k =
+        table_at (next_blocked lower s.cap seen l) (length l.blocked) k 0
+        (omega (arith, low, size)) in
+        let same : blocked_next (task_ticks S s.mode arrivals k n) (blocked_before k n)
+        ≡ blocked_next (blocked_tick lower seen k) (blocked_before k n) =
+        (blocked_agrees S s.mode arrivals n (routines_of s set) stand k low
+        (blocked_before k n)).next in
+        subst₂ (λ (x y : ℕ). x ≤ y) (ap (min s.cap) (sym same)) (sym here)
+        (blocked_step s.cap (blocked_tick lower seen k) (blocked_of l k) (blocked_before k n)
+        (bounds.blocked k low))
+
     pub tick_bounds : AreBoundsAt (suc n) next
     tick_bounds = record {
       routines =
@@ -175,8 +206,11 @@ module _ (s : Setting) (arrivals : List Arrival) where
       interrupts =
           length-table (next_pending s.cap seen l) (length l.pending) ∙ bounds.interrupts;
       resources = length-table (next_hold s.cap seen l) (length l.holds) ∙ bounds.resources;
+      blockable =
+          length-table (next_blocked lower s.cap seen l) (length l.blocked) ∙ bounds.blockable;
       sooner = sooner;
       ages = older;
       pending = pends;
       holds = longer;
+      blocked = blocks;
     }

@@ -6,14 +6,14 @@ use Rattle.std.proofs.lemmas.Nat.Bits.{bit_at-lt, bit_at_above}
 use Rattle.osek_base.specs.Proper.{IsProper}
 use Rattle.kept_state.specs.Kept.{Kept}
 use Rattle.needed_data.specs.Need.{Suffices}
-use Rattle.observations.specs.Seen.{Seen}
+use Rattle.figures.specs.FigureSums.{levels_of, lower_executes}
 use Rattle.search.specs.Subsets.{IsSubset}
 use Rattle.search.proofs.SubsetLemmas.{subset_within}
 use Rattle.state_keys.specs.InRange.{NeedsOwnWords}
 use Rattle.bound_labels.specs.Labels.{IsAtLeast, arrives_in, next_labels, wait_of}
 use Rattle.bound_peaks.specs.Peaks.{IsNoted, TickShown}
 use Rattle.run_bounds.specs.Going.{GoOnAlike, HaveOneFuture, KeysTellFutures}
-use Rattle.run_bounds.specs.Nodes.{May, Node, Setting, StandsFor, routines_of}
+use Rattle.run_bounds.specs.Nodes.{May, Node, Setting, StandsFor, routines_of, tick_shown_from}
 use Rattle.run_bounds.specs.Trying.{AreFree, LabelsAreOrdered, OneStateTells, StatesCome, SubsetsMay}
 use Rattle.run_bounds.proofs.Arrived.{all_chosen}
 use Rattle.run_bounds.proofs.Going.{boot_comes, goes_on}
@@ -38,6 +38,16 @@ module _ (futures : KeysTellFutures) (s : Setting) (x : Node) (set : ℕ) (o : K
       (stands.key ∙ sym too.key) in
       future.next (routines_of s set) (all_chosen s.system (arrives_in set)) (stands.over ∙ going)
 
+  shown_as : (p : Kept) → StandsFor s x p → tick_shown_from s set o ≡ tick_shown_from s set p
+  shown_as p too =
+      let alike = goes_as p too in
+      λ i. record {
+        executor = alike.executor i;
+        seen = alike.seen i;
+        failure = alike.failure i;
+        over = alike.over i;
+      }
+
 pub one_state_tells : KeysTellFutures → OneStateTells
 one_state_tells futures s x set o proper enough own going stands = record {
   next = λ y after p too.
@@ -47,15 +57,14 @@ one_state_tells futures s x set o proper enough own going stands = record {
         over = sym alike.over ∙ after.over;
         labels =
             subst
-            (λ (seen : Seen). IsAtLeast y.labels
-            (next_labels s.cap s.distances set seen x.labels))
-            alike.seen after.labels;
+            (λ (t : TickShown). IsAtLeast y.labels
+            (next_labels (lower_executes (levels_of s.system) t.executor) s.cap s.distances set
+            t.seen x.labels))
+            (shown_as futures s x set o proper enough own going stands p too) after.labels;
       };
   noted = λ peaks noted p too.
-      let alike = goes_as futures s x set o proper enough own going stands p too in
-      subst (λ (t : TickShown). IsNoted s.cap peaks t x.labels)
-      (λ i. record { seen = alike.seen i; failure = alike.failure i; over = alike.over i })
-      noted;
+      subst (λ (t : TickShown). IsNoted (levels_of s.system) s.cap peaks t x.labels)
+      (shown_as futures s x set o proper enough own going stands p too) noted;
 }
 
 -- ---- sets

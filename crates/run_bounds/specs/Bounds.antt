@@ -1,5 +1,6 @@
 -- Peaks that bound the figures of every run whose interrupts keep distances.
-use Rattle.std.specs.Prelude.{ℕ, suc, ◌≡◌, ◌<◌, ◌≤◌, false, List, [], Contains, IfSome, length, slice_index_or}
+use Rattle.std.specs.Prelude.{ℕ, suc, ◌≡◌, ◌<◌, ◌≤◌, false, List, [], Contains, IfSome, None, length, slice_index_or}
+use Rattle.std.specs.Option.{option_map}
 use Rattle.osek_base.specs.declared.arrivals.Arrival.{Arrival}
 use Rattle.osek_base.specs.Proper.{IsProper}
 use Rattle.osek_base.specs.System.{System}
@@ -7,14 +8,16 @@ use Rattle.osek_base.specs.Trace.{arriving, run}
 use Rattle.run_laws.specs.Arrived.{AreArrivals}
 use Rattle.needed_data.specs.Need.{Suffices}
 use Rattle.same_future.specs.Covering.{AreSpaced}
-use Rattle.observed_runs.specs.Observed.{failure_of, task_seen, tick_at, times}
+use Rattle.observed_runs.specs.Observed.{failure_of, owner_of, task_seen, tick_at, times}
+use Rattle.figures.specs.declared.task_tick.TaskTick.{TaskTick}
 use Rattle.figures.specs.AlarmSums.{alarm_figures}
-use Rattle.figures.specs.FigureSums.{RunFigures, held_count, task_figures}
+use Rattle.figures.specs.FigureSums.{RunFigures, held_count, levels_of, lower_executes, task_figures}
 use Rattle.figures.specs.ResourceSums.{resource_figures}
 use Rattle.figures.specs.RoutineSums.{routine_figures}
+use Rattle.figure_laws.specs.Blocking.{blocked_in, blocking}
 use Rattle.figure_laws.specs.Labels.{IsWithin}
 use Rattle.figure_laws.specs.Times.{response_time, routine_time}
-use Rattle.run_figures.specs.RunFigures.{AreRunFigures}
+use Rattle.run_figures.specs.RunFigures.{AreRunFigures, label_before}
 use Rattle.state_keys.specs.InRange.{NeedsOwnWords}
 use Rattle.search.specs.Searched.{AreAll}
 use Rattle.search.specs.Levels.{AreLevels}
@@ -57,14 +60,35 @@ pub record AreWithin (S : System) (cap : ℕ) (peaks : Peaks) (f : RunFigures) :
   pub routine_errors : (i : ℕ) → i < length S.routines → routine_fails peaks.failures i ≡ false
       → (slice_index_or f.routines i (routine_figures [])).errors ≡ 0
 
+-- what tick i of a run is for task k: what is seen of it, and whether a lower task executes
+abbrev pub run_tick : System → ℕ → List Arrival → ℕ → ℕ → TaskTick
+run_tick S mode arrivals k i =
+    record {
+      tick = i;
+      seen = task_seen S (tick_at S mode arrivals i) k;
+      lower_executes =
+          lower_executes (levels_of S) (option_map owner_of (tick_at S mode arrivals i).executed) k;
+      has_failed = false;
+      blockers = None;
+    }
+
+-- for how many ticks its oldest job has been blocked, tick n counted
+abbrev pub blocked_at : System → ℕ → List Arrival → ℕ → ℕ → ℕ
+blocked_at S mode arrivals k n =
+    blocked_in (run_tick S mode arrivals k n)
+    (label_before blocking (run_tick S mode arrivals k) n)
+
 -- tick n of a run is within peaks: a service that is answered other than E_OK is one of theirs, no
--- task has more jobs, and the run is over behind it only where they say so
-pub record IsTickWithin (S : System) (mode : ℕ) (peaks : Peaks) (arrivals : List Arrival)
+-- task has more jobs, none has been blocked for longer where that is below a cap, and the run is
+-- over behind it only where they say so
+pub record IsTickWithin (S : System) (mode cap : ℕ) (peaks : Peaks) (arrivals : List Arrival)
     (n : ℕ) : Type 0 where
   pub failures : IfSome (failure_of (tick_at S mode arrivals n).executed)
       (λ x. Contains peaks.failures x)
   pub jobs : (k : ℕ) → k < length S.tasks
       → (task_seen S (tick_at S mode arrivals n) k).jobs ≤ peak peaks.jobs k
+  pub blocked : (k : ℕ) → k < length S.tasks → peak peaks.blocked k < cap
+      → blocked_at S mode arrivals k n ≤ peak peaks.blocked k
   pub shutdown : peaks.shuts_down ≡ false → (run S mode arrivals (suc n)).state.over ≡ false
 
 -- whatever arrives that keeps the distances, for so many ticks at most
@@ -74,7 +98,7 @@ pub record AreBoundsUpTo (S : System) (mode : ℕ) (distances : List ℕ) (cap :
       → KeepDistances S distances arrivals → AreRunFigures S mode arrivals n f
       → AreWithin S cap peaks f
   pub ticks : (arrivals : List Arrival) (n : ℕ) → n < count → KeepDistances S distances arrivals
-      → (run S mode arrivals n).state.over ≡ false → IsTickWithin S mode peaks arrivals n
+      → (run S mode arrivals n).state.over ≡ false → IsTickWithin S mode cap peaks arrivals n
 
 -- and for however many ticks
 abbrev pub AreBounds : System → ℕ → List ℕ → ℕ → Peaks → Type 0

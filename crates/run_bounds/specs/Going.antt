@@ -6,16 +6,17 @@ use Rattle.osek_base.specs.Proper.{IsProper}
 use Rattle.kept_state.specs.Kept.{Kept}
 use Rattle.kept_state.specs.KeptTick.{tick_in}
 use Rattle.needed_data.specs.Need.{Need, Suffices}
-use Rattle.shown_ticks.specs.Seen.{failure_in, seen_in}
+use Rattle.shown_ticks.specs.Seen.{executor_in, failure_in, seen_in}
 use Rattle.state_keys.specs.InRange.{NeedsOwnWords}
 use Rattle.state_keys.specs.Key.{key}
 use Rattle.run_bounds.specs.Nodes.{Comes}
 
 -- the run goes on from both by the same routines: their keys stay equal, what is seen is equal, and
--- so is a service that is answered other than E_OK
+-- so are who executes and a service that is answered other than E_OK
 pub record GoOnAlike (S : System) (need : Need) (arrived : List ℕ) (o p : Kept) : Type 0 where
   pub key : key S need (tick_in S arrived o).after ≡ key S need (tick_in S arrived p).after
   pub over : (tick_in S arrived o).after.over ≡ (tick_in S arrived p).after.over
+  pub executor : executor_in S arrived o ≡ executor_in S arrived p
   pub seen : seen_in S arrived o ≡ seen_in S arrived p
   pub failure : failure_in S arrived o ≡ failure_in S arrived p
 

@@ -8,8 +8,8 @@ use Rattle.needed_data.specs.Need.{Need}
 use Rattle.same_future.specs.Alike.{kept_after}
 use Rattle.same_future.specs.Shown.{chosen_of}
 use Rattle.observations.specs.Seen.{Seen}
-use Rattle.figures.specs.FigureSums.{held_count}
-use Rattle.shown_ticks.specs.Seen.{failure_in, seen_in}
+use Rattle.figures.specs.FigureSums.{held_count, levels_of, lower_executes}
+use Rattle.shown_ticks.specs.Seen.{executor_in, failure_in, seen_in}
 use Rattle.state_keys.specs.Key.{key}
 use Rattle.search.specs.Rules.{Rules}
 use Rattle.bound_labels.specs.Labels.{Labels, IsAtLeast, arrives_in, first_labels, next_labels, wait_of}
@@ -52,10 +52,16 @@ routines_of s set = chosen_of s.system (arrives_in set)
 abbrev pub seen_from : Setting → ℕ → Kept → Seen
 seen_from s set o = seen_in s.system (routines_of s set) o
 
--- what such a tick shows
+-- than which tasks a lower one executes in such a tick
+abbrev pub lower_from : Setting → ℕ → Kept → ℕ → Bool
+lower_from s set o =
+    lower_executes (levels_of s.system) (executor_in s.system (routines_of s set) o)
+
+-- what it shows
 abbrev pub tick_shown_in : System → List ℕ → Kept → TickShown
 tick_shown_in S arrived o =
     record {
+      executor = executor_in S arrived o;
       seen = seen_in S arrived o;
       failure = failure_in S arrived o;
       over = (tick_in S arrived o).after.over;
@@ -83,7 +89,8 @@ pub record May (s : Setting) (x : Node) (set : ℕ) : Type 0 where
 pub record IsAfter (s : Setting) (x : Node) (set : ℕ) (y : Node) (o : Kept) : Type 0 where
   pub key : key s.system s.need (tick_in s.system (routines_of s set) o).after ≡ y.key
   pub over : (tick_in s.system (routines_of s set) o).after.over ≡ y.over
-  pub labels : IsAtLeast y.labels (next_labels s.cap s.distances set (seen_from s set o) x.labels)
+  pub labels : IsAtLeast y.labels
+      (next_labels (lower_from s set o) s.cap s.distances set (seen_from s set o) x.labels)
 
 abbrev pub IsNext : Setting → Node → ℕ → Node → Type 0
 IsNext s x set y = (o : Kept) → StandsFor s x o → IsAfter s x set y o
@@ -100,4 +107,4 @@ rules_of s = record { is_first = IsFirst s; may = May s; is_next = IsNext s; cov
 abbrev pub AreNoted : Setting → Peaks → Node → ℕ → Type 0
 AreNoted s peaks x set =
     (o : Kept) → StandsFor s x o
-    → IsNoted s.cap peaks (tick_shown_from s set o) x.labels
+    → IsNoted (levels_of s.system) s.cap peaks (tick_shown_from s set o) x.labels

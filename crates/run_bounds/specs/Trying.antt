@@ -7,6 +7,7 @@ use Rattle.kept_state.specs.KeptTick.{boot_in, tick_in}
 use Rattle.needed_data.specs.Need.{Suffices}
 use Rattle.state_keys.specs.InRange.{NeedsOwnWords}
 use Rattle.search.specs.Subsets.{IsSubset}
+use Rattle.figures.specs.FigureSums.{levels_of}
 use Rattle.bound_labels.specs.Labels.{IsAtLeast, Labels, arrives_in, wait_of}
 use Rattle.bound_peaks.specs.Peaks.{IsNoted, Peaks}
 use Rattle.run_bounds.specs.Nodes.{AreNoted, Comes, IsAfter, IsNext, May, Node, Setting, StandsFor, tick_shown_from}
@@ -33,7 +34,7 @@ StatesCome = (S : System) → IsProper S → Come S
 pub record TellsAll (s : Setting) (x : Node) (set : ℕ) (o : Kept) : Type 0 where
   pub next : (y : Node) → IsAfter s x set y o → IsNext s x set y
   pub noted : (peaks : Peaks)
-      → IsNoted s.cap peaks (tick_shown_from s set o) x.labels
+      → IsNoted (levels_of s.system) s.cap peaks (tick_shown_from s set o) x.labels
       → AreNoted s peaks x set
 
 abbrev pub OneStateTells : Type 0

@@ -15,7 +15,7 @@ use Rattle.figures.specs.declared.routine_figures.RoutineTick.{RoutineTick}
 use Rattle.figures.specs.declared.resource_figures.HolderTick.{HolderTick}
 use Rattle.figures.specs.declared.alarm_figures.AlarmTick.{AlarmTick}
 use Rattle.figures.specs.AlarmSums.{alarm_figures}
-use Rattle.figures.specs.FigureSums.{AreFigures, RunFigures, held_count, is_error, is_routine, is_task, task_figures}
+use Rattle.figures.specs.FigureSums.{AreFigures, RunFigures, held_count, is_error, is_routine, is_task, levels_of, lower_executes, task_figures}
 use Rattle.figures.specs.ResourceSums.{resource_figures}
 use Rattle.figures.specs.RoutineSums.{routine_figures}
 use Rattle.figure_laws.specs.Labels.{Label, IsAtMost, IsWithin}
@@ -42,12 +42,16 @@ AreTicksOf S mode arrivals (suc n) [] = ⊥
 
 -- ---- what each tick shows of a thing, as far as labels go by it
 
+-- who executes its instruction
+abbrev pub executors : System → ℕ → List Arrival → ℕ → Option Owner
+executors S mode arrivals i = option_map owner_of (kept_tick_at S mode arrivals i).executed
+
 abbrev pub task_ticks : System → ℕ → List Arrival → ℕ → ℕ → TaskTick
 task_ticks S mode arrivals k i =
     record {
       tick = i;
       seen = task_seen_in S (kept_tick_at S mode arrivals i) k;
-      lower_executes = false;
+      lower_executes = lower_executes (levels_of S) (executors S mode arrivals i) k;
       has_failed = false;
       blockers = None;
     }
@@ -71,10 +75,7 @@ abbrev pub alarm_ticks : System → ℕ → List Arrival → ℕ → ℕ → Ala
 alarm_ticks S mode arrivals k i =
     record { tick = i; seen = alarm_seen_in (kept_tick_at S mode arrivals i) k }
 
--- who executes the instruction of each tick, and what that is answered
-abbrev pub executors : System → ℕ → List Arrival → ℕ → Option Owner
-executors S mode arrivals i = option_map owner_of (kept_tick_at S mode arrivals i).executed
-
+-- what that is answered
 abbrev pub answers : System → ℕ → List Arrival → ℕ → Option Status
 answers S mode arrivals i = answered (kept_tick_at S mode arrivals i).executed
 

@@ -1,4 +1,8 @@
 pub mod Executing
+pub mod OneTick
+pub mod Levels
+pub mod Below
+pub mod Lower
 pub mod Failing
 pub mod Instructions
 pub mod Answering
@@ -8,5 +12,6 @@ pub mod Ticks
 pub mod Bare
 pub mod Observed
 pub mod Carried
+pub mod Blocked
 pub mod Within
 pub mod Part

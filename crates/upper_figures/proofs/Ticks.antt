@@ -9,67 +9,29 @@ use Rattle.osek_base.specs.declared.ids.Owner.{Owner}
 use Rattle.osek_base.specs.declared.ids.ResId.{ResId}
 use Rattle.osek_base.specs.Alarm.{alarms_advanced, due_alarms}
 use Rattle.osek_base.specs.Priority.{dynamic_priority}
-use Rattle.osek_base.specs.Proper.{IsProper}
 use Rattle.osek_base.specs.Service.{task_state}
 use Rattle.osek_base.specs.State.{State, jobs_of}
 use Rattle.osek_base.specs.System.{System}
-use Rattle.osek_base.specs.Tick.{Step, tick}
-use Rattle.osek_base.specs.Trace.{Run, arriving, run}
+use Rattle.osek_base.specs.Trace.{arriving, run}
 use Rattle.osek_base.specs.Upper.{is_upper_owner, is_upper_task}
-use Rattle.run_laws.proofs.Further.{run_more, run_tick}
-use Rattle.kept_state.specs.KeptTick.{KeptStep}
-use Rattle.kept_state.proofs.Ticked.{ticks}
 use Rattle.services.specs.Seen.{routine_of}
 use Rattle.kernel.specs.Shown.{holder, oldest_job}
 use Rattle.same_future.specs.Alike.{records_at}
-use Rattle.shown_ticks.proofs.Shown.{runs_show}
-use Rattle.observed_runs.specs.Observed.{Ticked, activations_by, alarm_seen, ending, executed_in, failure_of, is_among, is_by, is_number, is_waiting, lost_of, one_if, refusing, routine_seen, state_seen, task_seen, tick_at, times}
+use Rattle.observed_runs.specs.Observed.{Ticked, activations_by, alarm_seen, ending, failure_of, is_among, is_by, is_number, is_waiting, lost_of, one_if, refusing, routine_seen, state_seen, task_seen, tick_at, times}
 use Rattle.figures.specs.FigureSums.{is_routine, is_task}
 use Rattle.upper_bounds.specs.Above.{IsUpperTask, IsTheSameAlarm, IsTheSameResource, AreOneAbove}
 use Rattle.upper_bounds.specs.AlarmsAbove.{AlarmsAreAnsweredTheSame}
 use Rattle.upper_bounds.specs.ExecutedAbove.{ExecuteTheSame}
 use Rattle.upper_bounds.specs.StatesAbove.{HaveTheSameStates, IsSeenTheSame, executes, executing_at, holder as kept_holder}
-use Rattle.upper_figures.specs.ShownAbove.{ShowTheSameAbove, if_upper, routine_fails, task_fails}
+use Rattle.upper_figures.specs.ShownAbove.{ShowTheSameAbove, if_upper, is_blocked, routine_fails, task_fails}
 use Rattle.upper_figures.proofs.AlarmsSeen.{activations_are, due_is, has_number, is_refusal, refused_is, refuses}
 use Rattle.upper_figures.proofs.Answering.{failed_is, fails, has_failed}
 use Rattle.upper_figures.proofs.Failing.{failure_is, failure_told}
-use Rattle.upper_figures.proofs.Executing.{TickTells, executed_of_one, tick_tells_one}
+use Rattle.upper_figures.proofs.Executing.{TickTells, tick_tells_one}
 use Rattle.upper_figures.proofs.Held.{holder_declared, holder_scheduler}
 use Rattle.upper_figures.proofs.Instructions.{ending_is, ends_job, is_any, refusing_is}
-
--- ---- a tick of one system
-
-module _ (S : System) (proper : IsProper S) (mode : ℕ) (arrivals : List Arrival) (n : ℕ)
-    (going : (run S mode arrivals n).state.over ≡ false) where
-  abbrev here : State
-  here = (run S mode arrivals n).state
-
-  abbrev step : Step
-  step = tick S (arriving arrivals n) here
-
-  pub at_is : (tick_at S mode arrivals n).at ≡ executing_at S mode arrivals n
-  at_is =
-      ap (λ t. (tick S (arriving arrivals t) here).executing) (run_tick S mode arrivals n going)
-
-  pub after_is : (tick_at S mode arrivals n).after ≡ (run S mode arrivals (n + 1)).state
-  after_is = sym (ap (λ (r : Run). r.state) (run_more S mode arrivals n going))
-
-  pub executed_is : (tick_at S mode arrivals n).executed
-      ≡ executed_in (records_at S mode arrivals n)
-  executed_is =
-      (runs_show S mode arrivals n proper going).executed
-      ∙ sym (ap (λ (u : KeptStep). executed_in u.events)
-      (ticks S mode arrivals n (arriving arrivals n) proper))
-
-  tells : TickTells S (arriving arrivals n) here
-  tells = tick_tells_one S (arriving arrivals n) here
-
-  pub by_is : (who : Owner) → is_by who (tick_at S mode arrivals n).executed
-      ≡ executes (executing_at S mode arrivals n) who
-  by_is who =
-      ap (is_by who) executed_is
-      ∙ ap (is_by who) (executed_of_one S step.events tells.one)
-      ∙ tells.caller who
+use Rattle.upper_figures.proofs.Lower.{blocked_same}
+use Rattle.upper_figures.proofs.OneTick.{after_is, at_is, by_is, executed_is}
 
 -- ---- who isn't of the upper part
 
@@ -214,6 +176,11 @@ module _ (S B : System) (p : ℕ) (pair : AreOneAbove S B p) (states : HaveTheSa
       waits = executes_same i && is_waiting (waits_after i);
     }
 
+  task_blocked : (t : ℕ) → IsUpperTask S p t → is_blocked S mine t ≡ is_blocked B theirs t
+  task_blocked t is =
+      blocked_same S B p pair mode arrivals n going going_there executes_same t is (there t is)
+      (task_same t is)
+
   -- ---- routines
 
   flags_same : mine.at.pending ≡ theirs.at.pending
@@ -309,6 +276,7 @@ module _ (S B : System) (p : ℕ) (pair : AreOneAbove S B p) (states : HaveTheSa
     holders = holders_same;
     scheduler = scheduler_same;
     alarms = alarm_same;
+    blocked = task_blocked;
     errors = task_fails_same;
     routine_errors = routine_fails_same;
     failures = failure_same;

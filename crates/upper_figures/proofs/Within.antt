@@ -1,5 +1,5 @@
 -- Where each tick shows the same of the upper part, bounds of one system hold in the other.
-use Rattle.std.proofs.Common.{◌≡◌, ℕ, zero, suc, ◌<◌, inl, inr, Bool, true, false, List, [], ◌∷◌, map, length, sym, ◌∙◌, ap, ap₂, subst, arith}
+use Rattle.std.proofs.Common.{◌≡◌, ℕ, zero, suc, ◌<◌, ◌≤◌, inl, inr, Bool, true, false, List, [], ◌∷◌, map, length, sym, ◌∙◌, ap, ap₂, subst, arith}
 use Rattle.std.specs.Prelude.{Contains, IfSome, IsTrue, Option, Some, None, if◌then◌else◌, slice_index_or}
 use Rattle.std.specs.List.{AllByRecursion}
 use Rattle.std.proofs.lemmas.Bool.{cases_lt}
@@ -18,7 +18,7 @@ use Rattle.figures.specs.declared.resource_figures.ResourceFigures.{ResourceFigu
 use Rattle.figures.specs.declared.routine_figures.RoutineFigures.{RoutineFigures}
 use Rattle.figures.specs.declared.task_figures.TaskFigures.{TaskFigures}
 use Rattle.figures.specs.AlarmSums.{alarm_figures}
-use Rattle.figures.specs.FigureSums.{AreFigures, RunFigures, held_count, holder_tick, levels_of, routine_tick, task_figures, task_tick}
+use Rattle.figures.specs.FigureSums.{AreFigures, RunFigures, held_count, holder_tick, levels_of, task_figures, task_tick}
 use Rattle.figures.specs.ResourceSums.{resource_figures}
 use Rattle.figures.specs.ResponseSums.{Responses}
 use Rattle.figures.specs.RoutineSums.{routine_figures}
@@ -31,6 +31,7 @@ use Rattle.upper_bounds.specs.Above.{IsTheSameAlarm, IsTheSameResource, IsUpperT
 use Rattle.upper_figures.specs.FiguresAbove.{AreBoundsAbove, AreBoundsAboveUpTo, AreWithinAbove, alarm_in_part, resource_in_part}
 use Rattle.upper_figures.specs.ShownAbove.{TicksShowTheSame, if_upper}
 use Rattle.upper_figures.proofs.Bare.{bare_task, task_errors_bare, task_refused_bare, task_responses_bare}
+use Rattle.upper_figures.proofs.Blocked.{blocked_at_same}
 use Rattle.upper_figures.proofs.Carried.{alarms_same, declared_same, last_same, routines_same, scheduler_same, tasks_same}
 use Rattle.upper_figures.proofs.Observed.{are_figures, are_run_figures, figures_of, observed_before}
 
@@ -270,7 +271,7 @@ bounds_there_up_to S B p numbers proper shown over mode distances cap peaks coun
       (are_run_figures B mode arrivals n proper are.small going));
   ticks = λ arrivals n early keep going.
       let same = shown mode arrivals n going in
-      let there : IsTickWithin B mode peaks arrivals n =
+      let there : IsTickWithin B mode cap peaks arrivals n =
       bounds.ticks arrivals n early
       (distances_there S B distances arrivals numbers.routines keep)
       (sym (over mode arrivals n) ∙ going) in
@@ -286,6 +287,10 @@ bounds_there_up_to S B p numbers proper shown over mode distances cap peaks coun
             ≡ (task_seen B (tick_at B mode arrivals n) t).jobs =
             ap (λ (x : TaskSeen). x.jobs) (same.tasks t is) in
             omega (arith, few, alike);
+        blocked = λ t is below_cap.
+            subst (λ k. k ≤ peak peaks.blocked t)
+            (sym (blocked_at_same S B p mode arrivals shown t is n going))
+            (there.blocked t (numbers.tasks t is).known below_cap);
         shutdown = λ none. over mode arrivals (suc n) ∙ there.shutdown none;
       };
 }

@@ -17,7 +17,7 @@ use Rattle.figure_laws.specs.Labels.{IsWithin}
 use Rattle.figure_laws.specs.Times.{response_time, routine_time}
 use Rattle.run_figures.specs.RunFigures.{AreRunFigures}
 use Rattle.bound_peaks.specs.Peaks.{Peaks, has_come, peak, routine_fails, task_fails}
-use Rattle.run_bounds.specs.Bounds.{AreBounds, AreBoundsUpTo, KeepDistances}
+use Rattle.run_bounds.specs.Bounds.{AreBounds, AreBoundsUpTo, KeepDistances, blocked_at}
 use Rattle.upper_bounds.specs.Above.{AreOneAbove, IsUpperTask}
 use Rattle.upper_figures.specs.ShownAbove.{if_upper}
 
@@ -65,14 +65,16 @@ pub record AreWithinAbove (S : System) (p cap : ℕ) (peaks : Peaks) (f : RunFig
       → (slice_index_or f.routines i (routine_figures [])).errors ≡ 0
 
 -- of tick n of a run what the upper part shows is within them: a service of it that is answered
--- other than E_OK is one of theirs, no upper task has more jobs, and the run is over behind it only
--- where they say so
-pub record IsTickWithinAbove (S : System) (p mode : ℕ) (peaks : Peaks) (arrivals : List Arrival)
-    (n : ℕ) : Type 0 where
+-- other than E_OK is one of theirs, no upper task has more jobs, none has been blocked for longer
+-- where that is below a cap, and the run is over behind it only where they say so
+pub record IsTickWithinAbove (S : System) (p mode cap : ℕ) (peaks : Peaks)
+    (arrivals : List Arrival) (n : ℕ) : Type 0 where
   pub failures : IfSome (if_upper S p (failure_of (tick_at S mode arrivals n).executed))
       (λ x. Contains peaks.failures x)
   pub jobs : (t : ℕ) → IsUpperTask S p t
       → (task_seen S (tick_at S mode arrivals n) t).jobs ≤ peak peaks.jobs t
+  pub blocked : (t : ℕ) → IsUpperTask S p t → peak peaks.blocked t < cap
+      → blocked_at S mode arrivals t n ≤ peak peaks.blocked t
   pub shutdown : peaks.shuts_down ≡ false → (run S mode arrivals (suc n)).state.over ≡ false
 
 -- whatever arrives that keeps the distances, for so many ticks at most
@@ -82,7 +84,7 @@ pub record AreBoundsAboveUpTo (S : System) (p mode : ℕ) (distances : List ℕ)
       → KeepDistances S distances arrivals → AreRunFigures S mode arrivals n f
       → AreWithinAbove S p cap peaks f
   pub ticks : (arrivals : List Arrival) (n : ℕ) → n < count → KeepDistances S distances arrivals
-      → (run S mode arrivals n).state.over ≡ false → IsTickWithinAbove S p mode peaks arrivals n
+      → (run S mode arrivals n).state.over ≡ false → IsTickWithinAbove S p mode cap peaks arrivals n
 
 -- and for however many ticks
 abbrev pub AreBoundsAbove : System → ℕ → ℕ → List ℕ → ℕ → Peaks → Type 0

@@ -10,7 +10,8 @@ use Rattle.osek_base.specs.Upper.{is_upper_owner}
 use Rattle.kernel.specs.Shown.{holder}
 use Rattle.observations.specs.declared.failure.Failure.{Failure}
 use Rattle.observed_runs.specs.Observed.{Ticked, alarm_seen, answered, failure_of, owner_of, routine_seen, task_seen, tick_at}
-use Rattle.figures.specs.FigureSums.{is_error, is_routine, is_task}
+use Rattle.figures.specs.FigureSums.{is_error, is_routine, is_task, levels_of, lower_executes}
+use Rattle.figure_laws.specs.Blocking.{stands_ready}
 use Rattle.upper_bounds.specs.Above.{IsUpperTask, IsTheSameResource, IsTheSameAlarm, IsThatOfTheUpperPart}
 
 -- whether a service of a task or of a routine is answered other than E_OK in a tick
@@ -20,14 +21,20 @@ task_fails k t = is_task (option_map owner_of k.executed) t && is_error (answere
 abbrev pub routine_fails : Ticked → ℕ → Bool
 routine_fails k i = is_routine (option_map owner_of k.executed) i && is_error (answered k.executed)
 
+-- whether a task is READY in a tick while a lower one executes
+abbrev pub is_blocked : System → Ticked → ℕ → Bool
+is_blocked S k t =
+    stands_ready (task_seen S k t).state
+    && lower_executes (levels_of S) (option_map owner_of k.executed) t
+
 -- the instruction of a tick that fails, where it is of the upper part
 abbrev pub if_upper : System → ℕ → Option Failure → Option Failure
 if_upper S p None = None
 if_upper S p (Some x) = if is_upper_owner S p x.owner then Some x else None
 
--- a tick of one system and one of another show the same of each upper task, of each routine, of who
--- holds each upper resource and RES_SCHEDULER, of each upper alarm, and of the services of upper
--- tasks and routines that fail
+-- a tick of one system and one of another show the same of each upper task, and block it alike, of
+-- each routine, of who holds each upper resource and RES_SCHEDULER, of each upper alarm, and of the
+-- services of upper tasks and routines that fail
 pub record ShowTheSameAbove (S B : System) (p : ℕ) (k j : Ticked) : Type 0 where
   pub tasks : (t : ℕ) → IsUpperTask S p t → task_seen S k t ≡ task_seen B j t
   pub routines : (i : ℕ) → routine_seen k i ≡ routine_seen j i
@@ -35,6 +42,7 @@ pub record ShowTheSameAbove (S B : System) (p : ℕ) (k j : Ticked) : Type 0 whe
       → holder S k.at (ResId.Declared r) ≡ holder B j.at (ResId.Declared q)
   pub scheduler : holder S k.at ResId.Scheduler ≡ holder B j.at ResId.Scheduler
   pub alarms : (a c : ℕ) → IsTheSameAlarm S B p a c → alarm_seen k a ≡ alarm_seen j c
+  pub blocked : (t : ℕ) → IsUpperTask S p t → is_blocked S k t ≡ is_blocked B j t
   pub errors : (t : ℕ) → IsUpperTask S p t → task_fails k t ≡ task_fails j t
   pub routine_errors : (i : ℕ) → routine_fails k i ≡ routine_fails j i
   pub failures :

@@ -4,8 +4,8 @@ ghost use Rattle.upper_figures.specs.FiguresAbove.{BoundsOfThePartHold};
 ghost use Rattle.upper_figures.specs.ShownAbove.{UpperPartsShowTheSame};
 
 /// Each tick shows the same of upper tasks, of routines, of upper resources and alarms, and of the
-/// services of upper tasks and routines that fail, in each system that agrees with a proper and
-/// separable one, and in its upper part by itself.
+/// services of upper tasks and routines that fail, and blocks the same upper tasks, in each system
+/// that agrees with a proper and separable one, and in its upper part by itself.
 pub fn upper_parts_show_the_same()
     ensures { UpperPartsShowTheSame }
 {}

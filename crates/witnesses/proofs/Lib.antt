@@ -1,4 +1,5 @@
 pub mod Ordered
+pub mod BlockedLemmas
 pub mod Spacing
 pub mod Keeping
 pub mod Watching

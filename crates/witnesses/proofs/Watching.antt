@@ -21,9 +21,11 @@ use Rattle.figure_laws.specs.Times.{response_time, routine_time}
 use Rattle.upper_figures.proofs.Bare.{bare_task, task_errors_bare, task_refused_bare, task_responses_bare}
 use Rattle.upper_figures.proofs.Observed.{are_figures, figures_of}
 use Rattle.bounds.specs.declared.figure.Figure.{Figure}
-use Rattle.bounds.specs.declared.figure.Figure.TheVariants.{Errors, Hold, Jobs, Latency, Loss, Refusal, RefusedAction, Response, RoutineErrors, Shutdown}
+use Rattle.bounds.specs.declared.figure.Figure.TheVariants.{Blocked, Errors, Hold, Jobs, Latency, Loss, Refusal, RefusedAction, Response, RoutineErrors, Shutdown}
 use Rattle.bounds.specs.Figures.{one_if}
+use Rattle.witnesses.specs.declared.blocked.BlockedTicks.{BlockedTicks}
 use Rattle.witnesses.specs.declared.watched.Watched.{Watched}
+use Rattle.witnesses.specs.Blocked.{blocked_ticks, most_blocked}
 use Rattle.witnesses.specs.Running.{Watches, WatchesTicks, number_of}
 use Rattle.witnesses.specs.Shown.{IsOf, Shows, shown}
 use Rattle.witnesses.specs.Watched.{AreWatched, bare_task_tick, shown_of, ticks_of}
@@ -35,8 +37,8 @@ pub record IsWatched (first now : Run) (n k : ℕ) (w : Watched) : Type 0 where
   pub same : now ≡ record first { ticks = n }
   pub watches : WatchesTicks first.system first.mode first.arrivals n k w
 
-pub begun : (first : Run) (k : ℕ) (w : Watched) → first.ticks ≡ 0 → AreWatched k [] w
-    → IsWatched first first 0 k w
+pub begun : (first : Run) (k : ℕ) (w : Watched) → first.ticks ≡ 0
+    → AreWatched (levels_of first.system) k [] w → IsWatched first first 0 k w
 begun first k w none are = record {
   same = ap (λ n. record first { ticks = n }) none;
   watches = record { seen = []; ticks = tt; are = are };
@@ -53,14 +55,15 @@ going first now n same goes =
     ap (λ (r : Run). (run_of r).state.over) (sym same)
     ∙ not_over (nat_le MAX_TICKS now.ticks) (run_of now).state.over goes
 
-pub one_more : (first old new : Run) (n k : ℕ) (v w : Watched) (o : Observation)
-    → IsWatched first old n k v → true ≡ not (is_over old)
+pub one_more : (first old new : Run) (S : System) (n k : ℕ) (v w : Watched) (o : Observation)
+    → first.system ≡ S → IsWatched first old n k v → true ≡ not (is_over old)
     → new ≡ record old { ticks = old.ticks + 1 }
     → (1 ≤ new.ticks
     → IsObserved false new.system new.mode new.arrivals (new.ticks - 1) o)
-    → ((before : List Observation) → AreWatched k before v → AreWatched k (o ∷ before) w)
+    → ((before : List Observation) → AreWatched (levels_of S) k before v
+    → AreWatched (levels_of S) k (o ∷ before) w)
     → IsWatched first new (n + 1) k w
-one_more first old new n k v w o is goes step observed more =
+one_more first old new S n k v w o of is goes step observed more =
     let same : new ≡ record first { ticks = suc n } =
     step ∙ ap (λ (r : Run). record r { ticks = r.ticks + 1 }) is.same
     ∙ ap (λ m. record first { ticks = m }) (add-one n) in
@@ -84,7 +87,10 @@ one_more first old new n k v w o is goes step observed more =
           },
           is.watches.ticks,
         );
-        are = more is.watches.seen is.watches.are;
+        are = subst
+            (λ (T : System). AreWatched (levels_of T) k is.watches.seen v
+            → AreWatched (levels_of T) k (o ∷ is.watches.seen) w)
+            (sym of) (more is.watches.seen) is.watches.are;
       };
     })
 
@@ -113,6 +119,8 @@ ended first now n k w over is ends = record {
       alarm = is.watches.are.alarm;
       last = is.watches.are.last;
       jobs = is.watches.are.jobs;
+      blocked = is.watches.are.blocked;
+      failure = is.watches.are.failure;
     };
   };
   over = ends ∙ ap (λ (r : Run). (run_of r).state.over) is.same;
@@ -129,7 +137,7 @@ tasks_same levels k (o ∷ before) =
 
 module _ (S : System) (seen : List Observation) (f : RunFigures) (are : AreFigures S seen f)
     (w : Watched) (over : Bool) (ends : w.is_over ≡ over) where
-  responses : (k : ℕ) → AreWatched k seen w → k < length S.tasks
+  responses : (k : ℕ) → AreWatched (levels_of S) k seen w → k < length S.tasks
       → (slice_index_or f.tasks k (task_figures [])).responses ≡ w.task.responses
   responses k watched low =
       ap (λ (g : TaskFigures). g.responses) (are.tasks.each k low)
@@ -137,7 +145,7 @@ module _ (S : System) (seen : List Observation) (f : RunFigures) (are : AreFigur
       (map (λ o. bare_task_tick o k) seen) (tasks_same (levels_of S) k seen)
       ∙ sym (ap (λ (g : TaskFigures). g.responses) watched.task)
 
-  refused : (k : ℕ) → AreWatched k seen w → k < length S.tasks
+  refused : (k : ℕ) → AreWatched (levels_of S) k seen w → k < length S.tasks
       → (slice_index_or f.tasks k (task_figures [])).counts.refused ≡ w.task.counts.refused
   refused k watched low =
       ap (λ (g : TaskFigures). g.counts.refused) (are.tasks.each k low)
@@ -145,7 +153,7 @@ module _ (S : System) (seen : List Observation) (f : RunFigures) (are : AreFigur
       (map (λ o. bare_task_tick o k) seen) (tasks_same (levels_of S) k seen)
       ∙ sym (ap (λ (g : TaskFigures). g.counts.refused) watched.task)
 
-  errors : (k : ℕ) → AreWatched k seen w → k < length S.tasks
+  errors : (k : ℕ) → AreWatched (levels_of S) k seen w → k < length S.tasks
       → (slice_index_or f.tasks k (task_figures [])).counts.errors ≡ w.task.counts.errors
   errors k watched low =
       ap (λ (g : TaskFigures). g.counts.errors) (are.tasks.each k low)
@@ -153,17 +161,25 @@ module _ (S : System) (seen : List Observation) (f : RunFigures) (are : AreFigur
       (map (λ o. bare_task_tick o k) seen) (tasks_same (levels_of S) k seen)
       ∙ sym (ap (λ (g : TaskFigures). g.counts.errors) watched.task)
 
-  routine : (k : ℕ) → AreWatched k seen w → k < length S.routines
+  routine : (k : ℕ) → AreWatched (levels_of S) k seen w → k < length S.routines
       → slice_index_or f.routines k (routine_figures []) ≡ w.routine
   routine k watched low = are.routines.each k low ∙ sym watched.routine
 
-  last : (k : ℕ) → AreWatched k seen w → f.last ≡ w.last
+  last : (k : ℕ) → AreWatched (levels_of S) k seen w → f.last ≡ w.last
   last k watched = are.last ∙ sym watched.last
 
-  shown_same : (figure : Figure) → AreWatched (number_of figure) seen w → IsOf S figure
-      → shown f seen over figure ≡ shown_of w figure
+  blocked : (k : ℕ) → AreWatched (levels_of S) k seen w
+      → most_blocked f.levels k seen ≡ w.blocked.most
+  unfolding blocked_ticks
+  blocked k watched =
+      ap (λ levels. most_blocked levels k seen) are.levels
+      ∙ sym (ap (λ (b : BlockedTicks). b.most) watched.blocked)
+
+  shown_same : (figure : Figure) → AreWatched (levels_of S) (number_of figure) seen w
+      → IsOf S figure → shown f seen over figure ≡ shown_of w figure
   shown_same (Response k) watched low = λ i.
       ticks_of (response_time (last k watched i) (responses k watched low i))
+  shown_same (Blocked k) watched low = blocked k watched
   shown_same (Jobs k) watched low = sym watched.jobs
   shown_same (Refusal k) watched low = ap (λ n. one_if (nat_lt 0 n)) (refused k watched low)
   shown_same (Latency k) watched low = λ i.

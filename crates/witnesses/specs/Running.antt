@@ -4,15 +4,17 @@ use Rattle.osek_base.specs.declared.arrivals.Arrival.{Arrival}
 use Rattle.osek_base.specs.System.{System}
 use Rattle.osek_base.specs.Trace.{run}
 use Rattle.observations.specs.declared.observation.Observation.{Observation}
+use Rattle.figures.specs.FigureSums.{levels_of}
 use Rattle.run_figures.specs.RunFigures.{AreTicksOf}
 use Rattle.bounds.specs.declared.figure.Figure.{Figure}
-use Rattle.bounds.specs.declared.figure.Figure.TheVariants.{Errors, Hold, Jobs, Latency, Loss, Refusal, RefusedAction, Response, RoutineErrors, Shutdown}
+use Rattle.bounds.specs.declared.figure.Figure.TheVariants.{Blocked, Errors, Hold, Jobs, Latency, Loss, Refusal, RefusedAction, Response, RoutineErrors, Shutdown}
 use Rattle.witnesses.specs.declared.watched.Watched.{Watched}
 use Rattle.witnesses.specs.Watched.{AreWatched}
 
 -- the number of the thing of a figure
 abbrev pub number_of : Figure → ℕ
 number_of (Response k) = k
+number_of (Blocked k) = k
 number_of (Jobs k) = k
 number_of (Refusal k) = k
 number_of (Latency i) = i
@@ -28,7 +30,7 @@ pub record WatchesTicks (S : System) (mode : ℕ) (arrivals : List Arrival) (n k
     (w : Watched) : Type 0 where
   pub seen : List Observation
   pub ticks : AreTicksOf S mode arrivals n seen
-  pub are : AreWatched k seen w
+  pub are : AreWatched (levels_of S) k seen w
 
 -- and whether the run is over behind them
 pub record Watches (S : System) (mode : ℕ) (arrivals : List Arrival) (n k : ℕ)

@@ -13,19 +13,22 @@ use Rattle.run_figures.specs.RunFigures.{AreRunFigures}
 use Rattle.run_bounds.specs.Bounds.{KeepDistances}
 use Rattle.bound_peaks.specs.Peaks.{Peaks}
 use Rattle.bounds.specs.declared.figure.Figure.{Figure}
-use Rattle.bounds.specs.declared.figure.Figure.TheVariants.{Errors, Hold, Jobs, Latency, Loss, Refusal, RefusedAction, Response, RoutineErrors, Shutdown}
+use Rattle.bounds.specs.declared.figure.Figure.TheVariants.{Blocked, Errors, Hold, Jobs, Latency, Loss, Refusal, RefusedAction, Response, RoutineErrors, Shutdown}
 use Rattle.bounds.specs.declared.finding.Bounds.{Bounds}
 use Rattle.bounds.specs.Figures.{one_if, told}
 use Rattle.witnesses.specs.declared.witness.Witness.{Witness}
+use Rattle.witnesses.specs.Blocked.{most_blocked}
 use Rattle.witnesses.specs.Watched.{most_jobs, ticks_of}
 
 -- what a run shows by its figures, its observations and whether it is over: the longest time of a
 -- task or a routine, or the age of what hasn't ended or started behind the last tick, if that is
--- greater; the most jobs at once; the longest hold; of what is lost, refused or answered other than
+-- greater; for how many ticks a task's oldest job was blocked at most; the most jobs at once; the
+-- longest hold; of what is lost, refused or answered other than
 -- E_OK 1 where anything is; and 1 where a ShutdownOS has ended it
 abbrev pub shown : RunFigures → List Observation → Bool → Figure → ℕ
 shown f seen over (Response k) =
     ticks_of (response_time f.last (slice_index_or f.tasks k (task_figures [])).responses)
+shown f seen over (Blocked k) = most_blocked f.levels k seen
 shown f seen over (Jobs k) = most_jobs k seen
 shown f seen over (Refusal k) =
     one_if (nat_lt 0 (slice_index_or f.tasks k (task_figures [])).counts.refused)
@@ -44,6 +47,7 @@ shown f seen over Shutdown = one_if over
 -- a system has the thing of a figure
 abbrev pub IsOf : System → Figure → Type 0
 IsOf S (Response k) = k < length S.tasks
+IsOf S (Blocked k) = k < length S.tasks
 IsOf S (Jobs k) = k < length S.tasks
 IsOf S (Refusal k) = k < length S.tasks
 IsOf S (Latency i) = i < length S.routines
@@ -57,6 +61,7 @@ IsOf S Shutdown = Unit {0}
 -- what is told of a figure isn't above a cap
 abbrev pub IsBelow : ℕ → Peaks → Figure → Type 0
 IsBelow cap peaks (Response k) = told peaks (Response k) < cap
+IsBelow cap peaks (Blocked k) = told peaks (Blocked k) < cap
 IsBelow cap peaks (Latency i) = told peaks (Latency i) < cap
 IsBelow cap peaks (Hold r) = told peaks (Hold r) < cap
 IsBelow cap peaks (Jobs k) = Unit {0}

@@ -9,9 +9,11 @@ use Rattle.figures.specs.ResourceSums.{resource_figures}
 use Rattle.figures.specs.RoutineSums.{routine_figures}
 use Rattle.figure_laws.specs.Times.{response_time, routine_time}
 use Rattle.bounds.specs.declared.figure.Figure.{Figure}
-use Rattle.bounds.specs.declared.figure.Figure.TheVariants.{Errors, Hold, Jobs, Latency, Loss, Refusal, RefusedAction, Response, RoutineErrors, Shutdown}
+use Rattle.bounds.specs.declared.figure.Figure.TheVariants.{Blocked, Errors, Hold, Jobs, Latency, Loss, Refusal, RefusedAction, Response, RoutineErrors, Shutdown}
 use Rattle.bounds.specs.Figures.{one_if}
 use Rattle.witnesses.specs.declared.watched.Watched.{Watched}
+use Rattle.witnesses.specs.Blocked.{blocked_ticks, ticks_seen}
+use Rattle.witnesses.specs.Failing.{last_failure}
 
 -- what an observation has of a task, without whether a lower task executes, and without blockers
 abbrev pub bare_task_tick : Observation → ℕ → TaskTick
@@ -29,14 +31,17 @@ abbrev pub most_jobs : ℕ → List Observation → ℕ
 most_jobs k [] = 0
 most_jobs k (o ∷ before) = max (slice_index_or o.tasks.items k unseen_task).jobs (most_jobs k before)
 
--- the figures of the things of a number, over observations
-pub record AreWatched (k : ℕ) (seen : List Observation) (w : Watched) : Type 0 where
+-- the figures of the things of a number, over observations, by the static priorities of all tasks
+pub record AreWatched (levels : List ℕ) (k : ℕ) (seen : List Observation)
+    (w : Watched) : Type 0 where
   pub task : w.task ≡ task_figures (map (λ o. bare_task_tick o k) seen)
   pub routine : w.routine ≡ routine_figures (map (λ o. routine_tick o k) seen)
   pub resource : w.resource ≡ resource_figures (map (λ o. holder_tick o k) seen)
   pub alarm : w.alarm ≡ alarm_figures (map (λ o. alarm_tick o k) seen)
   pub last : w.last ≡ last_tick seen
   pub jobs : w.jobs ≡ most_jobs k seen
+  pub blocked : w.blocked ≡ blocked_ticks (ticks_seen levels k seen)
+  pub failure : w.failure ≡ last_failure seen
 
 -- the ticks of a figure, 0 where there is none
 abbrev pub ticks_of : Option Reached → ℕ
@@ -46,6 +51,7 @@ ticks_of (Some r) = r.ticks
 -- what they show of a figure
 abbrev pub shown_of : Watched → Figure → ℕ
 shown_of w (Response k) = ticks_of (response_time w.last w.task.responses)
+shown_of w (Blocked k) = w.blocked.most
 shown_of w (Jobs k) = w.jobs
 shown_of w (Refusal k) = one_if (nat_lt 0 w.task.counts.refused)
 shown_of w (Latency i) = ticks_of (routine_time w.last w.routine)

@@ -4,9 +4,11 @@
 
 mod again;
 mod apart;
+mod blocked;
 mod came;
 mod candidate;
 mod endless;
+mod failing;
 mod going_on;
 mod lasso;
 mod reached;
@@ -18,5 +20,6 @@ mod watched;
 mod witness;
 
 pub use endless::{Endless, endless_tasks, find_endless};
+pub use failing::{failing_services, find_failing};
 pub use reached::reached_figures;
 pub use witness::{Witness, find_witness};

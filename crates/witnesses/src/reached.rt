@@ -14,8 +14,9 @@ fn is_below(found: &Bounds, figure: Figure) -> bool
     ensures { IsTrue result → IsBelow found.now.cap found.now.peaks figure }
 {
     match figure {
-        Figure::Response(_) | Figure::Latency(_) | Figure::Hold(_) => figure.told(&found.peaks)
-            < found.cap,
+        Figure::Response(_) | Figure::Blocked(_) | Figure::Latency(_) | Figure::Hold(_) => {
+            figure.told(&found.peaks) < found.cap
+        }
         Figure::Jobs(_)
         | Figure::Refusal(_)
         | Figure::Loss(_)

@@ -20,6 +20,7 @@ fn number_of(figure: Figure) -> usize
 {
     match figure {
         Figure::Response(number)
+        | Figure::Blocked(number)
         | Figure::Jobs(number)
         | Figure::Refusal(number)
         | Figure::Latency(number)
@@ -50,6 +51,7 @@ fn is_of(system: &System, figure: Figure) -> bool
 {
     match figure {
         Figure::Response(task)
+        | Figure::Blocked(task)
         | Figure::Jobs(task)
         | Figure::Refusal(task)
         | Figure::Errors(task) => task < system.task_count(),
@@ -74,8 +76,14 @@ fn is_shut_down(run: &mut ObservedRun<'_, NotCounted>) -> Option<bool>
 }
 
 /// Runs so many ticks, and watches the things of a number; not where the run is over before.
-fn watch(run: &mut ObservedRun<'_, NotCounted>, number: usize, ticks: u32) -> Option<Watched>
-    requires { run.old.ticks ≡ 0 }
+pub(crate) fn watch(
+    system: &System,
+    run: &mut ObservedRun<'_, NotCounted>,
+    number: usize,
+    ticks: u32,
+) -> Option<Watched>
+    requires begun { run.old.ticks ≡ 0 }
+    requires of { run.old.system ≡ system.now }
     ensures { IfSome result
         (Watches run.old.system run.old.mode run.old.arrivals ticks number) }
 {
@@ -84,7 +92,7 @@ fn watch(run: &mut ObservedRun<'_, NotCounted>, number: usize, ticks: u32) -> Op
         if !run.advance() {
             return None;
         }
-        watched.observe(number, run.observation());
+        watched.observe(system, number, run.observation());
     }
     watched.is_over = is_shut_down(run)?;
     Some(watched)
@@ -101,7 +109,7 @@ fn is_name_of(system: &System, mode: ModeId, name: &str) -> bool
 }
 
 /// A run with arrivals in a mode; not where the system has none of the mode's name.
-fn begin<'s>(
+pub(crate) fn begin<'s>(
     alloc: Global,
     system: &'s System,
     mode: ModeId,
@@ -144,7 +152,7 @@ pub(crate) fn shown_in_run(
     let Some(mut run) = begin(alloc, system, mode, arrivals)? else {
         return Ok(None);
     };
-    let Some(watched) = watch(&mut run, number_of(figure), ticks) else {
+    let Some(watched) = watch(system, &mut run, number_of(figure), ticks) else {
         return Ok(None);
     };
     Ok(Some(watched.shown(figure)))

@@ -1,19 +1,32 @@
 //! Figures of the things of one number, over the ticks that were seen.
 
 ghost use Rattle.std.specs.Prelude.{ℕ, List, [], ◌∷◌, ◌≡◌, None, nat_lt, slice_index_or};
-ghost use Rattle.figures.specs.FigureSums.{alarm_tick, holder_tick, is_error, is_routine, is_task, routine_tick, unseen_alarm, unseen_routine, unseen_task};
+ghost use Rattle.figures.specs.FigureSums.{
+  alarm_tick,
+  holder_tick,
+  is_error,
+  is_routine,
+  is_task,
+  levels_of,
+  routine_tick,
+  unseen_alarm,
+  unseen_routine,
+  unseen_task,
+};
 ghost use Rattle.figures.specs.declared.reached.Reached.{Reached};
 ghost use Rattle.observations.specs.declared.observation.Observation.{Observation};
 ghost use Rattle.bounds.specs.Figures.{one_if};
 ghost use Rattle.witnesses.specs.Watched.{AreWatched, bare_task_tick, shown_of, ticks_of};
 
+use crate::blocked::BlockedTicks;
+use bound_labels::blocked_tick;
 use bounds::Figure;
 use figures::{
     AlarmFigures, AlarmTick, HolderTick, Reached, ResourceFigures, RoutineFigures, RoutineTick,
     TaskFigures, TaskTick,
 };
-use observations::{AlarmSeen, Holder, Observation, RoutineSeen, TaskSeen};
-use osek_base::{Owner, Status, TaskState};
+use observations::{AlarmSeen, Failure, Holder, Observation, RoutineSeen, TaskSeen};
+use osek_base::{Owner, Status, System, TaskState};
 
 /// What is seen of the task of a number; nothing where there is none.
 pub(crate) fn task_seen(tasks: &[TaskSeen], number: usize) -> TaskSeen
@@ -149,9 +162,10 @@ fn alarm_tick(seen: &Observation, number: usize) -> AlarmTick
 }
 
 /// Figures of the task, the routine, the resource and the alarm of one number, as far as such a
-/// thing was seen, the last tick, the most jobs of the task at once, and whether a ShutdownOS has
-/// ended the run. Blockers aren't counted, nor ticks in which a lower task
-/// executes.
+/// thing was seen, the last tick, the most jobs of the task at once, for how long its oldest job was
+/// blocked, the service that the last tick answers other than E_OK, if one, and whether a ShutdownOS
+/// has ended the run. The figures of the task count neither
+/// blockers nor ticks in which a lower task executes.
 #[derive(Drop)]
 pub(crate) struct Watched {
     pub(crate) task: TaskFigures,
@@ -160,6 +174,8 @@ pub(crate) struct Watched {
     pub(crate) alarm: AlarmFigures,
     pub(crate) last: u32,
     pub(crate) jobs: u32,
+    pub(crate) blocked: BlockedTicks,
+    pub(crate) failure: Option<Failure>,
     pub(crate) is_over: bool,
 }
 
@@ -183,7 +199,7 @@ fn coming(count: u32) -> u32
 impl Watched {
     /// Nothing was seen.
     pub(crate) fn new() -> Self
-        ensures { (number : ℕ) → AreWatched number [] result }
+        ensures { (levels : List ℕ) (number : ℕ) → AreWatched levels number [] result }
     {
         Watched {
             task: TaskFigures::new(),
@@ -192,14 +208,17 @@ impl Watched {
             alarm: AlarmFigures::new(),
             last: 0,
             jobs: 0,
+            blocked: BlockedTicks::new(),
+            failure: None,
             is_over: false,
         }
     }
 
     /// A tick more is seen.
-    pub(crate) fn observe(&mut self, number: usize, seen: &Observation)
-        ensures { (before : List Observation) → AreWatched number before self.old
-            → AreWatched number (seen.now ∷ before) self.new }
+    pub(crate) fn observe(&mut self, system: &System, number: usize, seen: &Observation)
+        ensures { (before : List Observation)
+            → AreWatched (levels_of system.now) number before self.old
+            → AreWatched (levels_of system.now) number (seen.now ∷ before) self.new }
     {
         self.task.observe(&task_tick(seen, number));
         self.routine.observe(&routine_tick(seen, number));
@@ -207,6 +226,8 @@ impl Watched {
         self.alarm.observe(&alarm_tick(seen, number));
         self.last = seen.tick;
         self.jobs = jobs_seen(seen, number).max(self.jobs);
+        self.blocked.observe(&blocked_tick(system, seen, number));
+        self.failure = seen.failure;
     }
 
     /// What is shown of a figure: ticks of a time, a number of jobs, and of what comes or not 1 where
@@ -216,6 +237,7 @@ impl Watched {
     {
         match figure {
             Figure::Response(_) => ticks_of(self.task.worst(self.last)),
+            Figure::Blocked(_) => self.blocked.most(),
             Figure::Jobs(_) => self.jobs,
             Figure::Refusal(_) => coming(self.task.counts.refused),
             Figure::Latency(_) => ticks_of(self.routine.worst(self.last)),

@@ -28,6 +28,29 @@ fn copy_of(alloc: Global, arrivals: &[Arrival]) -> Result<Vec<Arrival>, AllocErr
     Ok(copy)
 }
 
+/// Arrivals twice, where they keep distances.
+pub(crate) fn kept_apart(
+    alloc: Global,
+    system: &System,
+    distances: &[u32],
+    arrivals: Vec<Arrival>,
+) -> Result<Option<(Arrivals, Arrivals)>, AllocError>
+    ensures { IfOk result (λ found. IfSome found (λ both.
+        KeepDistances system.now distances.now both.0 × (both.1 ≡ both.0))) }
+{
+    let copy = copy_of(alloc, &arrivals)?;
+    let Some(arrivals) = Arrivals::new(arrivals) else {
+        return Ok(None);
+    };
+    let Some(copy) = Arrivals::new(copy) else {
+        return Ok(None);
+    };
+    if !keep_distances(system, distances, &arrivals) {
+        return Ok(None);
+    }
+    Ok(Some((arrivals, copy)))
+}
+
 /// Arrivals and a number of ticks, where they keep distances and their run shows so much of a
 /// figure.
 fn tried(
@@ -43,16 +66,9 @@ fn tried(
     ensures { IfOk result (λ found. IfSome found (λ w. KeepDistances system.now distances.now w.arrivals
         × Shows system.now mode w.arrivals w.ticks figure value)) }
 {
-    let copy = copy_of(alloc, &arrivals)?;
-    let Some(arrivals) = Arrivals::new(arrivals) else {
+    let Some((arrivals, copy)) = kept_apart(alloc, system, distances, arrivals)? else {
         return Ok(None);
     };
-    let Some(copy) = Arrivals::new(copy) else {
-        return Ok(None);
-    };
-    if !keep_distances(system, distances, &arrivals) {
-        return Ok(None);
-    }
     match shown_in_run(alloc, system, mode, copy, ticks, figure)? {
         Some(shown) if shown == value => Ok(Some(Witness { arrivals, ticks })),
         _ => Ok(None),

@@ -7,3 +7,4 @@ use Rattle.bound_peaks.proofs.peaks.note_actions.Given as goal
 abbrev pub invariant-loop-alarm : goal.invariant-loop-alarm
 invariant-loop-alarm l =
     AreMarked (λ a. (alarm_in (seen_of l.seen) a).is_refused ≡ false) l.alarm l.fn.marks l.marks
+    l.rises

@@ -6,4 +6,4 @@ use Rattle.bound_peaks.proofs.peaks.note_holds.Given as goal
 -- those gone over are noted
 abbrev pub invariant-loop-resource : goal.invariant-loop-resource
 invariant-loop-resource l =
-    AreRaised (shown_hold l.cap (seen_of l.seen) l.labels) l.resource l.fn.peaks l.peaks
+    AreRaised (shown_hold l.cap (seen_of l.seen) l.labels) l.resource l.fn.peaks l.peaks l.rises

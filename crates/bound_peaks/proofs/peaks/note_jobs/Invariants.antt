@@ -7,4 +7,4 @@ use Rattle.bound_peaks.proofs.peaks.note_jobs.Given as goal
 -- those gone over are noted
 abbrev pub invariant-loop-task : goal.invariant-loop-task
 invariant-loop-task l =
-    AreRaised (λ k. Some (task_in (seen_of l.seen) k).jobs) l.task l.fn.peaks l.peaks
+    AreRaised (λ k. Some (task_in (seen_of l.seen) k).jobs) l.task l.fn.peaks l.peaks l.rises

@@ -6,4 +6,4 @@ use Rattle.bound_peaks.proofs.peaks.note_latencies.Given as goal
 -- those gone over are noted
 abbrev pub invariant-loop-routine : goal.invariant-loop-routine
 invariant-loop-routine l =
-    AreRaised (shown_wait l.cap (seen_of l.seen) l.labels) l.routine l.fn.peaks l.peaks
+    AreRaised (shown_wait l.cap (seen_of l.seen) l.labels) l.routine l.fn.peaks l.peaks l.rises

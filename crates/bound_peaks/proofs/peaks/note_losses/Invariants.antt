@@ -6,4 +6,4 @@ use Rattle.bound_peaks.proofs.peaks.note_losses.Given as goal
 
 abbrev pub invariant-loop-routine : goal.invariant-loop-routine
 invariant-loop-routine l =
-    AreMarked (λ i. (routine_in (seen_of l.seen) i).lost ≡ 0) l.routine l.fn.marks l.marks
+    AreMarked (λ i. (routine_in (seen_of l.seen) i).lost ≡ 0) l.routine l.fn.marks l.marks l.rises

@@ -6,4 +6,4 @@ use Rattle.bound_peaks.proofs.peaks.note_refusals.Given as goal
 
 abbrev pub invariant-loop-task : goal.invariant-loop-task
 invariant-loop-task l =
-    AreMarked (λ k. (task_in (seen_of l.seen) k).refused ≡ 0) l.task l.fn.marks l.marks
+    AreMarked (λ k. (task_in (seen_of l.seen) k).refused ≡ 0) l.task l.fn.marks l.marks l.rises

@@ -1,4 +1,4 @@
-use Rattle.std.proofs.Common.{ℕ, List, sym, ◌∙◌, subst}
+use Rattle.std.proofs.Common.{sym, ◌∙◌, subst}
 use Rattle.bound_labels.specs.AgeLists.{AreLists}
 use Rattle.bound_labels.proofs.ListLemmas.{list_ended}
 use Rattle.bound_labels.proofs.age_lists.AgeLists.end_task.Goals as goal

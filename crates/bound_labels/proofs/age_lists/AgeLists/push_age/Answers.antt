@@ -1,4 +1,4 @@
-use Rattle.std.proofs.Common.{ℕ, List, ◌∷◌, [], ◌++◌, length, arith, sym, subst}
+use Rattle.std.proofs.Common.{ℕ, List, ◌∷◌, [], sym, subst}
 use Rattle.bound_labels.specs.AgeLists.{AreLists}
 use Rattle.bound_labels.proofs.ListLemmas.{lists_stay}
 use Rattle.bound_labels.proofs.age_lists.AgeLists.push_age.Goals as goal

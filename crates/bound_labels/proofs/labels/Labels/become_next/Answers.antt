@@ -1,8 +1,9 @@
-use Rattle.std.proofs.Common.{ℕ, ◌≡◌, List, Option, ◌∙◌, ap}
+use Rattle.std.proofs.Common.{ℕ, List, Option, ◌∙◌, ap}
+use Rattle.figures.specs.FigureSums.{levels_of, lower_executes}
 use Rattle.figure_laws.specs.Holding.{Hold}
 use Rattle.observations.specs.Seen.{seen_of}
 use Rattle.bound_labels.specs.Labels.{Labels, next_labels}
-use Rattle.bound_labels.specs.Parts.{ages_behind, each_of, hold_behind, pending_behind, wait_behind}
+use Rattle.bound_labels.specs.Parts.{ages_behind, blocked_behind, each_of, hold_behind, pending_behind, wait_behind}
 use Rattle.bound_labels.proofs.LabelLemmas.{labels_same}
 use Rattle.bound_labels.proofs.labels.Labels.become_next.Goals as goal
 
@@ -13,7 +14,8 @@ returns c =
     let distances = c.args.distances.now in
     let set = c.args.set in
     let seen = seen_of c.args.seen.now in
-    labels_same _ (next_labels cap distances set seen c.args.old.now)
+    let lower = lower_executes (levels_of c.args.system.now) c.args.seen.now.executor in
+    labels_same _ (next_labels lower cap distances set seen c.args.old.now)
     (c.in_ok-put_next_waits.ensures
     ∙ ap (λ (v : List ℕ). each_of (wait_behind distances set) v)
     (c.deref.ensures.value ∙ ap (λ (l : Labels). l.waits) c.old.view_is))
@@ -26,3 +28,6 @@ returns c =
     (c.in_ok-put_next_holds.ensures
     ∙ ap (λ (v : List Hold). each_of (hold_behind cap seen) v)
     (c.deref-3.ensures.value ∙ ap (λ (l : Labels). l.holds) c.old.view_is))
+    (c.in_ok-put_next_blocked.ensures
+    ∙ ap (λ (v : List ℕ). each_of (blocked_behind lower cap seen) v)
+    (c.deref-4.ensures.value ∙ ap (λ (l : Labels). l.blocked) c.old.view_is))

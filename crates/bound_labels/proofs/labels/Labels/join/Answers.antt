@@ -1,4 +1,4 @@
-use Rattle.std.proofs.Common.{None, min, refl, ◌∙◌, ap}
+use Rattle.std.proofs.Common.{None, max, min, refl, ◌∙◌, ap}
 use Rattle.figure_laws.specs.Merging.{merged_age}
 use Rattle.bound_labels.specs.Labels.{Labels, no_hold}
 use Rattle.bound_labels.specs.Joining.{joined_hold}
@@ -35,3 +35,8 @@ returns c =
     (c.deref_mut-3.ensures.value ∙ ap (λ (v : Labels). v.holds) mine)
     (c.deref-4.ensures.value ∙ ap (λ (v : Labels). v.holds) others)
     c.deref_mut-3.ensures.len c.join_holds.ensures.count c.join_holds.ensures.each)
+    (list_joined max 0 c.self.inside.blocked
+    c.deref_mut-4.result.now c.deref-5.result.now c.join_blocked.new.blocked l.blocked m.blocked
+    (c.deref_mut-4.ensures.value ∙ ap (λ (v : Labels). v.blocked) mine)
+    (c.deref-5.ensures.value ∙ ap (λ (v : Labels). v.blocked) others)
+    c.deref_mut-4.ensures.len c.join_blocked.ensures.count c.join_blocked.ensures.each)

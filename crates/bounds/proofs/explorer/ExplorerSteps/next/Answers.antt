@@ -7,13 +7,14 @@ use Rattle.kernel.specs.Machine.{picture, system_of}
 use Rattle.state_keys.specs.Key.{key}
 use Rattle.observations.specs.declared.observation.Observation.{Observation}
 use Rattle.observations.specs.Seen.{seen_of}
-use Rattle.shown_ticks.specs.Seen.{failure_in, seen_in}
-use Rattle.bound_labels.specs.Labels.{Labels, arrives_in, next_labels}
+use Rattle.shown_ticks.specs.Seen.{executor_in, failure_in, seen_in}
+use Rattle.figures.specs.FigureSums.{levels_of}
+use Rattle.bound_labels.specs.Labels.{Labels, arrives_in}
 use Rattle.bound_peaks.specs.Peaks.{IsNoted, TickShown, shown_by}
 use Rattle.run_bounds.specs.Nodes.{IsNext, Node, routines_of}
 use Rattle.search.specs.Rules.{StaysNoted}
 use Rattle.bounds.specs.Exploring.{AreNotedIn, Explorer, setting_of}
-use Rattle.bounds.proofs.Exploring.{IsMade, Ticked, are_noted, if_some, is_in_of, is_next, stays_noted}
+use Rattle.bounds.proofs.Exploring.{IsMade, Ticked, are_noted, if_some, is_in_of, is_next, labels_behind, stays_noted}
 use Rattle.bounds.proofs.explorer.ExplorerSteps.next.Goals as goal
 
 pub returns-clause-next : goal.returns-clause-next
@@ -43,6 +44,8 @@ returns-clause-next g c =
       system = c.tick_from.ensures.system;
       after = c.tick_from.ensures.after
           ∙ ap (λ (r : List ℕ). (tick_in (system_of m) r (picture m)).after) same;
+      executor = c.tick_from.ensures.executor
+          ∙ ap (λ (r : List ℕ). executor_in (system_of m) r (picture m)) same;
       seen = c.tick_from.ensures.seen
           ∙ ap (λ (r : List ℕ). seen_in (system_of m) r (picture m)) same;
       failure = c.tick_from.ensures.failure
@@ -53,7 +56,7 @@ returns-clause-next g c =
     let found = c.in_ok-node.field-0 in
     let same_labels : c.in-Some.labels.now ≡ x.labels =
     sym c.in-Some.ensures ∙ c.packed-2.ensures in
-    let made : IsMade e x y set n t.seen =
+    let made : IsMade e x y set n t =
     record {
       key =
           if_some (λ (z : Node). z.key ≡ key (system_of n) (need_of e.ground.needs) (picture n))
@@ -64,9 +67,9 @@ returns-clause-next g c =
           if_some (λ (z : Node). z.labels ≡ c.become_next.new.self) found y c.in-Some-2.is
           c.in_ok-node.ensures.labels
           ∙ c.in_ok-become_next.ensures
-          ∙ ap (λ (o : Observation). next_labels e.cap e.distances set (seen_of o)
+          ∙ ap (λ (o : Observation). labels_behind e set o.executor (seen_of o)
           c.in-Some.labels.now) c.seen-seen.ensures
-          ∙ ap (next_labels e.cap e.distances set t.seen) same_labels;
+          ∙ ap (labels_behind e set t.executor t.seen) same_labels;
     } in
     subst (λ (f : Explorer). IsNext (setting_of f) x set y) c.self.view_is
     (is_next e x set m n t ticked c.one_state_tells.ensures c.self.invariant.ground going y
@@ -99,6 +102,8 @@ returns-clause-noted g c =
       system = c.tick_from.ensures.system;
       after = c.tick_from.ensures.after
           ∙ ap (λ (r : List ℕ). (tick_in (system_of m) r (picture m)).after) same;
+      executor = c.tick_from.ensures.executor
+          ∙ ap (λ (r : List ℕ). executor_in (system_of m) r (picture m)) same;
       seen = c.tick_from.ensures.seen
           ∙ ap (λ (r : List ℕ). seen_in (system_of m) r (picture m)) same;
       failure = c.tick_from.ensures.failure
@@ -110,9 +115,9 @@ returns-clause-noted g c =
     sym c.in-Some.ensures ∙ c.packed-2.ensures in
     are_noted e x set m n t ticked c.one_state_tells.ensures c.self.invariant.ground going
     peaks
-    (subst (λ (o : Observation). IsNoted e.cap peaks (shown_by o c.is_shut_down-is_over.result)
-    x.labels) c.seen-seen.ensures
-    (subst (λ (l : Labels). IsNoted e.cap peaks
+    (subst (λ (o : Observation). IsNoted (levels_of e.ground.system) e.cap peaks
+    (shown_by o c.is_shut_down-is_over.result) x.labels) c.seen-seen.ensures
+    (subst (λ (l : Labels). IsNoted (levels_of e.ground.system) e.cap peaks
     (shown_by c.seen-seen.result.now c.is_shut_down-is_over.result) l) same_labels
     c.in_ok-rises.ensures.noted))
 
@@ -132,6 +137,20 @@ returns-clause-notes g c =
 
 pub returns-in_err-rises-clause-notes : goal.returns-in_err-rises-clause-notes
 returns-in_err-rises-clause-notes g c =
+    let e : Explorer =
+    record {
+      ground = record { system = c.self.inside.system.now; needs = c.self.inside.needs.now };
+      mode = c.self.inside.mode;
+      distances = c.self.inside.distances.now;
+      cap = c.self.inside.cap;
+      peaks = c.self.inside.peaks;
+    } in
+    let f : Explorer = record e { peaks = c.note.new.self } in
+    subst (λ (h : Explorer). StaysNoted AreNotedIn h f) c.self.view_is
+    (stays_noted e f c.notes_stay.ensures refl c.note.ensures.rises)
+
+pub returns-in_err-came-clause-notes : goal.returns-in_err-came-clause-notes
+returns-in_err-came-clause-notes g c =
     let e : Explorer =
     record {
       ground = record { system = c.self.inside.system.now; needs = c.self.inside.needs.now };

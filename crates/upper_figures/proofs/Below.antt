@@ -28,7 +28,7 @@ use Rattle.partition_check.proofs.TickUp.{before_alike}
 use Rattle.partition_check.proofs.UpperState.{is_ready_job, is_upper_id, up, upper_count}
 use Rattle.observed_runs.specs.Observed.{state_seen}
 use Rattle.upper_bounds.specs.StatesAbove.{executes, is_caller}
-use Rattle.isolation.proofs.ByTicks.{stands_ready}
+use Rattle.figure_laws.specs.Blocking.{stands_ready}
 
 -- ---- where nothing is chosen all jobs wait
 

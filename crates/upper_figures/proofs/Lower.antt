@@ -1,5 +1,5 @@
--- In each tick of systems that agree, while an upper task stands ready, none executes but one of the
--- upper part.
+-- While an upper task stands ready in a tick, none executes but one of the upper part. So in
+-- systems that agree a lower one executes then in both or in none.
 use Rattle.std.proofs.Common.{◌≡◌, ℕ, Bool, true, false, ◌&&◌, List, refl, sym, ◌∙◌, ap, subst, true≢false}
 use Rattle.std.specs.Prelude.{Option, Some, None}
 use Rattle.std.specs.Option.{option_map}
@@ -18,16 +18,14 @@ use Rattle.partition_check.proofs.Shared.{IsLayered}
 use Rattle.observations.specs.declared.task_seen.TaskSeen.{TaskSeen}
 use Rattle.observed_runs.specs.Observed.{Ticked, is_by, owner_of, state_seen, task_seen, tick_at}
 use Rattle.figures.specs.FigureSums.{levels_of, lower_executes}
+use Rattle.figure_laws.specs.Blocking.{stands_ready}
 use Rattle.upper_bounds.specs.Above.{AreOneAbove, IsUpperTask}
-use Rattle.upper_bounds.specs.StatesAbove.{HaveTheSameStates, executes, executing_at}
+use Rattle.upper_bounds.specs.StatesAbove.{executes, executing_at}
 use Rattle.upper_bounds.proofs.Sides.{run_beside, upper_back}
-use Rattle.upper_bounds.proofs.States.{states_are_seen_the_same}
-use Rattle.upper_figures.specs.ShownAbove.{ShowTheSameAbove}
-use Rattle.upper_figures.proofs.Part.{upper_parts_show_the_same}
-use Rattle.upper_figures.proofs.Ticks.{at_is, by_is}
-use Rattle.isolation.proofs.Below.{known, none_ready}
-use Rattle.isolation.proofs.ByTicks.{stands_ready}
-use Rattle.isolation.proofs.Levels.{lower_same}
+use Rattle.upper_figures.specs.ShownAbove.{is_blocked}
+use Rattle.upper_figures.proofs.Below.{known, none_ready}
+use Rattle.upper_figures.proofs.Levels.{lower_same}
+use Rattle.upper_figures.proofs.OneTick.{at_is, by_is}
 
 -- ---- one system
 
@@ -40,7 +38,7 @@ module _ (S : System) (p : ℕ) (proper : IsProper S) (separable : Separable S p
   layered = (run_beside S p proper separable mode arrivals n).layered
 
   -- who executes while an upper task stands ready is of the upper part
-  pub upper_runs : (u t : ℕ) → is_by (Owner.Task u) here.executed ≡ true → IsUpperTask S p t
+  upper_runs : (u t : ℕ) → is_by (Owner.Task u) here.executed ≡ true → IsUpperTask S p t
       → stands_ready (task_seen S here t).state ≡ true → IsUpperTask S p u
   upper_runs u t by is stands =
       record {
@@ -118,56 +116,48 @@ module _ (S B : System) (p : ℕ) (pair : AreOneAbove S B p) where
 -- ---- a tick of both
 
 module _ (S B : System) (p : ℕ) (pair : AreOneAbove S B p) (mode : ℕ)
-    (arrivals : List Arrival) (n : ℕ) (going : (run S mode arrivals n).state.over ≡ false) where
+    (arrivals : List Arrival) (n : ℕ) (going : (run S mode arrivals n).state.over ≡ false)
+    (going_there : (run B mode arrivals n).state.over ≡ false) where
   abbrev mine : Ticked
   mine = tick_at S mode arrivals n
 
   abbrev theirs : Ticked
   theirs = tick_at B mode arrivals n
 
-  states : HaveTheSameStates S B p
-  states = states_are_seen_the_same.states.others S B p pair
+  abbrev who_here : Option Owner
+  who_here = option_map owner_of mine.executed
 
-  going_there : (run B mode arrivals n).state.over ≡ false
-  going_there = sym (states.between mode arrivals n).over ∙ going
+  abbrev who_there : Option Owner
+  who_there = option_map owner_of theirs.executed
 
-  pub shown : ShowTheSameAbove S B p mine theirs
-  shown = upper_parts_show_the_same.others S B p pair mode arrivals n going
+  -- upper tasks execute in both or in none
+  abbrev ExecuteAlike : Type 0
+  ExecuteAlike =
+      (u : ℕ) → IsUpperTask S p u
+      → is_by (Owner.Task u) mine.executed ≡ is_by (Owner.Task u) theirs.executed
 
-  -- ---- lower tasks that execute
-
-  runs_alike : (u : ℕ) → IsUpperTask S p u
-      → runs_as (Owner.Task u) (option_map owner_of mine.executed)
-      ≡ runs_as (Owner.Task u) (option_map owner_of theirs.executed)
-  runs_alike u is =
-      sym (runs_is (Owner.Task u) mine.executed)
-      ∙ by_is S pair.proper mode arrivals n going (Owner.Task u)
-      ∙ ((states.executing mode arrivals n).tasks u is).executes
-      ∙ sym (by_is B pair.proper_there mode arrivals n going_there (Owner.Task u))
-      ∙ runs_is (Owner.Task u) theirs.executed
-
-  module _ (t : ℕ) (is : IsUpperTask S p t) (there : IsUpperTask B p t) where
-    abbrev lower_here : Bool
-    lower_here = lower_executes (levels_of S) (option_map owner_of mine.executed) t
-
-    abbrev lower_there : Bool
-    lower_there = lower_executes (levels_of B) (option_map owner_of theirs.executed) t
+  module _ (alike : ExecuteAlike) (t : ℕ) (is : IsUpperTask S p t) (there : IsUpperTask B p t)
+      (same : task_seen S mine t ≡ task_seen B theirs t) where
+    runs_alike : (u : ℕ) → IsUpperTask S p u
+        → runs_as (Owner.Task u) who_here ≡ runs_as (Owner.Task u) who_there
+    runs_alike u upper =
+        sym (runs_is (Owner.Task u) mine.executed) ∙ alike u upper
+        ∙ runs_is (Owner.Task u) theirs.executed
 
     ready_same : stands_ready (task_seen S mine t).state ≡ stands_ready (task_seen B theirs t).state
-    ready_same = ap (λ (x : TaskSeen). stands_ready x.state) (shown.tasks t is)
+    ready_same = ap (λ (x : TaskSeen). stands_ready x.state) same
 
-    pub lower_ready_same : (stands_ready (task_seen S mine t).state && lower_here)
-        ≡ (stands_ready (task_seen B theirs t).state && lower_there)
-    lower_ready_same =
-        ap (λ (b : Bool). b && lower_here) ready_same
+    pub blocked_same : is_blocked S mine t ≡ is_blocked B theirs t
+    blocked_same =
+        ap (λ (b : Bool). b && lower_executes (levels_of S) who_here t) ready_same
         ∙ go (stands_ready (task_seen B theirs t).state) refl
       where
         go : (b : Bool) → stands_ready (task_seen B theirs t).state ≡ b
-            → (b && lower_here) ≡ (b && lower_there)
+            → (b && lower_executes (levels_of S) who_here t)
+            ≡ (b && lower_executes (levels_of B) who_there t)
         go false e = refl
         go true e =
-            lower_of S B p pair t is (option_map owner_of mine.executed)
-            (option_map owner_of theirs.executed)
+            lower_of S B p pair t is who_here who_there
             (λ u runs. upper_runs S p pair.proper pair.separable mode arrivals n going u t
             (runs_is (Owner.Task u) mine.executed ∙ runs) is (ready_same ∙ e))
             (λ u runs. upper_runs B p pair.proper_there pair.separable_there mode arrivals n

@@ -1,0 +1,13 @@
+use Rattle.std.proofs.Common.{◌≡◌, map}
+use Rattle.osek_base.specs.Lists.{below}
+use Rattle.figures.specs.FigureSums.{levels_of, lower_executes}
+use Rattle.observations.specs.Seen.{seen_of}
+use Rattle.bound_labels.specs.Parts.{blocked_behind}
+use Rattle.bound_labels.proofs.blocked.put_next_blocked.Given as goal
+
+-- the ticks of those gone over
+abbrev pub invariant-loop-task : goal.invariant-loop-task
+invariant-loop-task l =
+    l.next.items
+    ≡ map (blocked_behind (lower_executes (levels_of l.system) l.seen.executor) l.cap
+    (seen_of l.seen) l.blocked) (below l.task)

@@ -1,0 +1,115 @@
+//! OSEK/VDX OS: resource management, priority inversion. For how many ticks jobs have been blocked.
+
+ghost use Rattle.std.specs.Prelude.{ℕ, ◌≡◌, ◌<◌, ◌≤◌, IfOk, IsTrue, OnOk, length, map, max, min, replicate, slice_index_or};
+ghost use Rattle.figures.specs.FigureSums.{levels_of, lower_executes};
+ghost use Rattle.figure_laws.specs.Blocking.{blocked_in, blocked_next, is_blocked_in};
+ghost use Rattle.observations.specs.Seen.{seen_of};
+ghost use Rattle.bound_labels.specs.Parts.{blocked_at, blocked_behind, each_of};
+
+use crate::counting::older;
+use crate::ticks::blocked_tick;
+use figures::TaskTick;
+use observations::Observation;
+use osek_base::{System, TaskState};
+use std::alloc::{AllocError, Global};
+
+/// No job has been blocked.
+pub(crate) fn first_blocked(alloc: Global, tasks: usize) -> Result<Vec<u32>, AllocError>
+    ensures { IfOk result (λ blocked. blocked.items ≡ replicate tasks 0) }
+{
+    let mut blocked = Vec::with_capacity(alloc, tasks)?;
+    for _made in 0..tasks {
+        blocked.push(0)?;
+    }
+    Ok(blocked)
+}
+
+/// For how many ticks the oldest job of a task has been blocked; 0 beyond the list.
+#[inline(always)]
+pub(crate) fn blocked_of(blocked: &[u32], task: usize) -> u32
+    ensures { result ≡ blocked_at blocked.now task }
+{
+    match blocked.get(task) {
+        Some(ticks) => *ticks,
+        None => 0,
+    }
+}
+
+/// Whether a task is blocked in a tick.
+#[inline(always)]
+fn is_blocked(tick: &TaskTick) -> bool
+    ensures { result ≡ is_blocked_in tick.now }
+{
+    matches!(tick.seen.state, TaskState::Ready) && tick.lower_executes
+}
+
+/// For how many ticks a job has been blocked, up to a cap, the present one counted.
+#[inline(always)]
+pub(crate) fn blocked_in(cap: u32, tick: &TaskTick, ticks: u32) -> u32
+    ensures { result ≡ min cap (blocked_in tick.now ticks) }
+{
+    if is_blocked(tick) {
+        older(ticks, cap)
+    } else {
+        cap.min(ticks)
+    }
+}
+
+/// For how many ticks the oldest job has been blocked behind a tick, up to a cap; 0 where the job
+/// before it ended there or began to wait.
+#[inline(always)]
+fn next_ticks(cap: u32, tick: &TaskTick, ticks: u32) -> u32
+    ensures { result ≡ min cap (blocked_next tick.now ticks) }
+{
+    if tick.leaves() {
+        0
+    } else {
+        blocked_in(cap, tick, ticks)
+    }
+}
+
+/// Puts the ticks behind a tick in place of others.
+#[tactic(auto, using(crate::proofs::MapLemmas::one_more))]
+pub(crate) fn put_next_blocked(
+    next: &mut Vec<u32>,
+    system: &System,
+    cap: u32,
+    seen: &Observation,
+    blocked: &[u32],
+) -> Result<(), AllocError>
+    ensures { OnOk result (next.new.items ≡ each_of (blocked_behind
+        (lower_executes (levels_of system.now) seen.now.executor) cap (seen_of seen.now))
+        blocked.now) }
+{
+    next.clear();
+    for task in 0..blocked.len() {
+        let ticks = blocked_of(blocked, task);
+        next.push(next_ticks(cap, &blocked_tick(system, seen, task), ticks))?;
+    }
+    Ok(())
+}
+
+/// Whether each task has been blocked for at least as many ticks as among others; at true each has.
+pub(crate) fn are_at_least(blocked: &[u32], others: &[u32]) -> bool
+    requires { length blocked.now ≡ length others.now }
+    ensures { IsTrue result → (k : ℕ) → blocked_at others.now k ≤ blocked_at blocked.now k }
+{
+    for task in 0..blocked.len() {
+        if blocked[task] < others[task] {
+            return false;
+        }
+    }
+    true
+}
+
+/// Each number of ticks is the greater of its own and that of the same task among others.
+pub(crate) fn join_blocked(blocked: &mut [u32], others: &[u32])
+    requires { length blocked.old ≡ length others.now }
+    ensures count { length blocked.new ≡ length blocked.old }
+    ensures each { (k : ℕ) →
+        blocked_at blocked.new k ≡ max (blocked_at blocked.old k) (blocked_at others.now k) }
+{
+    for (task, ticks) in blocked.iter_mut().enumerate() {
+        *ticks = (*ticks).max(others[task]);
+    }
+}
