@@ -15,6 +15,8 @@ pub enum Column {
     Response,
     /// The most ticks for which a task's oldest job is blocked.
     Blocked,
+    /// The most blockers of a job of a task.
+    Blockers,
     /// The most jobs of a task at once.
     Jobs,
     /// Whether an activation of a task may be refused.
@@ -41,6 +43,7 @@ impl Column {
         match self {
             Column::Response => "greatest",
             Column::Blocked => "blocked",
+            Column::Blockers => "blockers",
             Column::Jobs => "jobs",
             Column::Latency => "latency",
             Column::Loss => "losses",
@@ -90,6 +93,7 @@ impl Kind {
             Kind::Task => &[
                 Column::Response,
                 Column::Blocked,
+                Column::Blockers,
                 Column::Jobs,
                 Column::Refusal,
                 Column::Errors,

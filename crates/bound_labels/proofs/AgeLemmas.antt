@@ -1,12 +1,11 @@
 -- Ages of jobs as lists.
-use Rattle.std.proofs.Common.{ℕ, zero, suc, ◌≡◌, ◌<◌, ◌≤◌, ◌+◌, ◌-◌, true, cond, max, min, List, [], ◌∷◌, ◌++◌, length, get_or, map, replicate, take, refl, sym, ◌∙◌, ap, subst, arith}
+use Rattle.std.proofs.Common.{ℕ, zero, suc, ◌≡◌, ◌<◌, ◌≤◌, ◌+◌, ◌-◌, Bool, true, false, cond, max, min, List, [], ◌∷◌, ◌++◌, length, get_or, map, replicate, take, refl, sym, ◌∙◌, ap, subst, arith}
 use Rattle.std.proofs.Math.ListN.{set}
-use Rattle.std.proofs.lemmas.List.{append_assoc, length-take-le, map-append, take_more}
-use Rattle.figures.specs.declared.task_tick.TaskTick.{TaskTick}
+use Rattle.std.proofs.lemmas.List.{append-nil, append_assoc, length-take-le, map-append, take_more}
 use Rattle.figures.specs.ResponseSums.{later}
-use Rattle.figures.specs.StateSums.{leaves}
-use Rattle.figure_laws.specs.Ages.{AreOlder, ages_in, ages_next, followed}
+use Rattle.figure_laws.specs.Ages.{AreOlder}
 use Rattle.figure_laws.specs.Merging.{merged_ages}
+use Rattle.bound_labels.specs.Parts.{ages_of_jobs}
 
 -- ages that are older one by one
 pub older_each : (xs ys : List ℕ) → length ys ≤ length xs
@@ -36,18 +35,46 @@ both_added cap new before old =
     (ap (λ v. v ++ map (min cap) (replicate new 1)) (older_before cap old)
     ∙ sym (map-append (min cap) (map suc old) (replicate new 1)))
 
-later_new : (n : ℕ) → replicate (n - 1) 1 ≡ later (replicate n 1)
-later_new zero = refl
-later_new (suc n) = let e : suc n - 1 ≡ n = omega arith in ap (λ k. replicate k 1) e
+later_new : (n left : ℕ) → left ≡ n - 1 → replicate left 1 ≡ later (replicate n 1)
+later_new zero left is = ap (λ k. replicate k 1) is
+later_new (suc n) left is =
+    let e : left ≡ n = omega (arith, is) in ap (λ k. replicate k 1) e
 
--- a job leaves that had no age
-pub next_none : (t : TaskTick) (old : List ℕ) (new left : ℕ) → leaves t ≡ true → length old ≡ 0
-    → new ≡ followed t - length old → left ≡ new - 1
-    → map suc old ++ replicate left 1 ≡ ages_next t old
-next_none t [] new left leaving none is one =
-    ap (λ n. replicate n 1) one ∙ ap (λ n. replicate (n - 1) 1) is ∙ later_new (followed t - 0)
-    ∙ sym (ap (λ b. cond b (later (ages_in t [])) (ages_in t [])) leaving)
-next_none t (n ∷ old) new left leaving none is one = absurd (omega (arith, none))
+-- the ages of the jobs left are those that stay, and those of the jobs that had none
+pub jobs_left : (cap jobs : ℕ) (leaves : Bool) (before old stay : List ℕ) (new : ℕ)
+    → stay ≡ cond leaves (later old) old → new ≡ jobs - cond leaves 1 0 - length stay
+    → before ++ map (min cap) (map suc stay ++ replicate new 1)
+    ≡ before ++ map (min cap) (ages_of_jobs jobs leaves old)
+jobs_left cap jobs leaves before old stay new is count =
+    ap (λ v. before ++ map (min cap) v)
+    (ap (λ n. map suc stay ++ replicate n 1) count
+    ∙ ap (λ v. map suc v ++ replicate (jobs - cond leaves 1 0 - length v) 1) is
+    ∙ left leaves old)
+  where
+    left : (b : Bool) (xs : List ℕ)
+        → map suc (cond b (later xs) xs)
+        ++ replicate (jobs - cond b 1 0 - length (cond b (later xs) xs)) 1
+        ≡ ages_of_jobs jobs b xs
+    left false xs =
+        let e : jobs - 0 - length xs ≡ jobs - length xs = omega arith in
+        ap (λ n. map suc xs ++ replicate n 1) e
+    left true [] = later_new (jobs - 0) (jobs - 1 - 0) (omega arith)
+    left true (x ∷ xs) =
+        let e : jobs - 1 - length xs ≡ jobs - suc (length xs) = omega arith in
+        ap (λ n. map suc xs ++ replicate n 1) e
+
+-- no job stands, and none had an age
+pub no_jobs : (jobs cap : ℕ) (leaving : Bool) (before old : List ℕ) → jobs ≡ 0 → length old ≡ 0
+    → before ≡ before ++ map (min cap) (ages_of_jobs jobs leaving old)
+no_jobs jobs cap leaving before [] none short =
+    sym (append-nil before)
+    ∙ ap (λ v. before ++ map (min cap) v)
+    (none_left leaving ∙ ap (λ n. ages_of_jobs n leaving []) (sym none))
+  where
+    none_left : (b : Bool) → [] ≡ ages_of_jobs 0 b []
+    none_left true = refl
+    none_left false = refl
+no_jobs jobs cap leaving before (n ∷ old) none short = absurd (omega (arith, short))
 
 -- ---- merged one by one
 

@@ -1,4 +1,5 @@
 pub mod AgeLemmas
+pub mod BlockedLemmas
 pub mod ListLemmas
 pub mod LabelLemmas
 pub mod LevelLemmas

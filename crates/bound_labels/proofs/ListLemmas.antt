@@ -1,5 +1,5 @@
 -- Lists of ages in one list.
-use Rattle.std.proofs.Common.{ℕ, zero, suc, ◌≡◌, ◌<◌, ◌≤◌, ◌-◌, max, List, [], ◌∷◌, ◌++◌, drop, length, get_or, map, replicate, take, refl, sym, ◌∙◌, ap, ap₂, subst, arith, inl, inr}
+use Rattle.std.proofs.Common.{ℕ, zero, suc, ◌≡◌, ◌<◌, ◌≤◌, ◌+◌, ◌-◌, max, List, [], ◌∷◌, ◌++◌, drop, length, get_or, map, replicate, take, refl, sym, ◌∙◌, ap, ap₂, subst, arith, inl, inr}
 use Rattle.std.proofs.Math.Seq.{drop-append_seam, get_or-append_seam}
 use Rattle.std.proofs.Math.ListN.{get_or-append}
 use Rattle.std.proofs.lemmas.Bool.{cases_lt}
@@ -60,6 +60,11 @@ pub begin_behind : (ends : List ℕ) (k n : ℕ) → (k ≡ 0 → ⊥) → n ≡
 begin_behind ends zero n some is = absurd (some refl)
 begin_behind ends (suc k) n some is =
     let e : suc k - 1 ≡ k = omega arith in is ∙ ap (λ i. get_or ends i 0) e
+
+-- the next one begins where this one ends
+pub begin_next : (ends : List ℕ) (k : ℕ) → get_or ends k 0 ≡ begin_of ends (k + 1)
+begin_next ends k =
+    let e : suc k ≡ k + 1 = omega arith in ap (begin_of ends) e
 
 -- ---- none has an age
 

@@ -1,7 +1,8 @@
 -- What labels tell, list by list, and what they show in a tick.
-use Rattle.std.specs.Prelude.{ℕ, Bool, if◌then◌else◌, ◌-◌, min, List, [], map, length, Option, None, slice_index_or}
+use Rattle.std.specs.Prelude.{ℕ, suc, Bool, cond, if◌then◌else◌, ◌-◌, ◌++◌, min, List, [], map, length, replicate, Option, None, slice_index_or}
 use Rattle.std.specs.Option.{option_map}
 use Rattle.osek_base.specs.Lists.{below}
+use Rattle.figures.specs.ResponseSums.{later}
 use Rattle.figure_laws.specs.Ages.{ages_next, oldest_age}
 use Rattle.figure_laws.specs.Blocking.{blocked_in, blocked_next}
 use Rattle.figure_laws.specs.Holding.{Hold, held_ticks, hold_next}
@@ -35,6 +36,12 @@ wait_behind distances set waits i =
 
 abbrev pub ages_behind : ℕ → Seen → List (List ℕ) → ℕ → List ℕ
 ages_behind cap seen ages k = map (min cap) (ages_next (task_tick seen k) (ages_at ages k))
+
+-- by how many jobs of the task are followed in the tick, and whether the oldest leaves then
+abbrev pub ages_of_jobs : ℕ → Bool → List ℕ → List ℕ
+ages_of_jobs jobs leaves old =
+    cond leaves (later (map suc old ++ replicate (jobs - length old) 1))
+    (map suc old ++ replicate (jobs - length old) 1)
 
 abbrev pub pending_behind : ℕ → Seen → List (Option ℕ) → ℕ → Option ℕ
 pending_behind cap seen pending i =

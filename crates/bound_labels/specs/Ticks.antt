@@ -1,5 +1,5 @@
 -- What is seen of things in a tick, one by one, and as ticks of figures.
-use Rattle.std.specs.Prelude.{ℕ, Bool, false, None, slice_index_or}
+use Rattle.std.specs.Prelude.{ℕ, ◌&&◌, Bool, false, None, slice_index_or}
 use Rattle.osek_base.specs.declared.status.TaskState.{TaskState}
 use Rattle.observations.specs.declared.alarm_seen.AlarmSeen.{AlarmSeen}
 use Rattle.observations.specs.declared.routine_seen.RoutineSeen.{RoutineSeen}
@@ -8,6 +8,7 @@ use Rattle.observations.specs.Seen.{Seen}
 use Rattle.figures.specs.declared.task_tick.TaskTick.{TaskTick}
 use Rattle.figures.specs.declared.routine_figures.RoutineTick.{RoutineTick}
 use Rattle.figures.specs.declared.resource_figures.HolderTick.{HolderTick}
+use Rattle.figure_laws.specs.Blocking.{stands_ready}
 
 -- a task without a job, to which nothing comes, and the like; what is beyond the lists is seen so
 abbrev pub no_task : TaskSeen
@@ -52,6 +53,11 @@ task_tick seen k =
 -- and where it is known below which tasks the one is that executes, if one does
 abbrev pub blocked_tick : (ℕ → Bool) → Seen → ℕ → TaskTick
 blocked_tick lower seen k = record (task_tick seen k) { lower_executes = lower k }
+
+-- where that is asked of a task that is READY alone: another one isn't blocked
+abbrev pub ready_tick : (ℕ → Bool) → Seen → ℕ → TaskTick
+ready_tick lower seen k =
+    blocked_tick (λ i. stands_ready (task_in seen i).state && lower i) seen k
 
 abbrev pub routine_tick : Seen → ℕ → RoutineTick
 routine_tick seen i = record { tick = 0; seen = routine_in seen i; has_failed = false }

@@ -114,23 +114,30 @@ fn replace(lists: &mut AgeLists, others: AgeLists)
     *lists = others;
 }
 
-/// Puts the ages behind a tick in place of others, with where those of each task end.
+/// Puts the ages behind a tick in place of others, with where those of each task end. The old ages
+/// are gone over once, as each task's begin where those of the one before end.
 fn put_next(
     ages: &mut Vec<u32>,
     ends: &mut Vec<usize>,
     cap: u32,
     seen: &Observation,
-    lists: &AgeLists,
+    old_ages: &[u32],
+    old_ends: &[usize],
 ) -> Result<(), AllocError>
+    requires { AreLists old_ages.now old_ends.now }
     ensures are { OnOk result (AreLists ages.new.items ends.new.items) }
     ensures same { OnOk result (lists_of ages.new.items ends.new.items
-        ≡ each_of (ages_behind cap (seen_of seen.now)) lists.now) }
+        ≡ each_of (ages_behind cap (seen_of seen.now)) (lists_of old_ages.now old_ends.now)) }
 {
     ages.clear();
     ends.clear();
-    for task in 0..lists.len() {
-        push_next(ages, cap, &task_tick(seen, task), lists.of(task))?;
+    let mut begin = 0;
+    for task in 0..old_ends.len() {
+        let end = old_ends[task];
+        let old = part_of(old_ages, begin, end);
+        push_next(ages, cap, &task_tick(seen, task), old)?;
         ends.push(ages.len())?;
+        begin = end;
     }
     Ok(())
 }
@@ -201,7 +208,14 @@ impl AgeLists {
         ensures { OnOk result
             (self.new ≡ each_of (ages_behind cap (seen_of seen.now)) old.now) }
     {
-        match put_next(&mut self.ages, &mut self.ends, cap, seen, old) {
+        match put_next(
+            &mut self.ages,
+            &mut self.ends,
+            cap,
+            seen,
+            &old.ages,
+            &old.ends,
+        ) {
             Ok(()) => Ok(()),
             Err(error) => {
                 self.ends.clear();

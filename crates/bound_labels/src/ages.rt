@@ -1,9 +1,11 @@
 //! OSEK/VDX OS: task management. Ages of a task's jobs, oldest first.
 
-ghost use Rattle.std.specs.Prelude.{ℕ, ◌≡◌, ◌≤◌, ◌++◌, suc, IsTrue, OnOk, length, map, min, replicate};
+ghost use Rattle.std.specs.Prelude.{ℕ, ◌≡◌, ◌≤◌, ◌++◌, suc, IsTrue, OnOk, cond, length, map, min, replicate};
 ghost use Rattle.std.specs.Option.{option_map};
+ghost use Rattle.figures.specs.ResponseSums.{later};
 ghost use Rattle.figure_laws.specs.Ages.{AreOlder, ages_next, followed, oldest_age};
 ghost use Rattle.figure_laws.specs.Merging.{merged_ages};
+ghost use Rattle.bound_labels.specs.Parts.{ages_of_jobs};
 
 use crate::counting::older;
 use figures::{MAX_UNFINISHED, TaskTick};
@@ -18,6 +20,7 @@ fn followed(tick: &TaskTick) -> usize
 }
 
 /// Adds each age a tick later, up to a cap.
+#[inline(always)]
 fn push_older(ages: &mut Vec<u32>, cap: u32, old: &[u32]) -> Result<(), AllocError>
     ensures { OnOk result
         (ages.new.items ≡ ages.old.items ++ map (λ n. min cap (suc n)) old.now) }
@@ -29,6 +32,7 @@ fn push_older(ages: &mut Vec<u32>, cap: u32, old: &[u32]) -> Result<(), AllocErr
 }
 
 /// Adds so many ages in the first tick, up to a cap.
+#[inline(always)]
 fn push_new(ages: &mut Vec<u32>, cap: u32, count: usize) -> Result<(), AllocError>
     ensures { OnOk result (ages.new.items ≡ ages.old.items ++ map (min cap) (replicate count 1)) }
 {
@@ -39,6 +43,7 @@ fn push_new(ages: &mut Vec<u32>, cap: u32, count: usize) -> Result<(), AllocErro
 }
 
 /// Adds each age a tick later and so many in the first tick, each up to a cap.
+#[inline(always)]
 fn push_ages(ages: &mut Vec<u32>, cap: u32, old: &[u32], new: usize) -> Result<(), AllocError>
     ensures { OnOk result (ages.new.items
         ≡ ages.old.items ++ map (min cap) (map suc old.now ++ replicate new 1)) }
@@ -48,7 +53,38 @@ fn push_ages(ages: &mut Vec<u32>, cap: u32, old: &[u32], new: usize) -> Result<(
     Ok(())
 }
 
-/// Adds the ages of a task behind a tick, up to a cap.
+/// The ages of the jobs that had one and are left, where the oldest leaves or stays.
+#[inline(always)]
+fn staying(old: &[u32], leaves: bool) -> &[u32]
+    ensures { result.now ≡ cond leaves (later old.now) old.now }
+{
+    match old.split_first() {
+        Some((_, rest)) if leaves => rest,
+        _ => old,
+    }
+}
+
+/// Adds the ages of a task behind a tick, up to a cap, by how many of its jobs are followed in the
+/// tick and whether the oldest leaves then.
+#[tactic(auto, using(crate::proofs::AgeLemmas::jobs_left))]
+fn push_jobs(
+    ages: &mut Vec<u32>,
+    cap: u32,
+    jobs: usize,
+    leaves: bool,
+    old: &[u32],
+) -> Result<(), AllocError>
+    ensures { OnOk result
+        (ages.new.items ≡ ages.old.items ++ map (min cap) (ages_of_jobs jobs leaves old.now)) }
+{
+    let old = staying(old, leaves);
+    let left = jobs.saturating_sub(usize::from(leaves));
+    push_ages(ages, cap, old, left.saturating_sub(old.len()))
+}
+
+/// Adds the ages of a task behind a tick, up to a cap: none where it had none and no job of it
+/// stands.
+#[inline(always)]
 pub(crate) fn push_next(
     ages: &mut Vec<u32>,
     cap: u32,
@@ -58,14 +94,11 @@ pub(crate) fn push_next(
     ensures { OnOk result
         (ages.new.items ≡ ages.old.items ++ map (min cap) (ages_next tick.now old.now)) }
 {
-    let new = followed(tick).saturating_sub(old.len());
-    if !tick.leaves() {
-        return push_ages(ages, cap, old, new);
+    let jobs = followed(tick);
+    if jobs == 0 && old.is_empty() {
+        return Ok(());
     }
-    match old.split_first() {
-        None => push_ages(ages, cap, old, new.saturating_sub(1)),
-        Some((_, rest)) => push_ages(ages, cap, rest, new),
-    }
+    push_jobs(ages, cap, jobs, tick.leaves(), old)
 }
 
 /// The age of the oldest job in a tick, up to a cap.

@@ -7,10 +7,10 @@ ghost use Rattle.observations.specs.Seen.{seen_of};
 ghost use Rattle.bound_labels.specs.Parts.{blocked_at, blocked_behind, each_of};
 
 use crate::counting::older;
-use crate::ticks::blocked_tick;
+use crate::ticks::{is_ready, ready_tick};
 use figures::TaskTick;
 use observations::Observation;
-use osek_base::{System, TaskState};
+use osek_base::System;
 use std::alloc::{AllocError, Global};
 
 /// No job has been blocked.
@@ -40,7 +40,7 @@ pub(crate) fn blocked_of(blocked: &[u32], task: usize) -> u32
 fn is_blocked(tick: &TaskTick) -> bool
     ensures { result ≡ is_blocked_in tick.now }
 {
-    matches!(tick.seen.state, TaskState::Ready) && tick.lower_executes
+    is_ready(tick) && tick.lower_executes
 }
 
 /// For how many ticks a job has been blocked, up to a cap, the present one counted.
@@ -68,6 +68,18 @@ fn next_ticks(cap: u32, tick: &TaskTick, ticks: u32) -> u32
     }
 }
 
+/// The same of a task by its number, where it is known for how many ticks those of all have been.
+#[tactic(auto, using(crate::proofs::BlockedLemmas::ready_next))]
+#[inline(always)]
+fn ticks_behind(system: &System, cap: u32, seen: &Observation, blocked: &[u32], task: usize) -> u32
+    ensures { result ≡ blocked_behind
+        (lower_executes (levels_of system.now) seen.now.executor) cap (seen_of seen.now)
+        blocked.now task }
+{
+    let tick = ready_tick(system, seen, task);
+    next_ticks(cap, &tick, blocked_of(blocked, task))
+}
+
 /// Puts the ticks behind a tick in place of others.
 #[tactic(auto, using(crate::proofs::MapLemmas::one_more))]
 pub(crate) fn put_next_blocked(
@@ -83,8 +95,7 @@ pub(crate) fn put_next_blocked(
 {
     next.clear();
     for task in 0..blocked.len() {
-        let ticks = blocked_of(blocked, task);
-        next.push(next_ticks(cap, &blocked_tick(system, seen, task), ticks))?;
+        next.push(ticks_behind(system, cap, seen, blocked, task))?;
     }
     Ok(())
 }

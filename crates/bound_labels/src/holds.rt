@@ -81,6 +81,7 @@ impl Hold {
     }
 
     /// For how many ticks a holder has held it in a tick, up to a cap; 0 where there is none.
+    #[inline(always)]
     fn held_in(self, cap: u32, holder: Holder) -> u32
         ensures { result ≡ min cap (held_in holder self) }
     {
@@ -90,6 +91,7 @@ impl Hold {
         }
     }
 
+    #[inline(always)]
     fn next(self, cap: u32, tick: &HolderTick) -> Self
         ensures { result ≡ capped_hold cap (hold_next tick.now self) }
     {

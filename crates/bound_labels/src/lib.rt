@@ -13,4 +13,4 @@ mod waits;
 
 pub use holds::Hold;
 pub use labels::Labels;
-pub use ticks::{blocked_tick, holder_tick, routine_tick, task_tick};
+pub use ticks::{blocked_tick, holder_tick, ready_tick, routine_tick, task_tick};

@@ -37,6 +37,7 @@ fn pending_in(cap: u32, tick: &RoutineTick, age: Option<u32>) -> Option<u32>
     }
 }
 
+#[inline(always)]
 fn next_age(cap: u32, tick: &RoutineTick, age: Option<u32>) -> Option<u32>
     ensures { result ≡ option_map (min cap) (pending_next tick.now age) }
 {

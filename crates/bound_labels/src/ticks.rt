@@ -2,11 +2,13 @@
 
 ghost use Rattle.std.specs.Prelude.{◌≡◌, None, length, nat_lt, slice_index_or};
 ghost use Rattle.figures.specs.FigureSums.{levels_of, lower_executes};
+ghost use Rattle.figure_laws.specs.Blocking.{stands_ready};
 ghost use Rattle.observations.specs.Seen.{seen_of};
 ghost use Rattle.bound_labels.specs.Ticks.{
   no_task,
   no_routine,
   blocked_tick,
+  ready_tick,
   task_tick,
   routine_tick,
   holder_tick,
@@ -118,6 +120,28 @@ pub fn blocked_tick(system: &System, seen: &Observation, number: usize) -> TaskT
     TaskTick {
         lower_executes: lower_executes(system, &seen.executor, number),
         ..task_tick(seen, number)
+    }
+}
+
+/// Whether a task is READY in a tick.
+#[inline(always)]
+pub(crate) fn is_ready(tick: &TaskTick) -> bool
+    ensures { result ≡ stands_ready tick.now.seen.state }
+{
+    matches!(tick.seen.state, TaskState::Ready)
+}
+
+/// A task in a tick, by its number, and where it is READY, whether one of lower static priority
+/// executes. Of other tasks, which aren't blocked, that is not asked.
+#[inline(always)]
+pub fn ready_tick(system: &System, seen: &Observation, number: usize) -> TaskTick
+    ensures { result ≡ ready_tick
+        (lower_executes (levels_of system.now) seen.now.executor) (seen_of seen.now) number }
+{
+    let tick = task_tick(seen, number);
+    TaskTick {
+        lower_executes: is_ready(&tick) && lower_executes(system, &seen.executor, number),
+        ..tick
     }
 }
 

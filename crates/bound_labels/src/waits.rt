@@ -18,6 +18,7 @@ pub(crate) fn first_waits(alloc: Global, routines: usize) -> Result<Vec<u32>, Al
 }
 
 /// For how many ticks yet a routine can't arrive; 0 beyond the list.
+#[inline(always)]
 pub(crate) fn wait_of(waits: &[u32], routine: usize) -> u32
     ensures { result ≡ wait_at waits.now routine }
 {
@@ -29,6 +30,7 @@ pub(crate) fn wait_of(waits: &[u32], routine: usize) -> u32
 
 /// Whether a routine arrives with a set.
 #[tactic(auto, using(crate::proofs::SetLemmas::not_in))]
+#[inline(always)]
 fn arrives_in(set: u64, routine: usize) -> bool
     ensures { result ≡ arrives_in set routine }
 {
@@ -39,6 +41,7 @@ fn arrives_in(set: u64, routine: usize) -> bool
 }
 
 /// How many ticks apart two arrivals of a routine are at least.
+#[inline(always)]
 fn distance_of(distances: &[u32], routine: usize) -> u32
     ensures { result ≡ distance_of distances.now routine }
 {
@@ -48,6 +51,7 @@ fn distance_of(distances: &[u32], routine: usize) -> u32
     }
 }
 
+#[inline(always)]
 fn next_wait(waits: &[u32], distances: &[u32], set: u64, routine: usize) -> u32
     ensures { result ≡ wait_behind distances.now set waits.now routine }
 {

@@ -36,6 +36,10 @@ pub record Peaks : Type 0 where
 abbrev pub peak : List ℕ → ℕ → ℕ
 peak peaks k = slice_index_or peaks k 0
 
+-- the most blockers of a job of a task: none where its oldest job is never blocked, and never two
+abbrev pub most_blockers : Peaks → ℕ → ℕ
+most_blockers peaks k = min 1 (peak peaks.blocked k)
+
 abbrev pub has_come : List Bool → ℕ → Bool
 has_come flags k = slice_index_or flags k false
 

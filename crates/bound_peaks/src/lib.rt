@@ -4,5 +4,7 @@
 mod failures;
 mod peaks;
 mod raising;
+mod routine_peaks;
+mod task_peaks;
 
 pub use peaks::Peaks;

@@ -1,17 +1,18 @@
 //! The greatest times that ticks have shown.
 
-ghost use Rattle.std.specs.Prelude.{ℕ, ◌≡◌, ◌<◌, ◌≤◌, false, IfOk, IsFalse, Some, length};
-ghost use Rattle.osek_base.specs.declared.limits.TheConstants.{MAX_ALARMS, MAX_ROUTINES, MAX_TASKS};
+ghost use Rattle.std.specs.Prelude.{◌≡◌, false, IfOk, IsFalse, length};
+ghost use Rattle.osek_base.specs.declared.limits.TheConstants.{MAX_ALARMS};
 ghost use Rattle.observations.specs.declared.observation.TheConstants.{MAX_HELD};
-ghost use Rattle.figures.specs.FigureSums.{levels_of, lower_executes};
-ghost use Rattle.figure_laws.specs.Labels.{IsAtMost};
+ghost use Rattle.figures.specs.FigureSums.{levels_of};
 ghost use Rattle.observations.specs.Seen.{seen_of};
-ghost use Rattle.bound_labels.specs.Parts.{shown_age, shown_blocked, shown_hold, shown_wait};
-ghost use Rattle.bound_labels.specs.Ticks.{alarm_in, holder_tick, routine_in, routine_tick, task_in, task_tick};
+ghost use Rattle.bound_labels.specs.Parts.{shown_hold};
+ghost use Rattle.bound_labels.specs.Ticks.{alarm_in};
+ghost use Rattle.bound_peaks.specs.Noting.{AreMarked, AreRaised};
 ghost use Rattle.bound_peaks.specs.Peaks.{
   AreAtLeast,
   IsNoted,
   has_come,
+  most_blockers,
   no_peaks,
   peak,
   routine_fails,
@@ -21,7 +22,9 @@ ghost use Rattle.bound_peaks.specs.Peaks.{
 
 use crate::failures::{note_failure, routine_fails, task_fails};
 use crate::raising::{has_come, mark, peak, raise};
-use bound_labels::{Labels, blocked_tick, holder_tick, routine_tick, task_tick};
+use crate::routine_peaks::{RoutinePeaks, note_routines};
+use crate::task_peaks::{TaskPeaks, note_tasks};
+use bound_labels::{Labels, holder_tick};
 use observations::{Failure, MAX_HELD, Observation};
 use osek_base::{MAX_ALARMS, MAX_ROUTINES, MAX_TASKS, System};
 use std::alloc::{AllocError, Global};
@@ -31,20 +34,10 @@ use std::marker::Model;
 /// any.
 #[derive(Drop)]
 pub struct Peaks {
-    /// By task, the greatest age of its jobs.
-    responses: [u32; MAX_TASKS],
-    /// By task, for how many ticks at most its oldest job was blocked.
-    blocked: [u32; MAX_TASKS],
-    /// By task, the most of its jobs at once.
-    jobs: [u32; MAX_TASKS],
-    /// By routine, the longest wait of its interrupts.
-    latencies: [u32; MAX_ROUTINES],
+    tasks: TaskPeaks,
+    routines: RoutinePeaks,
     /// By resource, the longest hold.
     holds: [u32; MAX_HELD],
-    /// By routine, whether an interrupt was lost.
-    losses: [bool; MAX_ROUTINES],
-    /// By task, whether an activation was refused.
-    refusals: [bool; MAX_TASKS],
     /// By alarm, whether its action was refused.
     actions: [bool; MAX_ALARMS],
     /// The services that were answered other than E_OK, each once, in the order in which they came.
@@ -59,159 +52,40 @@ impl Model for Peaks {
     ghost Value = { Told };
 
     ghost view = { λ p. record {
-      responses = p.responses;
-      blocked = p.blocked;
-      jobs = p.jobs;
-      latencies = p.latencies;
+      responses = p.tasks.responses;
+      blocked = p.tasks.blocked;
+      jobs = p.tasks.jobs;
+      latencies = p.routines.latencies;
       holds = p.holds;
-      losses = p.losses;
-      refusals = p.refusals;
+      losses = p.routines.losses;
+      refusals = p.tasks.refusals;
       actions = p.actions;
       failures = p.failures.items;
       shuts_down = p.shuts_down;
     } };
 }
 
-/// Notes the ages of the tasks' oldest jobs in a tick.
-fn note_responses(peaks: &mut [u32], cap: u32, seen: &Observation, labels: &Labels) -> bool
-    requires { length peaks.old ≡ MAX_TASKS }
-    ensures count { length peaks.new ≡ length peaks.old }
-    ensures noted { (k : ℕ) → k < length seen.now.tasks.items → IsAtMost (peak peaks.new k)
-        (shown_age cap (seen_of seen.now) labels.now k) }
-    ensures rises { (k : ℕ) → peak peaks.old k ≤ peak peaks.new k }
-    ensures stays { IsFalse result → peaks.new ≡ peaks.old }
-{
-    let mut rises = false;
-    for task in 0..seen.tasks.len() {
-        rises |= raise(
-            peaks,
-            task,
-            labels.oldest_age(cap, &task_tick(seen, task), task),
-        );
-    }
-    rises
-}
-
-/// Notes for how many ticks the tasks' oldest jobs have been blocked, a tick counted.
-fn note_blocked(
-    peaks: &mut [u32],
-    system: &System,
-    cap: u32,
-    seen: &Observation,
-    labels: &Labels,
-) -> bool
-    requires { length peaks.old ≡ MAX_TASKS }
-    ensures count { length peaks.new ≡ length peaks.old }
-    ensures noted { (k : ℕ) → k < length seen.now.tasks.items → IsAtMost (peak peaks.new k)
-        (Some (shown_blocked (lower_executes (levels_of system.now) seen.now.executor) cap
-        (seen_of seen.now) labels.now k)) }
-    ensures rises { (k : ℕ) → peak peaks.old k ≤ peak peaks.new k }
-    ensures stays { IsFalse result → peaks.new ≡ peaks.old }
-{
-    let mut rises = false;
-    for task in 0..seen.tasks.len() {
-        let tick = blocked_tick(system, seen, task);
-        rises |= raise(peaks, task, Some(labels.blocked_ticks(cap, &tick, task)));
-    }
-    rises
-}
-
-/// Notes how many jobs the tasks have in a tick.
-fn note_jobs(peaks: &mut [u32], seen: &Observation) -> bool
-    requires { length peaks.old ≡ MAX_TASKS }
-    ensures count { length peaks.new ≡ length peaks.old }
-    ensures noted { (k : ℕ) → k < length seen.now.tasks.items → IsAtMost (peak peaks.new k)
-        (Some (task_in (seen_of seen.now) k).jobs) }
-    ensures rises { (k : ℕ) → peak peaks.old k ≤ peak peaks.new k }
-    ensures stays { IsFalse result → peaks.new ≡ peaks.old }
-{
-    let mut rises = false;
-    for task in 0..seen.tasks.len() {
-        rises |= raise(peaks, task, Some(u32::from(seen.tasks[task].jobs)));
-    }
-    rises
-}
-
-/// Notes what the routines' interrupts have waited in a tick.
-fn note_latencies(peaks: &mut [u32], cap: u32, seen: &Observation, labels: &Labels) -> bool
-    requires { length peaks.old ≡ MAX_ROUTINES }
-    ensures count { length peaks.new ≡ length peaks.old }
-    ensures noted { (i : ℕ) → i < length seen.now.routines.items → IsAtMost (peak peaks.new i)
-        (shown_wait cap (seen_of seen.now) labels.now i) }
-    ensures rises { (i : ℕ) → peak peaks.old i ≤ peak peaks.new i }
-    ensures stays { IsFalse result → peaks.new ≡ peaks.old }
-{
-    let mut rises = false;
-    for routine in 0..seen.routines.len() {
-        rises |= raise(
-            peaks,
-            routine,
-            labels.waited(cap, &routine_tick(seen, routine), routine),
-        );
-    }
-    rises
-}
-
 /// Notes for how long resources are held in a tick.
+#[tactic(auto, using(crate::proofs::PeakLemmas::raised_more))]
 fn note_holds(peaks: &mut [u32], cap: u32, seen: &Observation, labels: &Labels) -> bool
     requires { length peaks.old ≡ MAX_HELD }
-    ensures count { length peaks.new ≡ length peaks.old }
-    ensures noted { (r : ℕ) → r < length seen.now.holders.items → IsAtMost (peak peaks.new r)
-        (shown_hold cap (seen_of seen.now) labels.now r) }
-    ensures rises { (r : ℕ) → peak peaks.old r ≤ peak peaks.new r }
-    ensures stays { IsFalse result → peaks.new ≡ peaks.old }
+    ensures { AreRaised (shown_hold cap (seen_of seen.now) labels.now)
+        (length seen.now.holders.items) peaks.old peaks.new result }
 {
     let mut rises = false;
     for resource in 0..seen.holders.len() {
-        rises |= raise(
-            peaks,
-            resource,
-            labels.held_ticks(cap, &holder_tick(seen, resource), resource),
-        );
-    }
-    rises
-}
-
-/// Notes of which routines a tick loses interrupts.
-fn note_losses(marks: &mut [bool], seen: &Observation) -> bool
-    requires { length marks.old ≡ MAX_ROUTINES }
-    ensures count { length marks.new ≡ length marks.old }
-    ensures noted { (i : ℕ) → i < length seen.now.routines.items → has_come marks.new i ≡ false
-        → (routine_in (seen_of seen.now) i).lost ≡ 0 }
-    ensures rises { (i : ℕ) → has_come marks.new i ≡ false → has_come marks.old i ≡ false }
-    ensures stays { IsFalse result → marks.new ≡ marks.old }
-{
-    let mut rises = false;
-    for routine in 0..seen.routines.len() {
-        rises |= mark(marks, routine, seen.routines[routine].lost > 0);
-    }
-    rises
-}
-
-/// Notes of which tasks a tick refuses activations.
-fn note_refusals(marks: &mut [bool], seen: &Observation) -> bool
-    requires { length marks.old ≡ MAX_TASKS }
-    ensures count { length marks.new ≡ length marks.old }
-    ensures noted { (k : ℕ) → k < length seen.now.tasks.items → has_come marks.new k ≡ false
-        → (task_in (seen_of seen.now) k).refused ≡ 0 }
-    ensures rises { (k : ℕ) → has_come marks.new k ≡ false → has_come marks.old k ≡ false }
-    ensures stays { IsFalse result → marks.new ≡ marks.old }
-{
-    let mut rises = false;
-    for task in 0..seen.tasks.len() {
-        rises |= mark(marks, task, seen.tasks[task].refused > 0);
+        let held = labels.held_ticks(cap, &holder_tick(seen, resource), resource);
+        rises |= raise(peaks, resource, held);
     }
     rises
 }
 
 /// Notes of which alarms a tick refuses the actions.
+#[tactic(auto, using(crate::proofs::PeakLemmas::marked_more))]
 fn note_actions(marks: &mut [bool], seen: &Observation) -> bool
     requires { length marks.old ≡ MAX_ALARMS }
-    ensures count { length marks.new ≡ length marks.old }
-    ensures noted { (a : ℕ) → a < length seen.now.alarms.items → has_come marks.new a ≡ false
-        → (alarm_in (seen_of seen.now) a).is_refused ≡ false }
-    ensures rises { (a : ℕ) → has_come marks.new a ≡ false → has_come marks.old a ≡ false }
-    ensures stays { IsFalse result → marks.new ≡ marks.old }
+    ensures { AreMarked (λ a. (alarm_in (seen_of seen.now) a).is_refused ≡ false)
+        (length seen.now.alarms.items) marks.old marks.new result }
 {
     let mut rises = false;
     for alarm in 0..seen.alarms.len() {
@@ -226,13 +100,17 @@ impl Peaks {
         ensures { result ≡ no_peaks }
     {
         Peaks {
-            responses: [0; MAX_TASKS],
-            blocked: [0; MAX_TASKS],
-            jobs: [0; MAX_TASKS],
-            latencies: [0; MAX_ROUTINES],
+            tasks: TaskPeaks {
+                responses: [0; MAX_TASKS],
+                blocked: [0; MAX_TASKS],
+                jobs: [0; MAX_TASKS],
+                refusals: [false; MAX_TASKS],
+            },
+            routines: RoutinePeaks {
+                latencies: [0; MAX_ROUTINES],
+                losses: [false; MAX_ROUTINES],
+            },
             holds: [0; MAX_HELD],
-            losses: [false; MAX_ROUTINES],
-            refusals: [false; MAX_TASKS],
             actions: [false; MAX_ALARMS],
             failures: Vec::new(alloc),
             shuts_down: false,
@@ -255,46 +133,49 @@ impl Peaks {
         ensures rises { AreAtLeast self.new self.old }
         ensures stays { IfOk result (λ rises. IsFalse rises → self.new ≡ self.old) }
     {
-        let longer = note_responses(&mut self.responses, cap, seen, labels)
-            | note_blocked(&mut self.blocked, system, cap, seen, labels)
-            | note_latencies(&mut self.latencies, cap, seen, labels)
-            | note_holds(&mut self.holds, cap, seen, labels);
-        let more = note_jobs(&mut self.jobs, seen)
-            | note_losses(&mut self.losses, seen)
-            | note_refusals(&mut self.refusals, seen)
+        let more = note_tasks(&mut self.tasks, system, cap, seen, labels)
+            | note_routines(&mut self.routines, cap, seen, labels)
+            | note_holds(&mut self.holds, cap, seen, labels)
             | note_actions(&mut self.actions, seen);
         let ends = is_over && !self.shuts_down;
         self.shuts_down = self.shuts_down || is_over;
         let fails = note_failure(&mut self.failures, &seen.failure)?;
-        Ok(longer | more | ends | fails)
+        Ok(more | ends | fails)
     }
 
     /// The greatest age of a task's jobs, in ticks; 0 beyond the last task.
     pub fn response(&self, task: usize) -> u32
         ensures { result ≡ peak self.now.responses task }
     {
-        peak(&self.responses, task)
+        peak(&self.tasks.responses, task)
     }
 
     /// For how many ticks at most a task's oldest job was blocked; 0 beyond the last task.
     pub fn blocked(&self, task: usize) -> u32
         ensures { result ≡ peak self.now.blocked task }
     {
-        peak(&self.blocked, task)
+        peak(&self.tasks.blocked, task)
+    }
+
+    /// How many blockers a job of a task had at most: 0 or 1, and 0 beyond the last task.
+    pub fn blockers(&self, task: usize) -> u32
+        ensures { result ≡ most_blockers self.now task }
+    {
+        self.blocked(task).min(1)
     }
 
     /// The most jobs of a task at once; 0 beyond the last task.
     pub fn jobs(&self, task: usize) -> u32
         ensures { result ≡ peak self.now.jobs task }
     {
-        peak(&self.jobs, task)
+        peak(&self.tasks.jobs, task)
     }
 
     /// The longest wait of a routine's interrupts, in ticks; 0 beyond the last routine.
     pub fn latency(&self, routine: usize) -> u32
         ensures { result ≡ peak self.now.latencies routine }
     {
-        peak(&self.latencies, routine)
+        peak(&self.routines.latencies, routine)
     }
 
     /// The longest hold of a resource, in ticks; 0 beyond the last resource.
@@ -308,14 +189,14 @@ impl Peaks {
     pub fn has_loss(&self, routine: usize) -> bool
         ensures { result ≡ has_come self.now.losses routine }
     {
-        has_come(&self.losses, routine)
+        has_come(&self.routines.losses, routine)
     }
 
     /// Whether an activation of a task was refused.
     pub fn has_refusal(&self, task: usize) -> bool
         ensures { result ≡ has_come self.now.refusals task }
     {
-        has_come(&self.refusals, task)
+        has_come(&self.tasks.refusals, task)
     }
 
     /// Whether the action of an alarm was refused.

@@ -1,17 +1,14 @@
 //! Greatest numbers and marks by number, which only rise.
 
-ghost use Rattle.std.specs.Prelude.{ℕ, ◌≡◌, ◌<◌, ◌≤◌, false, IsFalse, length};
-ghost use Rattle.figure_laws.specs.Labels.{IsAtMost};
+ghost use Rattle.std.specs.Prelude.{◌≡◌, ◌<◌, false, length};
+ghost use Rattle.bound_peaks.specs.Noting.{IsMarked, IsRaised};
 ghost use Rattle.bound_peaks.specs.Peaks.{has_come, peak};
 
 /// Raises the peak of a number to what is shown, and answers whether that is greater.
 #[inline(always)]
 pub(crate) fn raise(peaks: &mut [u32], number: usize, shown: Option<u32>) -> bool
     requires { number < length peaks.old }
-    ensures count { length peaks.new ≡ length peaks.old }
-    ensures noted { IsAtMost (peak peaks.new number) shown }
-    ensures rises { (k : ℕ) → peak peaks.old k ≤ peak peaks.new k }
-    ensures stays { IsFalse result → peaks.new ≡ peaks.old }
+    ensures { IsRaised number shown peaks.old peaks.new result }
 {
     match shown {
         Some(shown) if peaks[number] < shown => {
@@ -26,10 +23,7 @@ pub(crate) fn raise(peaks: &mut [u32], number: usize, shown: Option<u32>) -> boo
 #[inline(always)]
 pub(crate) fn mark(marks: &mut [bool], number: usize, comes: bool) -> bool
     requires { number < length marks.old }
-    ensures count { length marks.new ≡ length marks.old }
-    ensures noted { has_come marks.new number ≡ false → comes ≡ false }
-    ensures rises { (k : ℕ) → has_come marks.new k ≡ false → has_come marks.old k ≡ false }
-    ensures stays { IsFalse result → marks.new ≡ marks.old }
+    ensures { IsMarked number (comes ≡ false) marks.old marks.new result }
 {
     if !comes || marks[number] {
         return false;

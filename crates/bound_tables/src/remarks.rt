@@ -18,8 +18,52 @@ fn meaning(column: Column) -> &'static str {
         Column::Errors | Column::RoutineErrors =>
             "a service is answered other than E_OK; --witness shows a run in which one is",
         Column::Shutdown => "some run ends by a ShutdownOS",
-        Column::Response | Column::Blocked | Column::Jobs | Column::Latency | Column::Hold =>
-            "it lasts",
+        Column::Response
+        | Column::Blocked
+        | Column::Blockers
+        | Column::Jobs
+        | Column::Latency
+        | Column::Hold => "it lasts",
+    }
+}
+
+/// What a number of a column bounds.
+fn limited(column: Column) -> &'static str {
+    match column {
+        Column::Blockers => "no job has more",
+        _ => "no run has more at once",
+    }
+}
+
+/// Writes what is told of a figure, and what it means.
+fn write_meaning<W: Write>(cell: Cell, column: Column, cap: u32, out: &mut W) -> io::Result<()> {
+    match cell {
+        Cell::Above => writeln!(
+            out,
+            "above: some run may take {cap} ticks or more; what can be put off for ever has no bound"
+        ),
+        Cell::Unbounded => writeln!(
+            out,
+            "unbounded: a job can be kept from ending for ever; --witness shows the ticks that come again"
+        ),
+        Cell::Time { ticks, .. } => writeln!(
+            out,
+            "<={ticks}: no run takes longer, and none is known that takes as long"
+        ),
+        Cell::Count { value, .. } => writeln!(
+            out,
+            "<={value}: {}, and none is known that has as many",
+            limited(column)
+        ),
+        Cell::Coming {
+            is_reached: true,
+            ..
+        } => writeln!(out, "1: {}", meaning(column)),
+        Cell::Coming { .. } => writeln!(
+            out,
+            "<=1: it may be, though no run is known: {}",
+            meaning(column)
+        ),
     }
 }
 
@@ -38,42 +82,7 @@ fn write_remark<W: Write>(
     }
     let name = kind.name(system, number);
     write!(out, "{} {name}: {} ", kind.word(), column.word())?;
-    match cell {
-        Cell::Above => writeln!(
-            out,
-            "above: some run may take {} ticks or more; what can be put off for ever has no bound",
-            told.bounds.cap
-        ),
-        Cell::Unbounded => {
-            writeln!(
-                out,
-                "unbounded: a job can be kept from ending for ever; --witness shows the ticks that come again"
-            )
-        }
-        Cell::Time { ticks, .. } => {
-            writeln!(
-                out,
-                "<={ticks}: no run takes longer, and none is known that takes as long"
-            )
-        }
-        Cell::Count { value, .. } => {
-            writeln!(
-                out,
-                "<={value}: no run has more at once, and none is known that has as many"
-            )
-        }
-        Cell::Coming {
-            is_reached: true,
-            ..
-        } => writeln!(out, "1: {}", meaning(column)),
-        Cell::Coming { .. } => {
-            writeln!(
-                out,
-                "<=1: it may be, though no run is known: {}",
-                meaning(column)
-            )
-        }
-    }
+    write_meaning(cell, column, told.bounds.cap, out)
 }
 
 /// What a search stopped at.

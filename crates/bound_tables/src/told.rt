@@ -72,7 +72,7 @@ impl Told<'_, '_> {
                 self.bounds.cap,
                 is_reached,
             ),
-            Column::Jobs => Cell::Count { value, is_reached },
+            Column::Blockers | Column::Jobs => Cell::Count { value, is_reached },
             Column::Refusal
             | Column::Loss
             | Column::RefusedAction
@@ -91,6 +91,7 @@ pub(crate) fn figure_of(column: Column, number: usize) -> Figure {
     match column {
         Column::Response => Figure::Response(number),
         Column::Blocked => Figure::Blocked(number),
+        Column::Blockers => Figure::Blockers(number),
         Column::Jobs => Figure::Jobs(number),
         Column::Refusal => Figure::Refusal(number),
         Column::Latency => Figure::Latency(number),

@@ -14,7 +14,7 @@ use std::marker::Model;
 pub(crate) type StateMachine<'s> = Machine<'s, CompactQueues, NotCounted>;
 
 /// Where a state stands in a search.
-#[derive(Clone, Copy, Debug)]
+#[derive(Clone, Copy)]
 pub(crate) struct Spot {
     /// The entry of the trail that tells it.
     pub(crate) entry: usize,

@@ -1,7 +1,7 @@
 //! What it costs to make machines again.
 
 /// How much is done to make machines again.
-#[derive(Clone, Copy, Debug)]
+#[derive(Clone, Copy)]
 pub(crate) struct Effort {
     /// How many ticks were tried.
     tried: u64,

@@ -3,7 +3,7 @@
 ghost use Rattle.std.specs.Prelude.{◌≤◌};
 
 /// How a node became what it is.
-#[derive(Clone, Copy, Debug)]
+#[derive(Clone, Copy)]
 pub(crate) enum Entry {
     /// It is the first.
     First,
@@ -16,7 +16,7 @@ pub(crate) enum Entry {
 
 /// An entry as it is kept. There is one for each node and more, so it takes eight bytes: entries are
 /// numbered below 2^32 - 1, and sets of routines and what was raised below [`NONE`].
-#[derive(Clone, Copy, Debug)]
+#[derive(Clone, Copy)]
 pub(crate) struct Kept {
     /// The entry before it or the older one; none for the first.
     earlier: u32,

@@ -47,7 +47,7 @@ pub(crate) struct Explorer<'s, 'w, W: Watch> {
     /// Room for the bytes of a node.
     bytes: Vec<u8>,
     /// Room in which nodes are compared, while none are.
-    comparing: Cell<Option<Comparing>>,
+    comparing: Cell<Option<Box<Comparing>>>,
     /// The routines whose interrupts arrive in a tick.
     arrived: Vec<IsrId>,
     watcher: Watcher,
@@ -106,7 +106,7 @@ impl<'s, 'w, W: Watch> Explorer<'s, 'w, W> {
             read: ReadLabels::new(alloc),
             labels: Labels::new(alloc),
             bytes: Vec::new(alloc),
-            comparing: Cell::new(Some(Comparing::new(alloc))),
+            comparing: Cell::new(Some(Box::new(alloc, Comparing::new(alloc))?)),
             arrived: Vec::new(alloc),
             watcher: Watcher::new(),
             peaks: Peaks::new(alloc),

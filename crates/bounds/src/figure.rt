@@ -16,6 +16,8 @@ pub enum Figure {
     Response(usize),
     /// The most ticks for which a task's oldest job is blocked.
     Blocked(usize),
+    /// The most blockers of a job of a task.
+    Blockers(usize),
     /// The most jobs of a task at once.
     Jobs(usize),
     /// Whether an activation of a task is refused.
@@ -44,14 +46,15 @@ fn coming(has_come: bool) -> u32
 }
 
 impl Figure {
-    /// What peaks tell of it: ticks of a time; a number of jobs; of what comes or not 1 where it has
-    /// come, and 0 where not.
+    /// What peaks tell of it: ticks of a time; a number of jobs or of blockers; of what comes or not
+    /// 1 where it has come, and 0 where not.
     pub fn told(self, peaks: &Peaks) -> u32
         ensures { result ≡ told peaks.now self }
     {
         match self {
             Figure::Response(task) => peaks.response(task),
             Figure::Blocked(task) => peaks.blocked(task),
+            Figure::Blockers(task) => peaks.blockers(task),
             Figure::Jobs(task) => peaks.jobs(task),
             Figure::Refusal(task) => coming(peaks.has_refusal(task)),
             Figure::Latency(routine) => peaks.latency(routine),
@@ -83,6 +86,7 @@ pub fn figures_of(alloc: Global, system: &System) -> Result<Vec<Figure>, AllocEr
     for task in 0..system.task_count() {
         figures.push(Figure::Response(task))?;
         figures.push(Figure::Blocked(task))?;
+        figures.push(Figure::Blockers(task))?;
         figures.push(Figure::Jobs(task))?;
         figures.push(Figure::Refusal(task))?;
         figures.push(Figure::Errors(task))?;

@@ -14,7 +14,7 @@ use search::{Limits, Outcome, search};
 use std::alloc::{AllocError, Global};
 
 /// How far a search goes, and up to which age it tells times.
-#[derive(Clone, Copy, Debug)]
+#[derive(Clone, Copy)]
 pub struct Extent {
     /// How many states may be kept.
     pub nodes: usize,

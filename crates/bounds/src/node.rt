@@ -4,18 +4,19 @@ ghost use Rattle.std.specs.Prelude.{◌≡◌, ◌≤◌, IfOk, IfSome, IsFalse,
 ghost use Rattle.packed_labels.specs.Unpacked.{unpacked};
 ghost use Rattle.run_bounds.specs.Nodes.{Covers};
 
-use crate::bytes::{are_equal, behind, copy_of, first_of};
+use crate::bytes::{are_equal, behind, boxed, copy_of, first_of};
 use crate::comparing::{Comparing, labels_of};
 use crate::raised::Raised;
 use bound_labels::Labels;
 use osek_base::System;
 use packed_labels::{pack, packed_are_told};
 use std::alloc::{AllocError, Global};
+use std::boxed::BoxedSlice;
 use std::marker::Model;
 
 /// What a node takes beside the bytes of its key and its labels, about: itself, its block, its entry
 /// of the trail, and its places among hashes and open nodes.
-const BYTES_BESIDE: u64 = 96;
+const BYTES_BESIDE: u64 = 88;
 
 /// In place of the number of an entry or of a machine, where there is none.
 const NONE: u32 = u32::MAX;
@@ -25,7 +26,7 @@ const NONE: u32 = u32::MAX;
 #[derive(Drop)]
 pub(crate) struct Node {
     /// The key, and the labels behind it, in no byte more.
-    bytes: Vec<u8>,
+    bytes: BoxedSlice<u8, Global>,
     /// How many bytes the key has.
     key_len: u32,
     /// The entry that tells how it came to be, once it is kept.
@@ -36,6 +37,7 @@ pub(crate) struct Node {
 }
 
 impl Model for Node {
+    ghost use Rattle.std.specs.Box.{boxed_slice_items};
     ghost use Rattle.std.specs.Prelude.{◌≤◌, drop, length, take};
     ghost use Rattle.packed_labels.specs.Unpacked.{unpacked};
     ghost use Rattle.run_bounds.specs.Nodes.{Node as Kept};
@@ -43,12 +45,12 @@ impl Model for Node {
     ghost Value = { Kept };
 
     ghost view = { λ n. record {
-      key = take n.key_len n.bytes.items;
+      key = take n.key_len (boxed_slice_items n.bytes);
       over = n.is_over;
-      labels = unpacked (drop n.key_len n.bytes.items);
+      labels = unpacked (drop n.key_len (boxed_slice_items n.bytes));
     } };
 
-    ghost invariant = { λ n. n.key_len ≤ length n.bytes.items };
+    ghost invariant = { λ n. n.key_len ≤ length (boxed_slice_items n.bytes) };
 }
 
 /// A number, if it is one.
@@ -99,9 +101,8 @@ impl Node {
         let Ok(key_len) = u32::try_from(key_len) else {
             return Ok(None);
         };
-        let bytes = copy_of(alloc, bytes)?;
         Ok(Some(Node {
-            bytes,
+            bytes: boxed(alloc, bytes)?,
             key_len,
             entry: NONE,
             base: NONE,
@@ -176,7 +177,7 @@ impl Node {
         packed_are_told();
         let mut bytes = copy_of(alloc, self.key())?;
         pack(labels, &mut bytes)?;
-        self.bytes = copy_of(alloc, &bytes)?;
+        self.bytes = boxed(alloc, &bytes)?;
         Ok(())
     }
 

@@ -8,7 +8,7 @@ use osek_base::System;
 const MAX_THINGS: usize = 64;
 
 /// The things of which others raise the labels, as sets by number.
-#[derive(Clone, Copy, Debug)]
+#[derive(Clone, Copy)]
 pub(crate) struct Raised {
     tasks: u64,
     routines: u64,
@@ -58,7 +58,9 @@ impl Raised {
     /// Whether the label by which a figure goes is raised.
     pub(crate) fn has(self, figure: Figure) -> bool {
         match figure {
-            Figure::Response(task) | Figure::Blocked(task) => has(self.tasks, task),
+            Figure::Response(task) | Figure::Blocked(task) | Figure::Blockers(task) => {
+                has(self.tasks, task)
+            }
             Figure::Latency(routine) => has(self.routines, routine),
             Figure::Hold(resource) => has(self.resources, resource),
             Figure::Jobs(_)

@@ -9,14 +9,14 @@ use osek_base::System;
 use std::alloc::{AllocError, Global};
 
 /// What a tick came from: the entry of its node, if there is one, and the routines that arrive.
-#[derive(Clone, Copy, Debug)]
+#[derive(Clone, Copy)]
 struct Step {
     before: Option<usize>,
     set: u64,
 }
 
 /// The tick in which a figure was greatest first.
-#[derive(Clone, Copy, Debug)]
+#[derive(Clone, Copy)]
 struct Origin {
     figure: Figure,
     value: u32,

@@ -6,7 +6,7 @@ use crate::trails::Trails;
 use std::alloc::AllocError;
 
 /// A tick on the way.
-#[derive(Clone, Copy, Debug)]
+#[derive(Clone, Copy)]
 pub(crate) struct Passed {
     /// The routines that arrive.
     pub(crate) set: u64,
@@ -15,7 +15,7 @@ pub(crate) struct Passed {
 }
 
 /// Whose machine the way begins with.
-#[derive(Clone, Copy, Debug)]
+#[derive(Clone, Copy)]
 pub(crate) enum Start {
     /// That of the state that was visited last, which stands at a spot.
     Here(Spot),

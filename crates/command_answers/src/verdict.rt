@@ -8,7 +8,7 @@ use std::io::{self, Write};
 use tracer::RunFault;
 
 /// What is wrong with a distance.
-#[derive(Clone, Copy, Debug)]
+#[derive(Clone, Copy)]
 pub enum DistanceFault<'a> {
     /// No routine has the name.
     Unknown(&'a str),
@@ -26,7 +26,7 @@ impl fmt::Display for DistanceFault<'_> {
 }
 
 /// What becomes of a request whose texts and run aren't refused.
-#[derive(Debug, Drop)]
+#[derive(Drop)]
 pub enum Verdict<'a> {
     Done,
     /// A row of that name is asked for, and no task or routine has it: nothing is written.

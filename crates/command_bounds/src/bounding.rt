@@ -21,7 +21,7 @@ use tracer::RunFault;
 use witnesses::{endless_tasks, failing_services, reached_figures};
 
 /// What is asked of bounds, and whether it is said what the figures mean.
-#[derive(Clone, Copy, Debug)]
+#[derive(Clone, Copy)]
 pub struct BoundsAsked<'v> {
     pub line: BoundsLine<'v>,
     pub is_explained: bool,

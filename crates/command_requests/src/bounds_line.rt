@@ -20,7 +20,7 @@ pub(crate) const MAX_LONGEST: u32 = 65_535;
 const USUAL_LONGEST: u32 = 10_000;
 
 /// The bounds that are asked for.
-#[derive(Clone, Copy, Debug)]
+#[derive(Clone, Copy)]
 pub struct BoundsLine<'a> {
     /// None for the only one.
     pub mode: Option<&'a str>,
@@ -36,7 +36,7 @@ pub struct BoundsLine<'a> {
 }
 
 /// A figure of which a run is wanted that shows it.
-#[derive(Clone, Copy, Debug)]
+#[derive(Clone, Copy)]
 pub struct Wanted<'a> {
     /// The name of a task, routine, resource or alarm.
     pub name: &'a str,
@@ -70,7 +70,7 @@ impl fmt::Display for Wanted<'_> {
 }
 
 /// How many ticks apart the interrupts of the routine of a name come at least, 1 to 1,000,000.
-#[derive(Clone, Copy, Debug)]
+#[derive(Clone, Copy)]
 pub struct Distance<'a> {
     pub routine: &'a str,
     pub ticks: u32,

@@ -139,10 +139,10 @@ pub(crate) const BOUNDS_JSON: &str =
     "Prints JSON: an object by kinds, in each one by names, and in each of these one by columns";
 
 pub(crate) const WITNESS: &str =
-    "In place of the tables: the arrival list of a run that shows the figure; FIGURE greatest, blocked, jobs, refused, errors, latency, losses, longest, comes or the place of a service";
+    "In place of the tables: the arrival list of a run that shows the figure; FIGURE greatest, blocked, blockers, jobs, refused, errors, latency, losses, longest, comes or the place of a service";
 
 pub(crate) const NO_FIGURE: &str =
-    "a witness is NAME or NAME=FIGURE, with FIGURE greatest, blocked, jobs, refused, errors, latency, losses, longest, comes or the place of a service";
+    "a witness is NAME or NAME=FIGURE, with FIGURE greatest, blocked, blockers, jobs, refused, errors, latency, losses, longest, comes or the place of a service";
 
 pub(crate) const NO_DISTANCE: &str = "a distance is ROUTINE=TICKS, with TICKS from 1 to 1000000";
 

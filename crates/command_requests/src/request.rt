@@ -12,7 +12,7 @@ use std::convert::AsStr;
 use timelines::MAX_DRAWN;
 
 /// What a run is of besides its system: the name of its arrival list, the mode, and how many ticks, 0 to 1,000,000.
-#[derive(Clone, Copy, Debug)]
+#[derive(Clone, Copy)]
 pub struct RunLine<'a> {
     pub irq: &'a str,
     /// None for the only one.
@@ -21,7 +21,7 @@ pub struct RunLine<'a> {
 }
 
 /// Which lines of a run's trace are shown.
-#[derive(Clone, Copy, Debug)]
+#[derive(Clone, Copy)]
 pub enum Lines {
     All,
     /// All, with the numbers of blockers.
@@ -31,7 +31,7 @@ pub enum Lines {
 }
 
 /// The figures that are asked for.
-#[derive(Clone, Copy, Debug)]
+#[derive(Clone, Copy)]
 pub struct StatsLine {
     pub form: Form,
     /// The first tick that counts.
@@ -43,7 +43,7 @@ pub struct StatsLine {
 }
 
 /// What is shown of a run besides its trace.
-#[derive(Clone, Copy, Debug)]
+#[derive(Clone, Copy)]
 pub enum View<'a> {
     /// The value change dump of the ticks from that one on.
     Vcd { from: u32 },
@@ -64,7 +64,7 @@ impl View<'_> {
 }
 
 /// What is asked of a system.
-#[derive(Clone, Copy, Debug)]
+#[derive(Clone, Copy)]
 pub enum Question<'a> {
     /// Lines of the trace of a run, of the ticks from one on.
     Lines {
@@ -126,7 +126,7 @@ impl<'a> Question<'a> {
 
 /// A command line: the names of the two files that a system is made of, what is asked of it, and whether a refusal or a
 /// denial is explained.
-#[derive(Debug, Drop)]
+#[derive(Drop)]
 pub struct Request<'a> {
     pub oil: &'a str,
     pub asm: &'a str,
@@ -139,14 +139,14 @@ pub struct Request<'a> {
 }
 
 /// A system to be made: the name of its description, and of the folder that its files go to.
-#[derive(Clone, Copy, Debug)]
+#[derive(Clone, Copy)]
 pub struct MakeLine<'a> {
     pub file: &'a str,
     pub folder: &'a str,
 }
 
 /// What a command line asks for: something of a system, the files of a description, or the import of files of these names.
-#[derive(Debug, Drop)]
+#[derive(Drop)]
 pub enum Asked<'a> {
     System(Request<'a>),
     Make(MakeLine<'a>),

@@ -1,5 +1,5 @@
 -- What boot leaves is the state that the definitions boot into.
-use Rattle.std.proofs.Common.{◌≡◌, ℕ, ◌+◌, ◌≤◌, Bool, List, [], ◌++◌, length, replicate, refl, sym, ◌∙◌, ap, ap₂, subst, arith}
+use Rattle.std.proofs.Common.{◌≡◌, ℕ, ◌+◌, ◌≤◌, Bool, true, List, [], ◌++◌, length, replicate, refl, sym, ◌∙◌, ap, ap₂, subst, arith}
 use Rattle.osek_base.specs.declared.ids.Owner.{Owner}
 use Rattle.osek_base.specs.declared.trace_event.TraceEvent.{TraceEvent}
 use Rattle.osek_base.specs.Proper.{IsProper}
@@ -59,7 +59,7 @@ unfolding run
 run_zero S mode arrivals = refl
 
 module _ (counted : Bool) (S : System) (mode : ℕ) (p : Processor) (b : Blocking) (opening : List TraceEvent) (acted : Acted) (s : IsStarted S mode p opening)
-    (begun : AreBegun (length (system_of p).tasks) (picture p) b.stamps) (none : b.told.last ≡ replicate (MAX_TASK_PRIORITY + 1) 0) where
+    (begun : counted ≡ true → AreBegun (length (system_of p).tasks) (picture p) b.stamps) (none : b.told.last ≡ replicate (MAX_TASK_PRIORITY + 1) 0) where
   of_zero : (arrivals : List Arrival) → picture p ≡ kept S (run S mode arrivals 0).state
   of_zero arrivals = s.kept ∙ sym (ap (λ (r : Run). kept S r.state) (run_zero S mode arrivals))
 
@@ -77,7 +77,7 @@ module _ (counted : Bool) (S : System) (mode : ℕ) (p : Processor) (b : Blockin
       unwritten = s.events ∙ sym (ap (λ (r : Run). r.unwritten) (run_zero S mode arrivals));
       stamped = λ on.
           boot_listed S mode arrivals (picture p) b.stamps s.proper (ap (λ (k : Kept). k.slots) (of_zero arrivals))
-          (subst (λ (T : System). AreBegun (length T.tasks) (picture p) b.stamps) s.system begun);
+          (subst (λ (T : System). AreBegun (length T.tasks) (picture p) b.stamps) s.system (begun on));
       levels = λ on. boot_last S mode arrivals b.told.last none;
     };
     numbered = λ on later. absurd (omega (arith, later));

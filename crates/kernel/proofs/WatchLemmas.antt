@@ -38,12 +38,12 @@ acts_watched counted a task tick old new before after b first second does task_i
 
 -- another may act behind it
 pub may_act_more : (counted : Bool) (a tick : ℕ) (old new : Watched) (first second : List TraceEvent) → Watches counted (acting a) tick old new first second
-    → acts_on (system_of old.processor) a < length old.blocking.stamps → MayAct counted old → MayAct counted new
+    → (counted ≡ true → acts_on (system_of old.processor) a < length old.blocking.stamps) → MayAct counted old → MayAct counted new
 may_act_more counted a tick old new first second w inside may = record {
   ready = act_ready a old.processor new.processor first second w.does may.ready;
   each = λ on.
       subst (λ xs. AreCounted xs (picture new.processor)) (sym (w.stamps on))
-      (acted_counted (system_of old.processor) tick a (picture old.processor) (picture new.processor) old.blocking.stamps (may.each on) inside w.does.kept);
+      (acted_counted (system_of old.processor) tick a (picture old.processor) (picture new.processor) old.blocking.stamps (may.each on) (inside on) w.does.kept);
 }
 
 -- one more at the end

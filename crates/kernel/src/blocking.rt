@@ -3,7 +3,7 @@
 ghost use Rattle.std.specs.Prelude.{◌≡◌, ◌<◌, ◌≤◌, ◌+◌, false, true, None, IfSome, length, replicate};
 ghost use Rattle.kept_state.specs.KeptService.{caller_in};
 ghost use Rattle.blocking_laws.specs.Looks.{preempted_by, spent_of, stamps_at};
-ghost use Rattle.kernel.specs.Looking.{looked_between, noted, number_for, number_told, stood_between};
+ghost use Rattle.kernel.specs.Looking.{AreBegun, looked_between, noted, number_for, number_told, stood_between};
 ghost use Rattle.kernel.specs.Processor.{picture, system_of};
 
 use crate::begun::{Begun, begin, number_since};
@@ -16,7 +16,7 @@ use ready_queues::ReadyQueues;
 use std::marker::{Model, PhantomData};
 
 /// The stamps of all tasks' jobs, which tell since which tick each is ready; the last tick of each level; and what tells the
-/// number of blockers of who executed last. They are followed where blockers are counted, and else stay as they were at boot.
+/// number of blockers of who executed last. They are followed where blockers are counted, and else there are no stamps.
 #[derive(Drop)]
 pub struct Blocking<B: Blockers> {
     stamps: JobStamps,
@@ -38,13 +38,20 @@ impl<B: Blockers> Model for Blocking<B> {
 }
 
 impl<B: Blockers> Blocking<B> {
-    /// With the stamps of the jobs with which a system begins. No job has executed.
-    pub fn boot(stamps: JobStamps) -> Self
-        ensures stamps { result.stamps ≡ stamps }
+    /// With the stamps of the jobs with which a system begins, where blockers are counted; else with
+    /// none. No job has executed.
+    pub fn boot<Q: ReadyQueues>(processor: &Processor<'_, Q>) -> Self
+        ensures stamps { B.are_counted ≡ true
+            → AreBegun (length (system_of processor.now).tasks) (picture processor.now)
+            result.stamps }
         ensures last { result.told.last ≡ replicate (MAX_TASK_PRIORITY + 1) 0 }
     {
         Blocking {
-            stamps,
+            stamps: if B::are_counted() {
+                processor.begun_stamps()
+            } else {
+                JobStamps::new(0)
+            },
             last: LastTicks::new(),
             begun: Begun::nothing(),
             blockers: PhantomData,
@@ -75,7 +82,7 @@ impl<B: Blockers> Blocking<B> {
     /// A task is looked at behind something that it was looked at before.
     #[inline(always)]
     pub fn looked_at(&mut self, before: &Look, after: &Look, tick: u32)
-        requires task { before.now.task < length self.old.stamps }
+        requires task { B.are_counted ≡ true → before.now.task < length self.old.stamps }
         requires counted { B.are_counted ≡ true
             → length (stamps_at self.old.stamps before.now.task) ≡ before.now.count }
         requires few { after.now.count ≤ MAX_ACTIVATION }
@@ -92,7 +99,7 @@ impl<B: Blockers> Blocking<B> {
     /// A job that ran, and neither ended nor waits, is ready again where its task runs no more.
     #[inline(always)]
     pub fn preempted(&mut self, runner: Option<TaskId>, running: &Option<TaskId>, tick: u32)
-        requires { IfSome runner (λ t. t < length self.old.stamps) }
+        requires { B.are_counted ≡ true → IfSome runner (λ t. t < length self.old.stamps) }
         ensures stamps { B.are_counted ≡ true
             → self.new.stamps ≡ preempted_by tick runner running.now self.old.stamps }
         ensures told { self.new.told ≡ self.old.told }
@@ -107,8 +114,10 @@ impl<B: Blockers> Blocking<B> {
     /// at again.
     #[inline(always)]
     pub fn executed_since(&mut self, before: &Stand, after: &Stand, tick: u32)
-        requires running { IfSome before.now.running (λ t. t < length self.old.stamps) }
-        requires task { IfSome before.now.named (λ b. b.task < length self.old.stamps) }
+        requires running { B.are_counted ≡ true
+            → IfSome before.now.running (λ t. t < length self.old.stamps) }
+        requires task { B.are_counted ≡ true
+            → IfSome before.now.named (λ b. b.task < length self.old.stamps) }
         requires counted { B.are_counted ≡ true
             → IfSome before.now.named (λ b. length (stamps_at self.old.stamps b.task) ≡ b.count) }
         requires few { IfSome after.now.named (λ l. l.count ≤ MAX_ACTIVATION) }
@@ -125,7 +134,8 @@ impl<B: Blockers> Blocking<B> {
     /// Where a task executes, the stamp of its job is taken and its level noted.
     #[inline(always)]
     pub fn begin<Q: ReadyQueues>(&mut self, processor: &Processor<'_, Q>, tick: u32)
-        requires stamps { length self.old.stamps ≡ length (system_of processor.now).tasks }
+        requires stamps { B.are_counted ≡ true
+            → length self.old.stamps ≡ length (system_of processor.now).tasks }
         requires tick { tick < MAX_TICKS }
         ensures stamps { B.are_counted ≡ true
             → self.new.stamps ≡ spent_of (caller_in (picture processor.now)) self.old.stamps }

@@ -64,7 +64,7 @@ impl<'s, Q: ReadyQueues, B: Blockers> Machine<'s, Q, B> {
     {
         let mut opening = TickRecord::new();
         let processor = Processor::boot(alloc, system, mode, &mut opening)?;
-        let blocking = Blocking::boot(processor.begun_stamps());
+        let blocking = Blocking::boot(&processor);
         Ok(Machine {
             watched: Watched {
                 processor,

@@ -25,7 +25,7 @@ pub struct Watched<'s, Q: ReadyQueues, B: Blockers> {
 }
 
 impl<'s, Q: ReadyQueues, B: Blockers> Model for Watched<'s, Q, B> {
-    ghost use Rattle.std.specs.Prelude.{◌≡◌, length};
+    ghost use Rattle.std.specs.Prelude.{◌≡◌, true, length};
     ghost use Rattle.kernel.specs.Processor.{system_of};
     ghost use Rattle.kernel.specs.Watches.{Watched as Seen};
 
@@ -33,7 +33,8 @@ impl<'s, Q: ReadyQueues, B: Blockers> Model for Watched<'s, Q, B> {
 
     ghost view = { λ w. record { processor = w.processor; blocking = w.blocking } };
 
-    ghost invariant = { λ w. length w.blocking.stamps ≡ length (system_of w.processor).tasks };
+    ghost invariant = { λ w. B.are_counted ≡ true
+        → length w.blocking.stamps ≡ length (system_of w.processor).tasks };
 }
 
 impl<'s, Q: ReadyQueues, B: Blockers> Watched<'s, Q, B> {

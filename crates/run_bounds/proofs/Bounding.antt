@@ -41,6 +41,7 @@ use Rattle.run_bounds.specs.Bounds.{AreWithin, IsTickWithin, KeepDistances, Leve
 use Rattle.run_bounds.specs.Nodes.{AreNoted, IsAfter, May, Node, Setting, StandsFor, routines_of, rules_of, tick_shown_from}
 use Rattle.run_bounds.proofs.Arrived.{StandFor, in_set, set_at, set_is_low, set_stands}
 use Rattle.run_bounds.proofs.Blocked.{blocked_low}
+use Rattle.run_bounds.proofs.Blockers.{figures_low}
 use Rattle.run_bounds.proofs.Capped.{held_within, latency_within, leaving_within, oldest_within, waited_within}
 use Rattle.run_bounds.proofs.Failing.{failure_same, no_routine_error, no_task_error}
 use Rattle.run_bounds.proofs.Going.{boot_state}
@@ -370,6 +371,13 @@ levels_bound s peaks count levels proper enough own all = record {
       within s peaks count levels proper all arrivals n few f keep are;
   ticks = λ arrivals n early keep going.
       tick_within s peaks count levels proper all arrivals keep n early going;
+  blockers = λ arrivals n f few keep are told k low some.
+      let on : (v : ℕ) → v < n → (run s.system s.mode arrivals v).state.over ≡ false =
+      λ v less. going_at s.system s.mode arrivals n are.seen are.ticks v less in
+      figures_low s.system s.mode arrivals n f are told on k (peak peaks.blocked k) low
+      (λ none v less.
+      (tick_within s peaks count levels proper all arrivals keep v (omega (arith, less, few))
+      (on v less)).blocked k low (omega (arith, none, some)));
 }
 
 -- nodes that stand for all that can come do for any number of steps

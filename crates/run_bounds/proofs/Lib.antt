@@ -9,5 +9,7 @@ pub mod Seen
 pub mod Failing
 pub mod Standing
 pub mod Blocked
+pub mod Lower
+pub mod Blockers
 pub mod Bounding
 pub mod Trying

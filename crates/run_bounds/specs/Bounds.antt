@@ -1,13 +1,16 @@
 -- Peaks that bound the figures of every run whose interrupts keep distances.
-use Rattle.std.specs.Prelude.{ℕ, suc, ◌≡◌, ◌<◌, ◌≤◌, false, List, [], Contains, IfSome, None, length, slice_index_or}
+use Rattle.std.specs.Prelude.{ℕ, suc, ◌≡◌, ◌<◌, ◌≤◌, false, List, [], Contains, IfSome, Some, None, length, slice_index_or}
+use Rattle.std.specs.List.{AllByRecursion}
 use Rattle.std.specs.Option.{option_map}
 use Rattle.osek_base.specs.declared.arrivals.Arrival.{Arrival}
+use Rattle.osek_base.specs.BlockingText.{blockers_at}
 use Rattle.osek_base.specs.Proper.{IsProper}
 use Rattle.osek_base.specs.System.{System}
 use Rattle.osek_base.specs.Trace.{arriving, run}
 use Rattle.run_laws.specs.Arrived.{AreArrivals}
 use Rattle.needed_data.specs.Need.{Suffices}
 use Rattle.same_future.specs.Covering.{AreSpaced}
+use Rattle.observations.specs.declared.observation.Observation.{Observation}
 use Rattle.observed_runs.specs.Observed.{failure_of, owner_of, task_seen, tick_at, times}
 use Rattle.figures.specs.declared.task_tick.TaskTick.{TaskTick}
 use Rattle.figures.specs.AlarmSums.{alarm_figures}
@@ -23,7 +26,7 @@ use Rattle.search.specs.Searched.{AreAll}
 use Rattle.search.specs.Levels.{AreLevels}
 use Rattle.search.specs.Rules.{AreKept}
 use Rattle.bound_labels.specs.Labels.{distance_of}
-use Rattle.bound_peaks.specs.Peaks.{Peaks, has_come, peak, routine_fails, task_fails}
+use Rattle.bound_peaks.specs.Peaks.{Peaks, has_come, most_blockers, peak, routine_fails, task_fails}
 use Rattle.run_bounds.specs.Nodes.{AreNoted, Node, Setting, rules_of}
 
 -- interrupts of a routine come at least so many ticks apart, and one of it at most in a tick
@@ -91,7 +94,14 @@ pub record IsTickWithin (S : System) (mode cap : ℕ) (peaks : Peaks) (arrivals 
       → blocked_at S mode arrivals k n ≤ peak peaks.blocked k
   pub shutdown : peaks.shuts_down ≡ false → (run S mode arrivals (suc n)).state.over ≡ false
 
--- whatever arrives that keeps the distances, for so many ticks at most
+-- where an observation of a run tells a number of blockers, it is that of its tick
+abbrev pub TellBlockers : System → ℕ → List Arrival → List Observation → Type 0
+TellBlockers S mode arrivals seen =
+    AllByRecursion
+    (λ (o : Observation). IfSome o.blockers (λ m. blockers_at S mode arrivals o.tick ≡ Some m)) seen
+
+-- whatever arrives that keeps the distances, for so many ticks at most. The numbers of blockers are
+-- within peaks where observations tell them
 pub record AreBoundsUpTo (S : System) (mode : ℕ) (distances : List ℕ) (cap : ℕ) (peaks : Peaks)
     (count : ℕ) : Type 0 where
   pub figures : (arrivals : List Arrival) (n : ℕ) (f : RunFigures) → n ≤ count
@@ -99,6 +109,12 @@ pub record AreBoundsUpTo (S : System) (mode : ℕ) (distances : List ℕ) (cap :
       → AreWithin S cap peaks f
   pub ticks : (arrivals : List Arrival) (n : ℕ) → n < count → KeepDistances S distances arrivals
       → (run S mode arrivals n).state.over ≡ false → IsTickWithin S mode cap peaks arrivals n
+  pub blockers : (arrivals : List Arrival) (n : ℕ) (f : RunFigures) → n ≤ count
+      → KeepDistances S distances arrivals → (are : AreRunFigures S mode arrivals n f)
+      → TellBlockers S mode arrivals are.seen
+      → (k : ℕ) → k < length S.tasks → 0 < cap
+      → IfSome (slice_index_or f.tasks k (task_figures [])).counts.blockers
+      (λ m. m ≤ most_blockers peaks k)
 
 -- and for however many ticks
 abbrev pub AreBounds : System → ℕ → List ℕ → ℕ → Peaks → Type 0

@@ -104,9 +104,16 @@ module _ (old : List ℕ) (set from : ℕ) (part : ℕ → List ℕ)
       written_as old out new bytes part n m step same
       (before ∙ ap (λ xs. old ++ xs) (sym skipped)) more
 
+  -- no number is left below a limit
+  pub written_below : (out : List ℕ) (limit : ℕ) → limit ≤ 64 → from ≤ limit
+      → HasNone set from limit → out ≡ old ++ each from part → out ≡ old ++ each limit part
+  written_below out limit few low none before =
+      before ∙ ap (λ xs. old ++ xs)
+      (sym
+      (none_between part from limit low
+      (λ i more high. nothing i (omega (arith, high, few)) (none i more high))))
+
   -- no number is left
   pub written_all : (out : List ℕ) → from ≤ 64 → HasNone set from 64
       → out ≡ old ++ each from part → out ≡ old ++ each 64 part
-  written_all out low none before =
-      before ∙ ap (λ xs. old ++ xs)
-      (sym (none_between part from 64 low (λ i more high. nothing i high (none i more high))))
+  written_all out low none before = written_below out 64 (omega arith) low none before

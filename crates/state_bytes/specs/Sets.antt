@@ -17,3 +17,8 @@ pub record IsNext (set from n : ℕ) : Type 0 where
 abbrev pub IsLowest : ℕ → ℕ → Option ℕ → Type 0
 IsLowest set from None = HasNone set from 64
 IsLowest set from (Some n) = IsNext set from n
+
+-- the lowest one from a number on and below another one, if there is one
+abbrev pub IsLowestBelow : ℕ → ℕ → ℕ → Option ℕ → Type 0
+IsLowestBelow set from limit None = HasNone set from limit
+IsLowestBelow set from limit (Some n) = IsNext set from n × (n < limit)

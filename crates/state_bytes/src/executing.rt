@@ -8,30 +8,13 @@ ghost use Rattle.needs.specs.Table.{need_of};
 ghost use Rattle.state_keys.specs.Bytes.{each, needed, number, optional};
 ghost use Rattle.state_keys.specs.Key.{context_key, executing_key, routine_key};
 
-use crate::sets::has;
+use crate::sets::next_below;
 use machine::Cpu;
 use needs::Needs;
 use number_bytes::{push_byte, push_flag, push_number};
 use osek_base::{Owner, REGISTERS, Register, TaskId};
 use services::{Active, CompactQueues, Objects};
 use std::alloc::AllocError;
-
-/// Adds a register, if it is needed.
-#[inline(always)]
-fn push_register(
-    out: &mut Vec<u8>,
-    is_needed: bool,
-    cpu: &Cpu,
-    register: Register,
-) -> Result<(), AllocError>
-    ensures { OnOk result (out.new.items ≡ out.old.items
-        ++ needed is_needed (value cpu.now register)) }
-{
-    if is_needed {
-        push_number(out, cpu.value(register))?;
-    }
-    Ok(())
-}
 
 /// Adds the registers that are needed.
 #[tactic(auto, using(crate::proofs::Steps::none_yet))]
@@ -46,9 +29,10 @@ fn push_registers(
         (λ r. needed ((need_of needs.now).registers owner.now r) (value cpu.now r))) }
 {
     let registers = needs.needed_registers(*owner);
-    for number in 0..REGISTERS {
-        let is_needed = has(registers, number as u8);
-        push_register(out, is_needed, cpu, Register::new(number as u8))?;
+    let mut from = 0;
+    while let Some(number) = next_below(registers, from, REGISTERS as u32) {
+        push_number(out, cpu.value(Register::new(number as u8)))?;
+        from = number + 1;
     }
     Ok(())
 }

@@ -1,17 +1,8 @@
 //! Sets of numbers below 64: bit n is set where n is in it.
 
-ghost use Rattle.std.specs.Prelude.{ℕ, ◌≡◌, ◌≢◌, ◌<◌, false};
+ghost use Rattle.std.specs.Prelude.{ℕ, ◌≡◌, ◌≢◌, ◌<◌, ◌≤◌, false};
 ghost use Rattle.needs.specs.Table.{has};
-ghost use Rattle.state_bytes.specs.Sets.{IsLowest};
-
-/// Whether a number is in a set.
-#[inline(always)]
-pub fn has(set: u64, number: u8) -> bool
-    requires { number < 64 }
-    ensures { result ≡ has set number }
-{
-    (set >> number) % 2 == 1
-}
+ghost use Rattle.state_bytes.specs.Sets.{IsLowest, IsLowestBelow};
 
 /// The lowest number of a set that isn't below `from`, if there is one.
 #[inline(always)]
@@ -26,6 +17,18 @@ pub fn next_in(set: u64, from: u32) -> Option<u32>
         return None;
     }
     Some(from + left.trailing_zeros())
+}
+
+/// The lowest number of a set that isn't below `from` and is below a limit, if there is one.
+#[inline(always)]
+pub fn next_below(set: u64, from: u32, limit: u32) -> Option<u32>
+    requires { limit ≤ 64 }
+    ensures { IsLowestBelow set from limit result }
+{
+    match next_in(set, from) {
+        Some(number) if number < limit => Some(number),
+        _ => None,
+    }
 }
 
 /// A set with a number more, if that is below 64.

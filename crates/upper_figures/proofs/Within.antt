@@ -27,6 +27,7 @@ use Rattle.figure_laws.specs.Times.{response_time, routine_time}
 use Rattle.run_figures.specs.RunFigures.{AreRunFigures, AreTicksOf}
 use Rattle.bound_peaks.specs.Peaks.{Peaks, peak}
 use Rattle.run_bounds.specs.Bounds.{AreBounds, AreBoundsUpTo, AreWithin, IsTickWithin, KeepDistances}
+use Rattle.run_bounds.proofs.Blockers.{figures_low}
 use Rattle.upper_bounds.specs.Above.{IsTheSameAlarm, IsTheSameResource, IsUpperTask}
 use Rattle.upper_figures.specs.FiguresAbove.{AreBoundsAbove, AreBoundsAboveUpTo, AreWithinAbove, alarm_in_part, resource_in_part}
 use Rattle.upper_figures.specs.ShownAbove.{TicksShowTheSame, if_upper}
@@ -293,6 +294,18 @@ bounds_there_up_to S B p numbers proper shown over mode distances cap peaks coun
             (there.blocked t (numbers.tasks t is).known below_cap);
         shutdown = λ none. over mode arrivals (suc n) ∙ there.shutdown none;
       };
+  blockers = λ arrivals n f few keep are told t is some.
+      let on : (v : ℕ) → v < n → (run S mode arrivals v).state.over ≡ false =
+      λ v less. going_at S mode arrivals n are.seen are.ticks v less in
+      figures_low S mode arrivals n f are told on t (peak peaks.blocked t) is.known
+      (λ none v less.
+      let there : IsTickWithin B mode cap peaks arrivals v =
+      bounds.ticks arrivals v (omega (arith, less, few))
+      (distances_there S B distances arrivals numbers.routines keep)
+      (sym (over mode arrivals v) ∙ on v less) in
+      subst (λ k. k ≤ peak peaks.blocked t)
+      (sym (blocked_at_same S B p mode arrivals shown t is v (on v less)))
+      (there.blocked t (numbers.tasks t is).known (omega (arith, none, some))));
 }
 
 pub bounds_there : (S B : System) (p : ℕ) → AreNumbered S B p → IsProper B

@@ -16,8 +16,8 @@ use Rattle.figures.specs.RoutineSums.{routine_figures}
 use Rattle.figure_laws.specs.Labels.{IsWithin}
 use Rattle.figure_laws.specs.Times.{response_time, routine_time}
 use Rattle.run_figures.specs.RunFigures.{AreRunFigures}
-use Rattle.bound_peaks.specs.Peaks.{Peaks, has_come, peak, routine_fails, task_fails}
-use Rattle.run_bounds.specs.Bounds.{AreBounds, AreBoundsUpTo, KeepDistances, blocked_at}
+use Rattle.bound_peaks.specs.Peaks.{Peaks, has_come, most_blockers, peak, routine_fails, task_fails}
+use Rattle.run_bounds.specs.Bounds.{AreBounds, AreBoundsUpTo, KeepDistances, TellBlockers, blocked_at}
 use Rattle.upper_bounds.specs.Above.{AreOneAbove, IsUpperTask}
 use Rattle.upper_figures.specs.ShownAbove.{if_upper}
 
@@ -85,6 +85,12 @@ pub record AreBoundsAboveUpTo (S : System) (p mode : ℕ) (distances : List ℕ)
       → AreWithinAbove S p cap peaks f
   pub ticks : (arrivals : List Arrival) (n : ℕ) → n < count → KeepDistances S distances arrivals
       → (run S mode arrivals n).state.over ≡ false → IsTickWithinAbove S p mode cap peaks arrivals n
+  pub blockers : (arrivals : List Arrival) (n : ℕ) (f : RunFigures) → n ≤ count
+      → KeepDistances S distances arrivals → (are : AreRunFigures S mode arrivals n f)
+      → TellBlockers S mode arrivals are.seen
+      → (t : ℕ) → IsUpperTask S p t → 0 < cap
+      → IfSome (slice_index_or f.tasks t (task_figures [])).counts.blockers
+      (λ m. m ≤ most_blockers peaks t)
 
 -- and for however many ticks
 abbrev pub AreBoundsAbove : System → ℕ → ℕ → List ℕ → ℕ → Peaks → Type 0

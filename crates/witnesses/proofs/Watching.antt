@@ -1,9 +1,10 @@
 -- Figures that are watched are those of the run.
 use Rattle.std.proofs.Common.{ℕ, suc, ◌≡◌, ◌<◌, ◌≤◌, ◌+◌, ◌-◌, ◌^◌, Bool, true, false, List, [], ◌∷◌, map, length, refl, sym, ◌∙◌, ap, subst, arith, add-one, true≢false}
-use Rattle.std.specs.Prelude.{◌||◌, IfSome, Option, Some, nat_le, nat_lt, not, slice_index_or}
+use Rattle.std.specs.Prelude.{◌||◌, IfSome, Option, Some, None, cond, nat_le, nat_lt, not, slice_index_or}
 use Rattle.osek_base.specs.declared.arrivals.Arrival.{Arrival}
 use Rattle.std.proofs.lemmas.Bool.{leb-true}
 use Rattle.osek_base.specs.declared.limits.TheConstants.{MAX_TICKS}
+use Rattle.osek_base.specs.BlockingText.{blockers_at}
 use Rattle.osek_base.specs.Proper.{IsProper}
 use Rattle.osek_base.specs.System.{System}
 use Rattle.osek_base.specs.Trace.{run}
@@ -15,33 +16,29 @@ use Rattle.figures.specs.declared.resource_figures.ResourceFigures.{ResourceFigu
 use Rattle.figures.specs.declared.routine_figures.RoutineFigures.{RoutineFigures}
 use Rattle.figures.specs.declared.task_figures.TaskFigures.{TaskFigures}
 use Rattle.figures.specs.declared.task_tick.TaskTick.{TaskTick}
-use Rattle.figures.specs.FigureSums.{AreFigures, RunFigures, levels_of, task_figures, task_tick}
+use Rattle.figures.specs.FigureSums.{AreFigures, RunFigures, is_task, levels_of, task_figures, task_tick}
 use Rattle.figures.specs.RoutineSums.{routine_figures}
+use Rattle.figures.specs.TaskSums.{more_blockers, most_blockers, task_counts}
 use Rattle.figure_laws.specs.Times.{response_time, routine_time}
 use Rattle.upper_figures.proofs.Bare.{bare_task, task_errors_bare, task_refused_bare, task_responses_bare}
 use Rattle.upper_figures.proofs.Observed.{are_figures, figures_of}
 use Rattle.bounds.specs.declared.figure.Figure.{Figure}
-use Rattle.bounds.specs.declared.figure.Figure.TheVariants.{Blocked, Errors, Hold, Jobs, Latency, Loss, Refusal, RefusedAction, Response, RoutineErrors, Shutdown}
+use Rattle.bounds.specs.declared.figure.Figure.TheVariants.{Blocked, Blockers, Errors, Hold, Jobs, Latency, Loss, Refusal, RefusedAction, Response, RoutineErrors, Shutdown}
 use Rattle.bounds.specs.Figures.{one_if}
 use Rattle.witnesses.specs.declared.blocked.BlockedTicks.{BlockedTicks}
 use Rattle.witnesses.specs.declared.watched.Watched.{Watched}
 use Rattle.witnesses.specs.Blocked.{blocked_ticks, most_blocked}
-use Rattle.witnesses.specs.Running.{Watches, WatchesTicks, number_of}
+use Rattle.witnesses.specs.Running.{IsWatched, Watches, number_of}
 use Rattle.witnesses.specs.Shown.{IsOf, Shows, shown}
-use Rattle.witnesses.specs.Watched.{AreWatched, bare_task_tick, shown_of, ticks_of}
+use Rattle.witnesses.specs.Watched.{AreWatched, bare_task_tick, number_or_none, shown_of, ticks_of}
 
 -- ---- tick by tick
-
--- a run is n ticks behind another one, and the things of a number were watched up to there
-pub record IsWatched (first now : Run) (n k : ℕ) (w : Watched) : Type 0 where
-  pub same : now ≡ record first { ticks = n }
-  pub watches : WatchesTicks first.system first.mode first.arrivals n k w
 
 pub begun : (first : Run) (k : ℕ) (w : Watched) → first.ticks ≡ 0
     → AreWatched (levels_of first.system) k [] w → IsWatched first first 0 k w
 begun first k w none are = record {
   same = ap (λ n. record first { ticks = n }) none;
-  watches = record { seen = []; ticks = tt; are = are };
+  watches = record { seen = []; ticks = tt; told = tt; are = are };
 }
 
 not_over : (b c : Bool) → true ≡ not (b || c) → c ≡ false
@@ -55,11 +52,23 @@ going first now n same goes =
     ap (λ (r : Run). (run_of r).state.over) (sym same)
     ∙ not_over (nat_le MAX_TICKS now.ticks) (run_of now).state.over goes
 
+-- what is told where blockers are counted is the number of the tick
+told_number : (told number : Option ℕ) → told ≡ number → IfSome told (λ m. number ≡ Some m)
+told_number None number is = tt
+told_number (Some m) number is = sym is
+
+tells : (S : System) (mode : ℕ) (arrivals : List Arrival) (n : ℕ) (o : Observation)
+    → IsObserved true S mode arrivals n o
+    → IfSome o.blockers (λ m. blockers_at S mode arrivals o.tick ≡ Some m)
+tells S mode arrivals n o at =
+    told_number o.blockers (blockers_at S mode arrivals o.tick)
+    (at.blockers refl ∙ ap (λ t. blockers_at S mode arrivals t) (sym at.number))
+
 pub one_more : (first old new : Run) (S : System) (n k : ℕ) (v w : Watched) (o : Observation)
     → first.system ≡ S → IsWatched first old n k v → true ≡ not (is_over old)
     → new ≡ record old { ticks = old.ticks + 1 }
     → (1 ≤ new.ticks
-    → IsObserved false new.system new.mode new.arrivals (new.ticks - 1) o)
+    → IsObserved true new.system new.mode new.arrivals (new.ticks - 1) o)
     → ((before : List Observation) → AreWatched (levels_of S) k before v
     → AreWatched (levels_of S) k (o ∷ before) w)
     → IsWatched first new (n + 1) k w
@@ -67,13 +76,13 @@ one_more first old new S n k v w o of is goes step observed more =
     let same : new ≡ record first { ticks = suc n } =
     step ∙ ap (λ (r : Run). record r { ticks = r.ticks + 1 }) is.same
     ∙ ap (λ m. record first { ticks = m }) (add-one n) in
-    let last : IsObserved false first.system first.mode first.arrivals (suc n - 1) o =
+    let last : IsObserved true first.system first.mode first.arrivals (suc n - 1) o =
     subst
-    (λ (r : Run). 1 ≤ r.ticks → IsObserved false r.system r.mode r.arrivals (r.ticks - 1) o) same
+    (λ (r : Run). 1 ≤ r.ticks → IsObserved true r.system r.mode r.arrivals (r.ticks - 1) o) same
     observed (omega arith) in
     let before : suc n - 1 ≡ n = omega arith in
-    let at : IsObserved false first.system first.mode first.arrivals n o =
-    subst (λ m. IsObserved false first.system first.mode first.arrivals m o) before last in
+    let at : IsObserved true first.system first.mode first.arrivals n o =
+    subst (λ m. IsObserved true first.system first.mode first.arrivals m o) before last in
     subst (λ m. IsWatched first new m k w) (sym (add-one n))
     (record {
       same = same;
@@ -87,12 +96,25 @@ one_more first old new S n k v w o of is goes step observed more =
           },
           is.watches.ticks,
         );
+        told = (tells first.system first.mode first.arrivals n o at, is.watches.told);
         are = subst
             (λ (T : System). AreWatched (levels_of T) k is.watches.seen v
             → AreWatched (levels_of T) k (o ∷ is.watches.seen) w)
             (sym of) (more is.watches.seen) is.watches.are;
       };
     })
+
+-- a run that has gone on behind some ticks goes on for one more
+pub goes_on : (first old new : Run) (n more k number : ℕ) (v w : Watched) → number ≡ k
+    → IsWatched first old (n + more) k v
+    → (IsWatched first old (n + more) number v → IsWatched first new (n + more + 1) number w)
+    → IsWatched first new (n + (more + 1)) k w
+goes_on first old new n more k number v w same is step =
+    let before : IsWatched first old (n + more) number v =
+    subst (λ j. IsWatched first old (n + more) j v) (sym same) is in
+    let after : IsWatched first new (n + (more + 1)) number w =
+    subst (λ m. IsWatched first new m number w) (omega arith) (step before) in
+    subst (λ j. IsWatched first new (n + (more + 1)) j w) same after
 
 -- one tick more tells whether a run is over
 pub told_by_one_more : (r : Run) (goes : Bool) → r.ticks < MAX_TICKS → goes ≡ not (is_over r)
@@ -112,6 +134,7 @@ ended first now n k w over is ends = record {
   figures = record {
     seen = is.watches.seen;
     ticks = is.watches.ticks;
+    told = is.watches.told;
     are = record {
       task = is.watches.are.task;
       routine = is.watches.are.routine;
@@ -134,6 +157,18 @@ tasks_same : (levels : List ℕ) (k : ℕ) (seen : List Observation)
 tasks_same levels k [] = refl
 tasks_same levels k (o ∷ before) =
     ap (λ (ts : List TaskTick). bare_task (bare_task_tick o k) ∷ ts) (tasks_same levels k before)
+
+-- numbers of blockers don't go by lower tasks that execute
+blockers_of : (seen : List TaskTick) → (task_figures seen).counts.blockers ≡ most_blockers seen
+unfolding task_figures task_counts
+blockers_of seen = refl
+
+most_same : (levels : List ℕ) (k : ℕ) (seen : List Observation)
+    → most_blockers (map (λ o. task_tick levels o k) seen)
+    ≡ most_blockers (map (λ o. bare_task_tick o k) seen)
+most_same levels k [] = refl
+most_same levels k (o ∷ before) =
+    ap (more_blockers (cond (is_task o.executor k) o.blockers None)) (most_same levels k before)
 
 module _ (S : System) (seen : List Observation) (f : RunFigures) (are : AreFigures S seen f)
     (w : Watched) (over : Bool) (ends : w.is_over ≡ over) where
@@ -161,6 +196,15 @@ module _ (S : System) (seen : List Observation) (f : RunFigures) (are : AreFigur
       (map (λ o. bare_task_tick o k) seen) (tasks_same (levels_of S) k seen)
       ∙ sym (ap (λ (g : TaskFigures). g.counts.errors) watched.task)
 
+  blockers : (k : ℕ) → AreWatched (levels_of S) k seen w → k < length S.tasks
+      → (slice_index_or f.tasks k (task_figures [])).counts.blockers ≡ w.task.counts.blockers
+  blockers k watched low =
+      ap (λ (g : TaskFigures). g.counts.blockers) (are.tasks.each k low)
+      ∙ blockers_of (map (λ o. task_tick (levels_of S) o k) seen)
+      ∙ most_same (levels_of S) k seen
+      ∙ sym (blockers_of (map (λ o. bare_task_tick o k) seen))
+      ∙ sym (ap (λ (g : TaskFigures). g.counts.blockers) watched.task)
+
   routine : (k : ℕ) → AreWatched (levels_of S) k seen w → k < length S.routines
       → slice_index_or f.routines k (routine_figures []) ≡ w.routine
   routine k watched low = are.routines.each k low ∙ sym watched.routine
@@ -180,6 +224,7 @@ module _ (S : System) (seen : List Observation) (f : RunFigures) (are : AreFigur
   shown_same (Response k) watched low = λ i.
       ticks_of (response_time (last k watched i) (responses k watched low i))
   shown_same (Blocked k) watched low = blocked k watched
+  shown_same (Blockers k) watched low = ap number_or_none (blockers k watched low)
   shown_same (Jobs k) watched low = sym watched.jobs
   shown_same (Refusal k) watched low = ap (λ n. one_if (nat_lt 0 n)) (refused k watched low)
   shown_same (Latency k) watched low = λ i.
@@ -211,6 +256,7 @@ shows S mode arrivals n figure w proper small of watches = record {
     ticks = watches.figures.ticks;
     figures = are_figures S watches.figures.seen;
   };
+  told = watches.figures.told;
   of = of;
   shown =
       shown_same S watches.figures.seen (figures_of S watches.figures.seen)
@@ -220,19 +266,20 @@ shows S mode arrivals n figure w proper small of watches = record {
 
 -- the same, of a run that was begun with this system, this mode and these arrivals
 pub begun_shows : (S : System) (mode : ℕ) (arrivals : List Arrival) (n : ℕ) (figure : Figure)
-    (first : Option Run) (r : Run) (k : ℕ) (w : Watched) (value : ℕ) → IsProper S → n < 2 ^ 32
+    (first : Option Run) (r : Run) (w : Watched) (value : ℕ) → IsProper S → n < 2 ^ 32
     → IsOf S figure
-    → IfSome first (λ (x : Run). (x.system ≡ S) × (x.mode ≡ mode) × (x.arrivals ≡ arrivals) × (x.ticks ≡ 0))
-    → first ≡ Some r → k ≡ number_of figure → Watches r.system r.mode r.arrivals n k w
+    → IfSome first (λ (x : Run). (x.system ≡ S) × (x.mode ≡ mode) × (x.arrivals ≡ arrivals)
+    × (x.ticks ≡ 0))
+    → first ≡ Some r → Watches r.system r.mode r.arrivals n (number_of figure) w
     → value ≡ shown_of w figure → Shows S mode arrivals n figure value
-begun_shows S mode arrivals n figure first r k w value proper small of made is number watches told =
+begun_shows S mode arrivals n figure first r w value proper small of made is watches told =
     let same : (r.system ≡ S) × (r.mode ≡ mode) × (r.arrivals ≡ arrivals) × (r.ticks ≡ 0) =
-    subst (λ o. IfSome o (λ (x : Run). (x.system ≡ S) × (x.mode ≡ mode) × (x.arrivals ≡ arrivals) × (x.ticks ≡ 0)))
+    subst
+    (λ o. IfSome o (λ (x : Run). (x.system ≡ S) × (x.mode ≡ mode) × (x.arrivals ≡ arrivals)
+    × (x.ticks ≡ 0)))
     is made in
-    let numbered : Watches r.system r.mode r.arrivals n (number_of figure) w =
-    subst (λ m. Watches r.system r.mode r.arrivals n m w) number watches in
     let of_system : Watches S r.mode r.arrivals n (number_of figure) w =
-    subst (λ x. Watches x r.mode r.arrivals n (number_of figure) w) same.0 numbered in
+    subst (λ x. Watches x r.mode r.arrivals n (number_of figure) w) same.0 watches in
     let in_mode : Watches S mode r.arrivals n (number_of figure) w =
     subst (λ x. Watches S x r.arrivals n (number_of figure) w) same.1 of_system in
     let under : Watches S mode arrivals n (number_of figure) w =

@@ -3,11 +3,13 @@ use Rattle.std.specs.Prelude.{ℕ, ◌≡◌, List}
 use Rattle.osek_base.specs.declared.arrivals.Arrival.{Arrival}
 use Rattle.osek_base.specs.System.{System}
 use Rattle.osek_base.specs.Trace.{run}
+use Rattle.kernel.specs.Run.{Run}
 use Rattle.observations.specs.declared.observation.Observation.{Observation}
 use Rattle.figures.specs.FigureSums.{levels_of}
 use Rattle.run_figures.specs.RunFigures.{AreTicksOf}
+use Rattle.run_bounds.specs.Bounds.{TellBlockers}
 use Rattle.bounds.specs.declared.figure.Figure.{Figure}
-use Rattle.bounds.specs.declared.figure.Figure.TheVariants.{Blocked, Errors, Hold, Jobs, Latency, Loss, Refusal, RefusedAction, Response, RoutineErrors, Shutdown}
+use Rattle.bounds.specs.declared.figure.Figure.TheVariants.{Blocked, Blockers, Errors, Hold, Jobs, Latency, Loss, Refusal, RefusedAction, Response, RoutineErrors, Shutdown}
 use Rattle.witnesses.specs.declared.watched.Watched.{Watched}
 use Rattle.witnesses.specs.Watched.{AreWatched}
 
@@ -15,6 +17,7 @@ use Rattle.witnesses.specs.Watched.{AreWatched}
 abbrev pub number_of : Figure → ℕ
 number_of (Response k) = k
 number_of (Blocked k) = k
+number_of (Blockers k) = k
 number_of (Jobs k) = k
 number_of (Refusal k) = k
 number_of (Latency i) = i
@@ -30,6 +33,7 @@ pub record WatchesTicks (S : System) (mode : ℕ) (arrivals : List Arrival) (n k
     (w : Watched) : Type 0 where
   pub seen : List Observation
   pub ticks : AreTicksOf S mode arrivals n seen
+  pub told : TellBlockers S mode arrivals seen
   pub are : AreWatched (levels_of S) k seen w
 
 -- and whether the run is over behind them
@@ -37,3 +41,8 @@ pub record Watches (S : System) (mode : ℕ) (arrivals : List Arrival) (n k : �
     (w : Watched) : Type 0 where
   pub figures : WatchesTicks S mode arrivals n k w
   pub over : w.is_over ≡ (run S mode arrivals n).state.over
+
+-- a run is n ticks behind another one, and the things of a number were watched up to there
+pub record IsWatched (first now : Run) (n k : ℕ) (w : Watched) : Type 0 where
+  pub same : now ≡ record first { ticks = n }
+  pub watches : WatchesTicks first.system first.mode first.arrivals n k w

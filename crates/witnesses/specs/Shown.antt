@@ -10,25 +10,27 @@ use Rattle.figures.specs.ResourceSums.{resource_figures}
 use Rattle.figures.specs.RoutineSums.{routine_figures}
 use Rattle.figure_laws.specs.Times.{response_time, routine_time}
 use Rattle.run_figures.specs.RunFigures.{AreRunFigures}
-use Rattle.run_bounds.specs.Bounds.{KeepDistances}
+use Rattle.run_bounds.specs.Bounds.{KeepDistances, TellBlockers}
 use Rattle.bound_peaks.specs.Peaks.{Peaks}
 use Rattle.bounds.specs.declared.figure.Figure.{Figure}
-use Rattle.bounds.specs.declared.figure.Figure.TheVariants.{Blocked, Errors, Hold, Jobs, Latency, Loss, Refusal, RefusedAction, Response, RoutineErrors, Shutdown}
+use Rattle.bounds.specs.declared.figure.Figure.TheVariants.{Blocked, Blockers, Errors, Hold, Jobs, Latency, Loss, Refusal, RefusedAction, Response, RoutineErrors, Shutdown}
 use Rattle.bounds.specs.declared.finding.Bounds.{Bounds}
 use Rattle.bounds.specs.Figures.{one_if, told}
 use Rattle.witnesses.specs.declared.witness.Witness.{Witness}
 use Rattle.witnesses.specs.Blocked.{most_blocked}
-use Rattle.witnesses.specs.Watched.{most_jobs, ticks_of}
+use Rattle.witnesses.specs.Watched.{most_jobs, number_or_none, ticks_of}
 
 -- what a run shows by its figures, its observations and whether it is over: the longest time of a
 -- task or a routine, or the age of what hasn't ended or started behind the last tick, if that is
--- greater; for how many ticks a task's oldest job was blocked at most; the most jobs at once; the
--- longest hold; of what is lost, refused or answered other than
+-- greater; for how many ticks a task's oldest job was blocked at most, and the most blockers of its
+-- jobs; the most jobs at once; the longest hold; of what is lost, refused or answered other than
 -- E_OK 1 where anything is; and 1 where a ShutdownOS has ended it
 abbrev pub shown : RunFigures → List Observation → Bool → Figure → ℕ
 shown f seen over (Response k) =
     ticks_of (response_time f.last (slice_index_or f.tasks k (task_figures [])).responses)
 shown f seen over (Blocked k) = most_blocked f.levels k seen
+shown f seen over (Blockers k) =
+    number_or_none (slice_index_or f.tasks k (task_figures [])).counts.blockers
 shown f seen over (Jobs k) = most_jobs k seen
 shown f seen over (Refusal k) =
     one_if (nat_lt 0 (slice_index_or f.tasks k (task_figures [])).counts.refused)
@@ -48,6 +50,7 @@ shown f seen over Shutdown = one_if over
 abbrev pub IsOf : System → Figure → Type 0
 IsOf S (Response k) = k < length S.tasks
 IsOf S (Blocked k) = k < length S.tasks
+IsOf S (Blockers k) = k < length S.tasks
 IsOf S (Jobs k) = k < length S.tasks
 IsOf S (Refusal k) = k < length S.tasks
 IsOf S (Latency i) = i < length S.routines
@@ -64,6 +67,7 @@ IsBelow cap peaks (Response k) = told peaks (Response k) < cap
 IsBelow cap peaks (Blocked k) = told peaks (Blocked k) < cap
 IsBelow cap peaks (Latency i) = told peaks (Latency i) < cap
 IsBelow cap peaks (Hold r) = told peaks (Hold r) < cap
+IsBelow cap peaks (Blockers k) = 0 < cap
 IsBelow cap peaks (Jobs k) = Unit {0}
 IsBelow cap peaks (Refusal k) = Unit {0}
 IsBelow cap peaks (Loss i) = Unit {0}
@@ -72,11 +76,12 @@ IsBelow cap peaks (Errors k) = Unit {0}
 IsBelow cap peaks (RoutineErrors i) = Unit {0}
 IsBelow cap peaks Shutdown = Unit {0}
 
--- the first n ticks of a run show so much of a figure
+-- the first n ticks of a run show so much of a figure; what is told of blockers is told of the run
 pub record Shows (S : System) (mode : ℕ) (arrivals : List Arrival) (n : ℕ) (figure : Figure)
     (value : ℕ) : Type 0 where
   pub figures : RunFigures
   pub are : AreRunFigures S mode arrivals n figures
+  pub told : TellBlockers S mode arrivals are.seen
   pub of : IsOf S figure
   pub shown : shown figures are.seen (run S mode arrivals n).state.over figure ≡ value
 

@@ -1,5 +1,5 @@
 -- Figures of the things of one number, over observations, newest first.
-use Rattle.std.specs.Prelude.{ℕ, ◌≡◌, false, ◌&&◌, List, [], ◌∷◌, map, max, Option, Some, None, nat_lt, slice_index_or}
+use Rattle.std.specs.Prelude.{ℕ, ◌≡◌, false, ◌&&◌, cond, List, [], ◌∷◌, map, max, Option, Some, None, nat_lt, slice_index_or}
 use Rattle.observations.specs.declared.observation.Observation.{Observation}
 use Rattle.figures.specs.declared.reached.Reached.{Reached}
 use Rattle.figures.specs.declared.task_tick.TaskTick.{TaskTick}
@@ -9,13 +9,13 @@ use Rattle.figures.specs.ResourceSums.{resource_figures}
 use Rattle.figures.specs.RoutineSums.{routine_figures}
 use Rattle.figure_laws.specs.Times.{response_time, routine_time}
 use Rattle.bounds.specs.declared.figure.Figure.{Figure}
-use Rattle.bounds.specs.declared.figure.Figure.TheVariants.{Blocked, Errors, Hold, Jobs, Latency, Loss, Refusal, RefusedAction, Response, RoutineErrors, Shutdown}
+use Rattle.bounds.specs.declared.figure.Figure.TheVariants.{Blocked, Blockers, Errors, Hold, Jobs, Latency, Loss, Refusal, RefusedAction, Response, RoutineErrors, Shutdown}
 use Rattle.bounds.specs.Figures.{one_if}
 use Rattle.witnesses.specs.declared.watched.Watched.{Watched}
 use Rattle.witnesses.specs.Blocked.{blocked_ticks, ticks_seen}
 use Rattle.witnesses.specs.Failing.{last_failure}
 
--- what an observation has of a task, without whether a lower task executes, and without blockers
+-- what an observation has of a task, without whether a lower task executes
 abbrev pub bare_task_tick : Observation → ℕ → TaskTick
 bare_task_tick o k =
     record {
@@ -23,7 +23,7 @@ bare_task_tick o k =
       seen = slice_index_or o.tasks.items k unseen_task;
       lower_executes = false;
       has_failed = is_task o.executor k && is_error o.answered;
-      blockers = None;
+      blockers = cond (is_task o.executor k) o.blockers None;
     }
 
 -- the most jobs of a task at once
@@ -48,10 +48,16 @@ abbrev pub ticks_of : Option Reached → ℕ
 ticks_of None = 0
 ticks_of (Some r) = r.ticks
 
+-- the number of a count, 0 where there is none
+abbrev pub number_or_none : Option ℕ → ℕ
+number_or_none None = 0
+number_or_none (Some n) = n
+
 -- what they show of a figure
 abbrev pub shown_of : Watched → Figure → ℕ
 shown_of w (Response k) = ticks_of (response_time w.last w.task.responses)
 shown_of w (Blocked k) = w.blocked.most
+shown_of w (Blockers k) = number_or_none w.task.counts.blockers
 shown_of w (Jobs k) = w.jobs
 shown_of w (Refusal k) = one_if (nat_lt 0 w.task.counts.refused)
 shown_of w (Latency i) = ticks_of (routine_time w.last w.routine)

@@ -9,7 +9,8 @@ use bounds::{Bounds, Figure, figures_of};
 use osek_base::{ModeId, System};
 use std::alloc::{AllocError, Global};
 
-/// Whether a figure is told below the cap; so is all that isn't a time.
+/// Whether a figure is told below the cap; so is all that isn't a time, and blockers where the cap
+/// isn't 0.
 fn is_below(found: &Bounds, figure: Figure) -> bool
     ensures { IsTrue result → IsBelow found.now.cap found.now.peaks figure }
 {
@@ -17,6 +18,7 @@ fn is_below(found: &Bounds, figure: Figure) -> bool
         Figure::Response(_) | Figure::Blocked(_) | Figure::Latency(_) | Figure::Hold(_) => {
             figure.told(&found.peaks) < found.cap
         }
+        Figure::Blockers(_) => found.cap > 0,
         Figure::Jobs(_)
         | Figure::Refusal(_)
         | Figure::Loss(_)

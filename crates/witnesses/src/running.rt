@@ -1,18 +1,30 @@
 //! What a run shows of a figure.
 
-ghost use Rattle.std.specs.Prelude.{◌≡◌, IfOk, IfSome, IsTrue, Some};
+ghost use Rattle.std.specs.Prelude.{ℕ, ◌≡◌, ◌+◌, IfOk, IfSome, IsTrue, Some};
 ghost use Rattle.figures.specs.FigureSums.{held_count};
-ghost use Rattle.kernel.specs.Run.{AreKnown, run_of};
+ghost use Rattle.kernel.specs.Run.{AreKnown, Run, run_of};
 ghost use Rattle.osek_base.specs.Names.{number_of as number_of_name};
-ghost use Rattle.witnesses.specs.Running.{Watches, number_of};
+ghost use Rattle.witnesses.specs.Running.{IsWatched, Watches, number_of};
 ghost use Rattle.witnesses.specs.Shown.{IsOf, Shows};
 
 use crate::watched::Watched;
 use bounds::Figure;
-use kernel::{BootFault, NotCounted};
+use kernel::{BootFault, Counted};
 use observed_runs::ObservedRun;
 use osek_base::{Arrivals, MAX_TICKS, ModeId, System};
 use std::alloc::{AllocError, Global};
+
+/// For how many ticks at most a run goes on behind those that lead to a blocked job, until the
+/// job's blockers are told: that is when it executes again.
+const MOST_BEHIND: u32 = 4096;
+
+/// For how many ticks at most a run goes on until it shows what is told of a figure.
+fn most_behind(figure: Figure) -> u32 {
+    match figure {
+        Figure::Blockers(_) => MOST_BEHIND,
+        _ => 0,
+    }
+}
 
 /// The number of the thing of a figure.
 fn number_of(figure: Figure) -> usize
@@ -21,6 +33,7 @@ fn number_of(figure: Figure) -> usize
     match figure {
         Figure::Response(number)
         | Figure::Blocked(number)
+        | Figure::Blockers(number)
         | Figure::Jobs(number)
         | Figure::Refusal(number)
         | Figure::Latency(number)
@@ -52,6 +65,7 @@ fn is_of(system: &System, figure: Figure) -> bool
     match figure {
         Figure::Response(task)
         | Figure::Blocked(task)
+        | Figure::Blockers(task)
         | Figure::Jobs(task)
         | Figure::Refusal(task)
         | Figure::Errors(task) => task < system.task_count(),
@@ -65,7 +79,7 @@ fn is_of(system: &System, figure: Figure) -> bool
 }
 
 /// Whether a run is over by a ShutdownOS, which one tick more tells; not where it can't be done.
-fn is_shut_down(run: &mut ObservedRun<'_, NotCounted>) -> Option<bool>
+fn is_shut_down(run: &mut ObservedRun<'_, Counted>) -> Option<bool>
     ensures { IfSome result (λ over. over ≡ (run_of run.old).state.over) }
 {
     if run.ticks_done() < MAX_TICKS {
@@ -75,10 +89,48 @@ fn is_shut_down(run: &mut ObservedRun<'_, NotCounted>) -> Option<bool>
     }
 }
 
+/// Does a tick more of a run, and watches the things of a number; at false the run is over.
+fn see_tick(
+    system: &System,
+    run: &mut ObservedRun<'_, Counted>,
+    number: usize,
+    watched: &mut Watched,
+) -> bool
+    ensures { IsTrue result → (first : Run) (n : ℕ) → first.system ≡ system.now
+        → IsWatched first run.old n number watched.old
+        → IsWatched first run.new (n + 1) number watched.new }
+{
+    if !run.advance() {
+        return false;
+    }
+    watched.observe(system, number, run.observation());
+    true
+}
+
 /// Runs so many ticks, and watches the things of a number; not where the run is over before.
+fn watch_ticks(
+    system: &System,
+    run: &mut ObservedRun<'_, Counted>,
+    number: usize,
+    ticks: u32,
+) -> Option<Watched>
+    requires begun { run.old.ticks ≡ 0 }
+    requires of { run.old.system ≡ system.now }
+    ensures { IfSome result (IsWatched run.old run.new ticks number) }
+{
+    let mut watched = Watched::new();
+    for _tick in 0..ticks {
+        if !see_tick(system, run, number, &mut watched) {
+            return None;
+        }
+    }
+    Some(watched)
+}
+
+/// As [`watch_ticks`], and watches whether the run is over behind them.
 pub(crate) fn watch(
     system: &System,
-    run: &mut ObservedRun<'_, NotCounted>,
+    run: &mut ObservedRun<'_, Counted>,
     number: usize,
     ticks: u32,
 ) -> Option<Watched>
@@ -87,15 +139,58 @@ pub(crate) fn watch(
     ensures { IfSome result
         (Watches run.old.system run.old.mode run.old.arrivals ticks number) }
 {
-    let mut watched = Watched::new();
-    for _tick in 0..ticks {
-        if !run.advance() {
-            return None;
-        }
-        watched.observe(system, number, run.observation());
-    }
+    let mut watched = watch_ticks(system, run, number, ticks)?;
     watched.is_over = is_shut_down(run)?;
     Some(watched)
+}
+
+/// Goes on with a watched run until it shows so much of a figure, for so many ticks at most.
+/// Answers how many ticks more it has done, also where it doesn't show it; nothing where it is over
+/// before.
+fn go_on_until(
+    system: &System,
+    run: &mut ObservedRun<'_, Counted>,
+    watched: &mut Watched,
+    figure: Figure,
+    value: u32,
+    most: u32,
+) -> Option<u32>
+    ensures { IfSome result (λ more. (first : Run) (n : ℕ) → first.system ≡ system.now
+        → IsWatched first run.old n (number_of figure) watched.old
+        → IsWatched first run.new (n + more) (number_of figure) watched.new) }
+{
+    let number = number_of(figure);
+    for more in 0..most {
+        if watched.shown(figure) == value {
+            return Some(more);
+        }
+        if !see_tick(system, run, number, watched) {
+            return None;
+        }
+    }
+    Some(most)
+}
+
+/// Runs so many ticks, goes on behind them until a figure shows so much, where that may be told
+/// later, and watches the figure's thing. Answers how many ticks it has done, and what was watched.
+fn watch_until(
+    system: &System,
+    run: &mut ObservedRun<'_, Counted>,
+    ticks: u32,
+    figure: Figure,
+    value: u32,
+) -> Option<(u32, Watched)>
+    requires begun { run.old.ticks ≡ 0 }
+    requires of { run.old.system ≡ system.now }
+    ensures { IfSome result (λ done.
+        Watches run.old.system run.old.mode run.old.arrivals done.0 (number_of figure) done.1) }
+{
+    let mut watched = watch_ticks(system, run, number_of(figure), ticks)?;
+    let most = most_behind(figure);
+    let more = go_on_until(system, run, &mut watched, figure, value, most)?;
+    let done = ticks.checked_add(more)?;
+    watched.is_over = is_shut_down(run)?;
+    Some((done, watched))
 }
 
 /// Whether a name is that of a mode.
@@ -114,7 +209,7 @@ pub(crate) fn begin<'s>(
     system: &'s System,
     mode: ModeId,
     arrivals: Arrivals,
-) -> Result<Option<ObservedRun<'s, NotCounted>>, AllocError>
+) -> Result<Option<ObservedRun<'s, Counted>>, AllocError>
     requires { AreKnown system.now arrivals }
     ensures { IfOk result (λ begun. IfSome begun (λ r. (r.system ≡ system.now)
         × (r.mode ≡ mode) × (r.arrivals ≡ arrivals) × (r.ticks ≡ 0))) }
@@ -132,7 +227,9 @@ pub(crate) fn begin<'s>(
     }
 }
 
-/// What the first ticks of a run show of a figure; nothing where there are fewer, or no such thing.
+/// How many ticks of a run are watched, and what these show of a figure: so many ticks, or more,
+/// where they don't show so much and it may be told later. Nothing where the run is over before, or
+/// there is no such thing.
 pub(crate) fn shown_in_run(
     alloc: Global,
     system: &System,
@@ -140,9 +237,11 @@ pub(crate) fn shown_in_run(
     arrivals: Arrivals,
     ticks: u32,
     figure: Figure,
-) -> Result<Option<u32>, AllocError>
+    value: u32,
+) -> Result<Option<(u32, u32)>, AllocError>
     requires { AreKnown system.now arrivals }
-    ensures { IfOk result (λ shown. IfSome shown (Shows system.now mode arrivals ticks figure)) }
+    ensures { IfOk result (λ found. IfSome found
+        (λ shown. Shows system.now mode arrivals shown.0 figure shown.1)) }
 {
     // Who asks for the count of tasks learns that the system is proper.
     let _proper = system.task_count();
@@ -152,8 +251,9 @@ pub(crate) fn shown_in_run(
     let Some(mut run) = begin(alloc, system, mode, arrivals)? else {
         return Ok(None);
     };
-    let Some(watched) = watch(system, &mut run, number_of(figure), ticks) else {
+    let Some((done, watched)) = watch_until(system, &mut run, ticks, figure, value) else {
         return Ok(None);
     };
-    Ok(Some(watched.shown(figure)))
+    prove!(done <= u32::MAX);
+    Ok(Some((done, watched.shown(figure))))
 }

@@ -1,6 +1,6 @@
 //! Figures of the things of one number, over the ticks that were seen.
 
-ghost use Rattle.std.specs.Prelude.{ℕ, List, [], ◌∷◌, ◌≡◌, None, nat_lt, slice_index_or};
+ghost use Rattle.std.specs.Prelude.{ℕ, List, [], ◌∷◌, ◌≡◌, None, cond, nat_lt, slice_index_or};
 ghost use Rattle.figures.specs.FigureSums.{
   alarm_tick,
   holder_tick,
@@ -16,7 +16,13 @@ ghost use Rattle.figures.specs.FigureSums.{
 ghost use Rattle.figures.specs.declared.reached.Reached.{Reached};
 ghost use Rattle.observations.specs.declared.observation.Observation.{Observation};
 ghost use Rattle.bounds.specs.Figures.{one_if};
-ghost use Rattle.witnesses.specs.Watched.{AreWatched, bare_task_tick, shown_of, ticks_of};
+ghost use Rattle.witnesses.specs.Watched.{
+  AreWatched,
+  bare_task_tick,
+  number_or_none,
+  shown_of,
+  ticks_of,
+};
 
 use crate::blocked::BlockedTicks;
 use bound_labels::blocked_tick;
@@ -112,7 +118,18 @@ fn is_routine(executor: &Option<Owner>, number: usize) -> bool
     }
 }
 
-/// A task in a tick, without whether a lower task executes, and without blockers.
+/// The number of blockers that a tick tells of a task, where one is told and it executes.
+fn blockers_told(seen: &Observation, number: usize) -> Option<u32>
+    ensures { result ≡ cond (is_task seen.now.executor number) seen.now.blockers None }
+{
+    if is_task(&seen.executor, number) {
+        seen.blockers
+    } else {
+        None
+    }
+}
+
+/// A task in a tick, without whether a lower task executes.
 fn task_tick(seen: &Observation, number: usize) -> TaskTick
     ensures { result ≡ bare_task_tick seen.now number }
 {
@@ -121,7 +138,7 @@ fn task_tick(seen: &Observation, number: usize) -> TaskTick
         seen: task_seen(seen.tasks.as_slice(), number),
         lower_executes: false,
         has_failed: is_task(&seen.executor, number) && is_error(&seen.answered),
-        blockers: None,
+        blockers: blockers_told(seen, number),
     }
 }
 
@@ -164,8 +181,7 @@ fn alarm_tick(seen: &Observation, number: usize) -> AlarmTick
 /// Figures of the task, the routine, the resource and the alarm of one number, as far as such a
 /// thing was seen, the last tick, the most jobs of the task at once, for how long its oldest job was
 /// blocked, the service that the last tick answers other than E_OK, if one, and whether a ShutdownOS
-/// has ended the run. The figures of the task count neither
-/// blockers nor ticks in which a lower task executes.
+/// has ended the run. The figures of the task don't count ticks in which a lower task executes.
 #[derive(Drop)]
 pub(crate) struct Watched {
     pub(crate) task: TaskFigures,
@@ -185,6 +201,16 @@ fn ticks_of(reached: Option<Reached>) -> u32
 {
     match reached {
         Some(reached) => reached.ticks,
+        None => 0,
+    }
+}
+
+/// The number of a count, 0 where there is none.
+fn number_or_none(count: Option<u32>) -> u32
+    ensures { result ≡ number_or_none count }
+{
+    match count {
+        Some(number) => number,
         None => 0,
     }
 }
@@ -230,14 +256,15 @@ impl Watched {
         self.failure = seen.failure;
     }
 
-    /// What is shown of a figure: ticks of a time, a number of jobs, and of what comes or not 1 where
-    /// it has come.
+    /// What is shown of a figure: ticks of a time; a number of jobs or of blockers; of what comes
+    /// or not 1 where it has come.
     pub(crate) fn shown(&self, figure: Figure) -> u32
         ensures { result ≡ shown_of self.now figure }
     {
         match figure {
             Figure::Response(_) => ticks_of(self.task.worst(self.last)),
             Figure::Blocked(_) => self.blocked.most(),
+            Figure::Blockers(_) => number_or_none(self.task.counts.blockers),
             Figure::Jobs(_) => self.jobs,
             Figure::Refusal(_) => coming(self.task.counts.refused),
             Figure::Latency(_) => ticks_of(self.routine.worst(self.last)),

@@ -52,7 +52,7 @@ pub(crate) fn kept_apart(
 }
 
 /// Arrivals and a number of ticks, where they keep distances and their run shows so much of a
-/// figure.
+/// figure: so many ticks, or some more where that is told later.
 fn tried(
     alloc: Global,
     system: &System,
@@ -69,19 +69,20 @@ fn tried(
     let Some((arrivals, copy)) = kept_apart(alloc, system, distances, arrivals)? else {
         return Ok(None);
     };
-    match shown_in_run(alloc, system, mode, copy, ticks, figure)? {
-        Some(shown) if shown == value => Ok(Some(Witness { arrivals, ticks })),
+    match shown_in_run(alloc, system, mode, copy, ticks, figure, value)? {
+        Some((ticks, shown)) if shown == value => Ok(Some(Witness { arrivals, ticks })),
         _ => Ok(None),
     }
 }
 
 /// A run that shows what is told of a figure: exactly so many ticks, those of the cap where it is
-/// told no higher, exactly so many jobs, or that something is lost, refused or answered other than E_OK, where that has
-/// come, and that nothing is, where it hasn't. Its interrupts keep the distances, in ticks by
-/// routine, 1 where none is given.
+/// told no higher, exactly so many jobs or blockers, or that something is lost, refused or answered
+/// other than E_OK, where that has come, and that nothing is, where it hasn't. Its interrupts keep
+/// the distances, in ticks by routine, 1 where none is given.
 ///
-/// What a search has come by is tried by running it, so it may be that none is found. An error is
-/// want of memory.
+/// What a search has come by is tried by running it, so it may be that none is found. For blockers
+/// it has come to a tick in which a job is blocked, and they are told when the job executes again:
+/// so that run goes on without interrupts, for 4,096 ticks at most. An error is want of memory.
 pub fn find_witness(
     alloc: Global,
     system: &System,

@@ -1,12 +1,14 @@
-use Rattle.std.proofs.Common.{map}
+use Rattle.std.proofs.Common.{◌≡◌, map}
 use Rattle.osek_base.specs.Lists.{below}
 use Rattle.observations.specs.Seen.{seen_of}
+use Rattle.bound_labels.specs.AgeLists.{begin_of, lists_of}
 use Rattle.bound_labels.specs.Parts.{ages_behind}
 use Rattle.bound_labels.proofs.ListLemmas.{AreMade}
 use Rattle.bound_labels.proofs.age_lists.put_next.Given as goal
 
--- those gone over
+-- those gone over, and where the next begin
 abbrev pub invariant-loop-task : goal.invariant-loop-task
 invariant-loop-task l =
     AreMade l.ages.items l.ends.items
-    (map (ages_behind l.cap (seen_of l.seen) l.lists) (below l.task))
+    (map (ages_behind l.cap (seen_of l.seen) (lists_of l.old_ages l.old_ends)) (below l.task))
+    × (l.begin ≡ begin_of l.old_ends l.task)

@@ -1,7 +1,7 @@
 use Rattle.std.proofs.Common.{◌≡◌, false}
 use Rattle.observations.specs.Seen.{seen_of}
 use Rattle.bound_labels.specs.Ticks.{alarm_in}
-use Rattle.bound_peaks.proofs.PeakLemmas.{AreMarked}
+use Rattle.bound_peaks.specs.Noting.{AreMarked}
 use Rattle.bound_peaks.proofs.peaks.note_actions.Given as goal
 
 abbrev pub invariant-loop-alarm : goal.invariant-loop-alarm

@@ -1,6 +1,6 @@
 use Rattle.observations.specs.Seen.{seen_of}
 use Rattle.bound_labels.specs.Parts.{shown_hold}
-use Rattle.bound_peaks.proofs.PeakLemmas.{AreRaised}
+use Rattle.bound_peaks.specs.Noting.{AreRaised}
 use Rattle.bound_peaks.proofs.peaks.note_holds.Given as goal
 
 -- those gone over are noted

@@ -1,13 +1,35 @@
-use Rattle.std.proofs.Common.{ℕ, Bool, sym, ◌∙◌, ap₂, arith}
+use Rattle.std.proofs.Common.{sym, ◌∙◌, ap, ap₂, arith}
+use Rattle.osek_base.specs.declared.limits.TheConstants.{REGISTERS}
 use Rattle.osek_base.specs.Instruction.{value}
-use Rattle.state_keys.specs.Bytes.{needed}
-use Rattle.state_bytes.proofs.Steps.{written_as}
+use Rattle.needs.specs.Table.{need_of}
+use Rattle.state_keys.specs.Bytes.{needed, number}
+use Rattle.state_bytes.proofs.SetLemmas.{written_below, written_next}
 use Rattle.state_bytes.proofs.executing.push_registers.Goals as goal
 
 pub loop-number-preserved : goal.loop-number-preserved
 loop-number-preserved c =
-    written_as _ c.loop-number.out.items _ _ _ c.loop-number.number _ c.in_ok-push_register.ensures
-    (ap₂ (λ (b : Bool) (r : ℕ). needed b (value c.args.cpu.now r))
-    (c.has-is_needed.ensures ∙ sym (c.needed_registers-registers.ensures c.loop-number.number))
-    c.new.ensures)
-    c.loop-number.invariant (omega arith)
+    let values = value c.args.cpu.now in
+    let need = (need_of c.args.needs.now).registers c.args.owner.now in
+    let n = c.in-Some.number in (
+      omega (arith, c.in-Some.ensures.1),
+      written_next _ c.needed_registers-registers.result c.loop-number.from
+          (λ r. needed (need r) (values r))
+          (λ r low none.
+          ap (λ b. needed b (values r)) (c.needed_registers-registers.ensures r ∙ none))
+          c.loop-number.out.items _ _ n _ c.in-Some.ensures.0 c.in_ok-push_number.ensures
+          (ap number (c.value.ensures ∙ ap values c.new.ensures)
+          ∙ sym (ap (λ b. needed b (values n))
+          (c.needed_registers-registers.ensures n ∙ c.in-Some.ensures.0.inside)))
+          c.loop-number.invariant.1 (omega arith),
+    )
+
+pub returns : goal.returns
+returns c =
+    let values = value c.args.cpu.now in
+    let need = (need_of c.args.needs.now).registers c.args.owner.now in
+    written_below _ c.needed_registers-registers.result c.loop-number.from
+    (λ r. needed (need r) (values r))
+    (λ r low none.
+    ap (λ b. needed b (values r)) (c.needed_registers-registers.ensures r ∙ none))
+    c.loop-number.out.items REGISTERS (omega arith) c.loop-number.invariant.0
+    c.in_default.ensures c.loop-number.invariant.1

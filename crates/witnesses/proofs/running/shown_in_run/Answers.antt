@@ -1,10 +1,11 @@
+use Rattle.std.proofs.Common.{arith}
 use Rattle.witnesses.proofs.Watching.{begun_shows}
 use Rattle.witnesses.proofs.running.shown_in_run.Goals as goal
 
 pub returns : goal.returns
 returns c =
-    begun_shows c.args.system.now c.args.mode c.args.arrivals c.args.ticks c.args.figure
-    c.in_ok-run.field-0 c.in-Some.run' c.number_of.result c.in-Some-watch.watched c.shown.result
-    c.task_count-proper.ensures.proper c.ranges.ticks.fits
-    (c.is_of.ensures c.if-not-is_of.false) c.in_ok-run.ensures c.in-Some.is c.number_of.ensures
-    c.in-Some-watch.ensures c.shown.ensures
+    begun_shows c.args.system.now c.args.mode c.args.arrivals c.in-Some-watch_until.done
+    c.args.figure c.in_ok-run.field-0 c.in-Some.run' c.in-Some-watch_until.watched c.shown.result
+    c.task_count-proper.ensures.proper (omega (arith, c.if-prove.false))
+    (c.is_of.ensures c.if-not-is_of.false) c.in_ok-run.ensures c.in-Some.is
+    c.in-Some-watch_until.ensures c.shown.ensures

@@ -13,5 +13,7 @@ returns-clause-may g c =
     (acts_watched counted c.args.alarm task.result c.args.tick old c.alarm_acts-status.new.self c.look-before.result c.look.result c.looked_at.new.self
     c.args.records.now c.alarm_acts-status.new.records c.alarm_acts-status.ensures.does task.ensures.value c.look-before.ensures.value c.look.ensures.value
     c.looked_at.ensures.stamps c.looked_at.ensures.told)
-    (subst (λ n. n < length c.self.inside.blocking.stamps) task.ensures.value (subst (λ n. task.result < n) (sym c.self.invariant) task.ensures.known))
+    (λ on.
+    subst (λ n. n < length c.self.inside.blocking.stamps) task.ensures.value
+    (subst (λ n. task.result < n) (sym (c.self.invariant on)) task.ensures.known))
     (subst (λ w. MayAct counted w) (sym c.self.view_is) c.requires.may)

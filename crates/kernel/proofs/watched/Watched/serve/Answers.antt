@@ -13,9 +13,9 @@ use Rattle.kernel.proofs.WatchLemmas.{watched_of}
 use Rattle.kernel.proofs.watched.Watched.serve.Goals as goal
 
 pub executed_since-requires-clause-task : goal.executed_since-requires-clause-task
-executed_since-requires-clause-task g c =
+executed_since-requires-clause-task g c = λ on.
     let k = c.self.inside in
-    subst (λ n. IfSome c.stand-before.result.named (λ b. b.task < n)) (sym c.self.invariant)
+    subst (λ n. IfSome c.stand-before.result.named (λ b. b.task < n)) (sym (c.self.invariant on))
     (subst (λ (v : Stand). IfSome v.named (λ b. b.task < length (system_of k.processor).tasks)) (sym c.stand-before.ensures.value)
     (known_stand (picture k.processor) (length (system_of k.processor).tasks) c.acted_on_by-named.result c.acted_on_by-named.ensures.known))
 
