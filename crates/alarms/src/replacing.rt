@@ -9,6 +9,9 @@ pub fn replace<T: Copy + Default + Drop, const N: usize>(items: &mut ArrayVec<T,
     requires { length others.now ≤ N }
     ensures { items.new.items ≡ others.now }
 {
+    if items.is_empty() && others.is_empty() {
+        return;
+    }
     items.clear();
     match items.try_extend_from_slice(others) {
         Ok(()) => {}

@@ -76,6 +76,38 @@ no_jobs jobs cap leaving before [] none short =
     none_left false = refl
 no_jobs jobs cap leaving before (n ∷ old) none short = absurd (omega (arith, short))
 
+nonzero : (n : ℕ) → (n ≡ 0 → ⊥) → 0 < n
+nonzero zero some = absurd (some refl)
+nonzero (suc n) some = omega arith
+
+-- no job was followed before or is now, or one alone, which stays
+pub none_stays : (cap jobs count : ℕ) (before old : List ℕ)
+    → count ≡ max jobs (length old) → count ≡ 0
+    → before ≡ before ++ map (min cap) (ages_of_jobs jobs false old)
+none_stays cap jobs count before old is none =
+    no_jobs jobs cap false before old (omega (arith, is, none)) (omega (arith, is, none))
+
+pub one_stays : (cap jobs count age : ℕ) (before old : List ℕ)
+    → count ≡ max jobs (length old) → (count ≡ 0 → ⊥) → max jobs (length old) ≤ 1
+    → age ≡ min cap (suc (get_or old 0 0))
+    → before ++ age ∷ [] ≡ before ++ map (min cap) (ages_of_jobs jobs false old)
+one_stays cap jobs count age before [] is some few e =
+    let here : 0 < count = nonzero count some in
+    let one : jobs ≡ 1 = omega (arith, is, here, few) in
+    ap (λ n. before ++ n ∷ []) e
+    ∙ ap (λ n. before ++ map (min cap) (ages_of_jobs n false [])) (sym one)
+one_stays cap jobs count age before (x ∷ []) is some few e =
+    let none : 0 ≡ jobs - 1 = omega (arith, few) in
+    ap (λ n. before ++ n ∷ []) e
+    ∙ ap (λ n. before ++ map (min cap) (suc x ∷ replicate n 1)) none
+one_stays cap jobs count age before (x ∷ y ∷ old) is some few e = absurd (omega (arith, few))
+
+pub all_stay : (cap jobs : ℕ) (leaves : Bool) (before after old : List ℕ) → leaves ≡ false
+    → after ≡ before ++ map (min cap) (ages_of_jobs jobs false old)
+    → after ≡ before ++ map (min cap) (ages_of_jobs jobs leaves old)
+all_stay cap jobs leaves before after old stay is =
+    is ∙ ap (λ b. before ++ map (min cap) (ages_of_jobs jobs b old)) (sym stay)
+
 -- ---- merged one by one
 
 pub merged_none : (xs : List ℕ) → merged_ages xs [] ≡ xs

@@ -1,5 +1,7 @@
 pub mod AgeLemmas
 pub mod BlockedLemmas
+pub mod FilledLemmas
+pub mod IdleLemmas
 pub mod ListLemmas
 pub mod LabelLemmas
 pub mod LevelLemmas

@@ -1,9 +1,9 @@
 -- Lists of ages in one list.
-use Rattle.std.proofs.Common.{ℕ, zero, suc, ◌≡◌, ◌<◌, ◌≤◌, ◌+◌, ◌-◌, max, List, [], ◌∷◌, ◌++◌, drop, length, get_or, map, replicate, take, refl, sym, ◌∙◌, ap, ap₂, subst, arith, inl, inr}
+use Rattle.std.proofs.Common.{ℕ, zero, suc, ◌≡◌, ◌<◌, ◌≤◌, ◌+◌, ◌-◌, max, List, [], ◌∷◌, ◌++◌, drop, length, get_or, map, replicate, set, take, refl, sym, ◌∙◌, ap, ap₂, subst, arith, inl, inr}
 use Rattle.std.proofs.Math.Seq.{drop-append_seam, get_or-append_seam}
 use Rattle.std.proofs.Math.ListN.{get_or-append}
 use Rattle.std.proofs.lemmas.Bool.{cases_lt}
-use Rattle.std.proofs.lemmas.List.{drop-append-le, length-append, length-drop, get_or-map, get_or_past, take-append-le, take_all}
+use Rattle.std.proofs.lemmas.List.{drop-append-le, length-append, length-drop, get_or-map, get_or_past, take-append-le, take_all, take_more_set}
 use Rattle.std.specs.Prelude.{slice_range}
 use Rattle.figure_laws.specs.Merging.{merged_ages}
 use Rattle.osek_base.specs.Lists.{below}
@@ -146,6 +146,21 @@ one_list_more ages ends more new lists all n made is end next =
     } in
     subst (λ v. AreMade v (ends ++ n ∷ []) all) (sym is)
     (subst (λ v. AreMade (ages ++ more) (ends ++ v ∷ []) all) (sym many) here)
+
+-- and where the ends have their places already
+pub one_list_set : (ages ends more new : List ℕ) (lists all : List (List ℕ)) (k n : ℕ)
+    → AreMade ages (take k ends) lists → new ≡ ages ++ more → n ≡ length new
+    → lists ++ more ∷ [] ≡ all → k < length ends
+    → AreMade new (take (k + 1) (set ends k n)) all
+one_list_set ages ends more new lists all k n made is end next low =
+    subst (λ v. AreMade new v all) (sym (take_more_set ends k n low))
+    (one_list_more ages (take k ends) more new lists all n made is end next)
+
+-- all have been made
+pub all_made : (ages ends : List ℕ) (lists : List (List ℕ)) (k : ℕ)
+    → AreMade ages (take k ends) lists → length ends ≤ k → AreMade ages ends lists
+all_made ages ends lists k made long =
+    subst (λ v. AreMade ages v lists) (take_all k ends long) made
 
 -- ---- merged, where all end at the same places
 

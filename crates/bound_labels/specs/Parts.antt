@@ -1,17 +1,18 @@
 -- What labels tell, list by list, and what they show in a tick.
-use Rattle.std.specs.Prelude.{ℕ, suc, Bool, cond, if◌then◌else◌, ◌-◌, ◌++◌, min, List, [], map, length, replicate, Option, None, slice_index_or}
+use Rattle.std.specs.Prelude.{ℕ, suc, ◌≡◌, ◌+◌, ◌&&◌, ◌||◌, Bool, false, cond, if◌then◌else◌, ◌-◌, ◌++◌, min, List, [], map, length, replicate, Option, None, slice_index_or}
 use Rattle.std.specs.Option.{option_map}
 use Rattle.osek_base.specs.Lists.{below}
 use Rattle.figures.specs.ResponseSums.{later}
 use Rattle.figure_laws.specs.Ages.{ages_next, oldest_age}
-use Rattle.figure_laws.specs.Blocking.{blocked_in, blocked_next}
+use Rattle.figure_laws.specs.Blocking.{blocked_in, blocked_next, stands_ready}
 use Rattle.figure_laws.specs.Holding.{Hold, held_ticks, hold_next}
 use Rattle.figure_laws.specs.Merging.{merged_ages}
 use Rattle.figure_laws.specs.Pending.{pending_next}
 use Rattle.figure_laws.specs.Times.{waited}
+use Rattle.observations.specs.declared.task_seen.TaskSeen.{TaskSeen}
 use Rattle.observations.specs.Seen.{Seen}
 use Rattle.bound_labels.specs.Labels.{Labels, ages_of, arrives_in, blocked_of, capped_hold, distance_of, hold_of, no_hold, pending_of}
-use Rattle.bound_labels.specs.Ticks.{blocked_tick, holder_tick, routine_tick, task_tick}
+use Rattle.bound_labels.specs.Ticks.{blocked_tick, holder_tick, is_above, routine_tick, task_tick}
 
 abbrev pub wait_at : List ℕ → ℕ → ℕ
 wait_at waits i = slice_index_or waits i 0
@@ -55,6 +56,12 @@ abbrev pub blocked_behind : (ℕ → Bool) → ℕ → Seen → List ℕ → ℕ
 blocked_behind lower cap seen blocked k =
     min cap (blocked_next (blocked_tick lower seen k) (blocked_at blocked k))
 
+-- by the static priorities of the task that executes and of the task itself
+abbrev pub blocked_after : ℕ → Option ℕ → ℕ → TaskSeen → ℕ → ℕ
+blocked_after cap executing level seen n =
+    min cap (cond (seen.ended || seen.waits) 0
+    (n + cond (stands_ready seen.state && is_above executing level) 1 0))
+
 abbrev pub merged_lists : List (List ℕ) → List (List ℕ) → ℕ → List ℕ
 merged_lists others ages k = merged_ages (ages_at ages k) (ages_at others k)
 
@@ -76,3 +83,10 @@ shown_hold cap seen l r = option_map (min cap) (held_ticks (holder_tick seen r) 
 abbrev pub shown_blocked : (ℕ → Bool) → ℕ → Seen → Labels → ℕ → ℕ
 shown_blocked lower cap seen l k =
     min cap (blocked_in (blocked_tick lower seen k) (blocked_of l k))
+
+-- a task has no job, had none before, and nothing of it is shown
+pub record IsIdle (seen : TaskSeen) (l : Labels) (k : ℕ) : Type 0 where
+  pub jobs : seen.jobs ≡ 0
+  pub ready : stands_ready seen.state ≡ false
+  pub ages : ages_of l k ≡ []
+  pub blocked : blocked_of l k ≡ 0

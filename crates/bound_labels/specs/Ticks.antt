@@ -1,5 +1,7 @@
 -- What is seen of things in a tick, one by one, and as ticks of figures.
-use Rattle.std.specs.Prelude.{ℕ, ◌&&◌, Bool, false, None, slice_index_or}
+use Rattle.std.specs.Prelude.{ℕ, ◌&&◌, Bool, false, cond, List, length, nat_lt, Option, None, Some, slice_index_or}
+use Rattle.osek_base.specs.declared.ids.Owner.{Owner}
+use Rattle.osek_base.specs.declared.ids.Owner.TheVariants.{Routine, Task}
 use Rattle.osek_base.specs.declared.status.TaskState.{TaskState}
 use Rattle.observations.specs.declared.alarm_seen.AlarmSeen.{AlarmSeen}
 use Rattle.observations.specs.declared.routine_seen.RoutineSeen.{RoutineSeen}
@@ -53,6 +55,18 @@ task_tick seen k =
 -- and where it is known below which tasks the one is that executes, if one does
 abbrev pub blocked_tick : (ℕ → Bool) → Seen → ℕ → TaskTick
 blocked_tick lower seen k = record (task_tick seen k) { lower_executes = lower k }
+
+-- the static priority of the task that executes, if one does
+abbrev pub executing_level : List ℕ → Option Owner → Option ℕ
+executing_level levels None = None
+executing_level levels (Some (Task t)) =
+    cond (nat_lt t (length levels)) (Some (slice_index_or levels t 0)) None
+executing_level levels (Some (Routine i)) = None
+
+-- a static priority is higher than that
+abbrev pub is_above : Option ℕ → ℕ → Bool
+is_above None level = false
+is_above (Some lower) level = nat_lt lower level
 
 -- where that is asked of a task that is READY alone: another one isn't blocked
 abbrev pub ready_tick : (ℕ → Bool) → Seen → ℕ → TaskTick

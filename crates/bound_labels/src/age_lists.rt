@@ -9,6 +9,7 @@ ghost use Rattle.bound_labels.specs.AgeLists.{AreLists, begin_of, lists_of};
 ghost use Rattle.bound_labels.specs.Parts.{ages_at, ages_behind, each_of, merged_lists};
 
 use crate::ages::{is_older, join_one, oldest_age, push_merged, push_next};
+use crate::places::give_places;
 use crate::ticks::task_tick;
 use figures::TaskTick;
 use observations::Observation;
@@ -129,14 +130,14 @@ fn put_next(
     ensures same { OnOk result (lists_of ages.new.items ends.new.items
         ≡ each_of (ages_behind cap (seen_of seen.now)) (lists_of old_ages.now old_ends.now)) }
 {
+    give_places(ends, old_ends)?;
     ages.clear();
-    ends.clear();
     let mut begin = 0;
     for task in 0..old_ends.len() {
         let end = old_ends[task];
         let old = part_of(old_ages, begin, end);
         push_next(ages, cap, &task_tick(seen, task), old)?;
-        ends.push(ages.len())?;
+        ends[task] = ages.len();
         begin = end;
     }
     Ok(())
@@ -238,6 +239,15 @@ impl AgeLists {
         ensures { result.now ≡ ages_at self.now task }
     {
         ages_of(&self.ages, &self.ends, task)
+    }
+
+    /// Whether a task has no age; at true it has none.
+    #[tactic(auto, using(std::proofs::lemmas::List::nil_from_length))]
+    #[inline(always)]
+    pub(crate) fn is_without(&self, task: usize) -> bool
+        ensures { IsTrue result → ages_at self.now task ≡ [] }
+    {
+        self.of(task).is_empty()
     }
 
     /// The age of a task's oldest job in a tick, up to a cap.

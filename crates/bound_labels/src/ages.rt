@@ -1,6 +1,6 @@
 //! OSEK/VDX OS: task management. Ages of a task's jobs, oldest first.
 
-ghost use Rattle.std.specs.Prelude.{ℕ, ◌≡◌, ◌≤◌, ◌++◌, suc, IsTrue, OnOk, cond, length, map, min, replicate};
+ghost use Rattle.std.specs.Prelude.{ℕ, ◌≡◌, ◌≤◌, ◌++◌, false, suc, IsTrue, OnOk, cond, length, map, max, min, replicate, slice_index_or};
 ghost use Rattle.std.specs.Option.{option_map};
 ghost use Rattle.figures.specs.ResponseSums.{later};
 ghost use Rattle.figure_laws.specs.Ages.{AreOlder, ages_next, followed, oldest_age};
@@ -64,10 +64,38 @@ fn staying(old: &[u32], leaves: bool) -> &[u32]
     }
 }
 
+/// The age of the oldest job; 0 where none has one.
+#[inline(always)]
+fn first_age(old: &[u32]) -> u32
+    ensures { result ≡ slice_index_or old.now 0 0 }
+{
+    match old.first() {
+        Some(age) => *age,
+        None => 0,
+    }
+}
+
+/// Adds the ages of a task behind a tick, up to a cap, of which no more than one job had an age or
+/// is followed, and stays.
+#[tactic(auto, using(crate::proofs::AgeLemmas::none_stays, crate::proofs::AgeLemmas::one_stays))]
+#[inline(always)]
+fn push_one(ages: &mut Vec<u32>, cap: u32, jobs: usize, old: &[u32]) -> Result<(), AllocError>
+    requires { max jobs (length old.now) ≤ 1 }
+    ensures { OnOk result
+        (ages.new.items ≡ ages.old.items ++ map (min cap) (ages_of_jobs jobs false old.now)) }
+{
+    if jobs.max(old.len()) == 0 {
+        return Ok(());
+    }
+    ages.push(older(first_age(old), cap))?;
+    Ok(())
+}
+
 /// Adds the ages of a task behind a tick, up to a cap, by how many of its jobs are followed in the
 /// tick and whether the oldest leaves then.
 #[tactic(auto, using(crate::proofs::AgeLemmas::jobs_left))]
-fn push_jobs(
+#[inline(never)]
+fn push_left(
     ages: &mut Vec<u32>,
     cap: u32,
     jobs: usize,
@@ -82,8 +110,38 @@ fn push_jobs(
     push_ages(ages, cap, old, left.saturating_sub(old.len()))
 }
 
-/// Adds the ages of a task behind a tick, up to a cap: none where it had none and no job of it
-/// stands.
+/// The same, with a short way for a task that has one job, which stays.
+#[tactic(auto, using(crate::proofs::AgeLemmas::all_stay))]
+#[inline(always)]
+fn push_jobs(
+    ages: &mut Vec<u32>,
+    cap: u32,
+    jobs: usize,
+    leaves: bool,
+    old: &[u32],
+) -> Result<(), AllocError>
+    ensures { OnOk result
+        (ages.new.items ≡ ages.old.items ++ map (min cap) (ages_of_jobs jobs leaves old.now)) }
+{
+    if leaves {
+        return push_left(ages, cap, jobs, true, old);
+    }
+    if jobs.max(old.len()) > 1 {
+        return push_left(ages, cap, jobs, false, old);
+    }
+    push_one(ages, cap, jobs, old)
+}
+
+/// Whether a task has no job in a tick; at true none is followed.
+#[inline(always)]
+fn has_none(tick: &TaskTick) -> bool
+    ensures { IsTrue result → followed tick.now ≡ 0 }
+{
+    tick.seen.jobs == 0
+}
+
+/// Adds the ages of a task behind a tick, up to a cap: none where it had none and has no job.
+#[tactic(auto, using(crate::proofs::AgeLemmas::no_jobs))]
 #[inline(always)]
 pub(crate) fn push_next(
     ages: &mut Vec<u32>,
@@ -94,11 +152,10 @@ pub(crate) fn push_next(
     ensures { OnOk result
         (ages.new.items ≡ ages.old.items ++ map (min cap) (ages_next tick.now old.now)) }
 {
-    let jobs = followed(tick);
-    if jobs == 0 && old.is_empty() {
+    if has_none(tick) && old.is_empty() {
         return Ok(());
     }
-    push_jobs(ages, cap, jobs, tick.leaves(), old)
+    push_jobs(ages, cap, followed(tick), tick.leaves(), old)
 }
 
 /// The age of the oldest job in a tick, up to a cap.

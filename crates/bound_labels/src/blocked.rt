@@ -2,14 +2,16 @@
 
 ghost use Rattle.std.specs.Prelude.{ℕ, ◌≡◌, ◌<◌, ◌≤◌, IfOk, IsTrue, OnOk, length, map, max, min, replicate, slice_index_or};
 ghost use Rattle.figures.specs.FigureSums.{levels_of, lower_executes};
-ghost use Rattle.figure_laws.specs.Blocking.{blocked_in, blocked_next, is_blocked_in};
+ghost use Rattle.figure_laws.specs.Blocking.{blocked_in, is_blocked_in};
 ghost use Rattle.observations.specs.Seen.{seen_of};
-ghost use Rattle.bound_labels.specs.Parts.{blocked_at, blocked_behind, each_of};
+ghost use Rattle.bound_labels.specs.Parts.{blocked_after, blocked_at, blocked_behind, each_of};
+ghost use Rattle.bound_labels.specs.Ticks.{executing_level};
 
 use crate::counting::older;
-use crate::ticks::{is_ready, ready_tick};
+use crate::places::give_places;
+use crate::ticks::{executing_level, is_above, is_ready, task_in};
 use figures::TaskTick;
-use observations::Observation;
+use observations::{Observation, TaskSeen};
 use osek_base::System;
 use std::alloc::{AllocError, Global};
 
@@ -40,7 +42,7 @@ pub(crate) fn blocked_of(blocked: &[u32], task: usize) -> u32
 fn is_blocked(tick: &TaskTick) -> bool
     ensures { result ≡ is_blocked_in tick.now }
 {
-    is_ready(tick) && tick.lower_executes
+    is_ready(&tick.seen) && tick.lower_executes
 }
 
 /// For how many ticks a job has been blocked, up to a cap, the present one counted.
@@ -56,32 +58,57 @@ pub(crate) fn blocked_in(cap: u32, tick: &TaskTick, ticks: u32) -> u32
 }
 
 /// For how many ticks the oldest job has been blocked behind a tick, up to a cap; 0 where the job
-/// before it ended there or began to wait.
+/// before it ended there or began to wait. The static priority of the task that executes is known.
 #[inline(always)]
-fn next_ticks(cap: u32, tick: &TaskTick, ticks: u32) -> u32
-    ensures { result ≡ min cap (blocked_next tick.now ticks) }
+fn next_ticks(
+    system: &System,
+    cap: u32,
+    executing: Option<u8>,
+    seen: &TaskSeen,
+    ticks: u32,
+    task: usize,
+) -> u32
+    ensures { result ≡ blocked_after cap executing
+        (slice_index_or (levels_of system.now) task 0) seen.now ticks }
 {
-    if tick.leaves() {
+    if seen.ended || seen.waits {
         0
+    } else if is_ready(seen) && is_above(system, executing, task) {
+        older(ticks, cap)
     } else {
-        blocked_in(cap, tick, ticks)
+        cap.min(ticks)
     }
 }
 
 /// The same of a task by its number, where it is known for how many ticks those of all have been.
-#[tactic(auto, using(crate::proofs::BlockedLemmas::ready_next))]
+#[tactic(auto, using(crate::proofs::BlockedLemmas::behind))]
 #[inline(always)]
-fn ticks_behind(system: &System, cap: u32, seen: &Observation, blocked: &[u32], task: usize) -> u32
+fn ticks_behind(
+    system: &System,
+    cap: u32,
+    executing: Option<u8>,
+    seen: &Observation,
+    blocked: &[u32],
+    task: usize,
+) -> u32
+    requires { executing ≡ executing_level (levels_of system.now) seen.now.executor }
     ensures { result ≡ blocked_behind
         (lower_executes (levels_of system.now) seen.now.executor) cap (seen_of seen.now)
         blocked.now task }
 {
-    let tick = ready_tick(system, seen, task);
-    next_ticks(cap, &tick, blocked_of(blocked, task))
+    let one = task_in(seen.tasks.as_slice(), task);
+    next_ticks(
+        system,
+        cap,
+        executing,
+        &one,
+        blocked_of(blocked, task),
+        task,
+    )
 }
 
 /// Puts the ticks behind a tick in place of others.
-#[tactic(auto, using(crate::proofs::MapLemmas::one_more))]
+#[tactic(auto, using(crate::proofs::FilledLemmas::one_more, crate::proofs::FilledLemmas::all_of))]
 pub(crate) fn put_next_blocked(
     next: &mut Vec<u32>,
     system: &System,
@@ -93,9 +120,10 @@ pub(crate) fn put_next_blocked(
         (lower_executes (levels_of system.now) seen.now.executor) cap (seen_of seen.now))
         blocked.now) }
 {
-    next.clear();
+    give_places(next, blocked)?;
+    let executing = executing_level(system, &seen.executor);
     for task in 0..blocked.len() {
-        next.push(ticks_behind(system, cap, seen, blocked, task))?;
+        next[task] = ticks_behind(system, cap, executing, seen, blocked, task);
     }
     Ok(())
 }

@@ -9,6 +9,7 @@ ghost use Rattle.bound_labels.specs.Labels.{capped_hold, no_hold};
 ghost use Rattle.bound_labels.specs.Joining.{AreJoinable, joined_hold, has_held};
 
 use crate::counting::older;
+use crate::places::give_places;
 use crate::ticks::holder_tick;
 use figures::HolderTick;
 use observations::{Holder, Observation};
@@ -186,7 +187,7 @@ pub(crate) fn hold_of(holds: &[Hold], resource: usize) -> Hold
 }
 
 /// Puts the holds behind a tick in place of others.
-#[tactic(auto, using(crate::proofs::MapLemmas::one_more))]
+#[tactic(auto, using(crate::proofs::FilledLemmas::one_more, crate::proofs::FilledLemmas::all_of))]
 pub(crate) fn put_next_holds(
     next: &mut Vec<Hold>,
     cap: u32,
@@ -196,10 +197,10 @@ pub(crate) fn put_next_holds(
     ensures { OnOk result (next.new.items ≡
         each_of (hold_behind cap (seen_of seen.now)) holds.now) }
 {
-    next.clear();
+    give_places(next, holds)?;
     for resource in 0..holds.len() {
         let hold = hold_of(holds, resource);
-        next.push(hold.next(cap, &holder_tick(seen, resource)))?;
+        next[resource] = hold.next(cap, &holder_tick(seen, resource));
     }
     Ok(())
 }

@@ -22,6 +22,7 @@ ghost use Rattle.bound_labels.specs.Labels.{
   wait_of,
 };
 ghost use Rattle.bound_labels.specs.Joining.{AreOfAsMany, Joins};
+ghost use Rattle.bound_labels.specs.Parts.{IsIdle};
 
 use crate::age_lists::{AgeLists, are_older as are_jobs_older};
 use crate::blocked::{
@@ -33,9 +34,10 @@ use crate::holds::{
 use crate::pending::{
     are_older, first_pending, is_older, join_pending, pending_of, put_next_pending, waited,
 };
+use crate::ticks::is_jobless;
 use crate::waits::{are_sooner, first_waits, join_waits, put_next_waits, wait_of};
 use figures::{HolderTick, RoutineTick, TaskTick};
-use observations::Observation;
+use observations::{Observation, TaskSeen};
 use osek_base::{System, TaskId};
 use std::alloc::{AllocError, Global};
 use std::marker::Model;
@@ -183,6 +185,15 @@ impl Labels {
         &self.blocked
     }
 
+    /// Whether a task has no job in a tick, had none before, and nothing of it is shown; at true it
+    /// is so.
+    #[inline(always)]
+    pub fn is_idle(&self, seen: &TaskSeen, task: usize) -> bool
+        ensures { IsTrue result → IsIdle seen.now self.now task }
+    {
+        is_jobless(seen) && self.ages.is_without(task) && blocked_of(&self.blocked, task) == 0
+    }
+
     /// The age of a task's oldest job in a tick, up to a cap.
     #[inline(always)]
     pub fn oldest_age(&self, cap: u32, tick: &TaskTick, task: usize) -> Option<u32>
@@ -308,6 +319,7 @@ impl Labels {
     }
 
     /// One more routine, and for how many ticks yet it can't arrive.
+    #[inline(always)]
     pub fn push_wait(&mut self, wait: u32) -> Result<(), AllocError>
         ensures { OnOk result
             (self.new ≡ record self.old { waits = self.old.waits ++ wait ∷ [] }) }
@@ -317,16 +329,19 @@ impl Labels {
     }
 
     /// The age of one more job of the task that comes next.
+    #[inline(always)]
     pub fn push_age(&mut self, age: u32) -> Result<(), AllocError> {
         self.ages.push_age(age)
     }
 
     /// One more task, whose jobs were told.
+    #[inline(always)]
     pub fn end_task(&mut self) -> Result<(), AllocError> {
         self.ages.end_task()
     }
 
     /// The age of one more routine's interrupt, if one is pending.
+    #[inline(always)]
     pub fn push_pending(&mut self, age: Option<u32>) -> Result<(), AllocError>
         ensures { OnOk result
             (self.new ≡ record self.old { pending = self.old.pending ++ age ∷ [] }) }
@@ -336,6 +351,7 @@ impl Labels {
     }
 
     /// One more resource, who holds it, and for how many ticks.
+    #[inline(always)]
     pub fn push_hold(&mut self, holder: Option<TaskId>, held: u32) -> Result<(), AllocError>
         ensures { OnOk result (self.new ≡ record self.old {
           holds = self.old.holds ++ record { holder = holder; held = held } ∷ [];
@@ -346,6 +362,7 @@ impl Labels {
     }
 
     /// One more task, and for how many ticks its oldest job has been blocked.
+    #[inline(always)]
     pub fn push_blocked(&mut self, ticks: u32) -> Result<(), AllocError>
         ensures { OnOk result
             (self.new ≡ record self.old { blocked = self.old.blocked ++ ticks ∷ [] }) }

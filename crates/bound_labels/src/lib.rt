@@ -8,6 +8,7 @@ mod counting;
 mod holds;
 mod labels;
 mod pending;
+mod places;
 mod ticks;
 mod waits;
 

@@ -9,6 +9,7 @@ ghost use Rattle.observations.specs.Seen.{seen_of};
 ghost use Rattle.bound_labels.specs.Parts.{each_of, pending_at, pending_behind};
 
 use crate::counting::older;
+use crate::places::give_places;
 use crate::ticks::routine_tick;
 use figures::RoutineTick;
 use observations::Observation;
@@ -72,7 +73,7 @@ pub(crate) fn pending_of(pending: &[Option<u32>], routine: usize) -> Option<u32>
 }
 
 /// Puts the ages behind a tick in place of others.
-#[tactic(auto, using(crate::proofs::MapLemmas::one_more))]
+#[tactic(auto, using(crate::proofs::FilledLemmas::one_more, crate::proofs::FilledLemmas::all_of))]
 pub(crate) fn put_next_pending(
     next: &mut Vec<Option<u32>>,
     cap: u32,
@@ -82,10 +83,10 @@ pub(crate) fn put_next_pending(
     ensures { OnOk result (next.new.items ≡
         each_of (pending_behind cap (seen_of seen.now)) pending.now) }
 {
-    next.clear();
+    give_places(next, pending)?;
     for routine in 0..pending.len() {
         let age = pending_of(pending, routine);
-        next.push(next_age(cap, &routine_tick(seen, routine), age))?;
+        next[routine] = next_age(cap, &routine_tick(seen, routine), age);
     }
     Ok(())
 }

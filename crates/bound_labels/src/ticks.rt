@@ -1,6 +1,6 @@
 //! What is seen of things in a tick, one by one, and as ticks of figures.
 
-ghost use Rattle.std.specs.Prelude.{◌≡◌, None, length, nat_lt, slice_index_or};
+ghost use Rattle.std.specs.Prelude.{◌≡◌, false, IsTrue, None, length, nat_lt, slice_index_or};
 ghost use Rattle.figures.specs.FigureSums.{levels_of, lower_executes};
 ghost use Rattle.figure_laws.specs.Blocking.{stands_ready};
 ghost use Rattle.observations.specs.Seen.{seen_of};
@@ -8,6 +8,8 @@ ghost use Rattle.bound_labels.specs.Ticks.{
   no_task,
   no_routine,
   blocked_tick,
+  executing_level,
+  is_above,
   ready_tick,
   task_tick,
   routine_tick,
@@ -18,8 +20,9 @@ use figures::{HolderTick, RoutineTick, TaskTick};
 use observations::{Holder, Observation, RoutineSeen, TaskSeen};
 use osek_base::{Owner, System, TaskId, TaskState};
 
+/// What is seen of a task in a tick; beyond the last task what is seen of one without a job.
 #[inline(always)]
-fn task_in(tasks: &[TaskSeen], number: usize) -> TaskSeen
+pub(crate) fn task_in(tasks: &[TaskSeen], number: usize) -> TaskSeen
     ensures { result ≡ slice_index_or tasks.now number no_task }
 {
     match tasks.get(number) {
@@ -36,8 +39,9 @@ fn task_in(tasks: &[TaskSeen], number: usize) -> TaskSeen
     }
 }
 
+/// What is seen of a routine in a tick; beyond the last routine that nothing comes to it.
 #[inline(always)]
-fn routine_in(routines: &[RoutineSeen], number: usize) -> RoutineSeen
+pub(crate) fn routine_in(routines: &[RoutineSeen], number: usize) -> RoutineSeen
     ensures { result ≡ slice_index_or routines.now number no_routine }
 {
     match routines.get(number) {
@@ -125,10 +129,47 @@ pub fn blocked_tick(system: &System, seen: &Observation, number: usize) -> TaskT
 
 /// Whether a task is READY in a tick.
 #[inline(always)]
-pub(crate) fn is_ready(tick: &TaskTick) -> bool
-    ensures { result ≡ stands_ready tick.now.seen.state }
+pub(crate) fn is_ready(seen: &TaskSeen) -> bool
+    ensures { result ≡ stands_ready seen.now.state }
 {
-    matches!(tick.seen.state, TaskState::Ready)
+    matches!(seen.state, TaskState::Ready)
+}
+
+/// Whether a task has no job in a tick; at true it has none, and isn't READY.
+#[inline(always)]
+pub(crate) fn is_jobless(seen: &TaskSeen) -> bool
+    ensures jobs { IsTrue result → seen.now.jobs ≡ 0 }
+    ensures ready { IsTrue result → stands_ready seen.now.state ≡ false }
+{
+    seen.jobs == 0 && matches!(seen.state, TaskState::Suspended)
+}
+
+/// The static priority of the task that executes in a tick, if one does.
+#[inline(always)]
+pub(crate) fn executing_level(system: &System, executor: &Option<Owner>) -> Option<u8>
+    ensures { result ≡ executing_level (levels_of system.now) executor.now }
+{
+    match executor {
+        Some(Owner::Task(task)) => {
+            let task = task.number() as usize;
+            if !has_task(system, task) {
+                return None;
+            }
+            Some(level_of(system, task))
+        }
+        _ => None,
+    }
+}
+
+/// Whether the static priority of a task is higher than that of the task that executes.
+#[inline(always)]
+pub(crate) fn is_above(system: &System, executing: Option<u8>, number: usize) -> bool
+    ensures { result ≡ is_above executing (slice_index_or (levels_of system.now) number 0) }
+{
+    match executing {
+        Some(level) => level < level_of(system, number),
+        None => false,
+    }
 }
 
 /// A task in a tick, by its number, and where it is READY, whether one of lower static priority
@@ -140,7 +181,7 @@ pub fn ready_tick(system: &System, seen: &Observation, number: usize) -> TaskTic
 {
     let tick = task_tick(seen, number);
     TaskTick {
-        lower_executes: is_ready(&tick) && lower_executes(system, &seen.executor, number),
+        lower_executes: is_ready(&tick.seen) && lower_executes(system, &seen.executor, number),
         ..tick
     }
 }

@@ -4,6 +4,7 @@ ghost use Rattle.std.specs.Prelude.{ℕ, ◌≡◌, ◌<◌, ◌≤◌, ◌-◌,
 ghost use Rattle.bound_labels.specs.Labels.{arrives_in, distance_of};
 ghost use Rattle.bound_labels.specs.Parts.{each_of, wait_at, wait_behind};
 
+use crate::places::give_places;
 use std::alloc::{AllocError, Global};
 
 /// No routine waits.
@@ -63,7 +64,7 @@ fn next_wait(waits: &[u32], distances: &[u32], set: u64, routine: usize) -> u32
 }
 
 /// Puts the waits behind a tick, in which the routines of a set arrive, in place of others.
-#[tactic(auto, using(crate::proofs::MapLemmas::one_more))]
+#[tactic(auto, using(crate::proofs::FilledLemmas::one_more, crate::proofs::FilledLemmas::all_of))]
 pub(crate) fn put_next_waits(
     next: &mut Vec<u32>,
     distances: &[u32],
@@ -73,9 +74,9 @@ pub(crate) fn put_next_waits(
     ensures { OnOk result
         (next.new.items ≡ each_of (wait_behind distances.now set) waits.now) }
 {
-    next.clear();
+    give_places(next, waits)?;
     for routine in 0..waits.len() {
-        next.push(next_wait(waits, distances, set, routine))?;
+        next[routine] = next_wait(waits, distances, set, routine);
     }
     Ok(())
 }

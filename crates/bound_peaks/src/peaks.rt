@@ -1,7 +1,8 @@
 //! The greatest times that ticks have shown.
 
-ghost use Rattle.std.specs.Prelude.{◌≡◌, false, IfOk, IsFalse, length};
-ghost use Rattle.osek_base.specs.declared.limits.TheConstants.{MAX_ALARMS};
+ghost use Rattle.std.specs.Prelude.{ℕ, ◌≡◌, ◌<◌, false, IfOk, IsFalse, length};
+ghost use Rattle.std.specs.Int.{bit_at};
+ghost use Rattle.osek_base.specs.declared.limits.TheConstants.{MAX_ALARMS, MAX_ROUTINES};
 ghost use Rattle.observations.specs.declared.observation.TheConstants.{MAX_HELD};
 ghost use Rattle.figures.specs.FigureSums.{levels_of};
 ghost use Rattle.observations.specs.Seen.{seen_of};
@@ -22,7 +23,7 @@ ghost use Rattle.bound_peaks.specs.Peaks.{
 
 use crate::failures::{note_failure, routine_fails, task_fails};
 use crate::raising::{has_come, mark, peak, raise};
-use crate::routine_peaks::{RoutinePeaks, note_routines};
+use crate::routine_peaks::{RoutinePeaks, note_lost, note_routines};
 use crate::task_peaks::{TaskPeaks, note_tasks};
 use bound_labels::{Labels, holder_tick};
 use observations::{Failure, MAX_HELD, Observation};
@@ -141,6 +142,17 @@ impl Peaks {
         self.shuts_down = self.shuts_down || is_over;
         let fails = note_failure(&mut self.failures, &seen.failure)?;
         Ok(more | ends | fails)
+    }
+
+    /// Notes that interrupts of the routines of a set are lost, where bit i is set for routine i,
+    /// and answers whether that is more than was noted before.
+    pub fn note_losses(&mut self, set: u64) -> bool
+        ensures losses { (i : ℕ) → i < MAX_ROUTINES → has_come self.new.losses i ≡ false
+            → bit_at set i ≡ 0 }
+        ensures rises { AreAtLeast self.new self.old }
+        ensures stays { IsFalse result → self.new ≡ self.old }
+    {
+        note_lost(&mut self.routines.losses, set)
     }
 
     /// The greatest age of a task's jobs, in ticks; 0 beyond the last task.

@@ -1,6 +1,7 @@
 //! OSEK/VDX OS: interrupt processing. The longest waits that ticks have shown of interrupts.
 
 ghost use Rattle.std.specs.Prelude.{◌≡◌, ◌<◌, length, min};
+ghost use Rattle.std.specs.Int.{bit_at};
 ghost use Rattle.std.specs.Option.{option_map};
 ghost use Rattle.osek_base.specs.declared.limits.TheConstants.{MAX_ROUTINES};
 ghost use Rattle.figure_laws.specs.Times.{waited};
@@ -63,6 +64,19 @@ pub(crate) fn note_routines(
     for routine in 0..seen.routines.len() {
         let tick = routine_tick(seen, routine);
         rises |= note_routine(peaks, cap, &tick, labels, routine);
+    }
+    rises
+}
+
+/// Notes that interrupts of the routines of a set are lost, and answers whether that is new.
+#[tactic(auto, using(crate::proofs::PeakLemmas::lost_more))]
+pub(crate) fn note_lost(marks: &mut [bool], set: u64) -> bool
+    requires { length marks.old ≡ MAX_ROUTINES }
+    ensures { AreMarked (λ i. bit_at set i ≡ 0) MAX_ROUTINES marks.old marks.new result }
+{
+    let mut rises = false;
+    for routine in 0..MAX_ROUTINES {
+        rises |= mark(marks, routine, (set >> routine) % 2 == 1);
     }
     rises
 }

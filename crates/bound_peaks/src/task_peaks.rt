@@ -1,6 +1,6 @@
 //! OSEK/VDX OS: task management. The greatest times that ticks have shown of tasks.
 
-ghost use Rattle.std.specs.Prelude.{◌≡◌, ◌<◌, Some, length, min};
+ghost use Rattle.std.specs.Prelude.{◌≡◌, ◌<◌, IsTrue, Some, length, min};
 ghost use Rattle.std.specs.Option.{option_map};
 ghost use Rattle.osek_base.specs.declared.limits.TheConstants.{MAX_TASKS};
 ghost use Rattle.figures.specs.FigureSums.{levels_of, lower_executes};
@@ -8,12 +8,12 @@ ghost use Rattle.figure_laws.specs.Ages.{oldest_age};
 ghost use Rattle.figure_laws.specs.Blocking.{blocked_in};
 ghost use Rattle.observations.specs.Seen.{seen_of};
 ghost use Rattle.bound_labels.specs.Labels.{ages_of, blocked_of};
-ghost use Rattle.bound_labels.specs.Parts.{shown_age, shown_blocked};
+ghost use Rattle.bound_labels.specs.Parts.{IsIdle, shown_age, shown_blocked};
 ghost use Rattle.bound_labels.specs.Ticks.{task_in};
 ghost use Rattle.bound_peaks.specs.Noting.{AreMarked, AreRaised, IsMarked, IsRaised};
 
 use crate::raising::{mark, raise};
-use bound_labels::{Labels, ready_tick};
+use bound_labels::{Labels, ready_tick, task_tick};
 use figures::TaskTick;
 use observations::Observation;
 use osek_base::{MAX_TASKS, System};
@@ -31,9 +31,18 @@ pub(crate) struct TaskPeaks {
     pub(crate) refusals: [bool; MAX_TASKS],
 }
 
+/// Whether a tick shows nothing of a task; at true it is idle, and no activation of it is refused.
+#[inline(always)]
+fn shows_nothing(tick: &TaskTick, labels: &Labels, task: usize) -> bool
+    ensures idle { IsTrue result → IsIdle tick.now.seen labels.now task }
+    ensures refusals { IsTrue result → tick.now.seen.refused ≡ 0 }
+{
+    tick.seen.refused == 0 && labels.is_idle(&tick.seen, task)
+}
+
 /// Notes what a tick shows of a task, and answers whether that is more than before.
 #[inline(always)]
-fn note_task(peaks: &mut TaskPeaks, cap: u32, tick: &TaskTick, labels: &Labels, task: usize) -> bool
+fn note_tick(peaks: &mut TaskPeaks, cap: u32, tick: &TaskTick, labels: &Labels, task: usize) -> bool
     requires { task < MAX_TASKS }
     ensures responses { IsRaised task
         (option_map (min cap) (oldest_age tick.now (ages_of labels.now task)))
@@ -52,6 +61,37 @@ fn note_task(peaks: &mut TaskPeaks, cap: u32, tick: &TaskTick, labels: &Labels, 
         | raise(&mut peaks.blocked, task, Some(blocked))
         | raise(&mut peaks.jobs, task, Some(u32::from(tick.seen.jobs)))
         | mark(&mut peaks.refusals, task, tick.seen.refused > 0)
+}
+
+/// Notes what a tick shows of a task by its number, and answers whether that is more than before.
+/// Most tasks show nothing, which leaves all as it is.
+#[inline(always)]
+fn note_task(
+    peaks: &mut TaskPeaks,
+    system: &System,
+    cap: u32,
+    seen: &Observation,
+    labels: &Labels,
+    task: usize,
+) -> bool
+    requires { task < MAX_TASKS }
+    ensures responses { IsRaised task (shown_age cap (seen_of seen.now) labels.now task)
+        peaks.old.responses peaks.new.responses result }
+    ensures blocked { IsRaised task
+        (Some (shown_blocked (lower_executes (levels_of system.now) seen.now.executor) cap
+        (seen_of seen.now) labels.now task))
+        peaks.old.blocked peaks.new.blocked result }
+    ensures jobs { IsRaised task (Some (task_in (seen_of seen.now) task).jobs)
+        peaks.old.jobs peaks.new.jobs result }
+    ensures refusals { IsMarked task ((task_in (seen_of seen.now) task).refused ≡ 0)
+        peaks.old.refusals peaks.new.refusals result }
+{
+    let seen_alone = task_tick(seen, task);
+    if shows_nothing(&seen_alone, labels, task) {
+        return false;
+    }
+    let tick = ready_tick(system, seen, task);
+    note_tick(peaks, cap, &tick, labels, task)
 }
 
 /// Notes what a tick shows of the tasks with the labels before it, each seen once, and answers
@@ -76,8 +116,7 @@ pub(crate) fn note_tasks(
 {
     let mut rises = false;
     for task in 0..seen.tasks.len() {
-        let tick = ready_tick(system, seen, task);
-        rises |= note_task(peaks, cap, &tick, labels, task);
+        rises |= note_task(peaks, system, cap, seen, labels, task);
     }
     rises
 }

@@ -1,4 +1,5 @@
 pub mod HeldLemmas
 pub mod SetLemmas
 pub mod Exploring
+pub mod Remembering
 pub mod Deciding

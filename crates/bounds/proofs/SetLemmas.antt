@@ -1,6 +1,10 @@
--- The routines of a set, one more.
-use Rattle.std.proofs.Common.{ℕ, zero, suc, ◌≡◌, ◌<◌, ◌≤◌, ◌+◌, arith, Bool, true, false, List, [], ◌∷◌, ◌++◌, refl, sym, ◌∙◌, ap, subst, cond, add-one, append-nil}
+-- Sets of routines.
+use Rattle.std.proofs.Common.{ℕ, zero, suc, ◌≡◌, ◌≢◌, ◌<◌, ◌≤◌, ◌+◌, ◌*◌, ◌%◌, ◌^◌, arith, inl, inr, bit_and, w64, Bool, true, false, List, [], ◌∷◌, ◌++◌, refl, sym, ◌∙◌, ap, subst, cond, add-one, append-nil}
+use Rattle.std.specs.Int.{bit_at, bit_not}
+use Rattle.std.specs.Int.Bits.{bit_or}
 use Rattle.std.specs.List.{All, filter}
+use Rattle.std.proofs.lemmas.Bool.{cases_eq}
+use Rattle.std.proofs.lemmas.Nat.Bits.{bit_at-lt, bit_at_and, bit_at_not, bit_at_set_other}
 use Rattle.std.specs.Prelude.{Result, Ok, Err, OnOk, length}
 use Rattle.std.proofs.lemmas.List.{length-append}
 use Rattle.std.proofs.lemmas.List.Sums.{length-filter, count_by-le-length}
@@ -57,3 +61,36 @@ are_few (Ok a) p count most xs low same =
     let four = many count in
     omega (arith, low, one, two, three, four)
 are_few (Err e) p count most xs low none = none
+
+-- ---- bits
+
+pub in_both : (set other i : ℕ) → bit_at set i ≡ 1 → bit_at other i ≡ 1
+    → bit_at (bit_and set other) i ≡ 1
+in_both set other i one two = let both = bit_at_and set other i in omega (arith, both, one, two)
+
+pub in_first : (set other i : ℕ) → bit_at (bit_and set other) i ≡ 1 → bit_at set i ≡ 1
+in_first set other i is =
+    let both = bit_at_and set other i in
+    let low = bit_at-lt set i in
+    omega (arith, both, is, low)
+
+-- what is not left over is in the other
+pub left_over : (set other : ℕ) → other < 2 ^ 64 → (i : ℕ) → i < 64 → bit_at set i ≡ 1
+    → bit_at (bit_and set (bit_not w64 other)) i ≢ 1 → bit_at other i ≡ 1
+left_over set other fits i inside has isnt = elim (cases_eq (bit_at other i) 1) [
+  | inl is ↦ is
+  | inr none ↦
+      let both = bit_at_and set (bit_not w64 other) i in
+      let turned = bit_at_not w64 other i fits inside in
+      let low = bit_at-lt other i in
+      absurd (isnt (omega (arith, both, turned, low, none, has)))
+]
+
+-- one more of which something holds
+pub one_pending : (P : ℕ → Bool) (set n : ℕ) → n < 64
+    → ((i : ℕ) → bit_at set i ≡ 1 → P i ≡ true) → P n ≡ true
+    → (i : ℕ) → bit_at (bit_or set (1 * 2 ^ n % 2 ^ 64)) i ≡ 1 → P i ≡ true
+one_pending P set n inside are is i has = elim (cases_eq i n) [
+  | inl here ↦ ap P here ∙ is
+  | inr away ↦ are i (sym (bit_at_set_other w64 set n inside i away) ∙ has)
+]

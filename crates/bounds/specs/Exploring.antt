@@ -1,9 +1,8 @@
 -- A search through the states of a system, by machines.
-use Rattle.std.specs.Prelude.{ℕ, ◌≡◌, false, List}
+use Rattle.std.specs.Prelude.{ℕ, List}
 use Rattle.osek_base.specs.Proper.{IsProper}
 use Rattle.needed_data.specs.Need.{Suffices}
 use Rattle.needs.specs.Table.{need_of}
-use Rattle.kernel.specs.Machine.{IsOfRun, Machine, system_of}
 use Rattle.state_keys.specs.InRange.{NeedsOwnWords}
 use Rattle.bound_peaks.specs.Peaks.{Peaks}
 use Rattle.run_bounds.specs.Nodes.{AreNoted, Node, Setting}
@@ -35,10 +34,3 @@ pub record IsGround (g : Ground) : Type 0 where
   pub proper : IsProper g.system
   pub suffices : Suffices g.system (need_of g.needs)
   pub own : NeedsOwnWords g.system (need_of g.needs)
-
--- the machines of states and the one that is ticked are of the system
-pub record IsExploring (g kept : Ground) (current : Machine) : Type 0 where
-  pub ground : IsGround g
-  pub machines : kept ≡ g
-  pub system : system_of current ≡ g.system
-  pub of_run : IsOfRun false current

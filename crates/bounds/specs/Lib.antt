@@ -1,4 +1,6 @@
 pub mod Held
 pub mod Exploring
+pub mod Remembered
+pub mod Invariant
 pub mod Figures
 pub mod Found

@@ -4,9 +4,9 @@ ghost use Rattle.std.specs.Prelude.{◌≡◌, IfOk, IfSome, IsTrue};
 ghost use Rattle.bound_labels.specs.Labels.{IsAtLeast};
 ghost use Rattle.packed_labels.specs.Unpacked.{unpacked};
 
-use crate::bytes::are_equal;
 use crate::raised::Raised;
 use bound_labels::Labels;
+use number_bytes::are_equal;
 use packed_labels::ReadLabels;
 use run_bounds::labels_are_ordered;
 use std::alloc::{AllocError, Global};

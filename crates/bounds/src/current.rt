@@ -75,13 +75,12 @@ pub(crate) fn tick_from<'s>(
 }
 
 /// What is kept of a machine's state, with labels; none where its key is too long. Its bytes are
-/// written in a room that is used again.
+/// written in a room that is handed over.
 pub(crate) fn node_of(
-    alloc: Global,
     machine: &StateMachine<'_>,
     needs: &Needs,
     labels: &Labels,
-    room: &mut Vec<u8>,
+    room: Vec<u8>,
 ) -> Result<Option<Node>, AllocError>
     ensures key { IfOk result (λ o. IfSome o (λ node. node.key
         ≡ key (system_of machine.now) (need_of needs.now) (picture machine.now))) }
@@ -89,9 +88,10 @@ pub(crate) fn node_of(
     ensures labels { IfOk result (λ o. IfSome o (λ node. node.labels ≡ labels.now)) }
 {
     packed_are_told();
-    room.clear();
-    write_key(machine, needs, room)?;
-    let key_len = room.len();
-    pack(labels, room)?;
-    Node::new(alloc, room, key_len, machine.is_shut_down())
+    let mut bytes = room;
+    bytes.clear();
+    write_key(machine, needs, &mut bytes)?;
+    let key_len = bytes.len();
+    pack(labels, &mut bytes)?;
+    Ok(Node::new(bytes, key_len, machine.is_shut_down()))
 }

@@ -9,9 +9,10 @@ use crate::bases::StateMachine;
 use crate::comparing::Comparing;
 use crate::current::{boot_again, can_go_on, node_of, tick_from};
 use crate::figure::held_count;
+use crate::memo::Memo;
 use crate::node::Node;
 use crate::raised::Raised;
-use crate::routines::put_routines;
+use crate::routines::{common, pending_routines, put_routines, without};
 use crate::states::States;
 use crate::trails::Trails;
 use crate::watch::Watch;
@@ -21,12 +22,13 @@ use kernel::Machine;
 use needs::Needs;
 use osek_base::{IsrId, ModeId, System};
 use packed_labels::{ReadLabels, free_routines};
-use run_bounds::{nodes_are_kept, notes_stay, one_state_tells, subsets_may};
+use run_bounds::{lost_change_nothing, nodes_are_kept, notes_stay, one_state_tells, subsets_may};
 use search::{Progress, Steps, subset_from};
 use seen_machines::Watcher;
 use std::alloc::{AllocError, Global};
 use std::cell::Cell;
 use std::marker::Model;
+use std::mem;
 
 /// Ticks machines from state to state, and notes the greatest times that are seen.
 #[derive(Drop)]
@@ -41,10 +43,12 @@ pub(crate) struct Explorer<'s, 'w, W: Watch> {
     states: States<'s>,
     /// The machine that is ticked.
     current: StateMachine<'s>,
+    /// What came of the node that is visited, while interrupts are pending in its state.
+    memo: Memo,
     /// The labels of the node that is visited, and those behind a tick.
     read: ReadLabels,
     labels: Labels,
-    /// Room for the bytes of a node.
+    /// Room for the bytes of the next node, which takes it, until that is known not to be kept.
     bytes: Vec<u8>,
     /// Room in which nodes are compared, while none are.
     comparing: Cell<Option<Box<Comparing>>>,
@@ -60,7 +64,8 @@ pub(crate) struct Explorer<'s, 'w, W: Watch> {
 }
 
 impl<'s, 'w, W: Watch> Model for Explorer<'s, 'w, W> {
-    ghost use Rattle.bounds.specs.Exploring.{Explorer as Seen, IsExploring};
+    ghost use Rattle.bounds.specs.Exploring.{Explorer as Seen};
+    ghost use Rattle.bounds.specs.Invariant.{IsExploring};
 
     ghost Value = { Seen };
 
@@ -73,10 +78,23 @@ impl<'s, 'w, W: Watch> Model for Explorer<'s, 'w, W> {
     } };
 
     ghost invariant = { λ e.
-        IsExploring (record { system = e.system.now; needs = e.needs.now }) e.states e.current };
+        IsExploring
+        (record {
+          ground = record { system = e.system.now; needs = e.needs.now };
+          mode = e.mode;
+          distances = e.distances.now;
+          cap = e.cap;
+          peaks = e.peaks;
+        })
+        e.states e.current e.memo };
 }
 
 impl<'s, 'w, W: Watch> Explorer<'s, 'w, W> {
+    ghost use Rattle.std.specs.Prelude.{IfSome, OnSome};
+    ghost use Rattle.search.specs.Rules.{StaysNoted};
+    ghost use Rattle.run_bounds.specs.Nodes.{IsNext, May};
+    ghost use Rattle.bounds.specs.Exploring.{AreNotedIn, setting_of};
+
     /// Nothing was tried yet.
     pub(crate) fn new(
         alloc: Global,
@@ -95,14 +113,17 @@ impl<'s, 'w, W: Watch> Explorer<'s, 'w, W> {
         ensures cap { IfOk result (λ e. e.cap ≡ cap) }
     {
         let current = Machine::boot(alloc, system, mode)?;
+        let states = States::new(alloc, system, needs, mode)?;
+        let memo = Memo::new(alloc);
         Ok(Explorer {
             system,
             needs,
             mode,
             distances,
             cap,
-            states: States::new(alloc, system, needs, mode)?,
+            states,
             current,
+            memo,
             read: ReadLabels::new(alloc),
             labels: Labels::new(alloc),
             bytes: Vec::new(alloc),
@@ -136,6 +157,97 @@ impl<'s, 'w, W: Watch> Explorer<'s, 'w, W> {
         }
     }
 
+    /// What comes of a node where the routines of a set arrive, among which some are pending: what
+    /// came of it without those, if that is remembered.
+    fn again(&mut self, alloc: Global, from: &Node, choice: u64) -> Result<Option<Node>, AllocError>
+        requires { May (setting_of self.old) from.now choice }
+        ensures setting { setting_of self.new ≡ setting_of self.old }
+        ensures notes { StaysNoted AreNotedIn self.old self.new }
+        ensures next { IfOk result (λ found.
+            IfSome found (IsNext (setting_of self.old) from.now choice)) }
+        ensures noted { IfOk result (λ found.
+            OnSome found (AreNotedIn self.new from.now choice)) }
+    {
+        let Some(machine) = self.states.at(from.key()) else {
+            return Ok(None);
+        };
+        if !can_go_on(machine) || !self.memo.is_of(from) {
+            return Ok(None);
+        }
+        let pending = pending_routines(machine, self.system.routine_count());
+        let Some(made) = self.memo.find(without(choice, pending)) else {
+            return Ok(None);
+        };
+        one_state_tells();
+        lost_change_nothing();
+        notes_stay();
+        let room = mem::replace(&mut self.bytes, Vec::new(alloc));
+        let node = made.copied(room)?;
+        let rises = self.peaks.note_losses(common(choice, pending));
+        self.trails.came(from.entry(), choice, rises, &self.peaks)?;
+        Ok(Some(node))
+    }
+
+    /// What comes of a node where the routines of a set arrive, by a tick of its machine.
+    fn anew(&mut self, alloc: Global, from: &Node, choice: u64) -> Result<Option<Node>, AllocError>
+        requires { May (setting_of self.old) from.now choice }
+        ensures setting { setting_of self.new ≡ setting_of self.old }
+        ensures notes { StaysNoted AreNotedIn self.old self.new }
+        ensures next { IfOk result (λ found.
+            IfSome found (IsNext (setting_of self.old) from.now choice)) }
+        ensures noted { IfOk result (λ found.
+            OnSome found (AreNotedIn self.new from.now choice)) }
+    {
+        put_routines(choice, self.system.routine_count(), &mut self.arrived)?;
+        self.read.read(from.packed())?;
+        let Some(labels) = self.read.of(from.packed()) else {
+            return Ok(None);
+        };
+        let Some(machine) = self.states.at(from.key()) else {
+            return Ok(None);
+        };
+        if !can_go_on(machine) {
+            return Ok(None);
+        }
+        one_state_tells();
+        notes_stay();
+        tick_from(machine, &mut self.current, &self.arrived, &mut self.watcher);
+        let seen = self.watcher.seen();
+        self.labels.become_next(self.system, self.cap, self.distances, choice, seen, labels)?;
+        let room = mem::replace(&mut self.bytes, Vec::new(alloc));
+        let Some(node) = node_of(&self.current, self.needs, &self.labels, room)? else {
+            return Ok(None);
+        };
+        let is_over = self.current.is_shut_down();
+        let rises = self
+            .peaks
+            .note(self.system, self.cap, seen, is_over, labels)?;
+        self.trails.came(from.entry(), choice, rises, &self.peaks)?;
+        Ok(Some(node))
+    }
+
+    /// The same, which is remembered while interrupts are pending in the state of the node.
+    fn fresh(&mut self, alloc: Global, from: &Node, choice: u64) -> Result<Option<Node>, AllocError>
+        requires { May (setting_of self.old) from.now choice }
+        ensures setting { setting_of self.new ≡ setting_of self.old }
+        ensures notes { StaysNoted AreNotedIn self.old self.new }
+        ensures next { IfOk result (λ found.
+            IfSome found (IsNext (setting_of self.old) from.now choice)) }
+        ensures noted { IfOk result (λ found.
+            OnSome found (AreNotedIn self.new from.now choice)) }
+    {
+        let memo = mem::replace(&mut self.memo, Memo::new(alloc));
+        let Some(node) = self.anew(alloc, from, choice)? else {
+            return Ok(None);
+        };
+        if self.states.pending() == 0 {
+            return Ok(Some(node));
+        }
+        let memo = memo.with(alloc, from, choice, &node)?;
+        self.memo = memo;
+        Ok(Some(node))
+    }
+
     /// The greatest times that were noted, and how a search has come to them.
     pub(crate) fn into_found(self) -> (Peaks, Trails)
         ensures { result.0 ≡ self.entry.peaks }
@@ -163,7 +275,8 @@ impl<'s, 'w, W: Watch> Steps for Explorer<'s, 'w, W> {
         let tasks = self.system.task_count();
         let routines = self.system.routine_count();
         let labels = Labels::first(alloc, tasks, routines, held_count(self.system))?;
-        let Some(node) = node_of(alloc, &self.current, self.needs, &labels, &mut self.bytes)? else {
+        let room = Vec::new(alloc);
+        let Some(node) = node_of(&self.current, self.needs, &labels, room)? else {
             return Ok(None);
         };
         Ok(Some(node))
@@ -184,40 +297,15 @@ impl<'s, 'w, W: Watch> Steps for Explorer<'s, 'w, W> {
         from: &Node,
         choice: u64,
     ) -> Result<Option<Node>, AllocError> {
-        put_routines(choice, self.system.routine_count(), &mut self.arrived)?;
         self.states
             .visit(alloc, &self.trails, from.entry(), from.base())?;
-        self.read.read(from.packed())?;
-        let Some(labels) = self.read.of(from.packed()) else {
-            return Ok(None);
-        };
-        let Some(machine) = self.states.at(from.key()) else {
-            return Ok(None);
-        };
-        if !can_go_on(machine) {
-            return Ok(None);
+        if choice & self.states.pending() == 0 {
+            return self.fresh(alloc, from, choice);
         }
-        one_state_tells();
-        notes_stay();
-        tick_from(machine, &mut self.current, &self.arrived, &mut self.watcher);
-        let seen = self.watcher.seen();
-        self.labels.become_next(self.system, self.cap, self.distances, choice, seen, labels)?;
-        let Some(node) = node_of(
-            alloc,
-            &self.current,
-            self.needs,
-            &self.labels,
-            &mut self.bytes,
-        )?
-        else {
-            return Ok(None);
-        };
-        let is_over = self.current.is_shut_down();
-        let rises = self
-            .peaks
-            .note(self.system, self.cap, seen, is_over, labels)?;
-        self.trails.came(from.entry(), choice, rises, &self.peaks)?;
-        Ok(Some(node))
+        if let Some(node) = self.again(alloc, from, choice)? {
+            return Ok(Some(node));
+        }
+        self.fresh(alloc, from, choice)
     }
 
     fn covers(&self, one: &Node, other: &Node) -> bool {
@@ -248,11 +336,16 @@ impl<'s, 'w, W: Watch> Steps for Explorer<'s, 'w, W> {
 
     fn keep(&mut self, alloc: Global, node: &mut Node) -> Result<(), AllocError> {
         self.kept = node.size_with(self.kept);
+        self.bytes = node.fit(alloc)?;
         let raised = self.take_raised();
         let entry = self.trails.enter(node.entry(), raised)?;
         let base = self.states.open(alloc, &self.current, entry, node.base())?;
         node.keep(entry, base);
         Ok(())
+    }
+
+    fn take_back(&mut self, node: Node) {
+        self.bytes = node.into_bytes();
     }
 
     fn settle(&mut self, node: &mut Node) {

@@ -11,6 +11,7 @@ mod entry;
 mod explorer;
 mod figure;
 mod finding;
+mod memo;
 mod node;
 mod origin;
 mod raised;

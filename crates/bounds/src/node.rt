@@ -4,19 +4,20 @@ ghost use Rattle.std.specs.Prelude.{◌≡◌, ◌≤◌, IfOk, IfSome, IsFalse,
 ghost use Rattle.packed_labels.specs.Unpacked.{unpacked};
 ghost use Rattle.run_bounds.specs.Nodes.{Covers};
 
-use crate::bytes::{are_equal, behind, boxed, copy_of, first_of};
+use crate::bytes::{behind, copy_of, first_of};
 use crate::comparing::{Comparing, labels_of};
 use crate::raised::Raised;
 use bound_labels::Labels;
+use number_bytes::are_equal;
 use osek_base::System;
 use packed_labels::{pack, packed_are_told};
 use std::alloc::{AllocError, Global};
-use std::boxed::BoxedSlice;
 use std::marker::Model;
+use std::mem;
 
 /// What a node takes beside the bytes of its key and its labels, about: itself, its block, its entry
 /// of the trail, and its places among hashes and open nodes.
-const BYTES_BESIDE: u64 = 88;
+const BYTES_BESIDE: u64 = 96;
 
 /// In place of the number of an entry or of a machine, where there is none.
 const NONE: u32 = u32::MAX;
@@ -25,8 +26,8 @@ const NONE: u32 = u32::MAX;
 /// its machine is made again.
 #[derive(Drop)]
 pub(crate) struct Node {
-    /// The key, and the labels behind it, in no byte more.
-    bytes: BoxedSlice<u8, Global>,
+    /// The key, and the labels behind it.
+    bytes: Vec<u8>,
     /// How many bytes the key has.
     key_len: u32,
     /// The entry that tells how it came to be, once it is kept.
@@ -37,7 +38,6 @@ pub(crate) struct Node {
 }
 
 impl Model for Node {
-    ghost use Rattle.std.specs.Box.{boxed_slice_items};
     ghost use Rattle.std.specs.Prelude.{◌≤◌, drop, length, take};
     ghost use Rattle.packed_labels.specs.Unpacked.{unpacked};
     ghost use Rattle.run_bounds.specs.Nodes.{Node as Kept};
@@ -45,12 +45,12 @@ impl Model for Node {
     ghost Value = { Kept };
 
     ghost view = { λ n. record {
-      key = take n.key_len (boxed_slice_items n.bytes);
+      key = take n.key_len n.bytes.items;
       over = n.is_over;
-      labels = unpacked (drop n.key_len (boxed_slice_items n.bytes));
+      labels = unpacked (drop n.key_len n.bytes.items);
     } };
 
-    ghost invariant = { λ n. n.key_len ≤ length (boxed_slice_items n.bytes) };
+    ghost invariant = { λ n. n.key_len ≤ length n.bytes.items };
 }
 
 /// A number, if it is one.
@@ -86,28 +86,64 @@ fn raised_by(system: &System, labels: &Labels, others: &Labels) -> Option<Raised
 impl Node {
     /// One of so many bytes of a key and those of labels behind them; none where the key has 2^32
     /// bytes or more.
-    pub(crate) fn new(
-        alloc: Global,
-        bytes: &[u8],
-        key_len: usize,
-        is_over: bool,
-    ) -> Result<Option<Self>, AllocError>
-        requires { key_len ≤ length bytes.now }
-        ensures key { IfOk result (λ o. IfSome o (λ n. n.key ≡ take key_len bytes.now)) }
-        ensures over { IfOk result (λ o. IfSome o (λ n. n.over ≡ is_over)) }
-        ensures labels { IfOk result (λ o. IfSome o
-            (λ n. n.labels ≡ unpacked (drop key_len bytes.now))) }
+    pub(crate) fn new(bytes: Vec<u8>, key_len: usize, is_over: bool) -> Option<Self>
+        requires { key_len ≤ length bytes.items }
+        ensures key { IfSome result (λ n. n.key ≡ take key_len bytes.items) }
+        ensures over { IfSome result (λ n. n.over ≡ is_over) }
+        ensures labels { IfSome result (λ n. n.labels ≡ unpacked (drop key_len bytes.items)) }
     {
         let Ok(key_len) = u32::try_from(key_len) else {
-            return Ok(None);
+            return None;
         };
-        Ok(Some(Node {
-            bytes: boxed(alloc, bytes)?,
+        Some(Node {
+            bytes,
             key_len,
             entry: NONE,
             base: NONE,
             is_over,
-        }))
+        })
+    }
+
+    /// A copy in a room that is handed over. It isn't kept.
+    pub(crate) fn copied(&self, room: Vec<u8>) -> Result<Self, AllocError>
+        ensures { IfOk result (λ n. n ≡ self.now) }
+    {
+        let mut bytes = room;
+        bytes.clear();
+        bytes.extend_from_slice(&self.bytes)?;
+        Ok(Node {
+            bytes,
+            key_len: self.key_len,
+            entry: NONE,
+            base: NONE,
+            is_over: self.is_over,
+        })
+    }
+
+    /// Whether another one is the same, with its labels.
+    pub(crate) fn is_same(&self, other: &Node) -> bool
+        ensures { IsTrue result → self.now ≡ other.now }
+    {
+        self.key_len == other.key_len
+            && self.is_over == other.is_over
+            && are_equal(&self.bytes, &other.bytes)
+    }
+
+    /// Its bytes, of a node that isn't needed.
+    pub(crate) fn into_bytes(self) -> Vec<u8> {
+        self.bytes
+    }
+
+    /// It has room for its bytes and no more, as it has where it was kept before. Answers the room in
+    /// which they were, if that is another one.
+    pub(crate) fn fit(&mut self, alloc: Global) -> Result<Vec<u8>, AllocError>
+        ensures { self.new ≡ self.old }
+    {
+        if self.entry != NONE {
+            return Ok(Vec::new(alloc));
+        }
+        let bytes = copy_of(alloc, &self.bytes)?;
+        Ok(mem::replace(&mut self.bytes, bytes))
     }
 
     pub(crate) fn key(&self) -> &[u8]
@@ -177,7 +213,7 @@ impl Node {
         packed_are_told();
         let mut bytes = copy_of(alloc, self.key())?;
         pack(labels, &mut bytes)?;
-        self.bytes = boxed(alloc, &bytes)?;
+        self.bytes = copy_of(alloc, &bytes)?;
         Ok(())
     }
 
@@ -240,26 +276,32 @@ impl Node {
 /// An odd factor, whose bits are those of the golden ratio.
 const FACTOR: u64 = 0x9e37_79b9_7f4a_7c15;
 
-/// Up to eight bytes as a number.
+/// Fewer than eight bytes as a number.
 fn word_of(bytes: &[u8]) -> u64 {
-    match bytes.first_chunk::<8>() {
-        Some(word) => u64::from_le_bytes(*word),
-        None => {
-            let mut word = 0u64;
-            for byte in bytes {
-                word = (word << 8) | u64::from(*byte);
-            }
-            word
-        }
+    let mut word = 0u64;
+    for byte in bytes {
+        word = (word << 8) | u64::from(*byte);
+    }
+    word
+}
+
+/// A number that goes by another one and a word: a rotation, an exclusive or and a product.
+#[inline(always)]
+fn mixed(hash: u64, word: u64) -> u64 {
+    let turned = (hash << 5) | (hash >> 59);
+    (turned ^ word).wrapping_mul(FACTOR)
+}
+
+/// A number that goes by another one and by bytes, eight at a time.
+fn hash_behind(hash: u64, bytes: &[u8]) -> u64 {
+    match bytes.split_first_chunk::<8>() {
+        Some((word, rest)) => hash_behind(mixed(hash, u64::from_le_bytes(*word)), rest),
+        None => mixed(hash, word_of(bytes)),
     }
 }
 
-/// A number that goes by bytes: for each eight of them a rotation, an exclusive or and a product.
+/// A number that goes by bytes.
 fn hash_of(bytes: &[u8]) -> u64 {
-    let mut hash = 0u64;
-    for word in bytes.chunks(8) {
-        let turned = (hash << 5) | (hash >> 59);
-        hash = (turned ^ word_of(word)).wrapping_mul(FACTOR);
-    }
+    let hash = hash_behind(0, bytes);
     (hash ^ (hash >> 32)).wrapping_mul(FACTOR)
 }

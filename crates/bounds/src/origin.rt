@@ -4,11 +4,11 @@ ghost use Rattle.std.specs.Prelude.{◌≡◌, IfOk, IfSome};
 ghost use Rattle.bounds.specs.Held.{IsIn, IsOf};
 
 use crate::bases::StateMachine;
-use crate::bytes::are_equal;
 use crate::current::can_go_on;
-use crate::routines::put_routines;
+use crate::routines::{pending_routines, put_routines};
 use kernel::Machine;
 use needs::Needs;
+use number_bytes::are_equal;
 use osek_base::{IsrId, ModeId, System, TickRecord};
 use state_bytes::write_key;
 use std::alloc::{AllocError, Global};
@@ -23,6 +23,8 @@ pub(crate) struct Origin<'s> {
     key: Vec<u8>,
     /// Whether the key is that of the machine's state.
     is_made: bool,
+    /// The routines that were pending in it when its key was written.
+    pending: u64,
     /// The routines whose interrupts arrive in a tick.
     arrived: Vec<IsrId>,
     /// Room for what a tick records.
@@ -58,6 +60,7 @@ impl<'s> Origin<'s> {
             machine: Machine::boot(alloc, system, mode)?,
             key: Vec::new(alloc),
             is_made: false,
+            pending: 0,
             arrived: Vec::new(alloc),
             before: TickRecord::new(),
             behind: TickRecord::new(),
@@ -79,6 +82,11 @@ impl<'s> Origin<'s> {
             return None;
         }
         Some(&self.machine)
+    }
+
+    /// The routines that are pending in its state, as a set. Contracts don't see it.
+    pub(crate) fn pending(&self) -> u64 {
+        self.pending
     }
 
     /// The machine becomes another one.
@@ -111,6 +119,7 @@ impl<'s> Origin<'s> {
         self.is_made = false;
         self.key.clear();
         write_key(&self.machine, self.needs, &mut self.key)?;
+        self.pending = pending_routines(&self.machine, self.system.routine_count());
         self.is_made = true;
         Ok(())
     }

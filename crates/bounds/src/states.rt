@@ -80,6 +80,11 @@ impl<'s> States<'s> {
         self.origin.at(key)
     }
 
+    /// The routines that are pending in that node's state, as a set. Contracts don't see it.
+    pub(crate) fn pending(&self) -> u64 {
+        self.origin.pending()
+    }
+
     /// A node is visited that an entry tells, and whose machine is made from that at a place.
     pub(crate) fn visit(
         &mut self,

@@ -8,6 +8,7 @@ pub mod RunLemmas
 pub mod AlarmLemmas
 pub mod StartLemmas
 pub mod DoesLemmas
+pub mod Filled
 pub mod ActLemmas
 pub mod NextLemmas
 pub mod StampingLemmas

@@ -1,9 +1,8 @@
 -- What a kernel tells of a tick is what the definitions say: the tasks at its instruction, and the alarms that acted.
-use Rattle.std.proofs.Common.{◌≡◌, ℕ, zero, suc, ◌+◌, ◌<◌, List, [], ◌∷◌, ◌++◌, map, take, get_or, length, refl, sym, ◌∙◌, ap, ap₂, subst, append_assoc}
+use Rattle.std.proofs.Common.{◌≡◌, ℕ, ◌+◌, ◌<◌, List, [], ◌∷◌, ◌++◌, map, take, get_or, length, refl, sym, ◌∙◌, ap, ap₂, subst, append_assoc}
 use Rattle.std.specs.List.{AllByRecursion}
-use Rattle.std.proofs.Math.Numerals.{add-one}
 use Rattle.std.proofs.Math.Path.{fun_ext}
-use Rattle.std.proofs.lemmas.List.{append-nil, length-append, length-map, map-append, take_more}
+use Rattle.std.proofs.lemmas.List.{append-nil, take_more}
 use Rattle.osek_base.specs.declared.arrivals.Arrival.{Arrival}
 use Rattle.osek_base.specs.declared.status.Status.{Status}
 use Rattle.osek_base.specs.declared.trace_event.TraceEvent.{TraceEvent}
@@ -23,7 +22,7 @@ use Rattle.run_laws.proofs.Lists.{all_kept}
 use Rattle.run_laws.proofs.RankedTick.{IsExecuting, IsRunState, action_run, before_executing, run_ordered}
 use Rattle.run_laws.proofs.SingleTick.{alarm_known}
 use Rattle.kept_state.specs.Kept.{Kept, kept}
-use Rattle.kept_state.specs.KeptService.{ByNobody, KeptReply, bare, unmasked_in}
+use Rattle.kept_state.specs.KeptService.{KeptReply, bare}
 use Rattle.kept_state.specs.KeptTick.{alarms_act_in}
 use Rattle.kept_state.proofs.Served.{acts}
 use Rattle.kept_state.proofs.Settled.{AreKnown, IsSettled}
@@ -39,21 +38,6 @@ use Rattle.kernel.proofs.ActLemmas.{clocked_is}
 use Rattle.kernel.proofs.AlarmLemmas.{nothing_due}
 use Rattle.kernel.proofs.KeepingLemmas.{step_is}
 use Rattle.kernel.proofs.SeenLemmas.{counted, own, raised, state_is}
-
--- ---- a list of all tasks
-
-length_below : (n : ℕ) → length (below n) ≡ n
-length_below zero = refl
-length_below (suc n) = length-append (below n) (n ∷ []) ∙ (ap (λ m. m + 1) (length_below n) ∙ add-one n)
-
-module _ {X : Type 0} (f : ℕ → X) (n : ℕ) where
-  pub told_count : (xs : List X) → xs ≡ map f (below n) → length xs ≡ n
-  told_count xs h = ap (λ (v : List X). length v) h ∙ length-map (below n) f ∙ length_below n
-
-  pub told_more : (xs : List X) (x : X) → xs ≡ map f (below n) → x ≡ f n → xs ++ x ∷ [] ≡ map f (below (n + 1))
-  told_more xs x h e =
-      ap (λ v. v ++ x ∷ []) h ∙ ap (λ y. map f (below n) ++ y ∷ []) e ∙ sym (map-append f (below n) (n ∷ []))
-      ∙ ap (λ m. map f (below m)) (sym (add-one n))
 
 -- ---- refused actions
 

@@ -8,6 +8,7 @@ ghost use Rattle.kernel.specs.Processor.{picture, system_of};
 ghost use Rattle.kernel.specs.Told.{task_at_in};
 
 use crate::at_instruction::AtInstruction;
+use crate::places::give_places;
 use crate::processor::Processor;
 use crate::task_at::TaskAt;
 use arrayvec::ArrayVec;
@@ -44,14 +45,16 @@ impl Looker for AtInstruction {
 }
 
 /// Leaves what each task is.
-#[tactic(auto, using(crate::proofs::ToldLemmas::told_more, crate::proofs::ToldLemmas::told_count))]
+#[tactic(auto, using(crate::proofs::Filled::one_more, crate::proofs::Filled::all_of))]
 fn see_tasks<Q: ReadyQueues>(processor: &Processor<'_, Q>, tasks: &mut ArrayVec<TaskAt, MAX_TASKS>)
     ensures { tasks.new.items
         ≡ map (task_at_in (system_of processor.now) (picture processor.now))
         (below (length (system_of processor.now).tasks)) }
 {
-    tasks.clear();
-    for number in 0..processor.task_count() {
-        tasks.push(processor.task_at(TaskId::new(number as u8)));
+    let count = processor.task_count();
+    give_places(tasks, count);
+    let places = tasks.as_mut_slice();
+    for number in 0..count {
+        places[number] = processor.task_at(TaskId::new(number as u8));
     }
 }

@@ -37,6 +37,7 @@ impl Numbers {
     }
 
     /// As a word whose bit n is set exactly where n is in it.
+    #[inline(always)]
     pub(crate) fn bits(self) -> u64
         ensures { result ≡ self }
     {
@@ -44,6 +45,7 @@ impl Numbers {
     }
 
     /// Whether a number is in it.
+    #[inline(always)]
     pub(crate) fn has(self, number: u8) -> bool
         requires { number < 64 }
         ensures { result ≡ has self number }

@@ -31,6 +31,7 @@ pub struct Needs {
 
 impl Needs {
     /// What stands here of a task or routine.
+    #[inline(always)]
     fn entry(&self, owner: Owner) -> Option<&OwnerNeeds>
         ensures { option_map (λ own. own.now) result ≡ entry self.now owner }
     {
@@ -42,6 +43,7 @@ impl Needs {
 
     /// The registers of a task or routine that are needed, as a set: bit r is set exactly where
     /// register r is in it.
+    #[inline(always)]
     pub fn needed_registers(&self, owner: Owner) -> u64
         ensures { (r : ℕ) → (need_of self.now).registers owner r ≡ has result r }
     {
@@ -53,6 +55,7 @@ impl Needs {
 
     /// The words of the window of a task or routine that are needed, as a set: bit i is set exactly
     /// where word i is in it.
+    #[inline(always)]
     pub fn needed_words(&self, owner: Owner) -> u64
         ensures { (i : ℕ) → (need_of self.now).words owner i ≡ has result i }
     {
@@ -63,6 +66,7 @@ impl Needs {
     }
 
     /// Whether the window of a declared resource is needed.
+    #[inline(always)]
     pub fn needs_shared(&self, resource: ResourceNumber) -> bool
         ensures { result ≡ (need_of self.now).shared resource }
     {
@@ -70,6 +74,7 @@ impl Needs {
     }
 
     /// Whether the value of a counter is needed.
+    #[inline(always)]
     pub fn needs_value(&self, counter: CounterId) -> bool
         ensures { result ≡ (need_of self.now).counters counter }
     {

@@ -89,5 +89,19 @@ pub ruleset read_laws = (
   higher_low,
 )
 
+pub short_number : (byte : ℕ) (rest : List ℕ) → byte < 128
+    → taken_number (byte ∷ rest) ≡ (byte, rest)
+unfolding taken_number
+short_number byte rest low = only_taken 4 byte rest low
+
+pub short_count : (byte : ℕ) (rest : List ℕ) → byte < 128 → taken_count (byte ∷ rest) ≡ (byte, rest)
+unfolding taken_count
+short_count byte rest low = only_taken 8 byte rest low
+
+pub ruleset short_laws = (
+  short_number,
+  short_count,
+)
+
 pub numbers_read : NumbersAreReadBack
 numbers_read = record { plain = number_read; count = count_read; maybe = optional_read }

@@ -45,22 +45,54 @@ fn read_digits(bytes: &[u8], more: u8) -> (u64, &[u8])
     }
 }
 
-/// The number that stands first, and what follows it; 0 where nothing stands.
+/// A number of any length.
+#[inline(never)]
 #[tactic(auto, unfolding(crate::specs::Taken::taken_number))]
-pub fn read_number(bytes: &[u8]) -> (u64, &[u8])
+fn read_long(bytes: &[u8]) -> (u64, &[u8])
     ensures number { result.0 ≡ (taken_number bytes.now).0 }
     ensures rest { result.1.now ≡ (taken_number bytes.now).1 }
 {
     read_digits(bytes, 4)
 }
 
-/// The count that stands first, and what follows it; 0 where nothing stands.
+/// The number that stands first, and what follows it; 0 where nothing stands.
+#[inline(always)]
+#[tactic(auto, using(crate::proofs::ReadingLemmas::short_laws))]
+pub fn read_number(bytes: &[u8]) -> (u64, &[u8])
+    ensures number { result.0 ≡ (taken_number bytes.now).0 }
+    ensures rest { result.1.now ≡ (taken_number bytes.now).1 }
+{
+    if let Some((byte, rest)) = bytes.split_first() {
+        if *byte < 128 {
+            return (value_of(*byte), rest);
+        }
+    }
+    read_long(bytes)
+}
+
+/// A count of any size.
+#[inline(never)]
 #[tactic(auto, unfolding(crate::specs::Taken::taken_count))]
-pub fn read_count(bytes: &[u8]) -> (u64, &[u8])
+fn read_long_count(bytes: &[u8]) -> (u64, &[u8])
     ensures count { result.0 ≡ (taken_count bytes.now).0 }
     ensures rest { result.1.now ≡ (taken_count bytes.now).1 }
 {
     read_digits(bytes, 8)
+}
+
+/// The count that stands first, and what follows it; 0 where nothing stands.
+#[inline(always)]
+#[tactic(auto, using(crate::proofs::ReadingLemmas::short_laws))]
+pub fn read_count(bytes: &[u8]) -> (u64, &[u8])
+    ensures count { result.0 ≡ (taken_count bytes.now).0 }
+    ensures rest { result.1.now ≡ (taken_count bytes.now).1 }
+{
+    if let Some((byte, rest)) = bytes.split_first() {
+        if *byte < 128 {
+            return (value_of(*byte), rest);
+        }
+    }
+    read_long_count(bytes)
 }
 
 /// The number that stands first, if there is one, and what follows it. What is read is compared with

@@ -1,4 +1,5 @@
 pub mod BareLemmas
+pub mod ZeroLemmas
 pub mod UnbareLemmas
 pub mod UnpackingLemmas
 pub mod WorkedLemmas

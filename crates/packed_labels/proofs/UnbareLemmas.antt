@@ -1,11 +1,11 @@
 -- Bytes are read as without the zeros at their end.
-use Rattle.std.proofs.Common.{ℕ, zero, suc, ◌≡◌, ◌-◌, Bool, true, false, if◌then◌else◌, List, [], ◌∷◌, refl, sym, ◌∙◌, ap}
+use Rattle.std.proofs.Common.{ℕ, zero, suc, ◌≡◌, ◌-◌, Bool, true, false, if◌then◌else◌, List, [], ◌∷◌, length, refl, sym, ◌∙◌, ap}
 use Rattle.std.specs.Prelude.{Option, Some, nat_lt}
 use Rattle.figure_laws.specs.Holding.{Hold}
 use Rattle.number_bytes.specs.Taken.{taken_count, taken_digits, taken_number, taken_optional, with_digit}
 use Rattle.bound_labels.specs.Labels.{Labels}
 use Rattle.packed_labels.specs.Packed.{bare, put_bare}
-use Rattle.packed_labels.specs.Unpacked.{taken_hold, taken_list, taken_many, unpacked}
+use Rattle.packed_labels.specs.Unpacked.{ages_behind, beside_behind, taken_ages, taken_beside, taken_hold, taken_list, taken_list_beside, taken_many, unpacked}
 
 -- the zeros at the end of what is read are those at the end of what is left
 abbrev pub IsReadBare : {X : Type 0} → (List ℕ → X × List ℕ) → Type 0
@@ -50,6 +50,19 @@ count_bare : IsReadBare taken_count
 unfolding taken_count
 count_bare bytes = digits_bare 8 bytes
 
+-- ---- by what stands before it
+
+beside_bare : (others n : ℕ) (bytes : List ℕ)
+    → beside_behind others (n, bare bytes)
+    ≡ ((beside_behind others (n, bytes)).0, bare (beside_behind others (n, bytes)).1)
+beside_bare others zero bytes = refl
+beside_bare others (suc more) bytes = count_bare bytes
+
+count_beside_bare : (others : ℕ) → IsReadBare (taken_beside others)
+count_beside_bare others bytes =
+    let count = taken_count bytes in
+    ap (beside_behind others) (count_bare bytes) ∙ beside_bare others count.0 count.1
+
 optional_none : taken_optional [] ≡ taken_optional (0 ∷ [])
 unfolding taken_optional
 optional_none = refl
@@ -85,6 +98,24 @@ list_bare taken read bytes =
     ap (λ (r : ℕ × List ℕ). taken_many taken r.0 r.1) (count_bare bytes)
     ∙ many_bare taken read count.0 count.1
 
+list_beside_bare : {X : Type 0} (others : ℕ) (taken : List ℕ → X × List ℕ) → IsReadBare taken
+    → IsReadBare (taken_list_beside others taken)
+list_beside_bare others taken read bytes =
+    let count = taken_beside others bytes in
+    ap (λ (r : ℕ × List ℕ). taken_many taken r.0 r.1) (count_beside_bare others bytes)
+    ∙ many_bare taken read count.0 count.1
+
+ages_behind_bare : (n : ℕ) (bytes : List ℕ)
+    → ages_behind (n, bare bytes) ≡ ((ages_behind (n, bytes)).0, bare (ages_behind (n, bytes)).1)
+ages_behind_bare zero bytes = refl
+ages_behind_bare (suc zero) bytes = list_bare taken_number number_bare bytes
+ages_behind_bare (suc (suc age)) bytes = refl
+
+ages_bare : IsReadBare taken_ages
+ages_bare bytes =
+    let count = taken_count bytes in
+    ap ages_behind (count_bare bytes) ∙ ages_behind_bare count.0 count.1
+
 abbrev pub held_behind : Option ℕ × List ℕ → Hold × List ℕ
 held_behind holder =
     (record { holder = holder.0; held = (taken_number holder.1).0 }, (taken_number holder.1).1)
@@ -98,39 +129,32 @@ hold_bare bytes =
 
 -- ---- part by part
 
-abbrev pub Lists : Type 0
-Lists = List ℕ × List (List ℕ) × List (Option ℕ)
-
-abbrev pub with_blocked : Lists → List Hold → List ℕ × List ℕ → Labels
-with_blocked lists holds blocked =
+abbrev pub with_blocked : List ℕ → List (List ℕ) → List Hold → List (Option ℕ) → List ℕ × List ℕ
+    → Labels
+with_blocked waits ages holds pending blocked =
     record {
-      waits = lists.0;
-      ages = lists.1;
-      pending = lists.2;
+      waits = waits;
+      ages = ages;
+      pending = pending;
       holds = holds;
       blocked = blocked.0;
     }
 
-abbrev pub with_holds : Lists → ℕ → List Hold × List ℕ → Labels
-with_holds lists tasks holds =
-    with_blocked lists holds.0 (taken_many taken_number tasks holds.1)
+abbrev pub with_pending : List ℕ → List (List ℕ) → List Hold → List (Option ℕ) × List ℕ → Labels
+with_pending waits ages holds pending =
+    with_blocked waits ages holds pending.0
+    (taken_list_beside (length ages) taken_number pending.1)
 
-abbrev pub with_tasks : Lists → ℕ → ℕ × List ℕ → Labels
-with_tasks lists resources tasks =
-    with_holds lists tasks.0 (taken_many taken_hold resources tasks.1)
-
-abbrev pub with_resources : Lists → ℕ × List ℕ → Labels
-with_resources lists resources = with_tasks lists resources.0 (taken_count resources.1)
-
-abbrev pub with_pending : List ℕ → List (List ℕ) → List (Option ℕ) × List ℕ → Labels
-with_pending waits ages pending =
-    with_resources (waits, ages, pending.0) (taken_count pending.1)
+abbrev pub with_holds : List ℕ → List (List ℕ) → List Hold × List ℕ → Labels
+with_holds waits ages holds =
+    with_pending waits ages holds.0
+    (taken_list_beside (length waits) taken_optional holds.1)
 
 abbrev pub with_ages : List ℕ → List (List ℕ) × List ℕ → Labels
-with_ages waits ages = with_pending waits ages.0 (taken_list taken_optional ages.1)
+with_ages waits ages = with_holds waits ages.0 (taken_list taken_hold ages.1)
 
 abbrev pub with_waits : List ℕ × List ℕ → Labels
-with_waits waits = with_ages waits.0 (taken_list (taken_list taken_number) waits.1)
+with_waits waits = with_ages waits.0 (taken_list taken_ages waits.1)
 
 pub unpacked_parts : (bytes : List ℕ) → unpacked bytes ≡ with_waits (taken_list taken_number bytes)
 unfolding unpacked
@@ -140,20 +164,16 @@ parts_bare : (bytes : List ℕ)
     → with_waits (taken_list taken_number (bare bytes)) ≡ with_waits (taken_list taken_number bytes)
 parts_bare bytes =
     let waits = taken_list taken_number bytes in
-    let ages = taken_list (taken_list taken_number) waits.1 in
-    let pending = taken_list taken_optional ages.1 in
-    let resources = taken_count pending.1 in
-    let tasks = taken_count resources.1 in
-    let holds = taken_many taken_hold resources.0 tasks.1 in
-    let lists : Lists = (waits.0, ages.0, pending.0) in
+    let ages = taken_list taken_ages waits.1 in
+    let holds = taken_list taken_hold ages.1 in
+    let pending = taken_list_beside (length waits.0) taken_optional holds.1 in
     ap with_waits (list_bare taken_number number_bare bytes)
-    ∙ ap (with_ages waits.0)
-    (list_bare (taken_list taken_number) (list_bare taken_number number_bare) waits.1)
-    ∙ ap (with_pending waits.0 ages.0) (list_bare taken_optional optional_bare ages.1)
-    ∙ ap (with_resources lists) (count_bare pending.1)
-    ∙ ap (with_tasks lists resources.0) (count_bare resources.1)
-    ∙ ap (with_holds lists tasks.0) (many_bare taken_hold hold_bare resources.0 tasks.1)
-    ∙ ap (with_blocked lists holds.0) (many_bare taken_number number_bare tasks.0 holds.1)
+    ∙ ap (with_ages waits.0) (list_bare taken_ages ages_bare waits.1)
+    ∙ ap (with_holds waits.0 ages.0) (list_bare taken_hold hold_bare ages.1)
+    ∙ ap (with_pending waits.0 ages.0 holds.0)
+    (list_beside_bare (length waits.0) taken_optional optional_bare holds.1)
+    ∙ ap (with_blocked waits.0 ages.0 holds.0 pending.0)
+    (list_beside_bare (length ages.0) taken_number number_bare pending.1)
 
 pub unpacked_bare : (bytes : List ℕ) → unpacked (bare bytes) ≡ unpacked bytes
 unpacked_bare bytes =

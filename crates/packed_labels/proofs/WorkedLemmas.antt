@@ -14,5 +14,7 @@ worked = record {
   back = refl;
   blocked = refl;
   blocked_back = refl;
+  uneven = refl;
+  uneven_back = refl;
   none = refl;
 }

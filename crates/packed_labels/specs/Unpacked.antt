@@ -1,5 +1,5 @@
 -- The labels that bytes tell.
-use Rattle.std.specs.Prelude.{ℕ, zero, suc, ◌≡◌, Bool, if◌then◌else◌, List, [], ◌∷◌}
+use Rattle.std.specs.Prelude.{ℕ, zero, suc, ◌≡◌, Bool, if◌then◌else◌, List, [], ◌∷◌, length}
 use Rattle.figure_laws.specs.Holding.{Hold}
 use Rattle.number_bytes.specs.Taken.{taken_count, taken_number, taken_optional}
 use Rattle.bound_labels.specs.Labels.{Labels}
@@ -19,6 +19,29 @@ taken_list taken bytes =
     let count = taken_count bytes in
     taken_many taken count.0 count.1
 
+-- a count that is most likely that of others
+abbrev pub beside_behind : ℕ → ℕ × List ℕ → ℕ × List ℕ
+beside_behind others (zero, bytes) = (others, bytes)
+beside_behind others (suc more, bytes) = taken_count bytes
+
+abbrev pub taken_beside : ℕ → List ℕ → ℕ × List ℕ
+taken_beside others bytes = beside_behind others (taken_count bytes)
+
+abbrev pub taken_list_beside : {X : Type 0} → ℕ → (List ℕ → X × List ℕ) → List ℕ
+    → List X × List ℕ
+taken_list_beside others taken bytes =
+    let count = taken_beside others bytes in
+    taken_many taken count.0 count.1
+
+-- the ages of a task's jobs
+abbrev pub ages_behind : ℕ × List ℕ → List ℕ × List ℕ
+ages_behind (zero, bytes) = ([], bytes)
+ages_behind (suc zero, bytes) = taken_list taken_number bytes
+ages_behind (suc (suc age), bytes) = (age ∷ [], bytes)
+
+abbrev pub taken_ages : List ℕ → List ℕ × List ℕ
+taken_ages bytes = ages_behind (taken_count bytes)
+
 abbrev pub taken_hold : List ℕ → Hold × List ℕ
 taken_hold bytes =
     let holder = taken_optional bytes in
@@ -29,12 +52,10 @@ taken_hold bytes =
 unfoldable pub unpacked : List ℕ → Labels
 unpacked bytes =
     let waits = taken_list taken_number bytes in
-    let ages = taken_list (taken_list taken_number) waits.1 in
-    let pending = taken_list taken_optional ages.1 in
-    let resources = taken_count pending.1 in
-    let tasks = taken_count resources.1 in
-    let holds = taken_many taken_hold resources.0 tasks.1 in
-    let blocked = taken_many taken_number tasks.0 holds.1 in
+    let ages = taken_list taken_ages waits.1 in
+    let holds = taken_list taken_hold ages.1 in
+    let pending = taken_list_beside (length waits.0) taken_optional holds.1 in
+    let blocked = taken_list_beside (length ages.0) taken_number pending.1 in
     record {
       waits = waits.0;
       ages = ages.0;

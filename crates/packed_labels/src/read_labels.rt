@@ -1,12 +1,13 @@
 //! Labels that bytes tell.
 
-ghost use Rattle.std.specs.Prelude.{◌≡◌, IfSome, IsTrue};
+ghost use Rattle.std.specs.Prelude.{◌≡◌, IfSome};
 ghost use Rattle.packed_labels.specs.Unpacked.{unpacked};
 
 use crate::laws::packed_are_told;
 use crate::packing::pack;
 use crate::reading::read_into;
 use bound_labels::Labels;
+use number_bytes::are_equal;
 use std::alloc::{AllocError, Global};
 use std::marker::Model;
 
@@ -31,13 +32,6 @@ impl Model for ReadLabels {
     ghost invariant = { λ r. r.is_known ≡ true → r.bytes.items ≡ packed r.labels };
 }
 
-/// Whether bytes are the same.
-fn are_equal(one: &[u8], other: &[u8]) -> bool
-    ensures { IsTrue result → one.now ≡ other.now }
-{
-    one == other
-}
-
 impl ReadLabels {
     /// None were read yet.
     pub fn new(alloc: Global) -> Self {
@@ -49,21 +43,29 @@ impl ReadLabels {
     }
 
     /// Whether bytes were read last.
+    #[inline(always)]
     fn has_read(&self, bytes: &[u8]) -> bool {
         self.is_known && are_equal(&self.bytes, bytes)
     }
 
-    /// Reads bytes, unless they were read last. An error is that there is no memory.
-    pub fn read(&mut self, bytes: &[u8]) -> Result<(), AllocError> {
-        if self.has_read(bytes) {
-            return Ok(());
-        }
+    /// Reads bytes in place of those that were read last.
+    #[inline(never)]
+    fn read_anew(&mut self, bytes: &[u8]) -> Result<(), AllocError> {
         self.is_known = false;
         read_into(&mut self.labels, bytes)?;
         self.bytes.clear();
         pack(&self.labels, &mut self.bytes)?;
         self.is_known = true;
         Ok(())
+    }
+
+    /// Reads bytes, unless they were read last. An error is that there is no memory.
+    #[inline(always)]
+    pub fn read(&mut self, bytes: &[u8]) -> Result<(), AllocError> {
+        if self.has_read(bytes) {
+            return Ok(());
+        }
+        self.read_anew(bytes)
     }
 
     /// The labels that bytes tell; none where others were read last, or where no labels have such

@@ -31,13 +31,25 @@ fn read_waits<'b>(labels: &mut Labels, bytes: &'b [u8]) -> Result<&'b [u8], Allo
     Ok(rest)
 }
 
-/// Reads the ages of one task's jobs.
-fn read_task<'b>(labels: &mut Labels, bytes: &'b [u8]) -> Result<&'b [u8], AllocError> {
+/// Reads the ages of one task's jobs, of which there are several.
+fn read_many<'b>(labels: &mut Labels, bytes: &'b [u8]) -> Result<&'b [u8], AllocError> {
     let (count, mut rest) = count_in(bytes);
     for _job in 0..count {
         let (age, behind) = read_number(rest);
         labels.push_age(short(age))?;
         rest = behind;
+    }
+    Ok(rest)
+}
+
+/// Reads the ages of one task's jobs. Of one job 2 was added to the age.
+fn read_task<'b>(labels: &mut Labels, bytes: &'b [u8]) -> Result<&'b [u8], AllocError> {
+    let (told, mut rest) = read_count(bytes);
+    if told == 1 {
+        rest = read_many(labels, rest)?;
+    }
+    if told > 1 {
+        labels.push_age(short(told - 2))?;
     }
     labels.end_task()?;
     Ok(rest)
@@ -51,27 +63,13 @@ fn read_ages<'b>(labels: &mut Labels, bytes: &'b [u8]) -> Result<&'b [u8], Alloc
     Ok(rest)
 }
 
-fn read_pending<'b>(labels: &mut Labels, bytes: &'b [u8]) -> Result<&'b [u8], AllocError> {
-    let (count, mut rest) = count_in(bytes);
-    for _routine in 0..count {
-        let (age, behind) = read_optional(rest);
-        labels.push_pending(age.map(short))?;
-        rest = behind;
-    }
-    Ok(rest)
-}
-
 /// The task of a number. Those that were written are below 64.
 fn task_of(number: u64) -> TaskId {
     TaskId::new((number % 64) as u8)
 }
 
-fn read_holds<'b>(
-    labels: &mut Labels,
-    bytes: &'b [u8],
-    count: usize,
-) -> Result<&'b [u8], AllocError> {
-    let mut rest = bytes;
+fn read_holds<'b>(labels: &mut Labels, bytes: &'b [u8]) -> Result<&'b [u8], AllocError> {
+    let (count, mut rest) = count_in(bytes);
     for _resource in 0..count {
         let (holder, behind) = read_optional(rest);
         let (held, behind) = read_number(behind);
@@ -81,8 +79,27 @@ fn read_holds<'b>(
     Ok(rest)
 }
 
-fn read_blocked(labels: &mut Labels, bytes: &[u8], count: usize) -> Result<(), AllocError> {
-    let mut rest = bytes;
+/// How many things follow, of which there are most likely as many as of others.
+fn count_beside(others: usize, bytes: &[u8]) -> (usize, &[u8]) {
+    let (is_told, rest) = read_count(bytes);
+    if is_told == 0 {
+        return (others, rest);
+    }
+    count_in(rest)
+}
+
+fn read_pending<'b>(labels: &mut Labels, bytes: &'b [u8]) -> Result<&'b [u8], AllocError> {
+    let (count, mut rest) = count_beside(labels.waits().len(), bytes);
+    for _routine in 0..count {
+        let (age, behind) = read_optional(rest);
+        labels.push_pending(age.map(short))?;
+        rest = behind;
+    }
+    Ok(rest)
+}
+
+fn read_blocked(labels: &mut Labels, bytes: &[u8]) -> Result<(), AllocError> {
+    let (count, mut rest) = count_beside(labels.task_count(), bytes);
     for _task in 0..count {
         let (ticks, behind) = read_number(rest);
         labels.push_blocked(short(ticks))?;
@@ -96,9 +113,7 @@ pub(crate) fn read_into(labels: &mut Labels, bytes: &[u8]) -> Result<(), AllocEr
     labels.clear();
     let rest = read_waits(labels, bytes)?;
     let rest = read_ages(labels, rest)?;
+    let rest = read_holds(labels, rest)?;
     let rest = read_pending(labels, rest)?;
-    let (resources, rest) = count_in(rest);
-    let (tasks, rest) = count_in(rest);
-    let rest = read_holds(labels, rest, resources)?;
-    read_blocked(labels, rest, tasks)
+    read_blocked(labels, rest)
 }

@@ -118,8 +118,16 @@ impl Held {
         self.resources.is_empty()
     }
 
-    /// Whether a resource is held.
+    /// Whether a resource is held. Most jobs hold none.
+    #[inline(always)]
     pub fn holds(&self, resource: ResId) -> bool
+        ensures { result ≡ is_held resource self.now }
+    {
+        !self.resources.is_empty() && self.is_among(resource)
+    }
+
+    /// Whether a resource is among those that are held.
+    fn is_among(&self, resource: ResId) -> bool
         ensures { result ≡ is_held resource self.now }
     {
         self.resources.iter().any(|held| is_same(resource, *held))
@@ -141,6 +149,9 @@ fn replace_all(resources: &mut ArrayVec<ResId, MOST_HELD>, others: &[ResId])
     requires { length others.now ≤ MOST_HELD }
     ensures { resources.new.items ≡ others.now }
 {
+    if resources.is_empty() && others.is_empty() {
+        return;
+    }
     resources.clear();
     match resources.try_extend_from_slice(others) {
         Ok(()) => {}

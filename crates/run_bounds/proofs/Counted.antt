@@ -80,12 +80,17 @@ once_below k (suc n) =
     go once true last = let none = before (eqb-true n k last) in omega (arith, none)
     go once false other = omega (arith, once)
 
+-- each of them stands once
+pub times_of : (S : System) (test : ℕ → Bool) (k : ℕ) → k < length S.routines
+    → times k (chosen_of S test) ≡ one_if (test k)
+times_of S test k low =
+    let fewer = fewer_chosen k test (below (length S.routines)) in
+    let most = once_below k (length S.routines) in
+    once_there k (chosen_of S test) (omega (arith, fewer, most))
+    ∙ ap one_if (in_chosen S test k low)
+
 -- the same list in which each of these routines stands once
 pub times_chosen : (S : System) (arrived : List ℕ) (k : ℕ) → k < length S.routines
     → times k arrived ≤ 1 → times k arrived ≡ times k (chosen_of S (λ i. is_in i arrived))
 times_chosen S arrived k low once =
-    let fewer = fewer_chosen k (λ i. is_in i arrived) (below (length S.routines)) in
-    let most = once_below k (length S.routines) in
-    once_there k arrived once
-    ∙ ap one_if (sym (in_chosen S (λ i. is_in i arrived) k low))
-    ∙ sym (once_there k (chosen_of S (λ i. is_in i arrived)) (omega (arith, fewer, most)))
+    once_there k arrived once ∙ sym (times_of S (λ i. is_in i arrived) k low)

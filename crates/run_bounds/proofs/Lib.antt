@@ -13,3 +13,4 @@ pub mod Lower
 pub mod Blockers
 pub mod Bounding
 pub mod Trying
+pub mod Lost

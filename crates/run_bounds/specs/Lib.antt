@@ -2,3 +2,4 @@ pub mod Nodes
 pub mod Going
 pub mod Bounds
 pub mod Trying
+pub mod Lost

@@ -3,6 +3,7 @@
 ghost use Rattle.bound_peaks.specs.Peaks.{NotesStay};
 ghost use Rattle.run_bounds.specs.Bounds.{LevelsBound, NodesAreKept, SearchesBound};
 ghost use Rattle.run_bounds.specs.Going.{KeysTellFutures};
+ghost use Rattle.run_bounds.specs.Lost.{LostChangeNothing};
 ghost use Rattle.run_bounds.specs.Trying.{
   LabelsAreOrdered,
   OneStateTells,
@@ -43,6 +44,12 @@ pub fn labels_are_ordered()
 /// The sets of routines that may arrive are the subsets of all that needn't wait.
 pub fn subsets_may()
     ensures { SubsetsMay }
+{}
+
+/// An interrupt of a routine that is pending already is lost, and changes nothing else: what comes
+/// of a state with such interrupts is what comes of it without them.
+pub fn lost_change_nothing()
+    ensures { LostChangeNothing }
 {}
 
 /// What is noted stays noted when peaks rise.

@@ -87,6 +87,8 @@ impl Steps for Walk {
         Ok(())
     }
 
+    fn take_back(&mut self, _node: Place) {}
+
     fn settle(&mut self, _node: &mut Place) {}
 
     fn watch(&mut self, progress: Progress) {

@@ -282,7 +282,12 @@ fn admit<S: Steps>(
     ensures others { IfOk result (OthersStay table.old.nodes.items table.new.nodes.items) }
     ensures full { IfOk result (λ done. done ≡ Full → limit ≤ length table.new.nodes.items) }
 {
-    match table.admit(alloc, steps, node, limit)? {
+    let hash = steps.hash(&node);
+    if table.covers(steps, hash, &node) {
+        steps.take_back(node);
+        return Ok(Admitted::Covered);
+    }
+    match table.admit(alloc, steps, hash, node, limit)? {
         Admitted::At(number) => {
             table.keep(alloc, steps, number)?;
             Ok(Admitted::At(number))

@@ -13,6 +13,9 @@ pub fn subset_from(whole: u64, from: u64) -> Option<u64>
     ensures next { IfSome result (NoSubset whole from) }
     ensures none { IfNone result ((set : ℕ) → from ≤ set → ¬ IsSubset set whole) }
 {
+    if from > whole {
+        return None;
+    }
     let mut set = from;
     'sets: while let Some(thing) = highest_outside(set, whole) {
         set = behind(set, thing)?;

@@ -81,6 +81,11 @@ pub trait Steps: Drop {
         ensures notes { StaysNoted is_noted self.old self.new }
         ensures same { node.new ≡ node.old };
 
+    /// Takes a node back that isn't kept, as another one covers it: its room can be used again.
+    fn take_back(&mut self, node: Self::Node)
+        ensures setting { setting self.new ≡ setting self.old }
+        ensures notes { StaysNoted is_noted self.old self.new };
+
     /// Takes that back from a node that was visited.
     fn settle(&mut self, node: &mut Self::Node)
         ensures setting { setting self.new ≡ setting self.old }

@@ -31,7 +31,7 @@ pub struct Table<N> {
 }
 
 impl<N: Drop> Table<N> {
-    ghost use Rattle.std.specs.Prelude.{◌≡◌, ◌≢◌, ℕ, ◌<◌, List, [], ◌∷◌, Some, IfOk, IfSome, OnOk, ◌++◌, ◌≤◌, length, drop, slice_get};
+    ghost use Rattle.std.specs.Prelude.{◌≡◌, ◌≢◌, ℕ, ◌<◌, List, [], ◌∷◌, Any, Some, IsTrue, IfOk, IfSome, OnOk, ◌++◌, ◌≤◌, length, drop, slice_get};
     ghost use Rattle.search.specs.Numbers.{is_in, put_in};
     ghost use Rattle.search.specs.declared.table.Admitted.TheVariants.{Full};
     ghost use Rattle.search.specs.Admitted.{Admits, IsAt, OthersStay};
@@ -94,13 +94,23 @@ impl<N: Drop> Table<N> {
         self.agenda.take();
     }
 
-    /// Sees to it that some node covers another, unless there are as many nodes as a limit allows.
-    /// One that covers it stays as it is; one that can be joined with it is joined and opened; else
-    /// it is added, and is open.
+    /// Whether some node is known to cover another, which has such a hash.
+    pub fn covers<S: Steps<Node = N>>(&self, steps: &S, hash: u64, node: &N) -> bool
+        ensures { IsTrue result → Any (λ x. (S.rules (S.setting steps.now)).covers x node.now)
+            self.now.nodes.items }
+    {
+        let first = self.index.first(hash);
+        is_covered(&self.nodes, &self.index, steps, first, node)
+    }
+
+    /// Sees to it that some node covers another, which has such a hash, unless there are as many
+    /// nodes as a limit allows. One that can be joined with it is joined and opened; else it is
+    /// added, and is open.
     pub fn admit<S: Steps<Node = N>>(
         &mut self,
         alloc: Global,
         steps: &S,
+        hash: u64,
         node: N,
         limit: usize,
     ) -> Result<Admitted, AllocError>
@@ -110,11 +120,7 @@ impl<N: Drop> Table<N> {
         ensures others { IfOk result (OthersStay self.old.nodes.items self.new.nodes.items) }
         ensures full { IfOk result (λ done. done ≡ Full → limit ≤ length self.new.nodes.items) }
     {
-        let hash = steps.hash(&node);
         let first = self.index.first(hash);
-        if is_covered(&self.nodes, &self.index, steps, first, &node) {
-            return Ok(Admitted::Covered);
-        }
         match join_among(alloc, &mut self.nodes, &self.index, steps, first, node)? {
             Joined::At(number) => {
                 self.agenda.put(number)?;

@@ -3,3 +3,5 @@ pub mod Acting
 pub mod Executing
 pub mod Stays
 pub mod Shows
+pub mod Bystanders
+pub mod Holding

@@ -1,22 +1,24 @@
 -- What is known of the tick that a machine did last, and what is seen by it and by the picture
 -- behind it.
-use Rattle.std.specs.Prelude.{ℕ, ◌≡◌, ◌+◌, ◌-◌, Bool, false, not, ◌&&◌, List, map, None, length, slice_index_or}
+use Rattle.std.specs.Prelude.{ℕ, ◌≡◌, ◌+◌, ◌-◌, Bool, false, not, ◌&&◌, List, [], map, Option, Some, None, length, slice_index_or}
 use Rattle.std.specs.Option.{option_map}
 use Rattle.observations.specs.declared.alarm_seen.AlarmSeen.{AlarmSeen}
 use Rattle.observations.specs.declared.routine_seen.RoutineSeen.{RoutineSeen}
 use Rattle.observations.specs.declared.task_seen.TaskSeen.{TaskSeen}
+use Rattle.osek_base.specs.declared.executed.Executed.{Executed}
 use Rattle.osek_base.specs.declared.ids.Owner.{Owner}
+use Rattle.osek_base.specs.declared.ids.ResId.{ResId}
 use Rattle.osek_base.specs.declared.status.TaskState.{TaskState}
 use Rattle.osek_base.specs.Lists.{below}
 use Rattle.osek_base.specs.System.{System}
 use Rattle.kept_state.specs.Kept.{Kept}
 use Rattle.kept_state.specs.KeptService.{task_state_in}
 use Rattle.same_future.specs.Spans.{is_pending_in}
-use Rattle.services.specs.Seen.{routine_of}
+use Rattle.services.specs.Seen.{holder_in, routine_of}
 use Rattle.kernel.specs.declared.acted.Acted.{Acted}
 use Rattle.kernel.specs.declared.task_at.TaskAt.{TaskAt}
 use Rattle.kernel.specs.Told.{task_at_in}
-use Rattle.observed_runs.specs.Observed.{activations_by, ending, is_among, is_by, is_number, is_waiting, lost_of, one_if, refusing, state_seen, times}
+use Rattle.observed_runs.specs.Observed.{activations_by, ending, is_among, is_by, is_number, is_waiting, lost_of, one_if, refusing, state_seen, task_of, times}
 use Rattle.shown_ticks.specs.Shown.{KeptTicked}
 use Rattle.seen_machines.specs.declared.told.Told.{Told}
 
@@ -80,3 +82,47 @@ routine_seen_by w o arrived i =
 abbrev pub alarm_seen_by : Acted → ℕ → AlarmSeen
 alarm_seen_by acted a =
     record { has_expired = is_among acted.due a; is_refused = is_among acted.refused a }
+
+-- ---- of most tasks, which neither execute nor end nor are refused
+
+-- no activation is refused
+pub record NoneIsRefused (w : Told) (acted : Acted) : Type 0 where
+  pub by_instruction : w.execution.refusing ≡ None
+  pub by_alarms : acted.refused ≡ []
+
+-- the task that executes
+abbrev pub executing : Option Executed → Option ℕ
+executing None = None
+executing (Some e) = task_of e.owner
+
+-- its number, and 255 where there is none
+abbrev pub number_or_none : Option ℕ → ℕ
+number_or_none None = 255
+number_or_none (Some t) = t
+
+-- by what it was at the instruction, and by how many jobs it has behind the tick and had before it
+abbrev pub bystander : TaskAt → ℕ → ℕ → TaskSeen
+bystander at jobs before =
+    record {
+      state = state_seen false at.state;
+      priority = at.priority;
+      jobs = at.jobs;
+      made = jobs - before;
+      refused = 0;
+      ended = false;
+      waits = false;
+    }
+
+-- ---- of alarms in most ticks, in which none is due
+
+pub record NoneActed (acted : Acted) : Type 0 where
+  pub due : acted.due ≡ []
+  pub refused : acted.refused ≡ []
+
+abbrev pub not_due : AlarmSeen
+not_due = record { has_expired = false; is_refused = false }
+
+-- ---- of most resources, which nobody holds
+
+abbrev pub NoneIsHeld : System → Kept → Type 0
+NoneIsHeld S o = (r : ResId) → holder_in S o r ≡ None

@@ -4,29 +4,43 @@ ghost use Rattle.std.specs.Prelude.{◌≡◌, ◌<◌, ◌≤◌, length};
 ghost use Rattle.std.specs.Option.{option_map};
 ghost use Rattle.kept_state.specs.KeptService.{task_state_in};
 ghost use Rattle.same_future.specs.Spans.{is_pending_in};
+ghost use Rattle.osek_base.specs.Lists.{is_empty};
+ghost use Rattle.services.specs.Objects.{by_task};
 ghost use Rattle.services.specs.Seen.{holder_in, routine_of};
 ghost use Rattle.kernel.specs.Machine.{picture, system_of};
 
 use kernel::{Blockers, Machine};
 use osek_base::{IsrId, MAX_ACTIVATION, ResId, System, TaskId, TaskState};
 use ready_queues::ReadyQueues;
-use services::Objects;
+use services::{Objects, Slot};
 
 /// The system of some objects.
+#[inline(always)]
 fn system_of<'s, Q: ReadyQueues>(objects: &Objects<'s, Q>) -> &'s System
     ensures { result.now ≡ objects.now.system }
 {
     objects.system
 }
 
+/// The control block of a task.
+#[inline(always)]
+fn slot<'o, Q: ReadyQueues>(objects: &'o Objects<'_, Q>, task: TaskId) -> &'o Slot
+    requires { task < length objects.now.system.tasks }
+    ensures { result.now ≡ by_task objects.now.slots task }
+{
+    objects.slot(task)
+}
+
 /// The system of a machine.
+#[inline(always)]
 pub(crate) fn system<'s, Q: ReadyQueues, B: Blockers>(machine: &Machine<'s, Q, B>) -> &'s System
     ensures { result.now ≡ system_of machine.now }
 {
-    system_of(machine.objects())
+    system_of(machine.core().objects())
 }
 
 /// How many jobs a task has.
+#[inline(always)]
 pub(crate) fn job_count<Q: ReadyQueues, B: Blockers>(
     machine: &Machine<'_, Q, B>,
     task: TaskId,
@@ -50,6 +64,7 @@ pub(crate) fn task_state<Q: ReadyQueues, B: Blockers>(
 }
 
 /// Whether an interrupt of a routine has arrived and not started it yet.
+#[inline(always)]
 pub(crate) fn is_pending<Q: ReadyQueues, B: Blockers>(
     machine: &Machine<'_, Q, B>,
     routine: IsrId,
@@ -61,12 +76,25 @@ pub(crate) fn is_pending<Q: ReadyQueues, B: Blockers>(
 }
 
 /// The active routine.
+#[inline(always)]
 pub(crate) fn active_routine<Q: ReadyQueues, B: Blockers>(
     machine: &Machine<'_, Q, B>,
 ) -> Option<IsrId>
     ensures { result ≡ option_map routine_of (picture machine.now).active }
 {
     machine.core().active_routine()
+}
+
+/// Whether the oldest job of a task holds no resource.
+#[inline(always)]
+pub(crate) fn holds_none<Q: ReadyQueues, B: Blockers>(
+    machine: &Machine<'_, Q, B>,
+    task: TaskId,
+) -> bool
+    requires { task < length (system_of machine.now).tasks }
+    ensures { result ≡ is_empty ((picture machine.now).slots task).held }
+{
+    slot(machine.core().objects(), task).holds_none()
 }
 
 /// The first task whose oldest job holds a resource.

@@ -37,6 +37,7 @@ impl<'s, Q: ReadyQueues> Objects<'s, Q> {
     }
 
     /// Whether a task's oldest job holds a resource.
+    #[inline(always)]
     pub fn holds(&self, task: TaskId, resource: &ResId) -> bool
         requires { task < length self.now.system.tasks }
         ensures { result ≡ holds_in resource.now (by_task self.now.slots task) }

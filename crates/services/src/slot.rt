@@ -205,6 +205,7 @@ impl Slot {
     }
 
     /// Whether the oldest job holds a resource.
+    #[inline(always)]
     pub fn holds(&self, resource: &ResId) -> bool
         ensures { result ≡ holds_in resource.now self.now }
     {

@@ -1,6 +1,7 @@
 pub mod Steps
 pub mod SetLemmas
 pub mod ReadyLemmas
+pub mod JobLemmas
 pub mod CounterLemmas
 pub mod TimeLemmas
 pub mod PictureLemmas

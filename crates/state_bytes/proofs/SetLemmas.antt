@@ -1,5 +1,5 @@
 -- Numbers of a set, one after another.
-use Rattle.std.proofs.Common.{ℕ, zero, suc, ◌≡◌, ◌<◌, ◌≤◌, ◌+◌, ◌-◌, ◌*◌, ◌/◌, ◌%◌, ◌^◌, true, false, List, [], ◌++◌, sym, ◌∙◌, ap, ap₂, arith, inl, inr, w64}
+use Rattle.std.proofs.Common.{ℕ, zero, suc, ◌≡◌, ◌<◌, ◌≤◌, ◌+◌, ◌-◌, ◌*◌, ◌/◌, ◌%◌, ◌^◌, Bool, true, false, List, [], ◌++◌, sym, ◌∙◌, ap, ap₂, arith, inl, inr, w64}
 use Rattle.std.proofs.lemmas.List.{append-nil}
 use Rattle.std.proofs.lemmas.Nat.{shr-shr}
 use Rattle.std.proofs.lemmas.Nat.Bits.{bit_at-zero, bit_at-trailing_zeros, bit_at_above, bit_at_set_same, bit_at_set_other}
@@ -8,9 +8,10 @@ use Rattle.std.specs.Prelude.{◌==◌}
 use Rattle.std.specs.Int.{bit_at, trailing_zeros}
 use Rattle.std.specs.Int.Bits.{bit_or}
 use Rattle.needs.specs.Table.{has}
-use Rattle.state_keys.specs.Bytes.{each}
+use Rattle.osek_base.specs.declared.limits.TheConstants.{WINDOW_WORDS}
+use Rattle.state_keys.specs.Bytes.{each, needed}
 use Rattle.state_bytes.specs.Sets.{HasNone, IsNext}
-use Rattle.state_bytes.proofs.Steps.{written_as}
+use Rattle.state_bytes.proofs.Steps.{none_yet, written_as}
 
 -- ---- the next number of a set
 
@@ -117,3 +118,15 @@ module _ (old : List ℕ) (set from : ℕ) (part : ℕ → List ℕ)
   pub written_all : (out : List ℕ) → from ≤ 64 → HasNone set from 64
       → out ≡ old ++ each from part → out ≡ old ++ each 64 part
   written_all out low none before = written_below out 64 (omega arith) low none before
+
+-- nothing is written of a window of which no word is needed
+pub no_words : (old : List ℕ) (need : ℕ → Bool) (words : ℕ → ℕ) (set : ℕ) → set ≡ 0
+    → ((i : ℕ) → need i ≡ has set i) → old ≡ old ++ each WINDOW_WORDS (λ i. needed (need i) (words i))
+no_words old need words set none same =
+    let unneeded : (i : ℕ) → need i ≡ false =
+    λ i. same i ∙ ap (λ s. has s i) none ∙ is_zero _ (bit_at-zero i) in
+    none_yet old (λ i. needed (need i) (words i))
+    ∙ ap (λ xs. old ++ xs)
+    (sym
+    (none_between (λ i. needed (need i) (words i)) 0 WINDOW_WORDS (omega arith)
+    (λ i low high. ap (λ b. needed b (words i)) (unneeded i))))

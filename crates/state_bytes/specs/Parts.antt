@@ -1,5 +1,6 @@
 -- Parts of a key that code writes by a function of their own.
 use Rattle.std.specs.Prelude.{ℕ, suc, ◌-◌, ◌==◌, Bool, if◌then◌else◌, List, [], ◌∷◌, ◌++◌, length, Option, Some, None}
+use Rattle.osek_base.specs.declared.ids.ResId.{ResId}
 use Rattle.osek_base.specs.System.{System}
 use Rattle.osek_base.specs.State.{Expiry}
 use Rattle.services.specs.declared.ready_entry.ReadyEntry.{ReadyEntry}
@@ -8,9 +9,13 @@ use Rattle.needed_data.specs.Need.{Need}
 use Rattle.state_keys.specs.Bytes.{each, flag, number}
 use Rattle.state_keys.specs.Key.{alarm_key, counter_key, executing_key, interrupts_key, job_key, resources_key, task_key}
 
+-- how many resources a job holds, and each
+abbrev pub held_key : List ResId → List ℕ
+held_key held = number (length held) ++ resources_key held
+
 -- whether a job has begun and taken its internal resource, and which resources it holds
 abbrev pub first_of_job : Slot → List ℕ
-first_of_job a = flag a.begun ++ flag a.taken ++ number (length a.held) ++ resources_key a.held
+first_of_job a = flag a.begun ++ flag a.taken ++ held_key a.held
 
 -- how many jobs a task has, and the oldest one
 abbrev pub jobs_key : (ℕ → Bool) → Slot → List ℕ

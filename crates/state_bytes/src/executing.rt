@@ -17,6 +17,7 @@ use services::{Active, CompactQueues, Objects};
 use std::alloc::AllocError;
 
 /// Adds the registers that are needed.
+#[inline(always)]
 #[tactic(auto, using(crate::proofs::Steps::none_yet))]
 fn push_registers(
     out: &mut Vec<u8>,
@@ -38,6 +39,7 @@ fn push_registers(
 }
 
 /// Adds a place, and the registers that are needed.
+#[inline(always)]
 #[tactic(auto, using(crate::proofs::Steps::joined))]
 pub fn push_context(
     out: &mut Vec<u8>,
@@ -53,6 +55,7 @@ pub fn push_context(
 }
 
 /// Adds a routine with its registers and place.
+#[inline(never)]
 #[tactic(auto, using(crate::proofs::Steps::joined))]
 fn push_routine(out: &mut Vec<u8>, needs: &Needs, active: &Active) -> Result<(), AllocError>
     ensures { OnOk result (out.new.items ≡ out.old.items

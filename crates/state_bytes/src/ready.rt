@@ -14,6 +14,7 @@ use services::{CompactQueues, ReadyEntry};
 use std::alloc::AllocError;
 
 /// Adds a ready task with its level, if it stands at that one.
+#[inline(always)]
 #[tactic(auto, using(crate::proofs::Steps::joined))]
 fn push_entry(out: &mut Vec<u8>, level: u8, entry: &ReadyEntry) -> Result<(), AllocError>
     requires { level < 255 }
@@ -27,19 +28,16 @@ fn push_entry(out: &mut Vec<u8>, level: u8, entry: &ReadyEntry) -> Result<(), Al
 }
 
 /// Adds the tasks that are ready at a level, oldest first.
-#[tactic(auto, using(crate::proofs::Steps::joined, crate::proofs::ReadyLemmas::level_step))]
+#[inline(always)]
 fn push_level(out: &mut Vec<u8>, level: u8, entries: &[ReadyEntry]) -> Result<(), AllocError>
     requires { level < 255 }
     ensures { OnOk result (out.new.items ≡ out.old.items
         ++ level_key level (tasks_at entries.now level)) }
 {
-    match entries.split_first() {
-        None => Ok(()),
-        Some((first, rest)) => {
-            push_entry(out, level, first)?;
-            push_level(out, level, rest)
-        }
+    for entry in entries {
+        push_entry(out, level, entry)?;
     }
+    Ok(())
 }
 
 /// The levels below 64 at which a task is ready, as a set.

@@ -5,13 +5,13 @@ ghost use Rattle.osek_base.specs.declared.limits.TheConstants.{MAX_RESOURCES};
 ghost use Rattle.osek_base.specs.declared.ids.Owner.{Owner as OwnerOf};
 ghost use Rattle.services.specs.Objects.{kept_in};
 ghost use Rattle.needs.specs.Table.{need_of};
-ghost use Rattle.state_keys.specs.Bytes.{each, number};
+ghost use Rattle.state_keys.specs.Bytes.{each, number, optional};
 ghost use Rattle.state_keys.specs.Key.{job_key, resource_key, resources_key, task_key};
-ghost use Rattle.state_bytes.specs.Parts.{first_of_job, jobs_key};
+ghost use Rattle.state_bytes.specs.Parts.{first_of_job, held_key, jobs_key};
 
 use crate::executing::push_context;
 use needs::Needs;
-use number_bytes::{push_flag, push_number, push_optional};
+use number_bytes::{push_byte, push_flag, push_number, push_optional};
 use osek_base::{MAX_RESOURCES, Owner, ResId, System, TaskId};
 use services::{CompactQueues, Objects, Slot};
 use std::alloc::AllocError;
@@ -40,43 +40,79 @@ fn push_resources(out: &mut Vec<u8>, resources: &[ResId]) -> Result<(), AllocErr
     }
 }
 
-/// Adds whether a job has begun and taken its internal resource, and which resources it holds.
+/// Adds how many resources a job holds, and each.
+#[inline(never)]
 #[tactic(auto, using(crate::proofs::Steps::joined))]
-fn push_first_of_job(out: &mut Vec<u8>, slot: &Slot) -> Result<(), AllocError>
-    ensures { OnOk result (out.new.items ≡ out.old.items ++ first_of_job slot.now) }
+fn push_each_held(out: &mut Vec<u8>, slot: &Slot) -> Result<(), AllocError>
+    ensures { OnOk result (out.new.items ≡ out.old.items ++ held_key slot.now.held) }
 {
     let held = slot.held();
-    push_flag(out, slot.is_begun())?;
-    push_flag(out, slot.is_taken())?;
     push_number(out, held.len() as u32)?;
     push_resources(out, held)
 }
 
+/// Adds what a job holds; mostly that is nothing.
+#[inline(always)]
+#[tactic(auto, using(crate::proofs::JobLemmas::none_held))]
+fn push_held(out: &mut Vec<u8>, slot: &Slot) -> Result<(), AllocError>
+    ensures { OnOk result (out.new.items ≡ out.old.items ++ held_key slot.now.held) }
+{
+    if slot.holds_none() {
+        return push_byte(out, 0);
+    }
+    push_each_held(out, slot)
+}
+
+/// Adds whether a job has begun and taken its internal resource, and which resources it holds.
+#[inline(always)]
+#[tactic(auto, using(crate::proofs::Steps::joined))]
+fn push_first_of_job(out: &mut Vec<u8>, slot: &Slot) -> Result<(), AllocError>
+    ensures { OnOk result (out.new.items ≡ out.old.items ++ first_of_job slot.now) }
+{
+    push_flag(out, slot.is_begun())?;
+    push_flag(out, slot.is_taken())?;
+    push_held(out, slot)
+}
+
+/// Adds the events for which a job waits; mostly it waits for none.
+#[inline(always)]
+fn push_awaited(out: &mut Vec<u8>, awaited: Option<u32>) -> Result<(), AllocError>
+    ensures { OnOk result (out.new.items ≡ out.old.items ++ optional number awaited) }
+{
+    match awaited {
+        None => push_byte(out, 0),
+        Some(_) => push_optional(out, awaited),
+    }
+}
+
 /// Adds the oldest job of a task.
+#[inline(always)]
 #[tactic(auto, using(crate::proofs::Steps::joined))]
 fn push_job(out: &mut Vec<u8>, needs: &Needs, task: TaskId, slot: &Slot) -> Result<(), AllocError>
     ensures { OnOk result (out.new.items ≡ out.old.items
         ++ job_key ((need_of needs.now).registers (OwnerOf.Task task)) slot.now) }
 {
     push_first_of_job(out, slot)?;
-    push_optional(out, slot.awaited())?;
+    push_awaited(out, slot.awaited())?;
     push_context(out, needs, &Owner::Task(task), &slot.cpu())
 }
 
 /// Adds how many jobs a task has, and the oldest one, if there is one.
-#[tactic(auto, using(crate::proofs::Steps::joined))]
+#[inline(always)]
+#[tactic(auto, using(crate::proofs::Steps::joined, crate::proofs::JobLemmas::no_jobs))]
 fn push_jobs(out: &mut Vec<u8>, needs: &Needs, task: TaskId, slot: &Slot) -> Result<(), AllocError>
     ensures { OnOk result (out.new.items ≡ out.old.items
         ++ jobs_key ((need_of needs.now).registers (OwnerOf.Task task)) slot.now) }
 {
-    push_number(out, slot.count() as u32)?;
     if slot.count() == 0 {
-        return Ok(());
+        return push_byte(out, 0);
     }
+    push_number(out, slot.count() as u32)?;
     push_job(out, needs, task, slot)
 }
 
 /// Adds a task: its jobs, and the events that are set.
+#[inline(always)]
 #[tactic(auto, using(crate::proofs::Steps::joined))]
 fn push_task(
     out: &mut Vec<u8>,

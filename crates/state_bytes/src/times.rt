@@ -30,12 +30,16 @@ fn ticks_per_base(system: &System, alarm: AlarmId) -> u32
     system.counter_of(alarm).ticks_per_base
 }
 
-/// How many counts pass when a tick comes: 1 where the counter grows, else 0.
+/// How many counts pass when a tick comes: 1 where the counter grows, else 0. Most counters grow
+/// in each tick.
 #[inline(always)]
 fn counts_passed(base: u32, tick: u32) -> u32
     requires { 1 ≤ base }
     ensures { result ≡ tick / base - (tick - 1) / base }
 {
+    if base == 1 {
+        return if tick == 0 { 0 } else { 1 };
+    }
     (tick / base).saturating_sub(tick.saturating_sub(1) / base)
 }
 
@@ -70,6 +74,7 @@ fn counts_left(
 }
 
 /// Adds what an alarm has left, and its cycle.
+#[inline(always)]
 #[tactic(auto, using(crate::proofs::Steps::joined))]
 fn push_left(out: &mut Vec<u8>, left: Option<u32>, cycle: Option<u32>) -> Result<(), AllocError>
     ensures { OnOk result (out.new.items ≡ out.old.items ++ left_key left cycle) }
@@ -88,6 +93,7 @@ fn push_left(out: &mut Vec<u8>, left: Option<u32>, cycle: Option<u32>) -> Result
 }
 
 /// Adds an alarm at a tick, where the clock shows the one before.
+#[inline(always)]
 fn push_alarm(
     out: &mut Vec<u8>,
     system: &System,
@@ -155,6 +161,18 @@ fn push_value(
     Ok(())
 }
 
+/// For how many ticks a counter has had its value at a tick; most counters grow in each tick.
+#[inline(always)]
+fn phase_at(counter: &Counter, tick: u32) -> u32
+    requires { 1 ≤ counter.now.ticks_per_base }
+    ensures { result ≡ phase_at counter.now tick }
+{
+    if counter.ticks_per_base == 1 {
+        return 0;
+    }
+    tick % counter.ticks_per_base
+}
+
 /// Adds the value that a counter has at a tick, if it is needed, and for how many ticks it has had
 /// it.
 #[tactic(auto, using(crate::proofs::Steps::joined))]
@@ -170,7 +188,7 @@ fn push_counter(
         ++ (needed is_needed (value_at counter.now tick) ++ number (phase_at counter.now tick))) }
 {
     push_value(out, counter, is_needed, tick)?;
-    push_number(out, tick % counter.ticks_per_base)
+    push_number(out, phase_at(counter, tick))
 }
 
 /// Adds each counter.

@@ -17,9 +17,10 @@ use osek_base::{IsrId, Owner, ResourceNumber, SHARED_WORDS, System, TaskId};
 use services::CompactQueues;
 use std::alloc::AllocError;
 
-/// Adds the words of a window that are needed.
+/// Adds the words of a window that are needed, one after another.
+#[inline(never)]
 #[tactic(auto, using(crate::proofs::Steps::none_yet))]
-fn push_window<B: Blockers>(
+fn push_each_word<B: Blockers>(
     out: &mut Vec<u8>,
     machine: &Machine<'_, CompactQueues, B>,
     needs: &Needs,
@@ -35,6 +36,23 @@ fn push_window<B: Blockers>(
         from = index + 1;
     }
     Ok(())
+}
+
+/// Adds the words of a window that are needed; mostly none is.
+#[inline(always)]
+fn push_window<B: Blockers>(
+    out: &mut Vec<u8>,
+    machine: &Machine<'_, CompactQueues, B>,
+    needs: &Needs,
+    owner: &Owner,
+) -> Result<(), AllocError>
+    ensures { OnOk result (out.new.items ≡ out.old.items
+        ++ window_key (need_of needs.now) (picture machine.now) owner.now) }
+{
+    if needs.needed_words(*owner) == 0 {
+        return Ok(());
+    }
+    push_each_word(out, machine, needs, owner)
 }
 
 /// Adds the words of tasks.
@@ -76,6 +94,7 @@ fn push_routine_windows<B: Blockers>(
 }
 
 /// Adds all words of a resource's window.
+#[inline(never)]
 #[tactic(auto, using(crate::proofs::Steps::none_yet))]
 fn push_shared_window<B: Blockers>(
     out: &mut Vec<u8>,

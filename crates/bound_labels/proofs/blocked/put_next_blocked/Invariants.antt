@@ -1,4 +1,4 @@
-use Rattle.std.proofs.Common.{◌≡◌, map}
+use Rattle.std.proofs.Common.{◌≡◌, length, map, take}
 use Rattle.osek_base.specs.Lists.{below}
 use Rattle.figures.specs.FigureSums.{levels_of, lower_executes}
 use Rattle.observations.specs.Seen.{seen_of}
@@ -8,6 +8,7 @@ use Rattle.bound_labels.proofs.blocked.put_next_blocked.Given as goal
 -- the ticks of those gone over
 abbrev pub invariant-loop-task : goal.invariant-loop-task
 invariant-loop-task l =
-    l.next.items
+    (length l.next.items ≡ length l.blocked) × (
+    take l.task l.next.items
     ≡ map (blocked_behind (lower_executes (levels_of l.system) l.seen.executor) l.cap
-    (seen_of l.seen) l.blocked) (below l.task)
+    (seen_of l.seen) l.blocked) (below l.task))

@@ -1,4 +1,4 @@
-use Rattle.std.proofs.Common.{◌≡◌, map}
+use Rattle.std.proofs.Common.{◌≡◌, length, map, take}
 use Rattle.osek_base.specs.Lists.{below}
 use Rattle.bound_labels.specs.Parts.{wait_behind}
 use Rattle.bound_labels.proofs.waits.put_next_waits.Given as goal
@@ -6,4 +6,6 @@ use Rattle.bound_labels.proofs.waits.put_next_waits.Given as goal
 -- the waits of those gone over
 abbrev pub invariant-loop-routine : goal.invariant-loop-routine
 invariant-loop-routine l =
-    l.next.items ≡ map (wait_behind l.distances l.set l.waits) (below l.routine)
+    (length l.next.items ≡ length l.waits) × (
+    take l.routine l.next.items
+    ≡ map (wait_behind l.distances l.set l.waits) (below l.routine))

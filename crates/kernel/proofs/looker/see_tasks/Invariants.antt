@@ -1,4 +1,4 @@
-use Rattle.std.proofs.Common.{◌≡◌, map}
+use Rattle.std.proofs.Common.{◌≡◌, length, map, take}
 use Rattle.osek_base.specs.Lists.{below}
 use Rattle.kernel.specs.Processor.{picture, system_of}
 use Rattle.kernel.specs.Told.{task_at_in}
@@ -6,4 +6,6 @@ use Rattle.kernel.proofs.looker.see_tasks.Given as goal
 
 -- what those gone over are
 abbrev pub invariant-loop-number : goal.invariant-loop-number
-invariant-loop-number g l = l.tasks.items ≡ map (task_at_in (system_of l.processor) (picture l.processor)) (below l.number)
+invariant-loop-number g l =
+    (length l.places ≡ length (system_of l.processor).tasks) × (
+    take l.number l.places ≡ map (task_at_in (system_of l.processor) (picture l.processor)) (below l.number))

@@ -5,6 +5,12 @@ use Rattle.search.specs.Subsets.{IsSubset, NoSubset}
 use Rattle.search.proofs.SubsetLemmas.{subset_within, none_behind, none_more, none_left, past}
 use Rattle.search.proofs.sets.subset_from.Goals as goal
 
+pub returns-then-from-whole-clause-none : goal.returns-then-from-whole-clause-none
+returns-then-from-whole-clause-none c set low is =
+    let within = subset_within set c.args.whole is in
+    let above = c.if-from-whole.true in
+    absurd (omega (arith, within, low, above))
+
 pub returns-in_err-set-clause-none : goal.returns-in_err-set-clause-none
 returns-in_err-set-clause-none c =
     let set = c.sets.set in

@@ -1,4 +1,4 @@
-use Rattle.std.proofs.Common.{sym, ◌∙◌, ap, ap₂, arith}
+use Rattle.std.proofs.Common.{sym, ◌∙◌, ap, arith}
 use Rattle.osek_base.specs.declared.limits.TheConstants.{REGISTERS}
 use Rattle.osek_base.specs.Instruction.{value}
 use Rattle.needs.specs.Table.{need_of}

@@ -9,3 +9,6 @@ returns-in_err-base-clause-notes g c = same_stay c.args.self.now _ c.self.view_i
 
 pub returns-clause-notes : goal.returns-clause-notes
 returns-clause-notes g c = same_stay c.args.self.now _ c.self.view_is
+
+pub returns-in_err-self-inside-clause-notes : goal.returns-in_err-self-inside-clause-notes
+returns-in_err-self-inside-clause-notes g c = same_stay c.args.self.now _ c.self.view_is

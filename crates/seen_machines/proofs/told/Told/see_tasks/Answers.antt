@@ -9,8 +9,8 @@ pub loop-number-preserved : goal.loop-number-preserved
 loop-number-preserved g c =
     let m = c.args.machine.now in
     goes_on (task_seen_by (system_of m) c.args.self.now (picture m) m.acted) c.loop-number.number
-    c.loop-number.places (length (system_of m).tasks) c.task_count-count.result c.new.result
+    c.loop-number.places (length (system_of m).tasks) c.task_count-count.result c.new-task.result
     c.loop-number.invariant
     c.loop-number-test.true
     (c.task_count-count.ensures.value ∙ ap (λ (S : System). length S.tasks) c.system.ensures)
-    c.new.ensures c.task_seen.result c.task_seen.ensures
+    c.new-task.ensures c.see_task.new.place c.see_task.ensures

@@ -2,7 +2,7 @@ use Rattle.std.proofs.Common.{◌≡◌, ◌≤◌, ◌++◌, ◌-◌}
 use Rattle.state_keys.specs.Bytes.{each, needed}
 use Rattle.kernel.specs.Machine.{picture}
 use Rattle.needs.specs.Table.{need_of}
-use Rattle.state_bytes.proofs.words.push_window.Given as goal
+use Rattle.state_bytes.proofs.words.push_each_word.Given as goal
 
 abbrev pub invariant-loop-index : goal.invariant-loop-index
 invariant-loop-index g l =

@@ -1,0 +1,102 @@
+-- What came of a node comes of it once more, also with interrupts that are lost.
+use Rattle.std.proofs.Common.{ℕ, ◌≡◌, ◌<◌, ◌≤◌, arith, Bool, true, false, get_or, refl, sym, ◌∙◌, subst, length}
+use Rattle.std.specs.Prelude.{◌≢◌, IsTrue}
+use Rattle.std.specs.Int.{bit_at}
+use Rattle.std.proofs.lemmas.Bool.{and_parts, eq-eqb, eqb-true, leb-true, true≢false}
+use Rattle.osek_base.specs.declared.limits.TheConstants.{MAX_ROUTINES}
+use Rattle.osek_base.specs.Proper.{IsProper}
+use Rattle.osek_base.specs.System.{System}
+use Rattle.same_future.specs.Spans.{is_pending_in}
+use Rattle.kept_state.specs.Kept.{Kept}
+use Rattle.kernel.specs.Machine.{Machine, picture}
+use Rattle.search.specs.Rules.{StaysNoted}
+use Rattle.bound_labels.specs.Labels.{arrives_in}
+use Rattle.bound_peaks.specs.Peaks.{Peaks, has_come}
+use Rattle.run_bounds.specs.Lost.{IsWithoutLost, LoseNothing, LostChangeNothing}
+use Rattle.run_bounds.specs.Nodes.{AreNoted, IsNext, May, Node, Setting, StandsFor}
+use Rattle.run_bounds.specs.Trying.{OneStateTells, TellsAll}
+use Rattle.bounds.specs.declared.memo.Made.{Made}
+use Rattle.bounds.specs.declared.memo.Memo.{Memo}
+use Rattle.bounds.specs.Held.{IsIn}
+use Rattle.bounds.specs.Exploring.{AreNotedIn, Explorer, IsGround, setting_of}
+use Rattle.bounds.specs.Remembered.{AreRemembered, IsRemembered}
+use Rattle.bounds.proofs.Exploring.{stands}
+
+-- ---- what is noted stays so
+
+pub still : (e f : Explorer) (x : Node) → setting_of f ≡ setting_of e → StaysNoted AreNotedIn e f
+    → (made : Made) → IsRemembered e x made → IsRemembered f x made
+still e f x same stays made is = record {
+  next = subst (λ (s : Setting). IsNext s x made.set made.node) (sym same) is.next;
+  noted = stays x made.set is.noted;
+}
+
+pub still_remembered : (e f : Explorer) (memo : Memo) → setting_of f ≡ setting_of e
+    → StaysNoted AreNotedIn e f → AreRemembered e memo → AreRemembered f memo
+still_remembered e f memo same stays are x from =
+    λ k d low. still e f x same stays (get_or memo.made.items k d) (are x from k d low)
+
+-- ---- interrupts that are lost
+
+pub few_routines : (S : System) → IsProper S → length S.routines ≤ MAX_ROUTINES
+few_routines S proper =
+    leb-true _ _ (and_parts _ _ (and_parts _ _ (and_parts _ _ (and_parts _ _ (and_parts _ _
+    (and_parts _ _ (and_parts _ _ proper.limits).0).0).0).0).0).0).1
+
+-- a set without what is pending in a state
+pub without_lost : (s : Setting) (set pending fewer : ℕ) (o : Kept)
+    → length s.system.routines ≤ 64
+    → ((i : ℕ) → bit_at pending i ≡ 1 → is_pending_in o i ≡ true)
+    → ((i : ℕ) → bit_at fewer i ≡ 1 → bit_at set i ≡ 1)
+    → ((i : ℕ) → i < 64 → bit_at set i ≡ 1 → bit_at fewer i ≢ 1 → bit_at pending i ≡ 1)
+    → IsWithoutLost s set fewer o
+without_lost s set pending fewer o few pends less others = record {
+  less = λ i arrives. eq-eqb (bit_at set i) 1 (less i (eqb-true (bit_at fewer i) 1 arrives));
+  pend = λ i low arrives isnt.
+      pends i (others i (omega (arith, low, few)) (eqb-true (bit_at set i) 1 arrives)
+      (λ bit. true≢false (sym (eq-eqb (bit_at fewer i) 1 bit) ∙ isnt)));
+}
+
+-- those that are lost are noted
+pub losses_noted : (losses : ℕ → Bool) (count set pending fewer lost : ℕ) → count ≤ MAX_ROUTINES
+    → ((i : ℕ) → i < 64 → bit_at set i ≡ 1 → bit_at fewer i ≢ 1 → bit_at pending i ≡ 1)
+    → ((i : ℕ) → bit_at set i ≡ 1 → bit_at pending i ≡ 1 → bit_at lost i ≡ 1)
+    → ((i : ℕ) → i < MAX_ROUTINES → losses i ≡ false → bit_at lost i ≡ 0)
+    → (i : ℕ) → i < count → IsTrue (arrives_in set i) → arrives_in fewer i ≡ false
+    → losses i ≡ true
+losses_noted losses count set pending fewer lost few others both noted i low arrives isnt = go (losses i) refl
+  where
+    in_set : bit_at set i ≡ 1
+    in_set = eqb-true (bit_at set i) 1 arrives
+
+    is_lost : bit_at lost i ≡ 1
+    is_lost =
+        both i in_set (others i (omega (arith, low, few)) in_set (λ bit. true≢false (sym (eq-eqb (bit_at fewer i) 1 bit) ∙ isnt)))
+
+    go : (b : Bool) → losses i ≡ b → b ≡ true
+    go true is = refl
+    go false is =
+        let none = noted i (omega (arith, low, few)) is in absurd (omega (arith, none, is_lost))
+
+module _ (e : Explorer) (x : Node) (set fewer : ℕ) (m : Machine) (tells : OneStateTells)
+    (lost : LostChangeNothing) (ground : IsGround e.ground) (may : May (setting_of e) x set)
+    (is : IsIn e.ground x.key m) (going : (picture m).over ≡ x.over)
+    (without : IsWithoutLost (setting_of e) set fewer (picture m)) where
+  abbrev here : StandsFor (setting_of e) x (picture m)
+  here = stands e x m is going
+
+  abbrev all : TellsAll (setting_of e) x set (picture m)
+  all =
+      tells (setting_of e) x set (picture m) ground.proper ground.suffices ground.own may.going here
+
+  abbrev nothing : LoseNothing (setting_of e) x set fewer (picture m)
+  nothing = lost (setting_of e) x set fewer (picture m) may without
+
+  pub next_again : (y : Node) → IsNext (setting_of e) x fewer y → IsNext (setting_of e) x set y
+  next_again y comes = all.next y (nothing.next y (comes (picture m) here))
+
+  pub noted_again : (peaks : Peaks) → AreNoted (setting_of e) peaks x fewer
+      → ((i : ℕ) → i < length (setting_of e).system.routines → IsTrue (arrives_in set i)
+      → arrives_in fewer i ≡ false → has_come peaks.losses i ≡ true)
+      → AreNoted (setting_of e) peaks x set
+  noted_again peaks noted losses = all.noted peaks (nothing.noted peaks (noted (picture m) here) losses)
