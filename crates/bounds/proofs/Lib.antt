@@ -1,5 +1,5 @@
 pub mod HeldLemmas
 pub mod SetLemmas
 pub mod Exploring
-pub mod Remembering
+pub mod Losing
 pub mod Deciding

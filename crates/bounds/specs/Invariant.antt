@@ -2,14 +2,11 @@
 use Rattle.std.specs.Prelude.{◌≡◌, false}
 use Rattle.kernel.specs.Machine.{IsOfRun, Machine, system_of}
 use Rattle.bounds.specs.Held.{Ground}
-use Rattle.bounds.specs.declared.memo.Memo.{Memo}
 use Rattle.bounds.specs.Exploring.{Explorer, IsGround}
-use Rattle.bounds.specs.Remembered.{AreRemembered}
 
--- the machines of states and the one that is ticked are of the system, and what is remembered is so
-pub record IsExploring (e : Explorer) (kept : Ground) (current : Machine) (memo : Memo) : Type 0 where
+-- the machines of states and the one that is ticked are of the system
+pub record IsExploring (e : Explorer) (kept : Ground) (current : Machine) : Type 0 where
   pub ground : IsGround e.ground
   pub machines : kept ≡ e.ground
   pub system : system_of current ≡ e.ground.system
   pub of_run : IsOfRun false current
-  pub remembered : AreRemembered e memo

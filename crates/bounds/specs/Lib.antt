@@ -1,6 +1,5 @@
 pub mod Held
 pub mod Exploring
-pub mod Remembered
 pub mod Invariant
 pub mod Figures
 pub mod Found

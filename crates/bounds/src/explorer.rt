@@ -9,7 +9,6 @@ use crate::bases::StateMachine;
 use crate::comparing::Comparing;
 use crate::current::{boot_again, can_go_on, node_of, tick_from};
 use crate::figure::held_count;
-use crate::memo::Memo;
 use crate::node::Node;
 use crate::raised::Raised;
 use crate::routines::{common, pending_routines, put_routines, without};
@@ -43,8 +42,6 @@ pub(crate) struct Explorer<'s, 'w, W: Watch> {
     states: States<'s>,
     /// The machine that is ticked.
     current: StateMachine<'s>,
-    /// What came of the node that is visited, while interrupts are pending in its state.
-    memo: Memo,
     /// The labels of the node that is visited, and those behind a tick.
     read: ReadLabels,
     labels: Labels,
@@ -86,13 +83,13 @@ impl<'s, 'w, W: Watch> Model for Explorer<'s, 'w, W> {
           cap = e.cap;
           peaks = e.peaks;
         })
-        e.states e.current e.memo };
+        e.states e.current };
 }
 
 impl<'s, 'w, W: Watch> Explorer<'s, 'w, W> {
-    ghost use Rattle.std.specs.Prelude.{IfSome, OnSome};
-    ghost use Rattle.search.specs.Rules.{StaysNoted};
-    ghost use Rattle.run_bounds.specs.Nodes.{IsNext, May};
+    ghost use Rattle.std.specs.Prelude.{IfSome};
+    ghost use Rattle.search.specs.Rules.{Repeats, StaysNoted};
+    ghost use Rattle.run_bounds.specs.Nodes.{May, rules_of};
     ghost use Rattle.bounds.specs.Exploring.{AreNotedIn, setting_of};
 
     /// Nothing was tried yet.
@@ -114,7 +111,6 @@ impl<'s, 'w, W: Watch> Explorer<'s, 'w, W> {
     {
         let current = Machine::boot(alloc, system, mode)?;
         let states = States::new(alloc, system, needs, mode)?;
-        let memo = Memo::new(alloc);
         Ok(Explorer {
             system,
             needs,
@@ -123,7 +119,6 @@ impl<'s, 'w, W: Watch> Explorer<'s, 'w, W> {
             cap,
             states,
             current,
-            memo,
             read: ReadLabels::new(alloc),
             labels: Labels::new(alloc),
             bytes: Vec::new(alloc),
@@ -157,95 +152,32 @@ impl<'s, 'w, W: Watch> Explorer<'s, 'w, W> {
         }
     }
 
-    /// What comes of a node where the routines of a set arrive, among which some are pending: what
-    /// came of it without those, if that is remembered.
-    fn again(&mut self, alloc: Global, from: &Node, choice: u64) -> Result<Option<Node>, AllocError>
-        requires { May (setting_of self.old) from.now choice }
+    /// A set of routines that may arrive in a state, without those that are pending in it: their
+    /// interrupts are lost, which is noted, and change nothing else.
+    fn without_lost(&mut self, node: &Node, set: u64) -> Result<Option<u64>, AllocError>
+        requires { May (setting_of self.old) node.now set }
         ensures setting { setting_of self.new ≡ setting_of self.old }
         ensures notes { StaysNoted AreNotedIn self.old self.new }
-        ensures next { IfOk result (λ found.
-            IfSome found (IsNext (setting_of self.old) from.now choice)) }
-        ensures noted { IfOk result (λ found.
-            OnSome found (AreNotedIn self.new from.now choice)) }
+        ensures repeats { IfOk result (λ found. IfSome found
+            (Repeats (rules_of (setting_of self.old)) (AreNotedIn self.new) node.now set)) }
     {
-        let Some(machine) = self.states.at(from.key()) else {
-            return Ok(None);
-        };
-        if !can_go_on(machine) || !self.memo.is_of(from) {
-            return Ok(None);
-        }
-        let pending = pending_routines(machine, self.system.routine_count());
-        let Some(made) = self.memo.find(without(choice, pending)) else {
-            return Ok(None);
-        };
-        one_state_tells();
-        lost_change_nothing();
-        notes_stay();
-        let room = mem::replace(&mut self.bytes, Vec::new(alloc));
-        let node = made.copied(room)?;
-        let rises = self.peaks.note_losses(common(choice, pending));
-        self.trails.came(from.entry(), choice, rises, &self.peaks)?;
-        Ok(Some(node))
-    }
-
-    /// What comes of a node where the routines of a set arrive, by a tick of its machine.
-    fn anew(&mut self, alloc: Global, from: &Node, choice: u64) -> Result<Option<Node>, AllocError>
-        requires { May (setting_of self.old) from.now choice }
-        ensures setting { setting_of self.new ≡ setting_of self.old }
-        ensures notes { StaysNoted AreNotedIn self.old self.new }
-        ensures next { IfOk result (λ found.
-            IfSome found (IsNext (setting_of self.old) from.now choice)) }
-        ensures noted { IfOk result (λ found.
-            OnSome found (AreNotedIn self.new from.now choice)) }
-    {
-        put_routines(choice, self.system.routine_count(), &mut self.arrived)?;
-        self.read.read(from.packed())?;
-        let Some(labels) = self.read.of(from.packed()) else {
-            return Ok(None);
-        };
-        let Some(machine) = self.states.at(from.key()) else {
+        let Some(machine) = self.states.at(node.key()) else {
             return Ok(None);
         };
         if !can_go_on(machine) {
             return Ok(None);
         }
-        one_state_tells();
-        notes_stay();
-        tick_from(machine, &mut self.current, &self.arrived, &mut self.watcher);
-        let seen = self.watcher.seen();
-        self.labels.become_next(self.system, self.cap, self.distances, choice, seen, labels)?;
-        let room = mem::replace(&mut self.bytes, Vec::new(alloc));
-        let Some(node) = node_of(&self.current, self.needs, &self.labels, room)? else {
+        let pending = pending_routines(machine, self.system.routine_count());
+        let fewer = without(set, pending);
+        if set <= fewer {
             return Ok(None);
-        };
-        let is_over = self.current.is_shut_down();
-        let rises = self
-            .peaks
-            .note(self.system, self.cap, seen, is_over, labels)?;
-        self.trails.came(from.entry(), choice, rises, &self.peaks)?;
-        Ok(Some(node))
-    }
-
-    /// The same, which is remembered while interrupts are pending in the state of the node.
-    fn fresh(&mut self, alloc: Global, from: &Node, choice: u64) -> Result<Option<Node>, AllocError>
-        requires { May (setting_of self.old) from.now choice }
-        ensures setting { setting_of self.new ≡ setting_of self.old }
-        ensures notes { StaysNoted AreNotedIn self.old self.new }
-        ensures next { IfOk result (λ found.
-            IfSome found (IsNext (setting_of self.old) from.now choice)) }
-        ensures noted { IfOk result (λ found.
-            OnSome found (AreNotedIn self.new from.now choice)) }
-    {
-        let memo = mem::replace(&mut self.memo, Memo::new(alloc));
-        let Some(node) = self.anew(alloc, from, choice)? else {
-            return Ok(None);
-        };
-        if self.states.pending() == 0 {
-            return Ok(Some(node));
         }
-        let memo = memo.with(alloc, from, choice, &node)?;
-        self.memo = memo;
-        Ok(Some(node))
+        one_state_tells();
+        lost_change_nothing();
+        notes_stay();
+        let rises = self.peaks.note_losses(common(set, pending));
+        self.trails.came(node.entry(), set, rises, &self.peaks)?;
+        Ok(Some(fewer))
     }
 
     /// The greatest times that were noted, and how a search has come to them.
@@ -291,21 +223,52 @@ impl<'s, 'w, W: Watch> Steps for Explorer<'s, 'w, W> {
         subset_from(free, from)
     }
 
+    fn repeats(
+        &mut self,
+        alloc: Global,
+        node: &Node,
+        choice: u64,
+    ) -> Result<Option<u64>, AllocError> {
+        self.states
+            .visit(alloc, &self.trails, node.entry(), node.base())?;
+        if choice & self.states.pending() == 0 {
+            return Ok(None);
+        }
+        self.without_lost(node, choice)
+    }
+
     fn next(
         &mut self,
         alloc: Global,
         from: &Node,
         choice: u64,
     ) -> Result<Option<Node>, AllocError> {
-        self.states
-            .visit(alloc, &self.trails, from.entry(), from.base())?;
-        if choice & self.states.pending() == 0 {
-            return self.fresh(alloc, from, choice);
+        put_routines(choice, self.system.routine_count(), &mut self.arrived)?;
+        self.read.read(from.packed())?;
+        let Some(labels) = self.read.of(from.packed()) else {
+            return Ok(None);
+        };
+        let Some(machine) = self.states.at(from.key()) else {
+            return Ok(None);
+        };
+        if !can_go_on(machine) {
+            return Ok(None);
         }
-        if let Some(node) = self.again(alloc, from, choice)? {
-            return Ok(Some(node));
-        }
-        self.fresh(alloc, from, choice)
+        one_state_tells();
+        notes_stay();
+        tick_from(machine, &mut self.current, &self.arrived, &mut self.watcher);
+        let seen = self.watcher.seen();
+        self.labels.become_next(self.system, self.cap, self.distances, choice, seen, labels)?;
+        let room = mem::replace(&mut self.bytes, Vec::new(alloc));
+        let Some(node) = node_of(&self.current, self.needs, &self.labels, room)? else {
+            return Ok(None);
+        };
+        let is_over = self.current.is_shut_down();
+        let rises = self
+            .peaks
+            .note(self.system, self.cap, seen, is_over, labels)?;
+        self.trails.came(from.entry(), choice, rises, &self.peaks)?;
+        Ok(Some(node))
     }
 
     fn covers(&self, one: &Node, other: &Node) -> bool {
@@ -341,6 +304,7 @@ impl<'s, 'w, W: Watch> Steps for Explorer<'s, 'w, W> {
         let entry = self.trails.enter(node.entry(), raised)?;
         let base = self.states.open(alloc, &self.current, entry, node.base())?;
         node.keep(entry, base);
+        self.states.keep_for(base, node.base());
         Ok(())
     }
 

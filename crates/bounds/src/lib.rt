@@ -11,7 +11,6 @@ mod entry;
 mod explorer;
 mod figure;
 mod finding;
-mod memo;
 mod node;
 mod origin;
 mod raised;

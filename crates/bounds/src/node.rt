@@ -1,6 +1,6 @@
 //! What a search keeps of a state.
 
-ghost use Rattle.std.specs.Prelude.{◌≡◌, ◌≤◌, IfOk, IfSome, IsFalse, IsTrue, OnOk, drop, length, take};
+ghost use Rattle.std.specs.Prelude.{◌≡◌, ◌==◌, ◌≤◌, IfOk, IfSome, IsFalse, IsTrue, OnOk, drop, length, take};
 ghost use Rattle.packed_labels.specs.Unpacked.{unpacked};
 ghost use Rattle.run_bounds.specs.Nodes.{Covers};
 
@@ -17,10 +17,16 @@ use std::mem;
 
 /// What a node takes beside the bytes of its key and its labels, about: itself, its block, its entry
 /// of the trail, and its places among hashes and open nodes.
-const BYTES_BESIDE: u64 = 96;
+const BYTES_BESIDE: u64 = 88;
 
-/// In place of the number of an entry or of a machine, where there is none.
+/// In place of the number of an entry, where there is none.
 const NONE: u32 = u32::MAX;
+
+/// In place of that of a machine, where the run is over in the state: it is never ticked.
+const OVER: u16 = u16::MAX;
+
+/// And where there is no machine.
+const NO_MACHINE: u16 = u16::MAX - 1;
 
 /// The key of a state, whether the run is over in it, and its labels. Contracts see nothing of how
 /// its machine is made again.
@@ -28,38 +34,47 @@ const NONE: u32 = u32::MAX;
 pub(crate) struct Node {
     /// The key, and the labels behind it.
     bytes: Vec<u8>,
-    /// How many bytes the key has.
-    key_len: u32,
     /// The entry that tells how it came to be, once it is kept.
     entry: u32,
-    /// The place of the machine from which its own is made, while it is open.
-    base: u32,
-    is_over: bool,
+    /// How many bytes the key has.
+    key_len: u16,
+    /// The place of the machine from which its own is made, while it is open; or that the run is
+    /// over. A byte more would make each node eight bytes longer.
+    base: u16,
 }
 
 impl Model for Node {
-    ghost use Rattle.std.specs.Prelude.{◌≤◌, drop, length, take};
+    ghost use Rattle.std.specs.Prelude.{◌==◌, ◌≤◌, drop, length, take};
     ghost use Rattle.packed_labels.specs.Unpacked.{unpacked};
     ghost use Rattle.run_bounds.specs.Nodes.{Node as Kept};
+    ghost use Rattle.bounds.specs.declared.node.TheConstants.{OVER};
 
     ghost Value = { Kept };
 
     ghost view = { λ n. record {
       key = take n.key_len n.bytes.items;
-      over = n.is_over;
+      over = n.base == OVER;
       labels = unpacked (drop n.key_len n.bytes.items);
     } };
 
     ghost invariant = { λ n. n.key_len ≤ length n.bytes.items };
 }
 
-/// A number, if it is one.
-fn number_of(number: u32) -> Option<usize> {
-    if number == NONE {
-        None
-    } else {
-        Some(number as usize)
+/// What stands in place of a machine's, in a state in which the run is over or not.
+fn no_machine(is_over: bool) -> u16
+    ensures { (result == OVER) ≡ is_over }
+{
+    if is_over { OVER } else { NO_MACHINE }
+}
+
+/// The place of a machine as it is kept. One that doesn't fit isn't, and where the run is over none.
+fn place_of(place: usize, is_over: bool) -> u16
+    ensures { (result == OVER) ≡ is_over }
+{
+    if is_over || place >= NO_MACHINE as usize {
+        return no_machine(is_over);
     }
+    u16::try_from(place).unwrap_or(NO_MACHINE)
 }
 
 /// A number as it is kept. One that doesn't fit isn't.
@@ -84,7 +99,7 @@ fn raised_by(system: &System, labels: &Labels, others: &Labels) -> Option<Raised
 }
 
 impl Node {
-    /// One of so many bytes of a key and those of labels behind them; none where the key has 2^32
+    /// One of so many bytes of a key and those of labels behind them; none where the key has 2^16
     /// bytes or more.
     pub(crate) fn new(bytes: Vec<u8>, key_len: usize, is_over: bool) -> Option<Self>
         requires { key_len ≤ length bytes.items }
@@ -92,41 +107,15 @@ impl Node {
         ensures over { IfSome result (λ n. n.over ≡ is_over) }
         ensures labels { IfSome result (λ n. n.labels ≡ unpacked (drop key_len bytes.items)) }
     {
-        let Ok(key_len) = u32::try_from(key_len) else {
+        let Ok(key_len) = u16::try_from(key_len) else {
             return None;
         };
         Some(Node {
             bytes,
+            entry: NONE,
             key_len,
-            entry: NONE,
-            base: NONE,
-            is_over,
+            base: no_machine(is_over),
         })
-    }
-
-    /// A copy in a room that is handed over. It isn't kept.
-    pub(crate) fn copied(&self, room: Vec<u8>) -> Result<Self, AllocError>
-        ensures { IfOk result (λ n. n ≡ self.now) }
-    {
-        let mut bytes = room;
-        bytes.clear();
-        bytes.extend_from_slice(&self.bytes)?;
-        Ok(Node {
-            bytes,
-            key_len: self.key_len,
-            entry: NONE,
-            base: NONE,
-            is_over: self.is_over,
-        })
-    }
-
-    /// Whether another one is the same, with its labels.
-    pub(crate) fn is_same(&self, other: &Node) -> bool
-        ensures { IsTrue result → self.now ≡ other.now }
-    {
-        self.key_len == other.key_len
-            && self.is_over == other.is_over
-            && are_equal(&self.bytes, &other.bytes)
     }
 
     /// Its bytes, of a node that isn't needed.
@@ -163,17 +152,25 @@ impl Node {
     pub(crate) fn is_over(&self) -> bool
         ensures { result ≡ self.now.over }
     {
-        self.is_over
+        self.base == OVER
     }
 
     /// The entry that tells how it came to be, once it is kept.
     pub(crate) fn entry(&self) -> Option<usize> {
-        number_of(self.entry)
+        if self.entry == NONE {
+            None
+        } else {
+            Some(self.entry as usize)
+        }
     }
 
     /// The place of the machine from which its own is made, while it is open.
     pub(crate) fn base(&self) -> Option<usize> {
-        number_of(self.base)
+        if self.base < NO_MACHINE {
+            Some(self.base as usize)
+        } else {
+            None
+        }
     }
 
     /// It is kept: an entry tells how it came to be, and its machine is made from that at a place.
@@ -181,14 +178,14 @@ impl Node {
         ensures { self.new ≡ self.old }
     {
         self.entry = short(entry);
-        self.base = short(base);
+        self.base = place_of(base, self.is_over());
     }
 
     /// It was visited, and needs no machine more.
     pub(crate) fn close(&mut self)
         ensures { self.new ≡ self.old }
     {
-        self.base = NONE;
+        self.base = no_machine(self.is_over());
     }
 
     /// Whether two are of one state, but for their labels.

@@ -46,7 +46,7 @@ fn is_pending(machine: &StateMachine<'_>, routine: IsrId) -> bool
     requires { routine < length (system_of machine.now).routines }
     ensures { result ≡ is_pending_in (picture machine.now) routine }
 {
-    machine.core().is_pending(routine)
+    machine.core().objects().is_pending(routine)
 }
 
 /// The routines that are pending, as a set, of so many that there are.

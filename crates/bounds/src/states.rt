@@ -24,6 +24,9 @@ const FEW: usize = 64;
 /// Beyond those, one machine may be kept for so many entries.
 const ENTRIES_OF_ONE: usize = 128;
 
+/// But no more machines than have places in nodes.
+const MANY: usize = 60_000;
+
 /// The machine of the node that is visited, and machines from which such are made. How they are
 /// found goes by a trail, of which contracts see nothing: what is made is known by its key.
 #[derive(Drop)]
@@ -180,7 +183,7 @@ impl<'s> States<'s> {
     fn settle_on(&mut self, alloc: Global, trails: &Trails, base: usize) -> Result<(), AllocError>
         ensures { self.new ≡ self.old }
     {
-        let room = FEW + trails.len() / ENTRIES_OF_ONE;
+        let room = (FEW + trails.len() / ENTRIES_OF_ONE).min(MANY);
         let is_kept = self.way.len() >= FAR && self.effort.is_great() && self.bases.len() < room;
         let base = match self.here {
             Some(here) if is_kept => self.bases.keep(alloc, self.origin.machine(), here)?,
@@ -214,6 +217,16 @@ impl<'s> States<'s> {
             self.bases.release(earlier);
         }
         Ok(base)
+    }
+
+    /// A node was kept for which the machine at a place was to be: that isn't needed where the node
+    /// has none.
+    pub(crate) fn keep_for(&mut self, base: usize, kept: Option<usize>)
+        ensures { self.new ≡ self.old }
+    {
+        if kept.is_none() {
+            self.bases.release(base);
+        }
     }
 
     /// A node was visited whose machine is made from that at a place.

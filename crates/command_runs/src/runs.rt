@@ -11,7 +11,7 @@ use run_views::{
 };
 use std::alloc::Global;
 use std::io::Write;
-use tracer::{RunFault, StdSink, run, run_blocking, run_upper};
+use tracer::{RunFault, StdSink, TraceInput, run, run_blocking, run_upper};
 
 /// Writes lines of the trace of a run, of the ticks from one on, or the first denial.
 pub fn write_lines<O: Write, E: Write>(
@@ -25,15 +25,15 @@ pub fn write_lines<O: Write, E: Write>(
 ) -> Result<Verdict<'static>, RunFault> {
     let Texts { oil, asm, irq } = texts;
     let mode = mode_of(alloc, texts, line.mode)?;
-    let mode = mode.as_str();
     let ticks = line.ticks.min(MAX_TICKS);
+    let input = TraceInput::new(oil, asm, irq, mode.as_str(), ticks);
     let shown = LinesFrom::new(&mut *out, from);
     let mut sink = StdSink::new(LineWatch::new(shown, progress, ticks));
     match lines {
-        Lines::All => run(alloc, oil, asm, irq, mode, ticks, &mut sink)?,
-        Lines::Blocking => run_blocking(alloc, oil, asm, irq, mode, ticks, &mut sink)?,
+        Lines::All => run(alloc, &input, &mut sink)?,
+        Lines::Blocking => run_blocking(alloc, &input, &mut sink)?,
         Lines::Upper { priority: p, alone } => {
-            match run_upper(alloc, oil, asm, irq, mode, ticks, p, alone, &mut sink) {
+            match run_upper(alloc, &input, p, alone, &mut sink) {
                 Err(RunFault::Denied(denial)) => return write_denial(p, denial, out),
                 outcome => outcome?,
             }

@@ -22,35 +22,31 @@ use Rattle.kept_state.specs.Standing.{runner_waits}
 use Rattle.kept_state.proofs.InRuns.{action_keeps_ready}
 use Rattle.services.specs.Objects.{Objects, kept_in}
 use Rattle.kernel.specs.Processor.{IsBefore, Processor, at_tick, clocked, picture, system_of}
-use Rattle.kernel.specs.Does.{Becomes, Does, advanced_in}
-use Rattle.kernel.specs.Told.{acting_in}
+use Rattle.kernel.specs.Does.{Adds, Becomes, Does, advanced_in}
+use Rattle.kernel.specs.Told.{Acts}
 use Rattle.kernel.proofs.AlarmLemmas.{events_by, first_alarm_phase, state_by, status_by}
 use Rattle.kernel.proofs.DoesLemmas.{Step, processor_of, does_nothing, does_same, then_does}
 
 -- an alarm acts by the service of its action
-pub act_does : (S : System) (a : ℕ) (action : Action) (m : Processor) (o n : Objects) (words : List ℕ) (status : Status) (before after : List TraceEvent)
+pub acts_by : (S : System) (a : ℕ) (action : Action) (m : Processor) (o n : Objects) (words : List ℕ) (status : Status) (before after : List TraceEvent)
     → processor_of o words ≡ m → o.system ≡ S → (alarm S a).action ≡ action → n.system ≡ o.system
     → kept_in n ≡ (unmasked_in o.system ByNobody (kept_in o) (action_call action)).state
     → status ≡ (unmasked_in o.system ByNobody (kept_in o) (action_call action)).status
-    → after ≡ before ++ error_record S (Source.Alarm a) (Instr.Service (action_call action)) status
-    → Does (λ T. alarm_acts_in T a) m (processor_of n words) before after
-act_does S a action m o n words status before after is here by system kept answered told =
+    → Adds (error_record S (Source.Alarm a) (Instr.Service (action_call action)) status) before after
+    → Acts a m (processor_of n words) before after status
+acts_by S a action m o n words status before after is here by system kept answered told =
     let acts : (alarm o.system a).action ≡ action = ap (λ T. (alarm T a).action) here ∙ by in
-    subst (λ x. Does (λ T. alarm_acts_in T a) x (processor_of n words) before after) is
+    subst (λ x. Acts a x (processor_of n words) before after status) is
     (record {
-      system = system;
-      kept = state_by o.system a (word words) o action acts n kept;
-      events = events_by o.system a (word words) o action acts status before after answered
-          (told ∙ ap (λ T. before ++ error_record T (Source.Alarm a) (Instr.Service (action_call action)) status) (sym here));
+      does = record {
+        system = system;
+        kept = state_by o.system a (word words) o action acts n kept;
+        events = events_by o.system a (word words) o action acts status before after answered
+            (told.value ∙ ap (λ T. before ++ error_record T (Source.Alarm a) (Instr.Service (action_call action)) status) (sym here));
+      };
+      status = status_by o.system a (word words) o action acts status answered;
+      few = told.few;
     })
-
-pub act_answers : (S : System) (a : ℕ) (action : Action) (m : Processor) (o : Objects) (words : List ℕ) (status : Status)
-    → processor_of o words ≡ m → o.system ≡ S → (alarm S a).action ≡ action
-    → status ≡ (unmasked_in o.system ByNobody (kept_in o) (action_call action)).status
-    → status ≡ (acting_in (system_of m) a (picture m)).status
-act_answers S a action m o words status is here by answered =
-    status_by o.system a (word words) o action (ap (λ T. (alarm T a).action) here ∙ by) status answered
-    ∙ ap (λ (x : Processor). (acting_in (system_of x) a (picture x)).status) is
 
 -- the running job doesn't wait behind an action where it didn't before
 act_ready_by : (S : System) (a : ℕ) (o : Kept) (action : Action) → runner_waits o ≡ false

@@ -14,7 +14,7 @@ use Rattle.osek_base.specs.ArrivalList.{are_in_order, is_arrival_list}
 use Rattle.osek_base.specs.Trace.{arriving}
 use Rattle.osek_base.proofs.PlaceLemmas.{and_split}
 use Rattle.run_laws.proofs.Lists.{all_kept}
-use Rattle.kernel.specs.Run.{AreLeft}
+use Rattle.kernel.specs.Run.{AreLeft, HaveArrived}
 
 -- a list in order: its first tick, and its rest
 pub record IsInOrder (least : ℕ) (a : Arrival) (rest : List Arrival) : Type 0 where
@@ -120,10 +120,6 @@ taken_more list tick first next a f low found is =
     }
 
 -- no arrival at the tick is left
-pub record HaveArrived (list : List Arrival) (tick first next : ℕ) : Type 0 where
-  pub left : AreLeft list next (tick + 1)
-  pub these : arriving list tick ≡ slice_range (map (λ a. a.routine) list) first next
-
 all_arrived : (list rest : List Arrival) (tick first next : ℕ) → AreTaken list tick first next
     → drop next list ≡ rest → are_in_order (tick + 1) rest ≡ true → HaveArrived list tick first next
 all_arrived list rest tick first next f here ordered =
@@ -134,6 +130,7 @@ all_arrived list rest tick first next f here ordered =
         ordered = later;
         same = λ t low. f.same t (omega arith);
       };
+      forward = f.forward;
       these =
           f.whole
           ∙ ap (λ v. routines_of (slice_range list first next) ++ v) (none_before (tick + 1) tick (drop next list) later (omega arith))

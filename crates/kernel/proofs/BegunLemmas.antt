@@ -1,18 +1,22 @@
 -- The task on which an instruction acts exists; the stamps with which a run begins.
-use Rattle.std.proofs.Common.{◌≡◌, ℕ, zero, suc, ◌+◌, ◌<◌, ◌≤◌, Bool, true, false, List, [], length, replicate, refl, ◌∙◌, ap, subst, arith}
+use Rattle.std.proofs.Common.{◌≡◌, ℕ, zero, suc, ◌+◌, ◌<◌, ◌≤◌, Bool, true, false, List, [], length, replicate, refl, sym, ◌∙◌, ap, subst, arith}
 use Rattle.std.specs.Prelude.{Option, Some, None, IfSome, ◌==◌}
 use Rattle.osek_base.specs.declared.ids.Owner.{Owner}
 use Rattle.osek_base.specs.declared.instr.Instr.{Instr}
 use Rattle.osek_base.specs.declared.instr.Service.{Service}
+use Rattle.osek_base.specs.declared.task.Action.{Action}
+use Rattle.osek_base.specs.Proper.{IsProper}
 use Rattle.osek_base.specs.Types.{ServiceCall}
-use Rattle.osek_base.specs.System.{System, instruction_at}
+use Rattle.osek_base.specs.System.{System, alarm, instruction_at}
 use Rattle.osek_base.specs.Instruction.{Context}
 use Rattle.osek_base.specs.Tick.{at_values}
 use Rattle.osek_base.proofs.PlaceLemmas.{KnownPlace}
 use Rattle.run_laws.proofs.Foremost.{equal}
 use Rattle.kept_state.specs.Kept.{Kept}
 use Rattle.services.specs.Calls.{IsKnown, IsTaskOperand}
-use Rattle.blocking_laws.specs.Looks.{StampLists, named_by, stamps_at}
+use Rattle.blocking_laws.specs.Looks.{StampLists, acting_task, named_by, stamps_at}
+use Rattle.blocking_laws.proofs.KnownTasks.{acts_task}
+use Rattle.kernel.specs.Looking.{IsActedOn}
 use Rattle.kernel.proofs.PlaceLemmas.{service_known}
 
 -- ---- the task on which an instruction acts
@@ -33,6 +37,17 @@ pub named_known : (S : System) (owner : Owner) (x : Context) → KnownPlace S ow
 named_known S owner x k (Instr.Plain p) is = tt
 named_known S owner x k (Instr.Service call) is = call_known S x call (service_known S owner x k call is)
 named_known S owner x k (Instr.Control control) is = tt
+
+-- ---- the task on which an alarm acts
+
+pub acted_on_is : (S T : System) (a : ℕ) (action : Action) → IsProper S → T ≡ S → a < length T.alarms → (alarm S a).action ≡ action
+    → IsActedOn T a (acting_task action)
+acted_on_is S T a action proper here inside is =
+    subst (λ (U : System). IsActedOn U a (acting_task action)) (sym here)
+    (record {
+      value = ap acting_task (sym is);
+      known = acts_task S a action proper (subst (λ (U : System). a < length U.alarms) here inside) is;
+    })
 
 -- ---- boot
 

@@ -1,5 +1,5 @@
 -- What boot leaves is the state that the definitions boot into.
-use Rattle.std.proofs.Common.{◌≡◌, ℕ, ◌+◌, ◌≤◌, Bool, true, List, [], ◌++◌, length, replicate, refl, sym, ◌∙◌, ap, ap₂, subst, arith}
+use Rattle.std.proofs.Common.{◌≡◌, ℕ, ◌+◌, ◌≤◌, Bool, List, [], ◌++◌, length, refl, sym, ◌∙◌, ap, ap₂, subst, arith}
 use Rattle.osek_base.specs.declared.ids.Owner.{Owner}
 use Rattle.osek_base.specs.declared.trace_event.TraceEvent.{TraceEvent}
 use Rattle.osek_base.specs.Proper.{IsProper}
@@ -12,15 +12,14 @@ use Rattle.kept_state.specs.Moves.{KeptRecorded, rescheduled}
 use Rattle.kept_state.proofs.Ticked.{boots}
 use Rattle.services.specs.Objects.{Objects, kept_in, kept_of, no_words}
 use Rattle.osek_base.specs.declared.arrivals.Arrival.{Arrival}
-use Rattle.osek_base.specs.declared.limits.TheConstants.{MAX_TASK_PRIORITY}
 use Rattle.osek_base.specs.Trace.{Run, boot, run, run_begun}
 use Rattle.kept_state.specs.Kept.{Kept, kept}
 use Rattle.blocking_laws.proofs.StepLemmas.{tick_zero}
 use Rattle.kernel.specs.declared.acted.Acted.{Acted}
 use Rattle.kernel.specs.Looking.{AreBegun}
 use Rattle.kernel.specs.Machine.{HasCome, IsBooted, IsMachine, between}
-use Rattle.kernel.specs.Processor.{IsStarted, Processor, at_tick, picture, system_of}
-use Rattle.kernel.specs.Watches.{Blocking}
+use Rattle.kernel.specs.Processor.{IsStarted, Processor, at_tick, picture}
+use Rattle.kernel.specs.Watches.{Blocking, IsFresh}
 use Rattle.kernel.proofs.BootStamps.{boot_last, boot_listed}
 use Rattle.kernel.proofs.WatchLemmas.{watched_of}
 use Rattle.kernel.proofs.DoesLemmas.{processor_of}
@@ -59,7 +58,7 @@ unfolding run
 run_zero S mode arrivals = refl
 
 module _ (counted : Bool) (S : System) (mode : ℕ) (p : Processor) (b : Blocking) (opening : List TraceEvent) (acted : Acted) (s : IsStarted S mode p opening)
-    (begun : counted ≡ true → AreBegun (length (system_of p).tasks) (picture p) b.stamps) (none : b.told.last ≡ replicate (MAX_TASK_PRIORITY + 1) 0) where
+    (fresh : IsFresh counted p b) where
   of_zero : (arrivals : List Arrival) → picture p ≡ kept S (run S mode arrivals 0).state
   of_zero arrivals = s.kept ∙ sym (ap (λ (r : Run). kept S r.state) (run_zero S mode arrivals))
 
@@ -77,8 +76,8 @@ module _ (counted : Bool) (S : System) (mode : ℕ) (p : Processor) (b : Blockin
       unwritten = s.events ∙ sym (ap (λ (r : Run). r.unwritten) (run_zero S mode arrivals));
       stamped = λ on.
           boot_listed S mode arrivals (picture p) b.stamps s.proper (ap (λ (k : Kept). k.slots) (of_zero arrivals))
-          (subst (λ (T : System). AreBegun (length T.tasks) (picture p) b.stamps) s.system (begun on));
-      levels = λ on. boot_last S mode arrivals b.told.last none;
+          (subst (λ (T : System). AreBegun (length T.tasks) (picture p) b.stamps) s.system (fresh.stamps on));
+      levels = λ on. boot_last S mode arrivals b.told.last fresh.last;
     };
     numbered = λ on later. absurd (omega (arith, later));
     acted = λ later. absurd (omega (arith, later));
@@ -105,4 +104,5 @@ module _ (counted : Bool) (S : System) (mode : ℕ) (p : Processor) (b : Blockin
     proper = s.proper;
     first = refl;
     begins = λ arrivals. subst (λ T. HasCome counted T mode arrivals 0 (between (watched_of p b) 0 opening acted)) (sym s.system) (come_zero arrivals);
+    of_run = machine_begun.of_run;
   }

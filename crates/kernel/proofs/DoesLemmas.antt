@@ -1,5 +1,6 @@
 -- Steps of a tick, one after another, and those that neither read nor change the words of windows.
-use Rattle.std.proofs.Common.{◌≡◌, ℕ, ◌+◌, List, ◌++◌, refl, sym, ◌∙◌, ap, ap₂, subst, append_assoc}
+use Rattle.std.proofs.Common.{◌≡◌, ℕ, ◌+◌, ◌<◌, ◌≤◌, List, ◌++◌, length, refl, sym, ◌∙◌, ap, ap₂, subst, append_assoc}
+use Rattle.std.specs.Prelude.{Option, IfSome}
 use Rattle.std.proofs.lemmas.List.{append-nil}
 use Rattle.osek_base.specs.declared.trace_event.TraceEvent.{TraceEvent}
 use Rattle.osek_base.specs.System.{System}
@@ -9,11 +10,11 @@ use Rattle.osek_base.specs.State.{Words}
 use Rattle.machine.specs.Windows.{word}
 use Rattle.kept_state.specs.Kept.{Kept}
 use Rattle.kept_state.specs.KeptTick.{and_then_in, silent_in, start_phase_in}
-use Rattle.kept_state.specs.Moves.{KeptRecorded, rescheduled}
+use Rattle.kept_state.specs.Moves.{KeptRecorded, contender, rescheduled}
 use Rattle.kept_state.proofs.Words.{with_words, recorded_with, rescheduled_words, start_phase_words}
 use Rattle.services.specs.Objects.{Objects, kept_in}
-use Rattle.kernel.specs.Processor.{Processor, clocked, picture, system_of}
-use Rattle.kernel.specs.Does.{Becomes, Does, advanced_in}
+use Rattle.kernel.specs.Processor.{Processor, picture, system_of}
+use Rattle.kernel.specs.Does.{Advances, Becomes, Does, Reschedules}
 
 abbrev pub Step : Type 0
 Step = System → Kept → KeptRecorded
@@ -72,6 +73,18 @@ does_by_objects f ignores m o n words before after is system kept events =
 pub rescheduled_ignores : IgnoresWords rescheduled
 rescheduled_ignores = record { same = λ S w o. rescheduled_words S w o }
 
+pub rescheduled_by_objects : (m : Processor) (o n : Objects) (words : List ℕ) (before after : List TraceEvent) (ran : Option ℕ)
+    → processor_of o words ≡ m → n.system ≡ o.system → kept_in n ≡ (rescheduled o.system (kept_in o)).state
+    → after ≡ before ++ (rescheduled o.system (kept_in o)).events → length after ≤ length before + 2
+    → ran ≡ contender (kept_in o) → IfSome ran (λ t. t < length o.system.tasks)
+    → Reschedules m (processor_of n words) before after ran
+rescheduled_by_objects m o n words before after ran is system kept events few runner known = record {
+  does = does_by_objects rescheduled rescheduled_ignores m o n words before after is system kept events;
+  few = few;
+  runner = subst (λ x. ran ≡ contender (picture x)) is runner;
+  known = subst (λ x. IfSome ran (λ t. t < length (system_of x).tasks)) is known;
+}
+
 -- where objects alone say that a reschedule does nothing
 pub nothing_by_objects : (m : Processor) (o : Objects) (words : List ℕ) → processor_of o words ≡ m → rescheduled o.system (kept_in o) ≡ silent_in (kept_in o)
     → rescheduled (system_of m) (picture m) ≡ silent_in (picture m)
@@ -91,7 +104,10 @@ started_by_objects m o n words is system kept =
 pub advanced_by_objects : (m : Processor) (o n : Objects) (words due : List ℕ) → processor_of o words ≡ m
     → due ≡ due_alarms o.system (bare (record (kept_in o) { tick = o.tick + 1 }))
     → n ≡ record o { tick = o.tick + 1; alarms = alarms_advanced o.system (bare (record (kept_in o) { tick = o.tick + 1 })) }
-    → (due ≡ due_alarms (system_of m) (bare (picture (clocked m)))) × Becomes advanced_in (clocked m) (processor_of n words)
+    → Advances m (processor_of n words) due
 advanced_by_objects m o n words due is due_is advanced =
-    subst (λ x. (due ≡ due_alarms (system_of x) (bare (picture (clocked x)))) × Becomes advanced_in (clocked x) (processor_of n words)) is
-    (due_is, record { system = ap (λ (x : Objects). x.system) advanced; kept = ap (λ x. picture (processor_of x words)) advanced })
+    subst (λ x. Advances x (processor_of n words) due) is
+    (record {
+      due = due_is;
+      advanced = record { system = ap (λ (x : Objects). x.system) advanced; kept = ap (λ x. picture (processor_of x words)) advanced };
+    })

@@ -24,6 +24,7 @@ use Rattle.kernel.specs.Does.{Does}
 use Rattle.kernel.specs.Looking.{AreCounted, executed_looked, stand, stood_between}
 use Rattle.kernel.specs.Processor.{IsNext, Processor, picture, system_of}
 use Rattle.kernel.specs.Watches.{Blocking, Watched, Watches, executing}
+use Rattle.kernel.proofs.BegunLemmas.{named_known}
 use Rattle.kernel.proofs.ExecutionLemmas.{caller_is, execute_is, execute_phase-none}
 use Rattle.kernel.proofs.KindLemmas.{control_is, plain_is}
 use Rattle.kernel.proofs.WatchLemmas.{watched_of}
@@ -136,6 +137,13 @@ idle_watched counted u w behind nobody none =
 stood : (k new : Kept) (t : Option ℕ) (u : ℕ) (xs : StampLists) → stood_between u (stand k t) (stand new t) xs ≡ looked_if u t k new (ended_if k new xs)
 stood k new None u xs = refl
 stood k new (Some t) u xs = refl
+
+-- the task on which a service acts that comes next
+pub named_there : (p : Processor) (next : Next) (service : ServiceCall) (named : Option ℕ) → IsNext p next → instr_of next.packed ≡ Instr.Service service
+    → named ≡ named_by (Instr.Service service) → IfSome named (λ t. t < length (system_of p).tasks)
+named_there p next service named n is named_is =
+    subst (λ (r : Option ℕ). IfSome r (λ t. t < length (system_of p).tasks)) (sym named_is)
+    (named_known (system_of p) next.owner (context_in (picture p) next.owner) n.known (Instr.Service service) (n.instruction ∙ is))
 
 pub known_stand : (k : Kept) (n : ℕ) (t : Option ℕ) → IfSome t (λ t. t < n) → IfSome (stand k t).named (λ b. b.task < n)
 known_stand k n None h = tt

@@ -22,9 +22,8 @@ use Rattle.kept_state.specs.Kept.{Kept}
 use Rattle.kept_state.specs.KeptService.{KeptCaller, ByTask, ByRoutine, ByNobody, KeptReply, caller_in, caller_by, service_in}
 use Rattle.kept_state.specs.KeptTick.{executed_in, caller_executes_in, routine_executes, execute_phase_in, with_context_in, controlled_in}
 use Rattle.kept_state.proofs.Words.{with_words, context_words, control_words, service_words, reply_with}
-use Rattle.services.specs.declared.calls.Call.{Call}
 use Rattle.services.specs.Objects.{Objects, kept_of, kept_in}
-use Rattle.services.specs.Calls.{Executes, MayGoOn, IsSameCaller, IsSameActive, IsRoutineOrNone, caller_as, call_in}
+use Rattle.services.specs.Calls.{Executes, MayGoOn, IsSameCaller, IsSameActive, IsRoutineOrNone, caller_as, served_in}
 use Rattle.osek_base.proofs.PlaceLemmas.{KnownPlace, is_routine}
 use Rattle.kernel.proofs.Execution.{Execution, next_of, executed_by}
 use Rattle.kernel.specs.Controls.{control_context}
@@ -114,9 +113,9 @@ plain_goes S e p old new o after x effect effect_is x_is words after_is =
 
 pub service_goes : (S : System) (e : Execution) (call : ServiceCall) (w : Words) (o served after : Objects) (x : Context)
     (status : Status) (results : Results) → Executes (kept_in o) e.owner e.cpu
-    → Some status ≡ (call_in S (kept_in o) (Call.Service (at_values e.cpu call))).status
-    → results ≡ (call_in S (kept_in o) (Call.Service (at_values e.cpu call))).results
-    → kept_in served ≡ (call_in S (kept_in o) (Call.Service (at_values e.cpu call))).state
+    → Some status ≡ Some (served_in S (kept_in o) (at_values e.cpu call)).status
+    → results ≡ (served_in S (kept_in o) (at_values e.cpu call)).results
+    → kept_in served ≡ (served_in S (kept_in o) (at_values e.cpu call)).state
     → x ≡ answered status results e.cpu
     → kept_in after ≡ with_context_in (caller_as e.owner) x (kept_in served)
     → kept_of w after ≡ (executed_by S e (Instr.Service call) w o).state
@@ -141,8 +140,8 @@ service_goes S e call w o served after x status results who status_is results_is
 -- what it records: its answer, and an error where it was refused
 pub service_told : (S : System) (e : Execution) (call : ServiceCall) (w : Words) (o : Objects) (status : Status) (results : Results)
     → Executes (kept_in o) e.owner e.cpu
-    → Some status ≡ (call_in S (kept_in o) (Call.Service (at_values e.cpu call))).status
-    → results ≡ (call_in S (kept_in o) (Call.Service (at_values e.cpu call))).results
+    → Some status ≡ Some (served_in S (kept_in o) (at_values e.cpu call)).status
+    → results ≡ (served_in S (kept_in o) (at_values e.cpu call)).results
     → (behind : List TraceEvent) → behind ≡ error_record S (Source.Owner e.owner) (Instr.Service call) status
     → TraceEvent.Executed e.owner e.cpu.place (Instr.Service call) (Outcome.Answer status results) ∷ behind
     ≡ (executed_by S e (Instr.Service call) w o).events
@@ -185,7 +184,7 @@ returning_routine S owner place control k next_is returns =
 
 pub control_goes : (S : System) (e : Execution) (control : Control ℕ) (w : Words) (o served after : Objects) (x : Context)
     → (control ≡ Control.ReturnFromInterrupt → is_routine e.owner ≡ true)
-    → kept_in served ≡ (call_in S (kept_in o) (Call.Control control)).state
+    → kept_in served ≡ controlled_in control (kept_in o)
     → x ≡ control_context control e.cpu
     → kept_in after ≡ with_context_in (caller_as e.owner) x (kept_in served)
     → kept_of w after ≡ (executed_by S e (Instr.Control control) w o).state

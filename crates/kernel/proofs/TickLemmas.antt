@@ -32,7 +32,7 @@ use Rattle.kernel.specs.Machine.{GoesOn, HasCome, IsAt, IsMachine, Machine, Tick
 use Rattle.kernel.proofs.PastLemmas.{at_past}
 use Rattle.kernel.proofs.RunLemmas.{unwritten_more}
 use Rattle.kernel.specs.Processor.{AreAhead, IsBefore, MayExecute, at_tick, picture, system_of}
-use Rattle.kernel.specs.Watches.{Begins, HasBegun, MayAct, Watched, Watches, early, executing, last, watched_at}
+use Rattle.kernel.specs.Watches.{Begins, HasBegun, MayAct, MayStart, Watched, Watches, early, executing, last, watched_at}
 use Rattle.kernel.proofs.KeepingLemmas.{after_told, begun_listed, counted_of, counted_spent, levels_told, number_told, step_is}
 use Rattle.kernel.proofs.StartLemmas.{alarms_begun, starting_ahead}
 
@@ -120,7 +120,7 @@ module _ (counted : Bool) (w : Watched) (n : ℕ) (opening : List TraceEvent) (a
       ∙ alarms_begun here h.of_run.mode h.of_run.arrivals))
       (starting_ahead here h.of_run.mode h.of_run.proper)
 
-  pub before_tick : IsBefore n w.processor
+  before_tick : IsBefore n w.processor
   before_tick = record {
     clock = h.before;
     limit = low;
@@ -129,12 +129,20 @@ module _ (counted : Bool) (w : Watched) (n : ℕ) (opening : List TraceEvent) (a
     ahead = alarms_ahead;
   }
 
-  pub may_act : MayAct counted w
+  may_act : MayAct counted w
   may_act = record {
     ready = before_tick.ready;
     each = λ on.
         counted_of here w.blocking.stamps (stamps_of here h.of_run.mode h.of_run.arrivals n) (run here h.of_run.mode h.of_run.arrivals n).state
         (picture (at_tick w.processor n)) (h.of_run.come.at.stamped on) same;
+  }
+
+  pub may_start : (records : List TraceEvent) → records ≡ opening → MayStart counted n w records
+  may_start records is = record {
+    before = before_tick;
+    may = may_act;
+    room = subst (λ (v : List TraceEvent). length v ≤ 3) (sym is) h.few;
+    none_later = λ later. is ∙ h.none_later later;
   }
 
   module _ (arrived : List ℕ) (st bg : Watched) (first second : List TraceEvent) (on : (picture (at_tick w.processor n)).over ≡ false)
@@ -181,7 +189,7 @@ module _ (counted : Bool) (w : Watched) (n : ℕ) (opening : List TraceEvent) (a
         let are = begun_listed here h.of_run.proper h.of_run.mode with_these n k at_these.same going_these w.blocking.stamps st.blocking.stamps told (at_these.stamped counting) in
         subst (AreCounted bg.blocking.stamps) (sym (ap picture two.processor))
         (counted_spent here h.of_run.proper h.of_run.mode with_these n k at_these.same going_these (picture st.processor)
-        (one.does.kept ∙ ap (λ v. (before_execution_in here v k).state) (sym arrive_these)) st.blocking.stamps are bg.blocking.stamps (two.stamps counting))
+        (one.does.kept ∙ ap (λ v. (before_execution_in here v k).state) (sym arrive_these)) st.blocking.stamps are bg.blocking.stamps (two.blocking.spent counting).stamps)
 
     pub has_begun : HasBegun counted bg
     has_begun = record { may = may_execute; each = each_counted }
@@ -274,19 +282,19 @@ module _ (counted : Bool) (arrived : List ℕ) (n : ℕ) (w st bg ex la : Watche
             stamped = λ counting.
                 after_told S proper mode arrivals n k at.same going (picture st.processor) before st.blocking.stamps (are counting)
                 (picture ex.processor) bg.blocking.stamps ex.blocking.stamps la.blocking.stamps
-                (ex_is ∙ ap (λ p. (execute_phase_in S (picture p)).state) phases.two.processor) (phases.two.stamps counting)
+                (ex_is ∙ ap (λ p. (execute_phase_in S (picture p)).state) phases.two.processor) ((phases.two.blocking.spent counting).stamps)
                 (phases.three.stamps counting ∙ ap₂ (λ T p. executed_looked T (n + 1) (picture p) bg.blocking.stamps) system_bg phases.two.processor)
                 (phases.four.stamps counting ∙ ap (λ T. last_looked T (n + 1) (picture ex.processor) ex.blocking.stamps) system_ex);
             levels = λ counting.
                 levels_told S proper mode arrivals n k at.same going (picture st.processor) before st.blocking.stamps (are counting)
                 w.blocking.told.last la.blocking.told.last (at.levels counting)
-                (ap (λ (t : Told). t.last) last_is ∙ phases.two.last counting
+                (ap (λ (t : Told). t.last) last_is ∙ (phases.two.blocking.spent counting).last
                 ∙ ap₂ (λ T (t : Told). noted T n (caller_in (picture st.processor)) t.last) system_st phases.one.told);
           };
           numbered = λ counting later.
               number_told S proper mode arrivals n k at.same going (picture st.processor) before st.blocking.stamps (are counting)
               w.blocking.told.last (number_of la.blocking.told) (at.levels counting)
-              (ap number_of last_is ∙ phases.two.number counting
+              (ap number_of last_is ∙ (phases.two.blocking.spent counting).number
               ∙ ap₂ (λ T (t : Told). number_for T (caller_in (picture st.processor)) t.last st.blocking.stamps) system_st phases.one.told);
           acted = λ later.
               let one : n + 1 - 1 ≡ n = omega arith in

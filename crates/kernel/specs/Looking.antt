@@ -1,5 +1,6 @@
 -- What is seen of a task before and after something, and what is done by it to the stamps of jobs. No part of the standards.
-use Rattle.std.specs.Prelude.{ℕ, ◌+◌, ◌-◌, ◌<◌, ◌≡◌, Bool, not, ◌&&◌, nat_lt, if◌then◌else◌, List, Option, Some, None, length, replicate, slice_set, take}
+use Rattle.std.specs.Prelude.{ℕ, ◌+◌, ◌-◌, ◌<◌, ◌≤◌, ◌≡◌, ◌==◌, Bool, true, false, not, ◌&&◌, nat_lt, if◌then◌else◌, List, Option, Some, None, IfSome, length, replicate, slice_set, take}
+use Rattle.osek_base.specs.declared.limits.TheConstants.{MAX_ACTIVATION, MAX_TASK_PRIORITY, MAX_TASKS, MAX_TICKS}
 use Rattle.std.specs.Option.{option_map}
 use Rattle.std.specs.List.{list_any}
 use Rattle.osek_base.specs.System.{System, alarm, priority_of}
@@ -11,7 +12,7 @@ use Rattle.readiness.specs.Stamps.{stamp_of_oldest}
 use Rattle.kernel.specs.declared.begun.Begun.{Begun}
 use Rattle.kernel.specs.declared.stamping.Look.{Look}
 use Rattle.kernel.specs.declared.stamping.Stand.{Stand}
-use Rattle.blocking_laws.specs.Looks.{StampLists, acting_task, changed_list, ended_if, ended_of, instr_in, is_task, looked, looked_if, named_in, stamps_at, task_waits}
+use Rattle.blocking_laws.specs.Looks.{StampLists, acting_task, changed_list, ended_if, ended_of, instr_in, is_task, looked, looked_if, named_in, spent_of, stamps_at, task_waits}
 
 -- how a task stands
 abbrev pub seen : Kept → ℕ → Look
@@ -48,6 +49,55 @@ stood_between u before after xs =
 abbrev pub acts_on : System → ℕ → ℕ
 acts_on S a = acting_task (alarm S a).action
 
+-- and it is one of the tasks
+pub record IsActedOn (S : System) (a t : ℕ) : Type 0 where
+  pub value : t ≡ acts_on S a
+  pub known : t < length S.tasks
+
+-- a task is looked at before and after something: it has as many stamps as it had jobs
+pub record MayLook (before after : Look) (xs : StampLists) : Type 0 where
+  pub task : before.task < length xs
+  pub counted : length (stamps_at xs before.task) ≡ before.count
+  pub few : after.count ≤ MAX_ACTIVATION
+
+-- and so is the task on which an instruction acts, where there is one, beside the running task
+pub record MayFollow (before after : Stand) (xs : StampLists) : Type 0 where
+  pub running : IfSome before.running (λ t. t < length xs)
+  pub task : IfSome before.named (λ b. b.task < length xs)
+  pub counted : IfSome before.named (λ b. length (stamps_at xs b.task) ≡ b.count)
+  pub few : IfSome after.named (λ l. l.count ≤ MAX_ACTIVATION)
+
+-- how a task stands, which has no more jobs than there may be
+pub record IsLook (o : Kept) (t : ℕ) (look : Look) : Type 0 where
+  pub value : look ≡ seen o t
+  pub few : look.count ≤ MAX_ACTIVATION
+
+-- and beside the running task, which is one of the tasks
+pub record IsStand (n : ℕ) (o : Kept) (named : Option ℕ) (is : Stand) : Type 0 where
+  pub value : is ≡ stand o named
+  pub few : IfSome is.named (λ l. l.count ≤ MAX_ACTIVATION)
+  pub known : IfSome is.running (λ t. t < n)
+
+-- the task that is meant, where there is one, is one of the tasks
+pub record IsTask (n : ℕ) (meant task : Option ℕ) : Type 0 where
+  pub value : task ≡ meant
+  pub known : IfSome task (λ t. t < n)
+
+-- the stamps become what a look makes of them, of as many tasks
+pub record AreStamped (look : StampLists → StampLists) (old new : StampLists) : Type 0 where
+  pub value : new ≡ look old
+  pub sized : length new ≡ length old
+
+-- how many tasks there are, which are no more than there may be
+pub record IsTaskCount (S : System) (n : ℕ) : Type 0 where
+  pub value : n ≡ length S.tasks
+  pub few : n ≤ MAX_TASKS
+
+-- the static priority of a task, which is one of the levels
+pub record IsLevel (S : System) (t level : ℕ) : Type 0 where
+  pub value : level ≡ priority_of S t
+  pub low : level ≤ MAX_TASK_PRIORITY
+
 -- each task has as many stamps as jobs
 abbrev pub AreCounted : StampLists → Kept → Type 0
 AreCounted xs o = (t : ℕ) → length (stamps_at xs t) ≡ (o.slots t).count
@@ -56,6 +106,18 @@ AreCounted xs o = (t : ℕ) → length (stamps_at xs t) ≡ (o.slots t).count
 pub record AreBegun (n : ℕ) (o : Kept) (xs : StampLists) : Type 0 where
   pub size : length xs ≡ n
   pub each : (t : ℕ) → t < n → stamps_at xs t ≡ replicate (o.slots t).count (Some 0)
+
+-- jobs may be added to a task that has none
+pub record MayAddJobs (t count : ℕ) (xs : StampLists) : Type 0 where
+  pub task : t < length xs
+  pub none : length (stamps_at xs t) ≡ 0
+  pub few : count ≤ MAX_ACTIVATION
+
+-- so many jobs of a task are ready from tick 0 on, and those of other tasks are as they were
+pub record HasJobs (t count : ℕ) (old new : StampLists) : Type 0 where
+  pub others : (other : ℕ) → (t == other) ≡ false → stamps_at new other ≡ stamps_at old other
+  pub own : stamps_at new t ≡ replicate count (Some 0)
+  pub sized : length new ≡ length old
 
 -- an instruction is executed by a job that has no stamp any more
 abbrev pub executed_looked : System → ℕ → Kept → StampLists → StampLists
@@ -81,6 +143,11 @@ number_since last b = option_map (count_below b.level last) b.stamp
 abbrev pub number_told : Told → Option ℕ
 number_told told = number_since told.last told.begun
 
+-- it is told where blockers are counted
+pub record IsNumber (are_counted : Bool) (number told : Option ℕ) : Type 0 where
+  pub counted : are_counted ≡ true → told ≡ number
+  pub uncounted : are_counted ≡ false → told ≡ None
+
 -- the level of the task that executes is noted
 abbrev pub noted : System → ℕ → KeptCaller → List ℕ → List ℕ
 noted S u (ByTask t) last = slice_set last (priority_of S t) (u + 1)
@@ -91,3 +158,14 @@ abbrev pub number_for : System → KeptCaller → List ℕ → StampLists → Op
 number_for S (ByTask t) last xs = option_map (count_below (priority_of S t) last) (stamp_of_oldest (stamps_at xs t))
 number_for S ByRoutine last xs = None
 number_for S ByNobody last xs = None
+
+-- there are stamps of each task, and the tick is below the limit
+pub record MayBegin (tasks u : ℕ) (xs : StampLists) : Type 0 where
+  pub stamps : length xs ≡ tasks
+  pub tick : u < MAX_TICKS
+
+-- the stamp of the job that executes is spent, its level is noted, and what is told of both is its number of blockers
+pub record IsSpent (S : System) (who : KeptCaller) (u : ℕ) (old new : StampLists) (levels : List ℕ) (told : Told) : Type 0 where
+  pub stamps : new ≡ spent_of who old
+  pub last : told.last ≡ noted S u who levels
+  pub number : number_told told ≡ number_for S who levels old

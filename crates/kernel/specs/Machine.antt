@@ -1,6 +1,9 @@
 -- OSEK/VDX OS: system start-up. A booted system between two ticks, and the runs that have come to it.
-use Rattle.std.specs.Prelude.{ℕ, ◌≡◌, ◌≤◌, ◌-◌, ◌+◌, ◌++◌, Bool, true, List, [], length, slice_index_or}
-use Rattle.osek_base.specs.declared.limits.TheConstants.{MAX_TICKS, MAX_TASK_PRIORITY}
+use Rattle.std.specs.Prelude.{ℕ, ◌≡◌, ◌<◌, ◌≤◌, ◌-◌, ◌+◌, ◌++◌, ◌∷◌, Bool, true, false, List, [], Option, IfSome, length, slice_index_or}
+use Rattle.std.specs.List.{All}
+use Rattle.osek_base.specs.declared.limits.TheConstants.{SHARED_WORDS, MAX_RECORDS, MAX_TICKS, MAX_TASK_PRIORITY}
+use Rattle.osek_base.specs.declared.executed.Executed.{Executed}
+use Rattle.osek_base.specs.Executed.{StandsIn, idle_or_executed}
 use Rattle.osek_base.specs.declared.arrivals.Arrival.{Arrival}
 use Rattle.osek_base.specs.declared.trace_event.TraceEvent.{TraceEvent}
 use Rattle.osek_base.specs.BlockingText.{blockers_at}
@@ -15,7 +18,8 @@ use Rattle.blocking_laws.specs.Looks.{AreListed}
 use Rattle.kernel.specs.Processor.{Processor, at_tick, picture as picture_of, system_of as system_in}
 use Rattle.kernel.specs.declared.acted.Acted.{Acted}
 use Rattle.kernel.specs.Looking.{number_told}
-use Rattle.kernel.specs.Told.{acted_at}
+use Rattle.kernel.specs.Told.{acted_at, acted_in}
+use Rattle.services.specs.Objects.{Objects, kept_of}
 use Rattle.kernel.specs.Watches.{Blocking, Watched}
 
 -- the objects of the services and the words of windows at the tick that comes next, what tells the number of blockers, the
@@ -36,6 +40,11 @@ picture m = picture_of m.processor
 -- the number of the next tick
 abbrev pub next_tick : Machine → ℕ
 next_tick m = m.processor.objects.tick
+
+-- it is at most the limit
+pub record IsNextTick (m : Machine) (n : ℕ) : Type 0 where
+  pub value : n ≡ next_tick m
+  pub limit : n ≤ MAX_TICKS
 
 -- of each level, the number behind the last tick in which a job of it executed
 pub record AreLast (S : System) (mode : ℕ) (arrivals : List Arrival) (ticks : ℕ) (last : List ℕ) : Type 0 where
@@ -96,9 +105,45 @@ GoesOn counted arrived old new =
     (mode : ℕ) (arrivals : List Arrival) → arriving arrivals (next_tick old) ≡ arrived
     → IsRun counted mode arrivals old → IsRun counted mode arrivals new
 
+-- a tick may be done in which the interrupts of some routines arrive: no ShutdownOS ended the run, the tick is below the
+-- limit, and the routines are of the system
+pub record MayTick (arrived : List ℕ) (m : Machine) : Type 0 where
+  pub on : (picture m).over ≡ false
+  pub limit : next_tick m < MAX_TICKS
+  pub known : All (λ i. i < length (system_of m).routines) arrived
+
+-- what a tick did, executed and recorded, before its instruction and behind it
+pub record HasTicked (counted : Bool) (arrived : List ℕ) (old new : Machine) (before : List TraceEvent) (executed : Option Executed)
+    (behind : List TraceEvent) : Type 0 where
+  pub ticks : Ticks arrived old new (before ++ idle_or_executed (system_of old) executed ∷ behind)
+  pub goes_on : GoesOn counted arrived old new
+  pub was_of_run : IsOfRun counted old
+  pub of_run : IsOfRun counted new
+  pub there : IfSome executed (StandsIn (system_of old))
+  pub few : length before + length behind < MAX_RECORDS
+  pub acted : new.acted ≡ acted_in (system_of old) (picture old)
+
+-- a word of the window of a standard resource
+pub record IsSharedWord (S : System) (r i : ℕ) : Type 0 where
+  pub resource : r < length S.resources
+  pub index : i < SHARED_WORDS
+
+-- the objects of a machine but the words, at the tick that was done last
+pub record ShowsObjects (m : Machine) (o : Objects) : Type 0 where
+  pub system : o.system ≡ system_of m
+  pub picture : kept_of (picture_of m.processor).words (record o { tick = next_tick m }) ≡ picture_of m.processor
+  pub clock : o.tick ≡ next_tick m - 1
+
+-- its core of the services, at that tick
+pub record IsCore (m : Machine) (o : Objects) : Type 0 where
+  pub system : o.system ≡ system_of m
+  pub objects : record o { tick = next_tick m } ≡ m.processor.objects
+  pub clock : o.tick ≡ next_tick m - 1
+
 -- what boot leaves: each run of the system in the mode begins with it
 pub record IsBooted (counted : Bool) (S : System) (mode : ℕ) (m : Machine) : Type 0 where
   pub system : system_of m ≡ S
   pub proper : IsProper S
   pub first : next_tick m ≡ 0
   pub begins : (arrivals : List Arrival) → IsRun counted mode arrivals m
+  pub of_run : IsOfRun counted m

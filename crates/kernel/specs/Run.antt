@@ -1,11 +1,17 @@
 -- OSEK/VDX OS: system start-up. A run of a system, as far as it has come.
-use Rattle.std.specs.Prelude.{ℕ, ◌≡◌, ◌<◌, ◌≤◌, Bool, true, ◌||◌, nat_le, List, drop, length}
+use Rattle.std.specs.Prelude.{ℕ, ◌≡◌, ◌<◌, ◌≤◌, ◌+◌, ◌++◌, ◌∷◌, Bool, true, ◌||◌, nat_le, List, Option, Some, None, IfSome, Result, Err, IfOk, ◌↔◌, drop, length, map, slice_range}
 use Rattle.std.specs.List.{All}
-use Rattle.osek_base.specs.declared.limits.TheConstants.{MAX_TICKS}
+use Rattle.osek_base.specs.declared.limits.TheConstants.{MAX_RECORDS, MAX_TICKS}
+use Rattle.osek_base.specs.declared.executed.Executed.{Executed}
+use Rattle.osek_base.specs.declared.trace_event.TraceEvent.{TraceEvent}
+use Rattle.osek_base.specs.Executed.{StandsIn, idle_or_executed}
+use Rattle.osek_base.specs.Proper.{IsProper}
 use Rattle.osek_base.specs.declared.arrivals.Arrival.{Arrival}
 use Rattle.osek_base.specs.System.{System}
 use Rattle.osek_base.specs.ArrivalList.{are_in_order}
 use Rattle.osek_base.specs.Laws.{StartsSingly, Excludes, BlocksOnce, Protects}
+use Rattle.kernel.specs.declared.boot.BootFault.{BootFault}
+use Rattle.blocking_laws.specs.Steps.{record_at}
 use Rattle.osek_base.specs.Trace.{Run as RunSoFar, arriving, run}
 
 -- the system, the mode, all arrivals, and the ticks done
@@ -41,3 +47,30 @@ pub record AreLeft (arrivals : List Arrival) (cursor tick : ℕ) : Type 0 where
   pub within : cursor ≤ length arrivals
   pub ordered : are_in_order tick (drop cursor arrivals) ≡ true
   pub same : (t : ℕ) → tick ≤ t → arriving arrivals t ≡ arriving (drop cursor arrivals) t
+
+-- the arrivals of a tick are those from the cursor up to the next
+pub record HaveArrived (arrivals : List Arrival) (tick first next : ℕ) : Type 0 where
+  pub these : arriving arrivals tick ≡ slice_range (map (λ a. a.routine) arrivals) first next
+  pub left : AreLeft arrivals next (tick + 1)
+  pub forward : first ≤ next
+
+-- what a tick recorded, and where the run has come
+pub record HasRun (old new : Run) (recorded : List TraceEvent) : Type 0 where
+  pub records : recorded ≡ record_at old.system old.mode old.arrivals old.ticks
+  pub next : new ≡ record old { ticks = old.ticks + 1 }
+  pub lawful : IsLawful new
+
+-- the same of a tick whose records stand apart, before and behind that of what it executed
+pub record HasRunApart (old new : Run) (before : List TraceEvent) (executed : Option Executed) (behind : List TraceEvent) : Type 0 where
+  pub records : before ++ idle_or_executed old.system executed ∷ behind ≡ record_at old.system old.mode old.arrivals old.ticks
+  pub next : new ≡ record old { ticks = old.ticks + 1 }
+  pub lawful : IsLawful new
+  pub there : IfSome executed (StandsIn old.system)
+  pub few : length before + length behind < MAX_RECORDS
+  pub proper : IsProper old.system
+
+-- what boot answers in the mode of a name: a run with no tick done, or that the system has no such mode, or a refused growth
+pub record Boots (S : System) (mode : Option ℕ) (list : List Arrival) (r : Result Run BootFault) : Type 0 where
+  pub booted : IfOk r (λ k. (k.system ≡ S) × (k.arrivals ≡ list) × (k.ticks ≡ 0) × (mode ≡ Some k.mode))
+  pub lawful : IfOk r IsLawful
+  pub unknown : (r ≡ Err BootFault.UnknownMode) ↔ (mode ≡ None)

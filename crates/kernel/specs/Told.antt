@@ -1,9 +1,10 @@
 -- OSEK/VDX OS: task management, task state model; alarms. What a kernel tells of the tick that it did last: what tasks were when
 -- its instruction was executed, and the alarms that were due.
-use Rattle.std.specs.Prelude.{ℕ, List, [], ◌∷◌, ◌++◌, length}
+use Rattle.std.specs.Prelude.{ℕ, ◌≡◌, ◌≤◌, ◌+◌, List, [], ◌∷◌, ◌++◌, length}
 use Rattle.std.specs.Option.{option_map}
 use Rattle.osek_base.specs.declared.arrivals.Arrival.{Arrival}
 use Rattle.osek_base.specs.declared.status.Status.{Status}
+use Rattle.osek_base.specs.declared.trace_event.TraceEvent.{TraceEvent}
 use Rattle.osek_base.specs.System.{System, alarm}
 use Rattle.osek_base.specs.State.{State, jobs_of}
 use Rattle.osek_base.specs.Alarm.{alarms_advanced, due_alarms}
@@ -12,11 +13,13 @@ use Rattle.osek_base.specs.Service.{NobodyCalls, Reply, task_state, unmasked_ser
 use Rattle.osek_base.specs.Tick.{action_call}
 use Rattle.osek_base.specs.Trace.{run}
 use Rattle.kept_state.specs.Kept.{Kept}
+use Rattle.kept_state.specs.KeptTick.{alarm_acts_in}
 use Rattle.kept_state.specs.KeptService.{ByNobody, KeptReply, bare, task_state_in, unmasked_in}
 use Rattle.services.specs.Seen.{priority_in}
 use Rattle.kernel.specs.declared.acted.Acted.{Acted}
 use Rattle.kernel.specs.declared.task_at.TaskAt.{TaskAt}
-use Rattle.kernel.specs.Does.{advanced_in}
+use Rattle.kernel.specs.Does.{Does, advanced_in}
+use Rattle.kernel.specs.Processor.{Processor, picture, system_of}
 use Rattle.kernel.specs.Shown.{oldest_job}
 
 -- what a task is in a state: its state as GetTaskState answers it, the dynamic priority of its oldest job, and how many jobs
@@ -62,6 +65,12 @@ task_at_in S o t = record { state = task_state_in o t; priority = priority_in S 
 -- what an alarm's action answers
 abbrev pub acting_in : System → ℕ → Kept → KeptReply
 acting_in S a o = unmasked_in S ByNobody o (action_call (alarm S a).action)
+
+-- an alarm acts, by at most one record, and its action has that status
+pub record Acts (a : ℕ) (old new : Processor) (before after : List TraceEvent) (answer : Status) : Type 0 where
+  pub does : Does (λ S. alarm_acts_in S a) old new before after
+  pub status : answer ≡ (acting_in (system_of old) a (picture old)).status
+  pub few : length after ≤ length before + 1
 
 abbrev pub refused_of_in : System → List ℕ → Kept → List ℕ
 refused_of_in S [] o = []

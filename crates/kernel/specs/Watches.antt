@@ -1,5 +1,9 @@
 -- A system within a tick whose jobs' stamps are followed, and what a step does to both. No part of the standards.
-use Rattle.std.specs.Prelude.{ℕ, ◌≡◌, Bool, true, false, List}
+use Rattle.std.specs.Prelude.{ℕ, ◌≡◌, ◌<◌, ◌≤◌, ◌+◌, ◌∷◌, Bool, true, false, List, [], Option, IfSome, length, replicate}
+use Rattle.osek_base.specs.declared.executed.Executed.{Executed}
+use Rattle.osek_base.specs.declared.limits.TheConstants.{MAX_ALARMS, MAX_RECORDS, MAX_TASK_PRIORITY}
+use Rattle.osek_base.specs.declared.status.Status.{Status}
+use Rattle.osek_base.specs.Executed.{StandsIn, idle_or_executed}
 use Rattle.osek_base.specs.declared.trace_event.TraceEvent.{TraceEvent}
 use Rattle.osek_base.specs.System.{System}
 use Rattle.kept_state.specs.Kept.{Kept}
@@ -7,10 +11,14 @@ use Rattle.kept_state.specs.KeptService.{caller_in}
 use Rattle.kept_state.specs.KeptTick.{alarm_acts_in, alarm_phase_in, alarms_act_in, before_execution_in, execute_phase_in, last_phase_in}
 use Rattle.kept_state.specs.Moves.{KeptRecorded, rescheduled}
 use Rattle.kept_state.specs.Standing.{runner_waits}
-use Rattle.blocking_laws.specs.Looks.{StampLists, alarm_looked, alarm_phase_looked, alarms_looked, before_looked, last_looked, reschedule_looked, spent_of}
-use Rattle.kernel.specs.Processor.{MayExecute, Processor, at_tick, picture, system_of}
+use Rattle.blocking_laws.specs.Looks.{StampLists, alarm_looked, alarm_phase_looked, alarms_looked, before_looked, last_looked, reschedule_looked}
+use Rattle.kernel.specs.Processor.{IsBefore, IsNext, MayExecute, Processor, at_tick, picture, system_of}
+use Rattle.kernel.specs.declared.acted.Acted.{Acted}
+use Rattle.kernel.specs.declared.next.Next.{Next}
+use Rattle.kernel.specs.Told.{acted_in, acting_in, refused_of_in}
+use Rattle.std.specs.List.{AllByRecursion}
 use Rattle.kernel.specs.Does.{Does}
-use Rattle.kernel.specs.Looking.{AreCounted, Told, executed_looked, noted, number_for, number_told}
+use Rattle.kernel.specs.Looking.{AreBegun, AreCounted, IsSpent, Told, executed_looked}
 
 -- of each task by number the stamps of its jobs, and what tells how many blockers the job had that executed last
 pub record Blocking : Type 0 where
@@ -44,11 +52,24 @@ pub record HasBegun (counted : Bool) (w : Watched) : Type 0 where
   pub each : counted ≡ true → AreCounted w.blocking.stamps (picture w.processor)
 
 -- where blockers are counted, the stamp of the job that executes is spent, and tells how many it had
+pub record Spends (counted : Bool) (p : Processor) (tick : ℕ) (old new : Blocking) : Type 0 where
+  pub spent : counted ≡ true → IsSpent (system_of p) (caller_in (picture p)) tick old.stamps new.stamps old.told.last new.told
+  pub sized : length new.stamps ≡ length old.stamps
+
 pub record Begins (counted : Bool) (tick : ℕ) (old new : Watched) : Type 0 where
   pub processor : new.processor ≡ old.processor
-  pub stamps : counted ≡ true → new.blocking.stamps ≡ spent_of (caller_in (picture old.processor)) old.blocking.stamps
-  pub last : counted ≡ true → new.blocking.told.last ≡ noted (system_of old.processor) tick (caller_in (picture old.processor)) old.blocking.told.last
-  pub number : counted ≡ true → number_told new.blocking.told ≡ number_for (system_of old.processor) (caller_in (picture old.processor)) old.blocking.told.last old.blocking.stamps
+  pub blocking : Spends counted old.processor tick old.blocking new.blocking
+
+-- where blockers are counted the stamps become what a look makes of them, of as many tasks, and no number is told anew
+pub record Follows (counted : Bool) (look : StampLists → StampLists) (old new : Blocking) : Type 0 where
+  pub stamps : counted ≡ true → new.stamps ≡ look old.stamps
+  pub told : new.told ≡ old.told
+  pub sized : length new.stamps ≡ length old.stamps
+
+-- before the first tick: all jobs are ready from tick 0 on, and none has executed
+pub record IsFresh (counted : Bool) (p : Processor) (b : Blocking) : Type 0 where
+  pub stamps : counted ≡ true → AreBegun (length (system_of p).tasks) (picture p) b.stamps
+  pub last : b.told.last ≡ replicate (MAX_TASK_PRIORITY + 1) 0
 
 -- ---- the steps
 
@@ -76,3 +97,65 @@ last = record { does = last_phase_in; looks = last_looked }
 -- the same at another tick
 abbrev pub watched_at : Watched → ℕ → Watched
 watched_at w t = record { processor = at_tick w.processor t; blocking = w.blocking }
+
+-- ---- what the phases need and do
+
+-- a step is done, and there are at most so many records behind it
+pub record WatchesWithin (counted : Bool) (most : ℕ) (step : Step) (tick : ℕ) (old new : Watched) (before after : List TraceEvent) : Type 0 where
+  pub does : Watches counted step tick old new before after
+  pub few : length after ≤ most
+
+-- a tick may begin: no records stand before its own but those of boot in the first
+pub record MayStart (counted : Bool) (tick : ℕ) (w : Watched) (records : List TraceEvent) : Type 0 where
+  pub before : IsBefore tick w.processor
+  pub may : MayAct counted w
+  pub room : length records ≤ 3
+  pub none_later : 1 ≤ tick → records ≡ []
+
+-- what the phases up to some do in a tick that began, and the alarms that acted in it
+pub record Starts (counted : Bool) (most : ℕ) (step : Step) (tick : ℕ) (old new : Watched) (before after : List TraceEvent) (alarms : Acted) : Type 0 where
+  pub does : Watches counted step tick (watched_at old tick) new before after
+  pub acted : alarms ≡ acted_in (system_of old.processor) (picture (at_tick old.processor tick))
+  pub few : length after ≤ most
+
+-- an alarm of the system may act, and there is room for its record
+pub record MayActNow (counted : Bool) (a : ℕ) (w : Watched) (records : List TraceEvent) : Type 0 where
+  pub alarm : a < length (system_of w.processor).alarms
+  pub may : MayAct counted w
+  pub room : length records < MAX_RECORDS
+
+-- an alarm acts, by at most one record, and another may act behind it
+pub record AlarmActs (counted : Bool) (a tick : ℕ) (old new : Watched) (before after : List TraceEvent) (answer : Status) : Type 0 where
+  pub does : Watches counted (acting a) tick old new before after
+  pub may : MayAct counted new
+  pub status : answer ≡ (acting_in (system_of old.processor) a (picture old.processor)).status
+  pub few : length after ≤ length before + 1
+
+-- some alarms may act in turn: they are alarms of the system, and nothing is recorded of them
+pub record MayActAll (counted : Bool) (alarms : List ℕ) (w : Watched) (refusals : List ℕ) (records : List TraceEvent) : Type 0 where
+  pub known : AllByRecursion (λ a. a < length (system_of w.processor).alarms) alarms
+  pub may : MayAct counted w
+  pub none : records ≡ []
+  pub fresh : refusals ≡ []
+
+-- what they do and record, and those of them whose action is refused
+pub record AllAct (counted : Bool) (alarms : List ℕ) (tick : ℕ) (old new : Watched) (refusals : List ℕ) (records : List TraceEvent) : Type 0 where
+  pub does : Watches counted (all_acting alarms) tick old new [] records
+  pub refused : refusals ≡ refused_of_in (system_of old.processor) alarms (picture old.processor)
+  pub few : length records ≤ MAX_ALARMS
+
+-- ready for an instruction, and nothing is recorded behind it
+pub record IsReady (counted : Bool) (w : Watched) (behind : List TraceEvent) : Type 0 where
+  pub begun : HasBegun counted w
+  pub none : behind ≡ []
+
+-- and for that one
+pub record MayRun (counted : Bool) (w : Watched) (instruction : Next) (behind : List TraceEvent) : Type 0 where
+  pub next : IsNext w.processor instruction
+  pub ready : IsReady counted w behind
+
+-- what was executed, which stands in its program, and the records behind it
+pub record Executes (counted : Bool) (tick : ℕ) (old new : Watched) (executed : Option Executed) (behind : List TraceEvent) : Type 0 where
+  pub does : Watches counted executing tick old new [] (idle_or_executed (system_of old.processor) executed ∷ behind)
+  pub there : IfSome executed (StandsIn (system_of old.processor))
+  pub few : length behind ≤ 1

@@ -1,14 +1,10 @@
 //! OSEK/VDX OS: alarms; error handling, ErrorHook. Counters advance, and an alarm that is due acts.
 
-ghost use Rattle.std.specs.Prelude.{◌≡◌, ◌<◌, ◌≤◌, ◌+◌, ◌++◌, false, length};
-ghost use Rattle.osek_base.specs.Alarm.{due_alarms};
+ghost use Rattle.std.specs.Prelude.{◌<◌, ◌+◌, length};
 ghost use Rattle.osek_base.specs.Tick.{error_record};
-ghost use Rattle.kept_state.specs.KeptService.{bare};
-ghost use Rattle.kept_state.specs.KeptTick.{alarm_acts_in};
-ghost use Rattle.kept_state.specs.Standing.{runner_waits};
-ghost use Rattle.kernel.specs.Processor.{clocked, picture, system_of};
-ghost use Rattle.kernel.specs.Does.{Becomes, Does, advanced_in};
-ghost use Rattle.kernel.specs.Told.{acting_in};
+ghost use Rattle.kernel.specs.Processor.{AlarmMayAct};
+ghost use Rattle.kernel.specs.Does.{Adds, Advances};
+ghost use Rattle.kernel.specs.Told.{Acts};
 
 use crate::processor::Processor;
 use alarms::DueList;
@@ -24,9 +20,7 @@ impl<'s, Q: ReadyQueues> Processor<'s, Q> {
     #[inline(always)]
     pub fn advance(&mut self, due: &mut DueList)
         requires { self.old.objects.tick + 1 < MAX_TICKS }
-        ensures due { due.new
-            ≡ due_alarms (system_of self.old) (bare (picture (clocked self.old))) }
-        ensures advanced { Becomes advanced_in (clocked self.old) self.new }
+        ensures { Advances self.old self.new due.new }
     {
         self.core.advance(due);
     }
@@ -35,12 +29,8 @@ impl<'s, Q: ReadyQueues> Processor<'s, Q> {
     /// Answers the status of its action.
     #[inline(never)]
     pub fn alarm_acts(&mut self, alarm: AlarmId, records: &mut TickRecord) -> Status
-        requires alarm { alarm < length (system_of self.old).alarms }
-        requires ready { runner_waits (picture self.old) ≡ false }
-        requires room { length records.old < MAX_RECORDS }
-        ensures does { Does (λ S. alarm_acts_in S alarm) self.old self.new records.old records.new }
-        ensures status { result ≡ (acting_in (system_of self.old) alarm (picture self.old)).status }
-        ensures few { length records.new ≤ length records.old + 1 }
+        requires { AlarmMayAct alarm self.old records.old }
+        ensures { Acts alarm self.old self.new records.old records.new result }
     {
         let source = Source::Alarm(alarm);
         match self.system.action_of(alarm) {
@@ -69,8 +59,7 @@ pub fn record_error(
     records: &mut TickRecord,
 )
     requires { length records.old < MAX_RECORDS }
-    ensures events { records.new ≡ records.old ++ error_record system.now source instr status }
-    ensures few { length records.new ≤ length records.old + 1 }
+    ensures { Adds (error_record system.now source instr status) records.old records.new }
 {
     if status != Status::Ok && system.hooks().error {
         records.push(TraceEvent::Error(source, instr, status));

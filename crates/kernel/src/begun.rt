@@ -1,13 +1,12 @@
 //! The number of blockers of a job that executes for the first time since it became ready. No part of the standards.
 
-ghost use Rattle.std.specs.Prelude.{◌≡◌, ◌<◌, ◌≤◌, None, length};
+ghost use Rattle.std.specs.Prelude.{◌≡◌, ◌≤◌, None, length};
 ghost use Rattle.kept_state.specs.KeptService.{caller_in};
-ghost use Rattle.blocking_laws.specs.Looks.{spent_of};
-ghost use Rattle.kernel.specs.Looking.{noted, number_for, number_since};
+ghost use Rattle.kernel.specs.Looking.{IsSpent, MayBegin, number_since};
 ghost use Rattle.kernel.specs.Processor.{picture, system_of};
 
 use crate::processor::Processor;
-use osek_base::{MAX_TASK_PRIORITY, MAX_TICKS};
+use osek_base::MAX_TASK_PRIORITY;
 use readiness::{JobStamps, LastTicks};
 use ready_queues::ReadyQueues;
 
@@ -16,19 +15,6 @@ use ready_queues::ReadyQueues;
 pub struct Begun {
     pub level: u8,
     pub stamp: Option<u32>,
-}
-
-impl Begun {
-    /// No job begins.
-    #[inline(always)]
-    pub fn nothing() -> Self
-        ensures { result ≡ record { level = 0; stamp = None } }
-    {
-        Begun {
-            level: 0,
-            stamp: None,
-        }
-    }
 }
 
 /// How many blockers a job had, where it had a stamp: 1 where a job of a lower level has executed since, else 0. It is never 2,
@@ -59,16 +45,11 @@ pub fn begin<Q: ReadyQueues>(
     begun: &mut Begun,
     tick: u32,
 )
-    requires stamps { length stamps.old ≡ length (system_of processor.now).tasks }
-    requires tick { tick < MAX_TICKS }
+    requires may { MayBegin (length (system_of processor.now).tasks) tick stamps.old }
     requires low { begun.old.level ≤ MAX_TASK_PRIORITY }
     ensures low { begun.new.level ≤ MAX_TASK_PRIORITY }
-    ensures value { number_since last.new begun.new
-        ≡ number_for (system_of processor.now) (caller_in (picture processor.now)) last.old
-        stamps.old }
-    ensures stamps { stamps.new ≡ spent_of (caller_in (picture processor.now)) stamps.old }
-    ensures last { last.new
-        ≡ noted (system_of processor.now) tick (caller_in (picture processor.now)) last.old }
+    ensures spent { IsSpent (system_of processor.now) (caller_in (picture processor.now)) tick
+        stamps.old stamps.new last.old (record { last = last.new; begun = begun.new }) }
 {
     match processor.executing_task() {
         None => begun.stamp = None,

@@ -1,16 +1,16 @@
 //! Since which tick each job is ready, and how many blockers it had, in a kernel that counts blockers. No part of the standards.
 
-ghost use Rattle.std.specs.Prelude.{◌≡◌, ◌<◌, ◌≤◌, ◌+◌, false, true, None, IfSome, length, replicate};
-ghost use Rattle.kept_state.specs.KeptService.{caller_in};
-ghost use Rattle.blocking_laws.specs.Looks.{preempted_by, spent_of, stamps_at};
-ghost use Rattle.kernel.specs.Looking.{AreBegun, looked_between, noted, number_for, number_told, stood_between};
-ghost use Rattle.kernel.specs.Processor.{picture, system_of};
+ghost use Rattle.std.specs.Prelude.{◌≡◌, ◌<◌, true, IfSome, length};
+ghost use Rattle.blocking_laws.specs.Looks.{preempted_by};
+ghost use Rattle.kernel.specs.Looking.{IsNumber, MayBegin, MayFollow, MayLook, looked_between, number_told, stood_between};
+ghost use Rattle.kernel.specs.Processor.{system_of};
+ghost use Rattle.kernel.specs.Watches.{Follows, IsFresh, Spends};
 
 use crate::begun::{Begun, begin, number_since};
 use crate::blockers::Blockers;
 use crate::processor::Processor;
 use crate::stamping::{Look, Stand, executed_since, looked_at, preempted};
-use osek_base::{MAX_ACTIVATION, MAX_TASK_PRIORITY, MAX_TICKS, TaskId};
+use osek_base::{MAX_TASK_PRIORITY, TaskId};
 use readiness::{JobStamps, LastTicks};
 use ready_queues::ReadyQueues;
 use std::marker::{Model, PhantomData};
@@ -41,10 +41,7 @@ impl<B: Blockers> Blocking<B> {
     /// With the stamps of the jobs with which a system begins, where blockers are counted; else with
     /// none. No job has executed.
     pub fn boot<Q: ReadyQueues>(processor: &Processor<'_, Q>) -> Self
-        ensures stamps { B.are_counted ≡ true
-            → AreBegun (length (system_of processor.now).tasks) (picture processor.now)
-            result.stamps }
-        ensures last { result.told.last ≡ replicate (MAX_TASK_PRIORITY + 1) 0 }
+        ensures { IsFresh B.are_counted processor.now result }
     {
         Blocking {
             stamps: if B::are_counted() {
@@ -53,7 +50,10 @@ impl<B: Blockers> Blocking<B> {
                 JobStamps::new(0)
             },
             last: LastTicks::new(),
-            begun: Begun::nothing(),
+            begun: Begun {
+                level: 0,
+                stamp: None,
+            },
             blockers: PhantomData,
         }
     }
@@ -69,8 +69,7 @@ impl<B: Blockers> Blocking<B> {
 
     /// How many blockers the job had that executed last, where it did so for the first time since it became ready.
     pub fn number(&self) -> Option<u32>
-        ensures counted { B.are_counted ≡ true → result ≡ number_told self.now.told }
-        ensures uncounted { B.are_counted ≡ false → result ≡ None }
+        ensures { IsNumber B.are_counted (number_told self.now.told) result }
     {
         if B::are_counted() {
             number_since(&self.last, &self.begun)
@@ -82,14 +81,9 @@ impl<B: Blockers> Blocking<B> {
     /// A task is looked at behind something that it was looked at before.
     #[inline(always)]
     pub fn looked_at(&mut self, before: &Look, after: &Look, tick: u32)
-        requires task { B.are_counted ≡ true → before.now.task < length self.old.stamps }
-        requires counted { B.are_counted ≡ true
-            → length (stamps_at self.old.stamps before.now.task) ≡ before.now.count }
-        requires few { after.now.count ≤ MAX_ACTIVATION }
-        ensures stamps { B.are_counted ≡ true
-            → self.new.stamps ≡ looked_between tick before.now after.now self.old.stamps }
-        ensures told { self.new.told ≡ self.old.told }
-        ensures sized { length self.new.stamps ≡ length self.old.stamps }
+        requires { B.are_counted ≡ true → MayLook before.now after.now self.old.stamps }
+        ensures { Follows B.are_counted (looked_between tick before.now after.now) self.old
+            self.new }
     {
         if B::are_counted() {
             looked_at(&mut self.stamps, before, after, tick);
@@ -100,10 +94,7 @@ impl<B: Blockers> Blocking<B> {
     #[inline(always)]
     pub fn preempted(&mut self, runner: Option<TaskId>, running: &Option<TaskId>, tick: u32)
         requires { B.are_counted ≡ true → IfSome runner (λ t. t < length self.old.stamps) }
-        ensures stamps { B.are_counted ≡ true
-            → self.new.stamps ≡ preempted_by tick runner running.now self.old.stamps }
-        ensures told { self.new.told ≡ self.old.told }
-        ensures sized { length self.new.stamps ≡ length self.old.stamps }
+        ensures { Follows B.are_counted (preempted_by tick runner running.now) self.old self.new }
     {
         if B::are_counted() {
             preempted(&mut self.stamps, runner, running, tick);
@@ -114,17 +105,9 @@ impl<B: Blockers> Blocking<B> {
     /// at again.
     #[inline(always)]
     pub fn executed_since(&mut self, before: &Stand, after: &Stand, tick: u32)
-        requires running { B.are_counted ≡ true
-            → IfSome before.now.running (λ t. t < length self.old.stamps) }
-        requires task { B.are_counted ≡ true
-            → IfSome before.now.named (λ b. b.task < length self.old.stamps) }
-        requires counted { B.are_counted ≡ true
-            → IfSome before.now.named (λ b. length (stamps_at self.old.stamps b.task) ≡ b.count) }
-        requires few { IfSome after.now.named (λ l. l.count ≤ MAX_ACTIVATION) }
-        ensures stamps { B.are_counted ≡ true
-            → self.new.stamps ≡ stood_between tick before.now after.now self.old.stamps }
-        ensures told { self.new.told ≡ self.old.told }
-        ensures sized { length self.new.stamps ≡ length self.old.stamps }
+        requires { B.are_counted ≡ true → MayFollow before.now after.now self.old.stamps }
+        ensures { Follows B.are_counted (stood_between tick before.now after.now) self.old
+            self.new }
     {
         if B::are_counted() {
             executed_since(&mut self.stamps, before, after, tick);
@@ -134,20 +117,9 @@ impl<B: Blockers> Blocking<B> {
     /// Where a task executes, the stamp of its job is taken and its level noted.
     #[inline(always)]
     pub fn begin<Q: ReadyQueues>(&mut self, processor: &Processor<'_, Q>, tick: u32)
-        requires stamps { B.are_counted ≡ true
-            → length self.old.stamps ≡ length (system_of processor.now).tasks }
-        requires tick { tick < MAX_TICKS }
-        ensures stamps { B.are_counted ≡ true
-            → self.new.stamps ≡ spent_of (caller_in (picture processor.now)) self.old.stamps }
-        ensures last { B.are_counted ≡ true
-            → self.new.told.last
-            ≡ noted (system_of processor.now) tick (caller_in (picture processor.now))
-            self.old.told.last }
-        ensures number { B.are_counted ≡ true
-            → number_told self.new.told
-            ≡ number_for (system_of processor.now) (caller_in (picture processor.now))
-            self.old.told.last self.old.stamps }
-        ensures sized { length self.new.stamps ≡ length self.old.stamps }
+        requires { B.are_counted ≡ true
+            → MayBegin (length (system_of processor.now).tasks) tick self.old.stamps }
+        ensures { Spends B.are_counted processor.now tick self.old self.new }
     {
         if B::are_counted() {
             begin(

@@ -1,18 +1,16 @@
 //! OSEK/VDX OS: system start-up; application modes. What stands before the first tick.
 
-ghost use Rattle.std.specs.Prelude.{ℕ, ◌≡◌, ◌<◌, ◌≤◌, ◌==◌, [], Some, false, IfOk, length, replicate};
+ghost use Rattle.std.specs.Prelude.{◌≡◌, [], IfOk, length};
 ghost use Rattle.osek_base.specs.Proper.{IsProper};
 ghost use Rattle.osek_base.specs.Reschedule.{hooked};
-ghost use Rattle.osek_base.specs.Trace.{starting_tasks};
-ghost use Rattle.kept_state.specs.KeptTick.{all_activated_in, begun_in};
 ghost use Rattle.services.specs.Objects.{kept_in};
-ghost use Rattle.kernel.specs.Processor.{IsStarted, picture, system_of};
-ghost use Rattle.blocking_laws.specs.Looks.{stamps_at};
-ghost use Rattle.kernel.specs.Looking.{AreBegun};
+ghost use Rattle.kernel.specs.Does.{Adds};
+ghost use Rattle.kernel.specs.Looking.{AreBegun, HasJobs, MayAddJobs};
+ghost use Rattle.kernel.specs.Processor.{IsStarted, IsStarting, picture, system_of};
 
 use crate::processor::Processor;
 use machine::{Code, Windows};
-use osek_base::{MAX_ACTIVATION, ModeId, System, TaskId, TickRecord, TraceEvent};
+use osek_base::{ModeId, System, TaskId, TickRecord, TraceEvent};
 use readiness::JobStamps;
 use ready_queues::ReadyQueues;
 use services::Core;
@@ -79,10 +77,7 @@ fn started<'s, Q: ReadyQueues>(
     mode: ModeId,
 ) -> Result<Core<'s, Q>, AllocError>
     requires { IsProper system.now }
-    ensures system { IfOk result (λ c. c.system ≡ system.now) }
-    ensures kept { IfOk result
-        (λ c. kept_in c
-        ≡ all_activated_in system.now (starting_tasks system.now mode) (begun_in system.now mode)) }
+    ensures { IfOk result (IsStarting system.now mode) }
 {
     let mut core = Core::new(alloc, system)?;
     core.start_alarms(mode);
@@ -111,13 +106,8 @@ fn begun_stamps<Q: ReadyQueues>(core: &Core<'_, Q>, system: &System) -> JobStamp
 
 /// So many jobs of a task that has none are ready from tick 0 on.
 fn add_jobs(stamps: &mut JobStamps, task: TaskId, count: u8)
-    requires task { task < length stamps.old }
-    requires none { length (stamps_at stamps.old task) ≡ 0 }
-    requires few { count ≤ MAX_ACTIVATION }
-    ensures others { (t : ℕ) → (task == t) ≡ false
-        → stamps_at stamps.new t ≡ stamps_at stamps.old t }
-    ensures own { stamps_at stamps.new task ≡ replicate count (Some 0) }
-    ensures sized { length stamps.new ≡ length stamps.old }
+    requires { MayAddJobs task count stamps.old }
+    ensures { HasJobs task count stamps.old stamps.new }
 {
     for _made in 0..count {
         stamps.add(task, 0);
@@ -127,8 +117,7 @@ fn add_jobs(stamps: &mut JobStamps, task: TaskId, count: u8)
 /// Records the start-up, where StartupHook is on.
 fn record_startup(system: &System, opening: &mut TickRecord)
     requires { opening.old ≡ [] }
-    ensures value { opening.new ≡ hooked system.now.hooks.startup TraceEvent.Startup }
-    ensures few { length opening.new ≤ 1 }
+    ensures { Adds (hooked system.now.hooks.startup TraceEvent.Startup) opening.old opening.new }
 {
     if system.hooks().startup {
         opening.push(TraceEvent::Startup);

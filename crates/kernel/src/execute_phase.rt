@@ -1,17 +1,15 @@
 //! OSEK/VDX OS: system services; the modelled processor. One instruction of who executes, by its kind.
 
-ghost use Rattle.std.specs.Prelude.{◌≡◌, ◌<◌, ◌≤◌, ◌+◌, ◌∷◌, ◌++◌, [], IfSome, true, false, length};
+ghost use Rattle.std.specs.Prelude.{◌≡◌, ◌<◌, ◌+◌, ◌∷◌, [], true, false, length};
 ghost use Rattle.osek_base.specs.declared.trace_event.Outcome.{Outcome};
 ghost use Rattle.osek_base.specs.declared.trace_event.TraceEvent.{TraceEvent};
 ghost use Rattle.osek_base.specs.declared.instr.Instr.{Instr};
 ghost use Rattle.osek_base.specs.Tick.{shutdown_record};
 ghost use Rattle.machine.specs.Packed.{instr_of, is_control, is_plain};
 ghost use Rattle.kept_state.specs.KeptTick.{execute_phase_in};
-ghost use Rattle.run_laws.proofs.Formed.{IsPlaced};
 ghost use Rattle.blocking_laws.specs.Looks.{named_by};
-ghost use Rattle.services.specs.Calls.{IsExecuting, context_in};
-ghost use Rattle.kernel.specs.Processor.{IsNext, MayExecute, picture, system_of};
-ghost use Rattle.kernel.specs.Does.{Does};
+ghost use Rattle.kernel.specs.Processor.{ComesTo, IsNext, MayFetch};
+ghost use Rattle.kernel.specs.Does.{Adds, Does, DoesWithin};
 ghost use Rattle.kernel.specs.Controls.{control_context, ends_routine};
 
 use crate::alarm_phase::record_error;
@@ -23,15 +21,12 @@ use osek_base::{
     System, TaskId, TickRecord, TraceEvent,
 };
 use ready_queues::ReadyQueues;
-use services::Call;
 
 impl<'s, Q: ReadyQueues> Processor<'s, Q> {
     /// The instruction that who executes comes to.
     #[inline(always)]
     pub fn next_of(&self, owner: &Owner) -> Next
-        requires who { IsExecuting (picture self.now) owner.now }
-        requires placed { IsPlaced (system_of self.now) owner.now
-            (context_in (picture self.now) owner.now) }
+        requires { MayFetch self.now owner.now }
         ensures { IsNext self.now result }
     {
         let cpu = self.core.cpu_of(*owner);
@@ -41,17 +36,6 @@ impl<'s, Q: ReadyQueues> Processor<'s, Q> {
             place,
             packed: self.code.fetch(*owner, place),
         }
-    }
-
-    /// The task on which a service acts that comes next.
-    #[inline(always)]
-    pub fn acted_on_by(&self, _next: &Next, service: &Service<Register>) -> Option<TaskId>
-        requires next { IsNext self.now _next.now }
-        requires service { instr_of _next.now.packed ≡ Instr.Service service.now }
-        ensures value { result ≡ named_by (Instr.Service service.now) }
-        ensures known { IfSome result (λ t. t < length (system_of self.now).tasks) }
-    {
-        acting_task(service)
     }
 
     /// A plain instruction.
@@ -71,18 +55,15 @@ impl<'s, Q: ReadyQueues> Processor<'s, Q> {
     /// A service without a status.
     #[inline(never)]
     pub fn execute_control(&mut self, next: &Next, behind: &mut TickRecord)
-        requires next { IsNext self.old next.now }
-        requires may { MayExecute self.old }
+        requires comes { ComesTo self.old next.now behind.old }
         requires control { is_control (instr_of next.now.packed) ≡ true }
-        requires none { behind.old ≡ [] }
-        ensures does { Does execute_phase_in self.old self.new []
+        ensures { DoesWithin 2 execute_phase_in self.old self.new []
             (TraceEvent.Executed next.now.owner next.now.place (instr_of next.now.packed)
             Outcome.Control ∷ behind.new) }
-        ensures few { length behind.new ≤ 1 }
     {
         let control = next.packed.control();
         let cpu = self.core.cpu_of(next.owner);
-        let _answer = self.core.call(&Call::Control(control));
+        self.core.control(&control);
         self.core.go_on(next.owner, following(&control, cpu));
         record_shutdown(self.system, &control, behind);
     }
@@ -95,14 +76,11 @@ impl<'s, Q: ReadyQueues> Processor<'s, Q> {
         service: &Service<Register>,
         behind: &mut TickRecord,
     ) -> Outcome
-        requires next { IsNext self.old next.now }
-        requires may { MayExecute self.old }
+        requires comes { ComesTo self.old next.now behind.old }
         requires service { instr_of next.now.packed ≡ Instr.Service service.now }
-        requires none { behind.old ≡ [] }
-        ensures does { Does execute_phase_in self.old self.new []
+        ensures { DoesWithin 2 execute_phase_in self.old self.new []
             (TraceEvent.Executed next.now.owner next.now.place (instr_of next.now.packed) result
             ∷ behind.new) }
-        ensures few { length behind.new ≤ 1 }
     {
         let answer = self.core.serve(next.owner, service);
         let Some(status) = answer.status else {
@@ -123,7 +101,7 @@ impl<'s, Q: ReadyQueues> Processor<'s, Q> {
 
 /// The task on which a service acts.
 #[inline(always)]
-fn acting_task(service: &Service<Register>) -> Option<TaskId>
+pub fn acting_task(service: &Service<Register>) -> Option<TaskId>
     ensures { result ≡ named_by (Instr.Service service.now) }
 {
     match service {
@@ -152,8 +130,7 @@ fn following(control: &Control, cpu: Cpu) -> Cpu
 #[inline(always)]
 fn record_shutdown(system: &System, control: &Control, records: &mut TickRecord)
     requires { length records.old < MAX_RECORDS }
-    ensures events { records.new ≡ records.old ++ shutdown_record system.now control.now }
-    ensures few { length records.new ≤ length records.old + 1 }
+    ensures { Adds (shutdown_record system.now control.now) records.old records.new }
 {
     if let Control::ShutdownOs(number) = control
         && system.hooks().shutdown

@@ -1,13 +1,13 @@
 //! OSEK/VDX OS: system services; the modelled processor. The fifth phase of a tick: one instruction of who executes.
 
-ghost use Rattle.std.specs.Prelude.{◌≡◌, ◌<◌, ◌≤◌, ◌∷◌, [], IfSome, true, false, length};
+ghost use Rattle.std.specs.Prelude.{◌<◌, ◌∷◌, []};
 ghost use Rattle.osek_base.specs.declared.trace_event.TraceEvent.{TraceEvent};
-ghost use Rattle.osek_base.specs.Executed.{StandsIn, idle_or_executed};
-ghost use Rattle.machine.specs.Packed.{instr_of, is_control, is_plain};
-ghost use Rattle.kernel.specs.Processor.{IsNext, system_of};
-ghost use Rattle.kernel.specs.Watches.{Begins, HasBegun, Watches, executing};
+ghost use Rattle.machine.specs.Packed.{instr_of};
+ghost use Rattle.kernel.specs.Controls.{IsCall};
+ghost use Rattle.kernel.specs.Watches.{Begins, Executes, IsReady, MayRun, WatchesWithin, executing};
 
 use crate::blockers::Blockers;
+use crate::execute_phase::acting_task;
 use crate::next::Next;
 use crate::watched::Watched;
 use osek_base::{Executed, MAX_TICKS, Outcome, TickRecord};
@@ -27,12 +27,8 @@ impl<'s, Q: ReadyQueues, B: Blockers> Watched<'s, Q, B> {
     /// does. `behind` gets the records behind that of the instruction.
     #[inline(always)]
     pub fn execute_phase(&mut self, tick: u32, behind: &mut TickRecord) -> Option<Executed>
-        requires begun { HasBegun B.are_counted self.old }
-        requires none { behind.old ≡ [] }
-        ensures does { Watches B.are_counted executing tick self.old self.new []
-            (idle_or_executed (system_of self.old.processor) result ∷ behind.new) }
-        ensures there { IfSome result (StandsIn (system_of self.old.processor)) }
-        ensures few { length behind.new ≤ 1 }
+        requires { IsReady B.are_counted self.old behind.old }
+        ensures { Executes B.are_counted tick self.old self.new result behind.new }
     {
         match self.processor.executor() {
             None => None,
@@ -53,12 +49,9 @@ impl<'s, Q: ReadyQueues, B: Blockers> Watched<'s, Q, B> {
     /// Who executes does its next instruction. Services with a status alone make, release or end jobs.
     #[inline(always)]
     fn execute(&mut self, next: Next, tick: u32, behind: &mut TickRecord) -> Outcome
-        requires next { IsNext self.old.processor next }
-        requires begun { HasBegun B.are_counted self.old }
-        requires none { behind.old ≡ [] }
-        ensures does { Watches B.are_counted executing tick self.old self.new []
+        requires { MayRun B.are_counted self.old next behind.old }
+        ensures { WatchesWithin B.are_counted 2 executing tick self.old self.new []
             (TraceEvent.Executed next.owner next.place (instr_of next.packed) result ∷ behind.new) }
-        ensures few { length behind.new ≤ 1 }
     {
         if next.packed.is_plain() {
             self.processor.execute_plain(next)
@@ -73,18 +66,14 @@ impl<'s, Q: ReadyQueues, B: Blockers> Watched<'s, Q, B> {
     /// A service with a status. The task on which it acts is looked at before and after.
     #[inline(never)]
     fn serve(&mut self, next: &Next, tick: u32, behind: &mut TickRecord) -> Outcome
-        requires next { IsNext self.old.processor next.now }
-        requires begun { HasBegun B.are_counted self.old }
-        requires plain { is_plain (instr_of next.now.packed) ≡ false }
-        requires control { is_control (instr_of next.now.packed) ≡ false }
-        requires none { behind.old ≡ [] }
-        ensures does { Watches B.are_counted executing tick self.old self.new []
+        requires may { MayRun B.are_counted self.old next.now behind.old }
+        requires call { IsCall (instr_of next.now.packed) }
+        ensures { WatchesWithin B.are_counted 2 executing tick self.old self.new []
             (TraceEvent.Executed next.now.owner next.now.place (instr_of next.now.packed) result
             ∷ behind.new) }
-        ensures few { length behind.new ≤ 1 }
     {
         let service = next.packed.service();
-        let named = self.processor.acted_on_by(next, &service);
+        let named = acting_task(&service);
         let before = self.processor.stand(&named);
         let outcome = self.processor.execute_service(next, &service, behind);
         let after = self.processor.stand(&named);

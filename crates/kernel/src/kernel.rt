@@ -1,17 +1,15 @@
 //! OSEK/VDX OS: system start-up; application modes. The kernel: a machine with all interrupts that arrive.
 
-ghost use Rattle.std.specs.Prelude.{◌≡◌, ◌<◌, ◌≤◌, ◌+◌, ◌-◌, ◌∷◌, ◌++◌, ◌↔◌, false, true, Some, None, IfOk, IfSome, map, slice_index, slice_range, length};
+ghost use Rattle.std.specs.Prelude.{◌≡◌, ◌<◌, ◌≤◌, ◌+◌, ◌-◌, ◌++◌, false, IfOk, map, slice_index, length};
 ghost use Rattle.osek_base.specs.BlockingText.{blockers_at};
 ghost use Rattle.osek_base.specs.Names.{number_of};
-ghost use Rattle.osek_base.specs.Proper.{IsProper};
 ghost use Rattle.ready_queues.specs.LevelLists.{level_lists, by_level};
 ghost use Rattle.osek_base.specs.State.{shared_window};
-ghost use Rattle.osek_base.specs.Trace.{arriving};
 ghost use Rattle.kept_state.specs.Kept.{kept};
-ghost use Rattle.kernel.specs.declared.boot.BootFault.{BootFault};
-ghost use Rattle.kernel.specs.Run.{AreKnown, AreLeft, IsLawful, is_over, run_of};
-ghost use Rattle.osek_base.specs.Executed.{StandsIn, idle_or_executed};
-ghost use Rattle.blocking_laws.specs.Steps.{record_at, step_at};
+ghost use Rattle.kernel.specs.Looking.{IsNumber};
+ghost use Rattle.kernel.specs.Machine.{IsSharedWord};
+ghost use Rattle.kernel.specs.Run.{AreKnown, AreLeft, Boots, HasRun, HasRunApart, HaveArrived, is_over, run_of};
+ghost use Rattle.blocking_laws.specs.Steps.{step_at};
 ghost use Rattle.kernel.specs.Told.{task_at};
 ghost use Rattle.osek_base.specs.Lists.{below};
 
@@ -22,7 +20,7 @@ use crate::looker::{Looker, Unseen};
 use crate::ticking::Machine;
 use osek_base::{
     Arrival, Arrivals, Executed, IsrId, MAX_RECORDS, MAX_TICKS, ModeId, Owner, ResourceNumber,
-    SHARED_WORDS, System, TickRecord, TraceEvent, WINDOW_WORDS,
+    System, TickRecord, TraceEvent, WINDOW_WORDS,
 };
 use ready_queues::ReadyQueues;
 use std::alloc::{AllocError, Global};
@@ -61,14 +59,6 @@ impl<'s, Q: ReadyQueues, B: Blockers> Model for Kernel<'s, Q, B> {
         k.earlier k.arrived k.machine };
 }
 
-/// The application mode of a name.
-fn mode_of(system: &System, name: &str) -> Option<ModeId>
-    ensures value { result ≡ number_of name.now system.now.names.modes }
-    ensures proper { IsProper system.now }
-{
-    system.names().mode(name)
-}
-
 /// The routines of some arrivals.
 fn routines_of(alloc: Global, list: &[Arrival]) -> Result<Vec<IsrId>, AllocError>
     ensures { IfOk result (λ v. v.items ≡ map (λ a. a.routine) list.now) }
@@ -82,6 +72,7 @@ fn routines_of(alloc: Global, list: &[Arrival]) -> Result<Vec<IsrId>, AllocError
 
 impl<'s, Q: ReadyQueues, B: Blockers> Kernel<'s, Q, B> {
     /// Boots a system in the application mode of that name. Its programs are packed here, once.
+    #[tactic(auto, using(crate::proofs::LawLemmas::lawful))]
     pub fn boot(
         alloc: Global,
         system: &'s System,
@@ -89,14 +80,9 @@ impl<'s, Q: ReadyQueues, B: Blockers> Kernel<'s, Q, B> {
         arrivals: Arrivals,
     ) -> Result<Self, BootFault>
         requires { AreKnown system.now arrivals }
-        ensures booted { IfOk result
-            (λ k. (k.system ≡ system.now) × (k.arrivals ≡ arrivals) × (k.ticks ≡ 0)
-            × (number_of mode.now system.now.names.modes ≡ Some k.mode)) }
-        ensures lawful { IfOk result IsLawful }
-        ensures unknown { (result ≡ Err BootFault.UnknownMode)
-            ↔ (number_of mode.now system.now.names.modes ≡ None) }
+        ensures { Boots system.now (number_of mode.now system.now.names.modes) arrivals result }
     {
-        let Some(mode) = mode_of(system, mode) else {
+        let Some(mode) = system.names().mode(mode) else {
             return Err(BootFault::UnknownMode);
         };
         let routines = routines_of(alloc, arrivals.list())?;
@@ -146,8 +132,7 @@ impl<'s, Q: ReadyQueues, B: Blockers> Kernel<'s, Q, B> {
 
     /// The word of a standard resource's window.
     pub fn shared_word(&self, resource: ResourceNumber, index: u32) -> u32
-        requires resource { resource < length self.now.system.resources }
-        requires index { index < SHARED_WORDS }
+        requires { IsSharedWord self.now.system resource index }
         ensures { result
             ≡ slice_index (shared_window (run_of self.now).state.shared resource) index }
     {
@@ -166,10 +151,9 @@ impl<'s, Q: ReadyQueues, B: Blockers> Kernel<'s, Q, B> {
     /// ready. None where blockers aren't counted.
     pub fn blockers(&self) -> Option<u32>
         requires { 1 ≤ self.now.ticks }
-        ensures counted { B.are_counted ≡ true
-            → result
-            ≡ blockers_at self.now.system self.now.mode self.now.arrivals (self.now.ticks - 1) }
-        ensures uncounted { B.are_counted ≡ false → result ≡ None }
+        ensures { IsNumber B.are_counted
+            (blockers_at self.now.system self.now.mode self.now.arrivals (self.now.ticks - 1))
+            result }
     {
         self.machine.blockers()
     }
@@ -177,10 +161,7 @@ impl<'s, Q: ReadyQueues, B: Blockers> Kernel<'s, Q, B> {
     /// Does one tick, and answers its records. It takes no memory and never fails.
     pub fn tick(&mut self) -> TickRecord
         requires { is_over self.old ≡ false }
-        ensures records { result
-            ≡ record_at self.old.system self.old.mode self.old.arrivals self.old.ticks }
-        ensures next { self.new ≡ record self.old { ticks = self.old.ticks + 1 } }
-        ensures lawful { IsLawful self.new }
+        ensures { HasRun self.old self.new result }
     {
         let mut record_of_tick = TickRecord::new();
         let mut room = TickRecord::new();
@@ -192,10 +173,7 @@ impl<'s, Q: ReadyQueues, B: Blockers> Kernel<'s, Q, B> {
     /// another list to work in.
     pub fn tick_into(&mut self, record_of_tick: &mut TickRecord, room: &mut TickRecord)
         requires { is_over self.old ≡ false }
-        ensures records { record_of_tick.new
-            ≡ record_at self.old.system self.old.mode self.old.arrivals self.old.ticks }
-        ensures next { self.new ≡ record self.old { ticks = self.old.ticks + 1 } }
-        ensures lawful { IsLawful self.new }
+        ensures { HasRun self.old self.new record_of_tick.new }
     {
         let executed = self.tick_parts(record_of_tick, room);
         record_of_tick.push(match executed {
@@ -214,12 +192,7 @@ impl<'s, Q: ReadyQueues, B: Blockers> Kernel<'s, Q, B> {
         behind: &mut TickRecord,
     ) -> Option<Executed>
         requires { is_over self.old ≡ false }
-        ensures records { before.new ++ idle_or_executed self.old.system result ∷ behind.new
-            ≡ record_at self.old.system self.old.mode self.old.arrivals self.old.ticks }
-        ensures there { IfSome result (StandsIn self.old.system) }
-        ensures few { length before.new + length behind.new < MAX_RECORDS }
-        ensures next { self.new ≡ record self.old { ticks = self.old.ticks + 1 } }
-        ensures lawful { IsLawful self.new }
+        ensures { HasRunApart self.old self.new before.new result behind.new }
     {
         self.tick_with(&mut Unseen, before, behind)
     }
@@ -233,12 +206,7 @@ impl<'s, Q: ReadyQueues, B: Blockers> Kernel<'s, Q, B> {
         at: &mut AtInstruction,
     ) -> Option<Executed>
         requires { is_over self.old ≡ false }
-        ensures records { before.new ++ idle_or_executed self.old.system result ∷ behind.new
-            ≡ record_at self.old.system self.old.mode self.old.arrivals self.old.ticks }
-        ensures there { IfSome result (StandsIn self.old.system) }
-        ensures few { length before.new + length behind.new < MAX_RECORDS }
-        ensures next { self.new ≡ record self.old { ticks = self.old.ticks + 1 } }
-        ensures lawful { IsLawful self.new }
+        ensures done { HasRunApart self.old self.new before.new result behind.new }
         ensures seen { at.new.tasks.items
             ≡ map
             (task_at self.old.system
@@ -257,13 +225,7 @@ impl<'s, Q: ReadyQueues, B: Blockers> Kernel<'s, Q, B> {
         behind: &mut TickRecord,
     ) -> Option<Executed>
         requires { is_over self.old ≡ false }
-        ensures records { before.new ++ idle_or_executed self.old.system result ∷ behind.new
-            ≡ record_at self.old.system self.old.mode self.old.arrivals self.old.ticks }
-        ensures there { IfSome result (StandsIn self.old.system) }
-        ensures few { length before.new + length behind.new < MAX_RECORDS }
-        ensures next { self.new ≡ record self.old { ticks = self.old.ticks + 1 } }
-        ensures lawful { IsLawful self.new }
-        ensures proper { IsProper self.old.system }
+        ensures done { HasRunApart self.old self.new before.new result behind.new }
         ensures seen { L.HasSeen looker.new self.old.system
             (kept self.old.system
             (step_at self.old.system self.old.mode self.old.arrivals self.old.ticks).executing) }
@@ -282,10 +244,7 @@ impl<'s, Q: ReadyQueues, B: Blockers> Kernel<'s, Q, B> {
 #[inline(always)]
 fn arrived_by(list: &[Arrival], arrived: usize, tick: u32) -> usize
     requires { AreLeft list.now arrived tick }
-    ensures these { arriving list.now tick
-        ≡ slice_range (map (λ a. a.routine) list.now) arrived result }
-    ensures left { AreLeft list.now result (tick + 1) }
-    ensures forward { arrived ≤ result }
+    ensures { HaveArrived list.now tick arrived result }
 {
     let mut next = arrived;
     while next < list.len() && list[next].tick == tick {

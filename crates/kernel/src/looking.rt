@@ -1,20 +1,18 @@
 //! What is seen of a system in the midst of a tick: who executes, and how tasks stand.
 
-ghost use Rattle.std.specs.Prelude.{◌≡◌, ◌<◌, ◌≤◌, true, IfSome, MatchOption, length};
-ghost use Rattle.osek_base.specs.System.{priority_of};
-ghost use Rattle.run_laws.proofs.Formed.{IsPlaced};
+ghost use Rattle.std.specs.Prelude.{◌≡◌, ◌<◌, true, IfSome, MatchOption, length};
 ghost use Rattle.kept_state.specs.KeptService.{ByNobody, caller_in};
 ghost use Rattle.kept_state.specs.KeptTick.{silent_in};
 ghost use Rattle.kept_state.specs.Moves.{rescheduled};
-ghost use Rattle.services.specs.Calls.{IsExecuting, calling_task, context_in};
-ghost use Rattle.kernel.specs.Looking.{acts_on, seen, stand};
-ghost use Rattle.kernel.specs.Processor.{picture, system_of};
+ghost use Rattle.services.specs.Calls.{calling_task};
+ghost use Rattle.kernel.specs.Looking.{IsActedOn, IsLevel, IsLook, IsStand, IsTask, IsTaskCount};
+ghost use Rattle.kernel.specs.Processor.{MayFetch, picture, system_of};
 ghost use Rattle.kernel.specs.Told.{task_at_in};
 
 use crate::processor::Processor;
 use crate::stamping::{Look, Stand};
 use crate::task_at::TaskAt;
-use osek_base::{Action, AlarmId, MAX_ACTIVATION, MAX_TASK_PRIORITY, MAX_TASKS, Owner, TaskId};
+use osek_base::{Action, AlarmId, Owner, TaskId};
 use ready_queues::ReadyQueues;
 
 impl<'s, Q: ReadyQueues> Processor<'s, Q> {
@@ -22,8 +20,7 @@ impl<'s, Q: ReadyQueues> Processor<'s, Q> {
     #[inline(always)]
     pub fn acted_on(&self, alarm: AlarmId) -> TaskId
         requires { alarm < length (system_of self.now).alarms }
-        ensures value { result ≡ acts_on (system_of self.now) alarm }
-        ensures known { result < length (system_of self.now).tasks }
+        ensures { IsActedOn (system_of self.now) alarm result }
     {
         match self.system.action_of(alarm) {
             Action::ActivateTask(task) => task,
@@ -33,8 +30,7 @@ impl<'s, Q: ReadyQueues> Processor<'s, Q> {
 
     /// How many tasks there are.
     pub fn task_count(&self) -> usize
-        ensures value { result ≡ length (system_of self.now).tasks }
-        ensures few { result ≤ MAX_TASKS }
+        ensures { IsTaskCount (system_of self.now) result }
     {
         self.system.task_count()
     }
@@ -45,8 +41,8 @@ impl<'s, Q: ReadyQueues> Processor<'s, Q> {
         ensures { result ≡ task_at_in (system_of self.now) (picture self.now) task }
     {
         TaskAt {
-            state: self.core.task_state(task),
-            priority: self.core.dynamic_priority(task),
+            state: self.core.objects().task_state(task),
+            priority: self.core.objects().dynamic_priority(task),
             jobs: self.core.job_count(task),
         }
     }
@@ -55,13 +51,12 @@ impl<'s, Q: ReadyQueues> Processor<'s, Q> {
     #[inline(always)]
     pub fn look(&self, task: TaskId) -> Look
         requires { task < length (system_of self.now).tasks }
-        ensures value { result ≡ seen (picture self.now) task }
-        ensures few { result.count ≤ MAX_ACTIVATION }
+        ensures { IsLook (picture self.now) task result }
     {
         Look {
             task,
             count: self.core.job_count(task),
-            waits: self.core.waits(task),
+            waits: self.core.objects().slot(task).waits(),
         }
     }
 
@@ -69,9 +64,7 @@ impl<'s, Q: ReadyQueues> Processor<'s, Q> {
     #[inline(always)]
     pub fn stand(&self, task: &Option<TaskId>) -> Stand
         requires { IfSome task.now (λ t. t < length (system_of self.now).tasks) }
-        ensures value { result ≡ stand (picture self.now) task.now }
-        ensures few { IfSome result.named (λ l. l.count ≤ MAX_ACTIVATION) }
-        ensures known { IfSome result.running (λ t. t < length (system_of self.now).tasks) }
+        ensures { IsStand (length (system_of self.now).tasks) (picture self.now) task.now result }
     {
         let named = match task {
             None => None,
@@ -79,26 +72,24 @@ impl<'s, Q: ReadyQueues> Processor<'s, Q> {
         };
         Stand {
             named,
-            running: self.core.running(),
-            gone: self.core.is_gone(),
+            running: self.core.objects().running(),
+            gone: self.core.objects().is_gone(),
         }
     }
 
     /// The running task, also where its job has ended.
     #[inline(always)]
     pub fn running(&self) -> Option<TaskId>
-        ensures value { result ≡ (picture self.now).running }
-        ensures known { IfSome result (λ t. t < length (system_of self.now).tasks) }
+        ensures { IsTask (length (system_of self.now).tasks) (picture self.now).running result }
     {
-        self.core.running()
+        self.core.objects().running()
     }
 
     /// The static priority of a task.
     #[inline(always)]
     pub fn level_of(&self, task: TaskId) -> u8
         requires { task < length (system_of self.now).tasks }
-        ensures value { result ≡ priority_of (system_of self.now) task }
-        ensures low { result ≤ MAX_TASK_PRIORITY }
+        ensures { IsLevel (system_of self.now) task result }
     {
         self.system.priority_of(task)
     }
@@ -106,10 +97,8 @@ impl<'s, Q: ReadyQueues> Processor<'s, Q> {
     /// Who executes: the active routine, else the running task.
     #[inline(always)]
     pub fn executor(&self) -> Option<Owner>
-        ensures value { MatchOption result (caller_in (picture self.now) ≡ ByNobody)
-            (IsExecuting (picture self.now)) }
-        ensures placed { IfSome result
-            (λ w. IsPlaced (system_of self.now) w (context_in (picture self.now) w)) }
+        ensures { MatchOption result (caller_in (picture self.now) ≡ ByNobody)
+            (MayFetch self.now) }
     {
         self.core.executor()
     }
@@ -117,10 +106,10 @@ impl<'s, Q: ReadyQueues> Processor<'s, Q> {
     /// The task that executes, if no routine does.
     #[inline(always)]
     pub fn executing_task(&self) -> Option<TaskId>
-        ensures value { result ≡ calling_task (caller_in (picture self.now)) }
-        ensures known { IfSome result (λ t. t < length (system_of self.now).tasks) }
+        ensures { IsTask (length (system_of self.now).tasks)
+            (calling_task (caller_in (picture self.now))) result }
     {
-        self.core.executing_task()
+        self.core.objects().calling_task()
     }
 
     /// Whether a reschedule is known to change nothing.
@@ -137,6 +126,6 @@ impl<'s, Q: ReadyQueues> Processor<'s, Q> {
     pub fn is_over(&self) -> bool
         ensures { result ≡ (picture self.now).over }
     {
-        self.core.is_over()
+        self.core.objects().is_over()
     }
 }

@@ -1,12 +1,11 @@
 //! OSEK/VDX OS: system services; the modelled processor. A system in the midst of a tick, and three of its phases.
 
-ghost use Rattle.std.specs.Prelude.{◌≡◌, ◌<◌, ◌≤◌, ◌+◌, IfSome, length};
+ghost use Rattle.std.specs.Prelude.{◌≡◌, ◌<◌, ◌≤◌, ◌+◌, length};
 ghost use Rattle.std.specs.List.{All};
 ghost use Rattle.osek_base.specs.Tick.{flagged};
 ghost use Rattle.kept_state.specs.KeptTick.{arrival_phase_in, start_phase_in};
-ghost use Rattle.kept_state.specs.Moves.{contender, rescheduled};
-ghost use Rattle.kernel.specs.Processor.{picture, system_of};
-ghost use Rattle.kernel.specs.Does.{Becomes, Does};
+ghost use Rattle.kernel.specs.Processor.{system_of};
+ghost use Rattle.kernel.specs.Does.{Becomes, Reschedules};
 
 use machine::{Code, Windows};
 use osek_base::{IsrId, MAX_RECORDS, System, TaskId, TickRecord};
@@ -48,10 +47,7 @@ impl<'s, Q: ReadyQueues> Processor<'s, Q> {
     #[inline(never)]
     pub fn reschedule(&mut self, records: &mut TickRecord) -> Option<TaskId>
         requires { length records.old + 2 ≤ MAX_RECORDS }
-        ensures does { Does rescheduled self.old self.new records.old records.new }
-        ensures few { length records.new ≤ length records.old + 2 }
-        ensures runner { result ≡ contender (picture self.old) }
-        ensures known { IfSome result (λ t. t < length (system_of self.old).tasks) }
+        ensures { Reschedules self.old self.new records.old records.new result }
     {
         self.core.reschedule(records)
     }

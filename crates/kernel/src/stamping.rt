@@ -1,10 +1,10 @@
 //! Since which tick each job is ready: how the stamps of jobs follow what is seen of tasks. No part of the standards.
 
-ghost use Rattle.std.specs.Prelude.{◌≡◌, ◌<◌, ◌≤◌, IfSome, length};
-ghost use Rattle.blocking_laws.specs.Looks.{ended_of, is_task, preempted_by, stamps_at};
-ghost use Rattle.kernel.specs.Looking.{ended_since, looked_between, stood_between};
+ghost use Rattle.std.specs.Prelude.{◌≡◌, ◌<◌, IfSome, length};
+ghost use Rattle.blocking_laws.specs.Looks.{ended_of, is_task, preempted_by};
+ghost use Rattle.kernel.specs.Looking.{AreStamped, MayFollow, MayLook, ended_since, looked_between, stood_between};
 
-use osek_base::{MAX_ACTIVATION, TaskId};
+use osek_base::TaskId;
 use readiness::JobStamps;
 
 /// How a task stands: how many jobs it has, and whether the oldest of them waits.
@@ -27,11 +27,8 @@ pub struct Stand {
 /// Where a task has a job more, the new one is ready; where its oldest job waited and doesn't any more, that one is.
 #[inline(always)]
 pub fn looked_at(stamps: &mut JobStamps, before: &Look, after: &Look, tick: u32)
-    requires task { before.now.task < length stamps.old }
-    requires counted { length (stamps_at stamps.old before.now.task) ≡ before.now.count }
-    requires few { after.now.count ≤ MAX_ACTIVATION }
-    ensures value { stamps.new ≡ looked_between tick before.now after.now stamps.old }
-    ensures sized { length stamps.new ≡ length stamps.old }
+    requires { MayLook before.now after.now stamps.old }
+    ensures { AreStamped (looked_between tick before.now after.now) stamps.old stamps.new }
 {
     if before.count < after.count {
         stamps.add(before.task, tick);
@@ -49,8 +46,7 @@ pub fn preempted(
     tick: u32,
 )
     requires { IfSome runner (λ t. t < length stamps.old) }
-    ensures value { stamps.new ≡ preempted_by tick runner running.now stamps.old }
-    ensures sized { length stamps.new ≡ length stamps.old }
+    ensures { AreStamped (preempted_by tick runner running.now) stamps.old stamps.new }
 {
     if let Some(task) = runner {
         if !is_that(running, task) {
@@ -63,13 +59,8 @@ pub fn preempted(
 /// again.
 #[inline(always)]
 pub fn executed_since(stamps: &mut JobStamps, before: &Stand, after: &Stand, tick: u32)
-    requires running { IfSome before.now.running (λ t. t < length stamps.old) }
-    requires task { IfSome before.now.named (λ b. b.task < length stamps.old) }
-    requires counted { IfSome before.now.named
-        (λ b. length (stamps_at stamps.old b.task) ≡ b.count) }
-    requires few { IfSome after.now.named (λ l. l.count ≤ MAX_ACTIVATION) }
-    ensures value { stamps.new ≡ stood_between tick before.now after.now stamps.old }
-    ensures sized { length stamps.new ≡ length stamps.old }
+    requires { MayFollow before.now after.now stamps.old }
+    ensures { AreStamped (stood_between tick before.now after.now) stamps.old stamps.new }
 {
     let has_ended = !before.gone && after.gone;
     ended(stamps, &before.running, has_ended);
@@ -83,8 +74,7 @@ pub fn executed_since(stamps: &mut JobStamps, before: &Stand, after: &Stand, tic
 #[inline(always)]
 fn ended(stamps: &mut JobStamps, running: &Option<TaskId>, has_ended: bool)
     requires { IfSome running.now (λ t. t < length stamps.old) }
-    ensures value { stamps.new ≡ ended_of running.now has_ended stamps.old }
-    ensures sized { length stamps.new ≡ length stamps.old }
+    ensures { AreStamped (ended_of running.now has_ended) stamps.old stamps.new }
 {
     if let Some(task) = running {
         if has_ended {

@@ -1,17 +1,15 @@
 //! OSEK/VDX OS: system start-up; application modes. A booted system that does tick by tick, each with the interrupts that arrive
 //! in it.
 
-ghost use Rattle.std.specs.Prelude.{◌≡◌, ◌<◌, ◌≤◌, ◌+◌, ◌-◌, ◌∷◌, ◌++◌, [], IfOk, IfSome, None, false, true, map, slice_index, length};
-ghost use Rattle.std.specs.List.{All};
-ghost use Rattle.osek_base.specs.Executed.{StandsIn, idle_or_executed};
+ghost use Rattle.std.specs.Prelude.{◌≡◌, ◌<◌, ◌≤◌, [], IfOk, map, slice_index, length};
 ghost use Rattle.osek_base.specs.Lists.{below};
 ghost use Rattle.osek_base.specs.State.{shared_window};
 ghost use Rattle.kept_state.specs.KeptTick.{before_execution_in};
 ghost use Rattle.ready_queues.specs.LevelLists.{level_lists, by_level};
-ghost use Rattle.services.specs.Objects.{kept_of};
-ghost use Rattle.kernel.specs.Looking.{number_told};
-ghost use Rattle.kernel.specs.Machine.{GoesOn, IsBooted, IsOfRun, Ticks, next_tick, picture, system_of};
-ghost use Rattle.kernel.specs.Told.{acted_in, task_at_in};
+ghost use Rattle.kernel.specs.Does.{PutsFirst};
+ghost use Rattle.kernel.specs.Looking.{IsNumber, number_told};
+ghost use Rattle.kernel.specs.Machine.{HasTicked, IsBooted, IsCore, IsNextTick, IsSharedWord, MayTick, ShowsObjects, next_tick, picture, system_of};
+ghost use Rattle.kernel.specs.Told.{task_at_in};
 
 use crate::acted::Acted;
 use crate::at_instruction::AtInstruction;
@@ -22,10 +20,7 @@ use crate::looker::{Looker, Unseen};
 use crate::processor::Processor;
 use crate::watched::Watched;
 use alarms::DueList;
-use osek_base::{
-    Executed, IsrId, MAX_RECORDS, MAX_TICKS, ModeId, Owner, ResourceNumber, SHARED_WORDS, System,
-    TickRecord, WINDOW_WORDS,
-};
+use osek_base::{Executed, IsrId, ModeId, Owner, ResourceNumber, System, TickRecord, WINDOW_WORDS};
 use ready_queues::ReadyQueues;
 use services::{CopyQueues, Core, Objects};
 use std::alloc::{AllocError, Global};
@@ -59,8 +54,7 @@ impl<'s, Q: ReadyQueues, B: Blockers> Model for Machine<'s, Q, B> {
 impl<'s, Q: ReadyQueues, B: Blockers> Machine<'s, Q, B> {
     /// Boots a system in a mode. Its programs are packed here, once. Err is a growth that was refused.
     pub fn boot(alloc: Global, system: &'s System, mode: ModeId) -> Result<Self, AllocError>
-        ensures booted { IfOk result (IsBooted B.are_counted system.now mode) }
-        ensures of_run { IfOk result (IsOfRun B.are_counted) }
+        ensures { IfOk result (IsBooted B.are_counted system.now mode) }
     {
         let mut opening = TickRecord::new();
         let processor = Processor::boot(alloc, system, mode, &mut opening)?;
@@ -72,15 +66,17 @@ impl<'s, Q: ReadyQueues, B: Blockers> Machine<'s, Q, B> {
             },
             ticks: 0,
             opening,
-            acted: Acted::nothing(),
+            acted: Acted {
+                due: DueList::new(),
+                refused: DueList::new(),
+            },
         })
     }
 
     /// The number of the next tick: how many ticks are done.
     #[inline(always)]
     pub fn next_tick(&self) -> u32
-        ensures value { result ≡ next_tick self.now }
-        ensures limit { result ≤ MAX_TICKS }
+        ensures { IsNextTick self.now result }
     {
         self.ticks
     }
@@ -103,8 +99,7 @@ impl<'s, Q: ReadyQueues, B: Blockers> Machine<'s, Q, B> {
 
     /// The word of a standard resource's window.
     pub fn shared_word(&self, resource: ResourceNumber, index: u32) -> u32
-        requires resource { resource < length (system_of self.now).resources }
-        requires index { index < SHARED_WORDS }
+        requires { IsSharedWord (system_of self.now) resource index }
         ensures { result ≡ slice_index (shared_window (picture self.now).shared resource) index }
     {
         self.core().shared_word(resource, index)
@@ -114,14 +109,13 @@ impl<'s, Q: ReadyQueues, B: Blockers> Machine<'s, Q, B> {
     pub fn queues(&self) -> &Q
         ensures { by_level (level_lists (Q.queues result.now)) ≡ (picture self.now).queues }
     {
-        self.core().queues()
+        self.core().objects().queues()
     }
 
     /// The number of blockers of the job that executed in the last tick, where that was its first instruction since it became
     /// ready. None where blockers aren't counted.
     pub fn blockers(&self) -> Option<u32>
-        ensures counted { B.are_counted ≡ true → result ≡ number_told self.now.blocking.told }
-        ensures uncounted { B.are_counted ≡ false → result ≡ None }
+        ensures { IsNumber B.are_counted (number_told self.now.blocking.told) result }
     {
         self.watched.blocking.number()
     }
@@ -143,10 +137,7 @@ impl<'s, Q: ReadyQueues, B: Blockers> Machine<'s, Q, B> {
     /// All that is kept of the state but the words of tasks and routines. Its clock shows the tick that was done last, from which
     /// the counts left of alarms are told.
     pub fn objects(&self) -> &Objects<'s, Q>
-        ensures system { result.now.system ≡ system_of self.now }
-        ensures picture { kept_of (picture self.now).words
-            (record result.now { tick = next_tick self.now }) ≡ picture self.now }
-        ensures clock { result.now.tick ≡ next_tick self.now - 1 }
+        ensures { ShowsObjects self.now result.now }
     {
         self.core().objects()
     }
@@ -154,10 +145,7 @@ impl<'s, Q: ReadyQueues, B: Blockers> Machine<'s, Q, B> {
     /// The core of the services, whose clock shows the tick that was done last. It tells the running task and who executes.
     #[inline(always)]
     pub fn core(&self) -> &Core<'s, Q>
-        ensures system { result.now.system ≡ system_of self.now }
-        ensures objects { record result.now { tick = next_tick self.now }
-            ≡ self.now.processor.objects }
-        ensures clock { result.now.tick ≡ next_tick self.now - 1 }
+        ensures { IsCore self.now result.now }
     {
         &self.watched.processor.core
     }
@@ -172,15 +160,9 @@ impl<'s, Q: ReadyQueues, B: Blockers> Machine<'s, Q, B> {
         before: &mut TickRecord,
         behind: &mut TickRecord,
     ) -> Option<Executed>
-        requires on { (picture self.old).over ≡ false }
-        requires limit { next_tick self.old < MAX_TICKS }
-        requires known { All (λ i. i < length (system_of self.old).routines) arrived.now }
-        ensures ticks { Ticks arrived.now self.old self.new
-            (before.new ++ idle_or_executed (system_of self.old) result ∷ behind.new) }
-        ensures goes_on { GoesOn B.are_counted arrived.now self.old self.new }
-        ensures of_run { IsOfRun B.are_counted self.new }
-        ensures there { IfSome result (StandsIn (system_of self.old)) }
-        ensures few { length before.new + length behind.new < MAX_RECORDS }
+        requires { MayTick arrived.now self.old }
+        ensures { HasTicked B.are_counted arrived.now self.old self.new before.new result
+            behind.new }
     {
         self.tick_with(arrived, &mut Unseen, before, behind)
     }
@@ -194,22 +176,14 @@ impl<'s, Q: ReadyQueues, B: Blockers> Machine<'s, Q, B> {
         behind: &mut TickRecord,
         at: &mut AtInstruction,
     ) -> Option<Executed>
-        requires on { (picture self.old).over ≡ false }
-        requires limit { next_tick self.old < MAX_TICKS }
-        requires known { All (λ i. i < length (system_of self.old).routines) arrived.now }
-        ensures ticks { Ticks arrived.now self.old self.new
-            (before.new ++ idle_or_executed (system_of self.old) result ∷ behind.new) }
-        ensures goes_on { GoesOn B.are_counted arrived.now self.old self.new }
-        ensures was_of_run { IsOfRun B.are_counted self.old }
-        ensures of_run { IsOfRun B.are_counted self.new }
-        ensures there { IfSome result (StandsIn (system_of self.old)) }
-        ensures few { length before.new + length behind.new < MAX_RECORDS }
+        requires { MayTick arrived.now self.old }
+        ensures done { HasTicked B.are_counted arrived.now self.old self.new before.new result
+            behind.new }
         ensures seen { at.new.tasks.items
             ≡ map
             (task_at_in (system_of self.old)
             (before_execution_in (system_of self.old) arrived.now (picture self.old)).state)
             (below (length (system_of self.old).tasks)) }
-        ensures acted { self.new.acted ≡ acted_in (system_of self.old) (picture self.old) }
     {
         self.tick_with(arrived, at, before, behind)
     }
@@ -223,19 +197,11 @@ impl<'s, Q: ReadyQueues, B: Blockers> Machine<'s, Q, B> {
         before: &mut TickRecord,
         behind: &mut TickRecord,
     ) -> Option<Executed>
-        requires on { (picture self.old).over ≡ false }
-        requires limit { next_tick self.old < MAX_TICKS }
-        requires known { All (λ i. i < length (system_of self.old).routines) arrived.now }
-        ensures ticks { Ticks arrived.now self.old self.new
-            (before.new ++ idle_or_executed (system_of self.old) result ∷ behind.new) }
-        ensures goes_on { GoesOn B.are_counted arrived.now self.old self.new }
-        ensures was_of_run { IsOfRun B.are_counted self.old }
-        ensures of_run { IsOfRun B.are_counted self.new }
+        requires { MayTick arrived.now self.old }
+        ensures done { HasTicked B.are_counted arrived.now self.old self.new before.new result
+            behind.new }
         ensures seen { L.HasSeen looker.new (system_of self.old)
             (before_execution_in (system_of self.old) arrived.now (picture self.old)).state }
-        ensures acted { self.new.acted ≡ acted_in (system_of self.old) (picture self.old) }
-        ensures parts { IfSome result (StandsIn (system_of self.old))
-            × (length before.new + length behind.new < MAX_RECORDS) }
     {
         put_first(&mut self.opening, self.ticks, before);
         behind.clear();
@@ -259,7 +225,8 @@ impl<'s, Q: CopyQueues, B: Blockers> Machine<'s, Q, B> {
     {
         self.watched.copy_from(&other.watched);
         self.ticks = other.ticks;
-        replace(&mut self.opening, &other.opening);
+        self.opening.clear();
+        push_all(&mut self.opening, &other.opening);
         self.acted.copy_from(&other.acted);
     }
 }
@@ -268,20 +235,10 @@ impl<'s, Q: CopyQueues, B: Blockers> Machine<'s, Q, B> {
 #[inline(always)]
 fn put_first(opening: &mut TickRecord, tick: u32, records: &mut TickRecord)
     requires { 1 ≤ tick → opening.old ≡ [] }
-    ensures value { records.new ≡ opening.old }
-    ensures after { opening.new ≡ [] }
+    ensures { PutsFirst opening.old opening.new records.new }
 {
     records.clear();
     if tick == 0 {
         mem::swap(records, opening);
     }
-}
-
-/// The content becomes some records.
-fn replace(records: &mut TickRecord, others: &TickRecord)
-    requires { length others.now ≤ MAX_RECORDS }
-    ensures { records.new ≡ others.now }
-{
-    records.clear();
-    push_all(records, others);
 }

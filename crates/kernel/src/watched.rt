@@ -1,11 +1,12 @@
 //! OSEK/VDX OS: alarms; interrupt processing; task management, scheduling policy. The phases of a tick round its instruction,
 //! in which the stamps follow that tell since when jobs are ready.
 
-ghost use Rattle.std.specs.Prelude.{◌≡◌, ◌<◌, ◌≤◌, ◌+◌, ◌++◌, [], length};
-ghost use Rattle.std.specs.List.{All, AllByRecursion};
-ghost use Rattle.kernel.specs.Processor.{IsBefore, at_tick, picture, system_of};
-ghost use Rattle.kernel.specs.Told.{acted_in, acting_in, if_refused, refused_of_in};
-ghost use Rattle.kernel.specs.Watches.{MayAct, Watches, acting, all_acting, early, last, phase_of_alarms, rescheduling, watched_at};
+ghost use Rattle.std.specs.Prelude.{◌≡◌, ◌<◌, ◌≤◌, ◌+◌, length};
+ghost use Rattle.std.specs.List.{All};
+ghost use Rattle.kernel.specs.Does.{Adds};
+ghost use Rattle.kernel.specs.Processor.{picture, system_of};
+ghost use Rattle.kernel.specs.Told.{if_refused};
+ghost use Rattle.kernel.specs.Watches.{AlarmActs, AllAct, MayActAll, MayActNow, MayStart, Starts, WatchesWithin, early, last, phase_of_alarms, rescheduling};
 
 use crate::acted::Acted;
 use crate::blockers::Blockers;
@@ -48,16 +49,10 @@ impl<'s, Q: ReadyQueues, B: Blockers> Watched<'s, Q, B> {
         acted: &mut Acted,
         before: &mut TickRecord,
     )
-        requires before { IsBefore tick self.old.processor }
-        requires may { MayAct B.are_counted self.old }
+        requires may { MayStart B.are_counted tick self.old before.old }
         requires known { All (λ i. i < length (system_of self.old.processor).routines) arrived.now }
-        requires room { length before.old ≤ 3 }
-        requires none_later { 1 ≤ tick → before.old ≡ [] }
-        ensures does { Watches B.are_counted (early arrived.now) tick (watched_at self.old tick)
-            self.new before.old before.new }
-        ensures acted { acted.new
-            ≡ acted_in (system_of self.old.processor) (picture (at_tick self.old.processor tick)) }
-        ensures few { length before.new ≤ MAX_ALARMS + 2 }
+        ensures { Starts B.are_counted (MAX_ALARMS + 2) (early arrived.now) tick self.old self.new
+            before.old before.new acted.new }
     {
         self.alarm_phase(tick, acted, before);
         self.processor.arrival_phase(arrived);
@@ -76,15 +71,9 @@ impl<'s, Q: ReadyQueues, B: Blockers> Watched<'s, Q, B> {
     /// Counters advance, and the due alarms act in declaration order. In the first tick the counters stand, and none is due.
     #[inline(always)]
     fn alarm_phase(&mut self, tick: u32, acted: &mut Acted, records: &mut TickRecord)
-        requires before { IsBefore tick self.old.processor }
-        requires may { MayAct B.are_counted self.old }
-        requires room { length records.old ≤ 3 }
-        requires none_later { 1 ≤ tick → records.old ≡ [] }
-        ensures does { Watches B.are_counted phase_of_alarms tick (watched_at self.old tick)
-            self.new records.old records.new }
-        ensures acted { acted.new
-            ≡ acted_in (system_of self.old.processor) (picture (at_tick self.old.processor tick)) }
-        ensures few { length records.new ≤ MAX_ALARMS }
+        requires { MayStart B.are_counted tick self.old records.old }
+        ensures { Starts B.are_counted MAX_ALARMS phase_of_alarms tick self.old self.new records.old
+            records.new acted.new }
     {
         if 0 < tick {
             self.processor.advance(&mut acted.due);
@@ -105,16 +94,8 @@ impl<'s, Q: ReadyQueues, B: Blockers> Watched<'s, Q, B> {
         refused: &mut DueList,
         records: &mut TickRecord,
     )
-        requires known { AllByRecursion (λ a. a < length (system_of self.old.processor).alarms)
-            due.now }
-        requires may { MayAct B.are_counted self.old }
-        requires none { records.old ≡ [] }
-        requires fresh { refused.old ≡ [] }
-        ensures does { Watches B.are_counted (all_acting due.now) tick self.old self.new []
-            records.new }
-        ensures refused { refused.new
-            ≡ refused_of_in (system_of self.old.processor) due.now (picture self.old.processor) }
-        ensures few { length records.new ≤ MAX_ALARMS }
+        requires { MayActAll B.are_counted due.now self.old refused.old records.old }
+        ensures { AllAct B.are_counted due.now tick self.old self.new refused.new records.new }
     {
         for number in 0..due.len() {
             let alarm = due.at(number);
@@ -126,15 +107,9 @@ impl<'s, Q: ReadyQueues, B: Blockers> Watched<'s, Q, B> {
     /// An alarm acts, and the task on which it acts is looked at before and after. Answers the status of its action.
     #[inline(never)]
     pub fn alarm_acts(&mut self, alarm: AlarmId, tick: u32, records: &mut TickRecord) -> Status
-        requires alarm { alarm < length (system_of self.old.processor).alarms }
-        requires may { MayAct B.are_counted self.old }
-        requires room { length records.old < MAX_RECORDS }
-        ensures does { Watches B.are_counted (acting alarm) tick self.old self.new records.old
-            records.new }
-        ensures may { MayAct B.are_counted self.new }
-        ensures status { result
-            ≡ (acting_in (system_of self.old.processor) alarm (picture self.old.processor)).status }
-        ensures few { length records.new ≤ length records.old + 1 }
+        requires { MayActNow B.are_counted alarm self.old records.old }
+        ensures { AlarmActs B.are_counted alarm tick self.old self.new records.old records.new
+            result }
     {
         let task = self.processor.acted_on(alarm);
         let before = self.processor.look(task);
@@ -148,9 +123,8 @@ impl<'s, Q: ReadyQueues, B: Blockers> Watched<'s, Q, B> {
     #[inline(always)]
     pub fn reschedule(&mut self, tick: u32, records: &mut TickRecord)
         requires { length records.old + 2 ≤ MAX_RECORDS }
-        ensures does { Watches B.are_counted rescheduling tick self.old self.new records.old
-            records.new }
-        ensures few { length records.new ≤ length records.old + 2 }
+        ensures { WatchesWithin B.are_counted (length records.old + 2) rescheduling tick self.old
+            self.new records.old records.new }
     {
         if !self.processor.is_dispatched() {
             let runner = self.processor.reschedule(records);
@@ -163,8 +137,8 @@ impl<'s, Q: ReadyQueues, B: Blockers> Watched<'s, Q, B> {
     #[inline(always)]
     pub fn last_phase(&mut self, tick: u32, records: &mut TickRecord)
         requires { length records.old + 2 ≤ MAX_RECORDS }
-        ensures does { Watches B.are_counted last tick self.old self.new records.old records.new }
-        ensures few { length records.new ≤ length records.old + 2 }
+        ensures { WatchesWithin B.are_counted (length records.old + 2) last tick self.old self.new
+            records.old records.new }
     {
         if !self.processor.is_over() {
             self.reschedule(tick, records);
@@ -176,8 +150,7 @@ impl<'s, Q: ReadyQueues, B: Blockers> Watched<'s, Q, B> {
 #[inline(always)]
 fn note_refusal(refused: &mut DueList, alarm: AlarmId, status: Status)
     requires { length refused.old < MAX_ALARMS }
-    ensures value { refused.new ≡ refused.old ++ if_refused alarm status }
-    ensures few { length refused.new ≤ length refused.old + 1 }
+    ensures { Adds (if_refused alarm status) refused.old refused.new }
 {
     if status != Status::Ok {
         refused.push(alarm);

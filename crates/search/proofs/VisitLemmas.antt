@@ -7,7 +7,7 @@ use Rattle.search.specs.Rules.{Rules, AreKept, NoneMay, NoMoreMay, StaysNoted}
 use Rattle.search.specs.Searched.{IsTried, IsVisited}
 use Rattle.search.specs.Numbers.{is_in}
 use Rattle.search.specs.Admitted.{IsAbove, IsCovered, IsCoveredAt, AreMore}
-use Rattle.search.specs.Visited.{AreTried, AreVisited, Closes, Stays, Tries, Visits, closed_by}
+use Rattle.search.specs.Visited.{AreTried, AreVisited, Closes, Passes, Stays, Tries, Visits, closed_by}
 use Rattle.search.proofs.NumberLemmas.{and_more, none_more, only_one}
 
 -- what holds of a node holds of one that covers it
@@ -142,6 +142,65 @@ module _ {N : Type 0} (r : Rules N) (kept : AreKept r) {X : Type 0} (is_noted : 
     done = λ is. absurd (false≢true is);
   }
 
+-- ---- what was noted stays noted
+
+pub visited_stays : {N : Type 0} (r : Rules N) {X : Type 0} (is_noted : X → N → ℕ → Type 0) (s t : X) → StaysNoted is_noted s t
+    → (nodes : List N) (x : N) → IsVisited r (is_noted s) nodes x → IsVisited r (is_noted t) nodes x
+visited_stays r is_noted s t stays nodes x visited choice may =
+    let tried = visited choice may in
+    record { next = tried.next; noted = stays x choice tried.noted }
+
+-- a choice repeats a lower one, which was tried
+module _ {N : Type 0} (r : Rules N) {X : Type 0} (is_noted : X → N → ℕ → Type 0) (s t : X) (stays : StaysNoted is_noted s t)
+    (start before after : List N) (start_numbers numbers more : List ℕ) (number from choice : ℕ)
+    (visiting : IsVisiting r (is_noted s) start start_numbers before numbers number from)
+    (passes : Passes r (is_noted t) before numbers after more number choice) where
+  tried_still : (x : N) → slice_get before number ≡ Some x → (c : ℕ) → c < from → r.may x c → IsTried r (is_noted t) before x c
+  tried_still x is c low may =
+      let tried = visiting.tried x is c low may in
+      record { next = tried.next; noted = stays x c tried.noted }
+
+  -- as the lower one was
+  tried_by : NoneMay r passes.from from choice → IsTried r (is_noted t) before passes.from choice
+  tried_by none = go (cases_lt passes.lower from)
+    where
+      by : IsTried r (is_noted t) before passes.from passes.lower → IsTried r (is_noted t) before passes.from choice
+      by tried =
+          let some = tried.next in
+          record { next = (some.0, some.1, some.2, some.3, passes.repeats.next some.1 some.4); noted = passes.repeats.noted tried.noted }
+
+      go : (passes.lower < from) ⊎ (from ≤ passes.lower) → IsTried r (is_noted t) before passes.from choice
+      go (inl below) = by (tried_still passes.from passes.here passes.lower below passes.repeats.may)
+      go (inr above) = absurd (none passes.lower above passes.repeats.low passes.repeats.may)
+
+  tried_all : NoneMay r passes.from from choice → AreTried r (is_noted t) before passes.from (suc choice)
+  tried_all none c low may = go (cases_lt c from) (cases_eq c choice)
+    where
+      go : (c < from) ⊎ (from ≤ c) → (c ≡ choice) ⊎ (c ≡ choice → ⊥) → IsTried r (is_noted t) before passes.from c
+      go (inl below) other = tried_still passes.from passes.here c below may
+      go (inr above) (inl is_this) = subst (IsTried r (is_noted t) before passes.from) (sym is_this) (tried_by none)
+      go (inr above) (inr other) = absurd (none c above (omega (arith, low, other)) may)
+
+  passed : NoneMay r passes.from from choice → IsVisiting r (is_noted t) start start_numbers before numbers number (choice + 1)
+  passed none = record {
+    inside = visiting.inside;
+    first = visiting.first;
+    others = λ k y closed. visited_stays r is_noted s t stays before y (visiting.others k y closed);
+    grows = visiting.grows;
+    last = visiting.last;
+    same = visiting.same;
+    tried = λ y at.
+        subst (AreTried r (is_noted t) before y) (sym (add-one choice))
+        (subst (λ (z : N). AreTried r (is_noted t) before z (suc choice)) (same_Some passes.from y (sym passes.here ∙ at)) (tried_all none));
+  }
+
+  pub goes_past : (x : N) → slice_get before number ≡ Some x → NoneMay r x from choice
+      → IsVisiting r (is_noted t) start start_numbers after more number (choice + 1)
+  goes_past x is none =
+      subst (λ (l : List N). IsVisiting r (is_noted t) start start_numbers l more number (choice + 1)) (sym passes.nodes)
+      (subst (λ (k : List ℕ). IsVisiting r (is_noted t) start start_numbers before k number (choice + 1)) (sym passes.numbers)
+      (passed (subst (λ (z : N). NoneMay r z from choice) (same_Some x passes.from (sym is ∙ passes.here)) none)))
+
 -- no choice is left
 pub ends : {N : Type 0} (r : Rules N) (is_noted : N → ℕ → Type 0) (start nodes : List N) (start_numbers numbers : List ℕ) (number from : ℕ)
     → IsVisiting r is_noted start start_numbers nodes numbers number from → (x : N) → slice_get nodes number ≡ Some x → NoMoreMay r x from
@@ -159,14 +218,6 @@ ends {N} r is_noted start nodes start_numbers numbers number from visiting x is 
         → IsTried r is_noted nodes y choice
     each y at choice may (inl below) = visiting.tried y at choice below may
     each y at choice may (inr above) = absurd (none choice above (subst (λ (z : N). r.may z choice) (same_Some y x (sym at ∙ is)) may))
-
--- ---- what was noted stays noted
-
-pub visited_stays : {N : Type 0} (r : Rules N) {X : Type 0} (is_noted : X → N → ℕ → Type 0) (s t : X) → StaysNoted is_noted s t
-    → (nodes : List N) (x : N) → IsVisited r (is_noted s) nodes x → IsVisited r (is_noted t) nodes x
-visited_stays r is_noted s t stays nodes x visited choice may =
-    let tried = visited choice may in
-    record { next = tried.next; noted = stays x choice tried.noted }
 
 pub closes_stays : {N : Type 0} (r : Rules N) {X : Type 0} (is_noted : X → N → ℕ → Type 0) (s t : X) → StaysNoted is_noted s t
     → (before after : List N) (numbers more : List ℕ) (closed : ℕ) → Closes r (is_noted s) before numbers after more closed

@@ -34,6 +34,14 @@ pub record IsNextChoice {N : Type 0} (r : Rules N) (x : N) (from choice : ℕ) :
   pub may : r.may x choice
   pub others : NoneMay r x from choice
 
+-- a lower choice, which may be made too, tells all of this one: what comes of the lower one comes of this one, and where what is
+-- seen with the lower one is noted, so is what is seen with this one
+pub record Repeats {N : Type 0} (r : Rules N) (is_noted : N → ℕ → Type 0) (x : N) (choice lower : ℕ) : Type 0 where
+  pub low : lower < choice
+  pub may : r.may x lower
+  pub next : (y : N) → r.is_next x lower y → r.is_next x choice y
+  pub noted : is_noted x lower → is_noted x choice
+
 -- what was noted of choices in nodes stays noted
 abbrev pub StaysNoted : {X N : Type 0} → (X → N → ℕ → Type 0) → X → X → Type 0
 StaysNoted {X} {N} is_noted before after = (x : N) (choice : ℕ) → is_noted before x choice → is_noted after x choice

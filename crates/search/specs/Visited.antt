@@ -1,6 +1,6 @@
 -- How a visit goes.
 use Rattle.std.specs.Prelude.{ℕ, ◌≡◌, ◌<◌, true, Bool, cond, List, Some, Any, slice_get, take, drop}
-use Rattle.search.specs.Rules.{Rules}
+use Rattle.search.specs.Rules.{Repeats, Rules}
 use Rattle.search.specs.Searched.{IsTried, IsVisited}
 use Rattle.search.specs.Numbers.{is_in}
 use Rattle.search.specs.Admitted.{IsClosed, IsCoveredAt, Admits, AreMore}
@@ -29,10 +29,22 @@ pub record Tries {N : Type 0} (r : Rules N) (is_noted : N → ℕ → Type 0) (b
 abbrev pub Stays : {N : Type 0} → List N → List N → ℕ → Type 0
 Stays {N} before after number = (x : N) → slice_get before number ≡ Some x → slice_get after number ≡ Some x
 
+-- a choice repeats a lower one in the node of a number, and nothing changes
+pub record Passes {N : Type 0} (r : Rules N) (is_noted : N → ℕ → Type 0) (before : List N) (open_before : List ℕ) (after : List N)
+    (open_after : List ℕ) (number choice : ℕ) : Type 0 where
+  pub from : N
+  pub here : slice_get before number ≡ Some from
+  pub lower : ℕ
+  pub repeats : Repeats r is_noted from choice lower
+  pub nodes : after ≡ before
+  pub numbers : open_after ≡ open_before
+
 -- where a choice was tried, the node in which it was stays, unless what comes of it was joined with that one
 abbrev pub GoesOn : {N : Type 0} → Rules N → (N → ℕ → Type 0) → List N → List ℕ → List N → List ℕ → ℕ → ℕ → Tried → Type 0
 GoesOn r is_noted before open_before after open_after number choice Tried.Apart =
     Tries r is_noted before open_before after open_after number choice × Stays before after number
+GoesOn r is_noted before open_before after open_after number choice Tried.Before =
+    Passes r is_noted before open_before after open_after number choice
 GoesOn r is_noted before open_before after open_after number choice Tried.Itself =
     Tries r is_noted before open_before after open_after number choice
 GoesOn r is_noted before open_before after open_after number choice (Tried.Not obstacle) = Unit {0}

@@ -48,6 +48,15 @@ impl Steps for Walk {
         if from < 2 { Some(from) } else { None }
     }
 
+    fn repeats(
+        &mut self,
+        _alloc: Global,
+        _node: &Place,
+        _choice: u64,
+    ) -> Result<Option<u64>, AllocError> {
+        Ok(None)
+    }
+
     fn next(
         &mut self,
         _alloc: Global,

@@ -201,6 +201,7 @@ fn try_choices<S: Steps>(
         made = made.saturating_add(1);
         match try_choice(alloc, steps, table, number, choice, limit)? {
             Tried::Apart => from = choice + 1,
+            Tried::Before => from = choice + 1,
             Tried::Itself => {
                 return Ok(Visited {
                     steps: made,
@@ -229,13 +230,15 @@ fn try_choices<S: Steps>(
 enum Tried {
     /// What comes of the node is covered by another one.
     Apart,
+    /// A lower choice told it.
+    Before,
     /// It was joined with the node itself.
     Itself,
     /// The search stops.
     Not(Obstacle),
 }
 
-/// Tries a choice in the node of a number.
+/// Tries a choice in the node of a number, where it doesn't repeat a lower one.
 fn try_choice<S: Steps>(
     alloc: Global,
     steps: &mut S,
@@ -256,6 +259,9 @@ fn try_choice<S: Steps>(
         tried ≡ Not Obstacle.Nodes → limit ≤ length table.new.nodes.items) }
     ensures going { IfOk result (λ tried. tried ≢ Not Obstacle.Visits) }
 {
+    if let Some(_lower) = steps.repeats(alloc, table.node(number), choice)? {
+        return Ok(Tried::Before);
+    }
     let Some(next) = steps.next(alloc, table.node(number), choice)? else {
         return Ok(Tried::Not(Obstacle::NoPlace));
     };

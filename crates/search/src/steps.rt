@@ -1,7 +1,7 @@
 //! What a search goes through.
 
 ghost use Rattle.std.specs.Prelude.{◌≡◌, ℕ, IsTrue, IfOk, IfSome, IfNone, OnSome};
-ghost use Rattle.search.specs.Rules.{Rules, AreKept, CoversBoth, IsNextChoice, NoMoreMay, StaysNoted};
+ghost use Rattle.search.specs.Rules.{Rules, AreKept, CoversBoth, IsNextChoice, NoMoreMay, Repeats, StaysNoted};
 
 use crate::outcome::Progress;
 use std::alloc::{AllocError, Global};
@@ -42,6 +42,21 @@ pub trait Steps: Drop {
     fn choice_from(&self, node: &Self::Node, from: u64) -> Option<u64>
         ensures next { IfSome result (IsNextChoice (rules (setting self.now)) node.now from) }
         ensures none { IfNone result (NoMoreMay (rules (setting self.now)) node.now from) };
+
+    /// The lower choice that a choice repeats, if one is found: what comes of the lower one comes of
+    /// this one too, and where what is seen with the lower one is noted, so is now what is seen with
+    /// this one. It needn't be tried then.
+    fn repeats(
+        &mut self,
+        alloc: Global,
+        node: &Self::Node,
+        choice: u64,
+    ) -> Result<Option<u64>, AllocError>
+        requires { (rules (setting self.old)).may node.now choice }
+        ensures setting { setting self.new ≡ setting self.old }
+        ensures notes { StaysNoted is_noted self.old self.new }
+        ensures repeats { IfOk result (λ found.
+            IfSome found (Repeats (rules (setting self.old)) (is_noted self.new) node.now choice)) };
 
     /// What comes of a node under a choice, or nothing where a label of it can't be kept.
     fn next(

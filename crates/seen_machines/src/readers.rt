@@ -60,7 +60,7 @@ pub(crate) fn task_state<Q: ReadyQueues, B: Blockers>(
     requires { task < length (system_of machine.now).tasks }
     ensures { result ≡ task_state_in (picture machine.now) task }
 {
-    machine.core().task_state(task)
+    machine.core().objects().task_state(task)
 }
 
 /// Whether an interrupt of a routine has arrived and not started it yet.
@@ -72,7 +72,7 @@ pub(crate) fn is_pending<Q: ReadyQueues, B: Blockers>(
     requires { routine < length (system_of machine.now).routines }
     ensures { result ≡ is_pending_in (picture machine.now) routine }
 {
-    machine.core().is_pending(routine)
+    machine.core().objects().is_pending(routine)
 }
 
 /// The active routine.
@@ -82,7 +82,7 @@ pub(crate) fn active_routine<Q: ReadyQueues, B: Blockers>(
 ) -> Option<IsrId>
     ensures { result ≡ option_map routine_of (picture machine.now).active }
 {
-    machine.core().active_routine()
+    machine.core().objects().active_routine()
 }
 
 /// Whether the oldest job of a task holds no resource.
@@ -104,5 +104,5 @@ pub(crate) fn holder<Q: ReadyQueues, B: Blockers>(
 ) -> Option<TaskId>
     ensures { result ≡ holder_in (system_of machine.now) (picture machine.now) resource.now }
 {
-    machine.core().holder(resource)
+    machine.core().objects().holder(resource)
 }

@@ -47,3 +47,20 @@ set_kept cs o a x y t e =
         ≡ changed_in o.system (caller_in (kept_in o)) (kept_in o) (Service.SetRelAlarm (Some a) x y) r
     go None = refl
     go (Some refusal) = refl
+
+pub set_abs_kept : (cs : List Counter) (o : Objects) (a x y : ℕ) (t : AlarmTable)
+    → t ≡ after_call o.system (table cs o) (Service.SetAbsAlarm (Some a) x y)
+    → kept_in (record o { alarms = t.expiries; tick = t.tick }) ≡ (unmasked o (Service.SetAbsAlarm (Some a) x y)).state
+unfolding unmasked_in
+set_abs_kept cs o a x y t e =
+    ap (λ (u : AlarmTable). kept_in (record o { alarms = u.expiries; tick = u.tick })) e
+    ∙ go (refusal o.system (table cs o) (Service.SetAbsAlarm (Some a) x y))
+  where
+    before : State
+    before = state_of o.system (table cs o)
+
+    go : (r : Option Status)
+        → kept_in (record o { alarms = (changed o.system NobodyCalls before (Service.SetAbsAlarm (Some a) x y) r).alarms })
+        ≡ changed_in o.system (caller_in (kept_in o)) (kept_in o) (Service.SetAbsAlarm (Some a) x y) r
+    go None = refl
+    go (Some refusal) = refl

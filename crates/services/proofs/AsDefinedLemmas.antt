@@ -1,23 +1,25 @@
 -- What calls do over what is kept is what the definitions say of every state that the objects stand for.
 use Rattle.std.proofs.Common.{◌≡◌, ℕ, ◌<◌, false, length, sym, ◌∙◌, ap}
-use Rattle.std.specs.Prelude.{Option, Some}
+use Rattle.std.specs.Prelude.{Some}
 use Rattle.osek_base.specs.declared.instr.Service.{Service}
+use Rattle.osek_base.specs.declared.instr.Control.{Control}
 use Rattle.osek_base.specs.Types.{ServiceCall}
 use Rattle.osek_base.specs.declared.status.Status.{Status}
-use Rattle.osek_base.specs.declared.trace_event.Results.{Results}
 use Rattle.osek_base.specs.State.{State}
 use Rattle.osek_base.specs.Service.{NobodyCalls, service, unmasked_service}
 use Rattle.osek_base.specs.Tick.{executor}
 use Rattle.kept_state.specs.Kept.{kept}
 use Rattle.kept_state.specs.KeptService.{ByNobody, KeptReply, caller_in, kept_reply, unmasked_in, service_in}
+use Rattle.kept_state.specs.KeptTick.{controlled_in}
 use Rattle.kept_state.specs.Standing.{MayServe, runner_waits}
 use Rattle.kept_state.proofs.Standing.{activate_stands, set_event_stands, service_stands}
 use Rattle.kept_state.proofs.Words.{reply_with, unmasked_words, service_words}
-use Rattle.services.specs.declared.calls.Call.{Call}
+use Rattle.services.specs.declared.calls.Answer.{Answer}
 use Rattle.services.specs.Objects.{Objects, StandsFor, kept_in}
-use Rattle.services.specs.Calls.{IsKnownCall, call_in}
-use Rattle.services.specs.AsDefined.{CallsAsDefined, ActsAsDefined}
-use Rattle.services.proofs.StandsLemmas.{activates, serves_for, stands_for_activated, stands_for_set, stands_for_called}
+use Rattle.services.specs.Calls.{IsKnown}
+use Rattle.services.specs.Steps.{Answers}
+use Rattle.services.specs.AsDefined.{ActsAsDefined, ControlsAsDefined, ServesAsDefined}
+use Rattle.services.proofs.StandsLemmas.{activates, serves_for, stands_for_activated, stands_for_set, stands_for_served, stands_for_controlled}
 
 module _ (o n : Objects) (system : n.system ≡ o.system) where
   -- what nobody calls is answered as it is over what is kept
@@ -55,9 +57,9 @@ module _ (o n : Objects) (system : n.system ≡ o.system) where
         stands = stands_for_set o n system s t m stands inside ready new;
       }
 
-  -- a call
+  -- a service of whoever executes
   service_reply : (s : State) (call : ServiceCall) → StandsFor o s → MayServe o.system (kept_in o)
-      → IsKnownCall o.system (Call.Service call)
+      → IsKnown o.system call
       → kept_reply o.system (service o.system (executor s) s call)
       ≡ reply_with s.words (service_in o.system (caller_in (kept_in o)) (kept_in o) call)
   service_reply s call stands may known =
@@ -65,21 +67,17 @@ module _ (o n : Objects) (system : n.system ≡ o.system) where
       law.1 ∙ ap (λ k. service_in o.system (caller_in k) k call) (sym stands.same)
       ∙ service_words o.system s.words (caller_in (kept_in o)) (kept_in o) call
 
-  pub called_as_defined : (call : Call) (status : Option Status) (results : Results) → IsKnownCall o.system call
-      → MayServe o.system (kept_in o) → status ≡ (call_in o.system (kept_in o) call).status
-      → results ≡ (call_in o.system (kept_in o) call).results → kept_in n ≡ (call_in o.system (kept_in o) call).state
-      → CallsAsDefined o n call status results
-  unfolding CallsAsDefined
-  called_as_defined (Call.Service call) status results known may told given new = λ s stands.
+  pub served_as_defined : (call : ServiceCall) (answer : Answer) → IsKnown o.system call → MayServe o.system (kept_in o)
+      → Answers call o n answer → ServesAsDefined o n call answer
+  unfolding ServesAsDefined
+  served_as_defined call answer known may answers = λ s stands.
       let reply = service_reply s call stands may known in
       record {
-        answered = told ∙ ap (λ (r : KeptReply). Some r.status) (sym reply);
-        given = given ∙ ap (λ (r : KeptReply). r.results) (sym reply);
-        stands = stands_for_called o n system s (Call.Service call) stands known may new;
+        answered = answers.status ∙ ap (λ (r : KeptReply). Some r.status) (sym reply);
+        given = answers.results ∙ ap (λ (r : KeptReply). r.results) (sym reply);
+        stands = stands_for_served o n system s call stands known may answers.kept;
       }
-  called_as_defined (Call.Control control) status results known may told given new = λ s stands.
-      record {
-        answered = told;
-        given = given;
-        stands = stands_for_called o n system s (Call.Control control) stands known may new;
-      }
+
+  pub controlled_as_defined : (control : Control ℕ) → kept_in n ≡ controlled_in control (kept_in o) → ControlsAsDefined o n control
+  unfolding ControlsAsDefined
+  controlled_as_defined control new = λ s stands. stands_for_controlled o n system s control stands new

@@ -20,6 +20,7 @@ use Rattle.kept_state.specs.Standing.{Fits, room_for}
 use Rattle.kept_state.proofs.Rescheduled.{at_most}
 use Rattle.kept_state.proofs.Choose.{highest_has}
 use Rattle.services.specs.Objects.{HasBounds}
+use Rattle.services.specs.Dispatched.{IsHighest}
 
 -- ---- a proper system
 
@@ -130,13 +131,6 @@ above_none (suc n) q l h k above within = go (q n) refl h (λ e low. above_none 
       | inl low ↦ rest found low
       | inr high ↦ ap q (let same : k ≡ n = omega arith in same) ∙ e
     ]
-
--- what is known of the highest level with a task
-pub record IsHighest (S : System) (q : ℕ → List ℕ) (l : ℕ) : Type 0 where
-  pub low : l ≤ top_priority S
-  pub some : 0 < length (q l)
-  pub none : (k : ℕ) → l < k → q k ≡ []
-  pub known : first (q l) < length S.tasks
 
 pub highest_of : (S : System) (o : Kept) (l : ℕ) → Fits S o → highest (suc (top_priority S)) o.queues ≡ Some l → IsHighest S o.queues l
 highest_of S o l fits h =

@@ -18,9 +18,8 @@ use Rattle.ready_queues.specs.Moves.{changed_at}
 use Rattle.kept_state.specs.Moves.{activated_in, one_more, slot_changed, slot_woken, released_in}
 use Rattle.kept_state.specs.KeptService.{KeptCaller, ByTask, ByRoutine, ByNobody, bare, slot_moved, caller_by, caller_in, service_in, effect_in, changed_in, refusals_in, with_caller_in, caller_ended_in, slot_given_up, slot_gets, slot_releases, slot_waiting, with_mask, events_cleared_in, event_awaited_in, is_outranked_in}
 use Rattle.kept_state.specs.KeptTick.{controlled_in, with_context_in}
-use Rattle.services.specs.declared.calls.Call.{Call}
 use Rattle.services.specs.Objects.{Objects, kept_in}
-use Rattle.services.specs.Calls.{IsExecuting, IsRoutineOrNone, IsSameActive, IsSameCaller, IsThere, MayGoOn, active_context, caller_as, context_in, call_in}
+use Rattle.services.specs.Calls.{IsExecuting, IsRoutineOrNone, IsSameActive, IsSameCaller, IsThere, MayGoOn, active_context, caller_as, context_in, served_in}
 
 -- the same task runs, the same routine is active, and unless a job ends all have the registers and places that they had
 record IsAlike (o k : Kept) : Type 0 where
@@ -121,15 +120,17 @@ control_active o Control.ResumeOsInterrupts = same_active o.active
 control_active o (Control.ShutdownOs n) = same_active o.active
 control_active o Control.ReturnFromInterrupt = tt
 
-pub same_caller : (o n : Objects) (call : Call) → kept_in n ≡ (call_in o.system (kept_in o) call).state → IsSameCaller o n
-same_caller o n (Call.Service call) new =
+pub served_caller : (o n : Objects) (call : ServiceCall) → kept_in n ≡ (served_in o.system (kept_in o) call).state → IsSameCaller o n
+served_caller o n call new =
     let alike = service_alike o.system (caller_in (kept_in o)) (kept_in o) call in
     record {
       running = ap (λ (k : Kept). k.running) new ∙ alike.running;
       active = subst (IsSameActive o.active) (sym (ap (λ (k : Kept). k.active) new ∙ alike.active)) (same_active o.active);
       contexts = λ t stands. ap (λ (k : Kept). (k.slots t).context) new ∙ alike.contexts t (sym (ap (λ (k : Kept). k.gone) new) ∙ stands);
     }
-same_caller o n (Call.Control control) new = record {
+
+pub controlled_caller : (o n : Objects) (control : Control ℕ) → kept_in n ≡ controlled_in control (kept_in o) → IsSameCaller o n
+controlled_caller o n control new = record {
   running = ap (λ (k : Kept). k.running) new;
   active = subst (IsSameActive o.active) (sym (ap (λ (k : Kept). k.active) new)) (control_active (kept_in o) control);
   contexts = λ t stands. ap (λ (k : Kept). (k.slots t).context) new;

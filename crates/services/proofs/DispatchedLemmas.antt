@@ -17,13 +17,14 @@ use Rattle.ready_queues.specs.Moves.{changed_at, highest}
 use Rattle.kept_state.specs.Moves.{KeptRecorded, chosen, contender, contender_of, dynamic_in, left_in, may_dispatch_in, rescheduled, slot_changed, slot_entered, stays}
 use Rattle.kept_state.specs.KeptService.{KeptCaller, ByTask, ByRoutine, ByNobody, bare, caller_in, changed_in, is_above, refusals_in, service_in, slot_moved}
 use Rattle.kept_state.specs.KeptTick.{routine_started_in, silent_in, start_phase_in, with_context_in}
-use Rattle.services.specs.declared.calls.Call.{Call}
-use Rattle.services.specs.Calls.{call_in}
+use Rattle.services.specs.declared.calls.Answer.{Answer}
+use Rattle.services.specs.Calls.{served_in}
+use Rattle.services.specs.Steps.{Answers}
 use Rattle.services.specs.Objects.{Objects, kept_in}
 use Rattle.services.specs.Dispatched.{has_entered, is_dispatched_by, is_dispatched_in, is_refusal, runs_on}
 
 -- a value is put where it is already
-put_again : {X : Type 0} (f : ℕ → X) (n : ℕ) (x : X) → x ≡ f n → changed_at f n x ≡ f
+pub put_again : {X : Type 0} (f : ℕ → X) (n : ℕ) (x : X) → x ≡ f n → changed_at f n x ≡ f
 put_again f n x same = fun_ext (λ m. go m (n == m) refl)
   where
     go : (m : ℕ) (b : Bool) → (n == m) ≡ b → cond b x (f m) ≡ f m
@@ -135,16 +136,17 @@ refused_in : (S : System) (d : KeptCaller) (o : Kept) (call : ServiceCall) (refu
 refused_in S d o call None h = absurd (grind arith)
 refused_in S d o call (Some refusal) h = refl
 
-refused_call : (S : System) (o : Kept) (call : Call) → is_refusal (call_in S o call).status ≡ true → (call_in S o call).state ≡ o
+refused_service : (S : System) (o : Kept) (call : ServiceCall) → is_refusal (Some (served_in S o call).status) ≡ true
+    → (served_in S o call).state ≡ o
 unfolding service_in
-refused_call S o (Call.Service call) h =
+refused_service S o call h =
     refused_in S (caller_in o) o call (first_refusal ((interrupts_off (bare o), Status.SysDisabled) ∷ refusals_in S (caller_in o) o call)) h
-refused_call S o (Call.Control control) h = absurd (grind arith)
 
-pub called_dispatched : (o n : Objects) (call : Call) (known : Bool) (status : Option Status) → n.system ≡ o.system
-    → kept_in n ≡ (call_in o.system (kept_in o) call).state → status ≡ (call_in o.system (kept_in o) call).status
-    → (known ≡ true → is_dispatched_in o.system (kept_in o) ≡ true) → (known && is_refusal status) ≡ true
+pub served_dispatched : (o n : Objects) (call : ServiceCall) (known : Bool) (answer : Answer) → Answers call o n answer
+    → (known ≡ true → is_dispatched_in o.system (kept_in o) ≡ true) → (known && is_refusal answer.status) ≡ true
     → is_dispatched_in n.system (kept_in n) ≡ true
-called_dispatched o n call known status system new answers before h =
-    let both = and_split known (is_refusal status) h in
-    ap₂ is_dispatched_in system (new ∙ refused_call o.system (kept_in o) call (ap is_refusal (sym answers) ∙ both.1)) ∙ before both.0
+served_dispatched o n call known answer answers before h =
+    let both = and_split known (is_refusal answer.status) h in
+    ap₂ is_dispatched_in answers.system
+    (answers.kept ∙ refused_service o.system (kept_in o) call (ap is_refusal (sym answers.status) ∙ both.1))
+    ∙ before both.0

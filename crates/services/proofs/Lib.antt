@@ -10,3 +10,4 @@ pub mod AsDefinedLemmas
 pub mod StepLemmas
 pub mod CompactLemmas
 pub mod CopyLemmas
+pub mod ReleasedLemmas

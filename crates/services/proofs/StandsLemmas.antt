@@ -5,6 +5,7 @@ use Rattle.std.specs.Option.{option_map}
 use Rattle.osek_base.specs.declared.ids.Owner.{Owner}
 use Rattle.osek_base.specs.declared.limits.TheConstants.{MAX_ACTIVATION}
 use Rattle.osek_base.specs.declared.instr.Service.{Service}
+use Rattle.osek_base.specs.declared.instr.Control.{Control}
 use Rattle.osek_base.specs.Types.{ServiceCall}
 use Rattle.osek_base.specs.System.{System}
 use Rattle.osek_base.specs.Proper.{IsProper}
@@ -25,12 +26,10 @@ use Rattle.kept_state.specs.Standing.{IsStanding, Fits, MayServe, IsRunnerPlaced
 use Rattle.kept_state.proofs.Fitting.{fits_where_standing}
 use Rattle.kept_state.proofs.Standing.{still_stands, started_stands, activate_stands, set_event_stands, service_stands, control_stands, reschedule_stands, advance_stands, flag_stands, start_stands, job_move_stands, routine_move_stands}
 use Rattle.kept_state.proofs.Words.{with_words, unmasked_words, service_words, control_words, context_words, start_phase_words, rescheduled_words}
-use Rattle.services.specs.declared.calls.Call.{Call}
 use Rattle.services.specs.Objects.{Objects, StandsFor, Stands, AreFit, by_task, kept_in, kept_of}
-use Rattle.services.specs.AsDefined.{called}
 use Rattle.services.specs.Dispatched.{IsCore}
 use Rattle.services.proofs.BoundLemmas.{activation_few}
-use Rattle.services.specs.Calls.{IsKnown, IsKnownCall, IsThere, MayGoOn, IsRoutineOrNone, caller_as, call_in}
+use Rattle.services.specs.Calls.{IsKnown, IsThere, MayGoOn, IsRoutineOrNone, caller_as, served_in}
 
 -- no words matter to a step
 abbrev pub IsWordless : (Kept → Kept) → Type 0
@@ -162,26 +161,33 @@ module _ (o n : Objects) (system : n.system ≡ o.system) where
       let law = start_stands o.system s stands.standing in
       stands_after o n s (start_phase o.system s) (start_phase_in o.system) stands system (λ w k. start_phase_words o.system w k) new law
 
-  -- a call
+  -- a service of whoever executes
   pub serves_for : (s : State) → StandsFor o s → MayServe o.system (kept_in o) → MayServe o.system (kept o.system s)
   serves_for s stands may =
       let here : MayServe o.system (kept_of s.words o) = record { ready = may.ready; chosen = λ h. overtaken_in o.system o s.words (contender (kept_in o)) ∙ may.chosen h } in
       subst (MayServe o.system) stands.same here
 
-  pub stands_for_called : (s : State) (call : Call) → StandsFor o s → IsKnownCall o.system call → MayServe o.system (kept_in o)
-      → kept_in n ≡ (call_in o.system (kept_in o) call).state → StandsFor n (called o.system s call).state
-  stands_for_called s (Call.Service call) stands known may new =
+  pub stands_for_served : (s : State) (call : ServiceCall) → StandsFor o s → IsKnown o.system call → MayServe o.system (kept_in o)
+      → kept_in n ≡ (served_in o.system (kept_in o) call).state → StandsFor n (service o.system (executor s) s call).state
+  stands_for_served s call stands known may new =
       let law = service_stands o.system s call stands.standing (serves_for s stands may) (activates o.system call known) in
       stands_for o n s (service o.system (executor s) s call).state (λ k. (service_in o.system (caller_in k) k call).state) stands system
       (λ w k. ap (λ (r : KeptReply). r.state) (service_words o.system w (caller_in k) k call)) new
       (law.0, ap (λ (r : KeptReply). r.state) law.1)
-  stands_for_called s (Call.Control control) stands known may new =
+
+  pub stands_served : (call : ServiceCall) → Stands o → IsKnown o.system call → MayServe o.system (kept_in o)
+      → kept_in n ≡ (served_in o.system (kept_in o) call).state → Stands n
+  stands_served call (s, stands) known may new = (_, stands_for_served s call stands known may new)
+
+  -- a service without a status
+  pub stands_for_controlled : (s : State) (control : Control ℕ) → StandsFor o s → kept_in n ≡ controlled_in control (kept_in o)
+      → StandsFor n (controlled control s)
+  stands_for_controlled s control stands new =
       stands_for o n s (controlled control s) (controlled_in control) stands system (λ w k. control_words o.system w k control) new
       (control_stands o.system s control stands.standing)
 
-  pub stands_called : (call : Call) → Stands o → IsKnownCall o.system call → MayServe o.system (kept_in o)
-      → kept_in n ≡ (call_in o.system (kept_in o) call).state → Stands n
-  stands_called call (s, stands) known may new = (_, stands_for_called s call stands known may new)
+  pub stands_controlled : (control : Control ℕ) → Stands o → kept_in n ≡ controlled_in control (kept_in o) → Stands n
+  stands_controlled control (s, stands) new = (_, stands_for_controlled s control stands new)
 
   -- who executed goes on
   pub stands_gone_on : (owner : Owner) (x : Context) → Stands o → MayGoOn o owner → IsPlaced o.system owner x

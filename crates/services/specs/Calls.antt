@@ -1,18 +1,14 @@
--- OSEK/VDX OS: specification of operating system services. Calls with a status and without, and who executes.
+-- OSEK/VDX OS: specification of operating system services. What a service is asked and answers, and who executes.
 use Rattle.std.specs.Prelude.{ℕ, ◌≡◌, ◌<◌, Option, Some, None, false, true, is_some, length}
 use Rattle.osek_base.specs.declared.ids.Owner.{Owner}
 use Rattle.osek_base.specs.declared.ids.ResId.{ResId}
 use Rattle.osek_base.specs.declared.instr.Service.{Service}
 use Rattle.osek_base.specs.Types.{ServiceCall}
-use Rattle.osek_base.specs.declared.status.Status.{Status}
-use Rattle.osek_base.specs.declared.trace_event.Results.{Results}
 use Rattle.osek_base.specs.System.{System}
 use Rattle.osek_base.specs.Instruction.{Context}
 use Rattle.osek_base.specs.State.{Active, fresh_context}
 use Rattle.kept_state.specs.Kept.{Kept}
 use Rattle.kept_state.specs.KeptService.{KeptCaller, ByTask, ByRoutine, KeptReply, caller_in, service_in, unmasked_in}
-use Rattle.kept_state.specs.KeptTick.{controlled_in}
-use Rattle.services.specs.declared.calls.Call.{Call}
 use Rattle.services.specs.Objects.{Objects, kept_in}
 
 -- an operand names a task or an alarm of the system, or is INVALID
@@ -45,10 +41,6 @@ IsKnown S (Service.GetAlarm a) = IsAlarmOperand S a
 IsKnown S (Service.GetAlarmBase a) = IsAlarmOperand S a
 IsKnown S _ = Unit {0}
 
-abbrev pub IsKnownCall : System → Call → Type 0
-IsKnownCall S (Call.Service s) = IsKnown S s
-IsKnownCall S (Call.Control c) = Unit {0}
-
 -- the service is one on alarms
 abbrev pub IsOnAlarm : ServiceCall → Type 0
 IsOnAlarm (Service.SetRelAlarm a x y) = Unit {0}
@@ -58,16 +50,9 @@ IsOnAlarm (Service.GetAlarm a) = Unit {0}
 IsOnAlarm (Service.GetAlarmBase a) = Unit {0}
 IsOnAlarm _ = ⊥
 
--- what a call answers, and what is kept after it. A service without a status answers nothing
-pub record CallReply : Type 0 where
-  pub status : Option Status
-  pub results : Results
-  pub state : Kept
-
-abbrev pub call_in : System → Kept → Call → CallReply
-call_in S o (Call.Service s) =
-    let r = service_in S (caller_in o) o s in record { status = Some r.status; results = r.results; state = r.state }
-call_in S o (Call.Control c) = record { status = None; results = Results.Nothing; state = controlled_in c o }
+-- what a service answers whoever executes, and what is kept after it
+abbrev pub served_in : System → Kept → ServiceCall → KeptReply
+served_in S o call = service_in S (caller_in o) o call
 
 -- what a service answers the caller, interrupts being off aside, and what is kept after it
 abbrev pub unmasked : Objects → ServiceCall → KeptReply

@@ -1,5 +1,5 @@
 -- OSEK/VDX OS: task management, scheduling policy. The ready tasks in one list, in the order in which they run.
-use Rattle.std.specs.Prelude.{ℕ, ◌-◌, ◌≤◌, Bool, nat_lt, if◌then◌else◌, ◌==◌, List, [], ◌∷◌, length, Option, Some, None}
+use Rattle.std.specs.Prelude.{ℕ, ◌≡◌, ◌-◌, ◌≤◌, Bool, nat_lt, if◌then◌else◌, ◌==◌, List, [], ◌∷◌, length, Option, Some, None}
 use Rattle.ready_queues.specs.declared.ready_queues.TheConstants.{LEVELS}
 use Rattle.ready_queues.specs.Queues.{Queues}
 use Rattle.services.specs.declared.ready_entry.ReadyEntry.{ReadyEntry}
@@ -46,3 +46,8 @@ pub record IsCompact (entries : List ReadyEntry) (room capacity : ℕ) : Type 0 
   pub falling : AreFalling (LEVELS - 1) entries
   pub few : length entries ≤ room
   pub roomy : room ≤ capacity
+
+-- the entries become these, and no less may be put without memory
+pub record AreLeft (entries after : List ReadyEntry) (old_capacity new_capacity : ℕ) : Type 0 where
+  pub items : after ≡ entries
+  pub capacity : old_capacity ≤ new_capacity

@@ -1,13 +1,20 @@
--- OSEK/VDX OS: task management, scheduling policy. Where a reschedule changes nothing.
-use Rattle.std.specs.Prelude.{ℕ, suc, ◌≡◌, Bool, true, false, not, ◌&&◌, if◌then◌else◌, Option, Some, None, is_some}
+-- OSEK/VDX OS: task management, scheduling policy. From where a task is dispatched, and where a reschedule changes nothing.
+use Rattle.std.specs.Prelude.{ℕ, suc, ◌≡◌, ◌<◌, ◌≤◌, Bool, true, false, not, ◌&&◌, if◌then◌else◌, List, [], Option, Some, None, is_some, length}
 use Rattle.osek_base.specs.declared.status.Status.{Status}
 use Rattle.osek_base.specs.System.{System}
 use Rattle.osek_base.specs.Ceiling.{internal_ceiling, top_priority}
 use Rattle.kept_state.specs.Kept.{Kept, Slot}
-use Rattle.ready_queues.specs.Moves.{highest}
+use Rattle.ready_queues.specs.Moves.{first, highest}
 use Rattle.kept_state.specs.Moves.{dynamic_in}
 use Rattle.kept_state.specs.KeptService.{is_above}
 use Rattle.services.specs.Objects.{Objects, Stands, kept_in}
+
+-- the level is the highest that has a task, and its first one exists
+pub record IsHighest (S : System) (q : ℕ → List ℕ) (l : ℕ) : Type 0 where
+  pub low : l ≤ top_priority S
+  pub some : 0 < length (q l)
+  pub none : (k : ℕ) → l < k → q k ≡ []
+  pub known : first (q l) < length S.tasks
 
 -- whether a task's oldest job is as it is left where it enters running
 abbrev pub has_entered : System → ℕ → Slot → Bool

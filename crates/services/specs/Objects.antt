@@ -1,6 +1,6 @@
 -- OSEK/VDX OS: system services. What services read and change of a running system, with queues and control blocks by
 -- number: all that is kept of a state but the words of tasks and routines.
-use Rattle.std.specs.Prelude.{ℕ, ◌≡◌, ◌<◌, Bool, List, Option, slice_index_or, length}
+use Rattle.std.specs.Prelude.{ℕ, ◌≡◌, ◌<◌, Bool, List, Option, IfSome, slice_index_or, length}
 use Rattle.osek_base.specs.System.{System, activation_of}
 use Rattle.osek_base.specs.Ceiling.{top_priority}
 use Rattle.osek_base.specs.State.{State, Active, Expiry, Words}
@@ -68,9 +68,9 @@ pub record HasBounds (S : System) : Type 0 where
   pub top : top_priority S < LEVELS
   pub activation : (t : ℕ) → t < length S.tasks → activation_of S t < 255
 
--- the lists have the lengths of the system's, and the alarms are the system's
+-- the lists have the lengths of the system's, the alarms are the system's, and the running task is one of its tasks
 pub record IsSized (S : System) (blocks : List Slot) (events : List ℕ) (flags : List Bool) (windows : List (List ℕ))
-    (table : AlarmTable) (places : ℕ) : Type 0 where
+    (table : AlarmTable) (places : ℕ) (runner : Option ℕ) : Type 0 where
   pub bounds : HasBounds S
   pub slots : length blocks ≡ length S.tasks
   pub masks : length events ≡ length S.tasks
@@ -78,6 +78,7 @@ pub record IsSized (S : System) (blocks : List Slot) (events : List ℕ) (flags 
   pub shared : length windows ≡ length S.resources
   pub alarms : IsTableOf S table
   pub room : places ≡ room_for S
+  pub running : IfSome runner (λ t. t < length S.tasks)
 
 -- a state of a run, or one like it, is what the objects stand for
 pub record StandsFor (o : Objects) (s : State) : Type 0 where

@@ -5,11 +5,7 @@ ghost use Rattle.osek_base.specs.declared.instr.Service.{Service};
 ghost use Rattle.osek_base.specs.declared.status.Status.{Status};
 ghost use Rattle.osek_base.specs.declared.trace_event.Results.{Results};
 ghost use Rattle.osek_base.specs.System.{counter_of};
-ghost use Rattle.osek_base.specs.Alarm.{due_alarms, alarms_advanced};
-ghost use Rattle.kept_state.specs.KeptService.{bare};
-ghost use Rattle.services.specs.Objects.{kept_in};
-ghost use Rattle.services.specs.Calls.{unmasked};
-ghost use Rattle.services.specs.Steps.{Serves};
+ghost use Rattle.services.specs.Steps.{Advances, Serves, Tells};
 
 use crate::calls::Answer;
 use crate::objects::Objects;
@@ -53,10 +49,7 @@ impl<'s, Q: ReadyQueues> Objects<'s, Q> {
     #[inline(always)]
     pub fn get_alarm(&self, alarm: AlarmId) -> Answer
         requires alarm { alarm < length self.now.system.alarms }
-        ensures status { result.status
-            ≡ Some (unmasked self.now (Service.GetAlarm (Some alarm))).status }
-        ensures results { result.results
-            ≡ (unmasked self.now (Service.GetAlarm (Some alarm))).results }
+        ensures { Tells (Service.GetAlarm (Some alarm)) self.now result }
     {
         match self.alarms.remaining(self.system, alarm) {
             None => Answer::plain(Status::NoFunc),
@@ -83,15 +76,7 @@ impl<'s, Q: ReadyQueues> Objects<'s, Q> {
     #[inline(always)]
     pub fn advance(&mut self, due: &mut DueList)
         requires { self.old.tick + 1 < MAX_TICKS }
-        ensures due { due.new
-            ≡ due_alarms self.old.system
-            (bare (record (kept_in self.old) { tick = self.old.tick + 1 })) }
-        ensures objects { self.new
-            ≡ record self.old {
-              tick = self.old.tick + 1;
-              alarms = alarms_advanced self.old.system
-                  (bare (record (kept_in self.old) { tick = self.old.tick + 1 }));
-            } }
+        ensures { Advances self.old self.new due.new }
     {
         self.alarms.advance(self.system, due);
     }

@@ -1,18 +1,13 @@
 //! OSEK/VDX OS: system services. Who calls: the active routine, or else the running task.
 
-ghost use Rattle.std.specs.Prelude.{◌≡◌, ◌<◌, ◌+◌, MatchOption, IfSome, ℕ, is_some, length, true};
-ghost use Rattle.osek_base.specs.Instruction.{plain};
+ghost use Rattle.std.specs.Prelude.{◌≡◌, ◌<◌, ◌+◌, MatchOption, IfSome, length};
 ghost use Rattle.run_laws.proofs.Formed.{IsPlaced};
 ghost use Rattle.kept_state.specs.KeptService.{ByNobody, by_routine_in, caller_in, holds_any_in, is_above_ceiling_in, is_basic_in, is_outranked_in, is_own_in, may_take_in, caller_holds_in, running_number, with_caller_in, caller_ended_in, slot_given_up};
 ghost use Rattle.kept_state.specs.KeptTick.{with_context_in};
 ghost use Rattle.services.specs.Objects.{kept_in, AreFit};
 ghost use Rattle.services.specs.Calls.{calling_task, caller_as, context_in, IsExecuting, IsThere, MayGoOn};
-ghost use Rattle.osek_base.specs.declared.ids.Owner.{Owner};
-ghost use Rattle.osek_base.specs.State.{words_after};
 ghost use Rattle.osek_base.specs.Tick.{answered, at_values};
-ghost use Rattle.machine.specs.Windows.{word};
-ghost use Rattle.machine.specs.Execution.{HasNext};
-ghost use Rattle.machine.specs.Packed.{instr_of, is_plain, plain_of};
+ghost use Rattle.services.specs.PlainSteps.{ExecutesPlain, IsPlainAt};
 ghost use Rattle.services.specs.Steps.{Becomes};
 
 use crate::objects::Objects;
@@ -37,7 +32,6 @@ impl<'s, Q: ReadyQueues> Objects<'s, Q> {
     /// The task that calls, if no routine does.
     #[inline(always)]
     pub fn calling_task(&self) -> Option<TaskId>
-        requires { AreFit self.now }
         ensures value { result ≡ calling_task (caller_in (kept_in self.now)) }
         ensures known { IfSome result (λ t. t < length self.now.system.tasks) }
     {
@@ -53,7 +47,6 @@ impl<'s, Q: ReadyQueues> Objects<'s, Q> {
     /// Whether the caller holds a resource, the internal one aside.
     #[inline(always)]
     pub fn holds_any(&self) -> bool
-        requires { AreFit self.now }
         ensures { result ≡ holds_any_in (kept_in self.now) (caller_in (kept_in self.now)) }
     {
         match self.calling_task() {
@@ -67,7 +60,6 @@ impl<'s, Q: ReadyQueues> Objects<'s, Q> {
 
     /// Whether the caller is a job of the task.
     pub fn is_own_task(&self, task: TaskId) -> bool
-        requires { AreFit self.now }
         ensures { result ≡ is_own_in (caller_in (kept_in self.now)) task }
     {
         match self.calling_task() {
@@ -78,7 +70,6 @@ impl<'s, Q: ReadyQueues> Objects<'s, Q> {
 
     /// Whether the caller is a job of a basic task.
     pub fn is_basic_caller(&self) -> bool
-        requires { AreFit self.now }
         ensures { result ≡ is_basic_in self.now.system (caller_in (kept_in self.now)) }
     {
         match self.calling_task() {
@@ -89,7 +80,6 @@ impl<'s, Q: ReadyQueues> Objects<'s, Q> {
 
     /// Whether the caller is a job whose task may take a resource.
     pub fn may_take(&self, resource: &ResId) -> bool
-        requires { AreFit self.now }
         ensures { result ≡ may_take_in self.now.system (caller_in (kept_in self.now)) resource.now }
     {
         match self.calling_task() {
@@ -103,7 +93,6 @@ impl<'s, Q: ReadyQueues> Objects<'s, Q> {
 
     /// Whether a resource's ceiling is below the caller's static priority.
     pub fn is_above_ceiling(&self, resource: &ResId) -> bool
-        requires { AreFit self.now }
         ensures { result
             ≡ is_above_ceiling_in self.now.system (caller_in (kept_in self.now)) resource.now }
     {
@@ -115,7 +104,6 @@ impl<'s, Q: ReadyQueues> Objects<'s, Q> {
 
     /// Whether the caller is a job that holds a resource.
     pub fn caller_holds(&self, resource: &ResId) -> bool
-        requires { AreFit self.now }
         ensures { result
             ≡ caller_holds_in (kept_in self.now) (caller_in (kept_in self.now)) resource.now }
     {
@@ -146,7 +134,6 @@ impl<'s, Q: ReadyQueues> Objects<'s, Q> {
     /// The running task, also where its job has ended.
     #[inline(always)]
     pub fn running(&self) -> Option<TaskId>
-        requires { AreFit self.now }
         ensures value { result ≡ self.now.running }
         ensures known { IfSome result (λ t. t < length self.now.system.tasks) }
     {
@@ -181,7 +168,6 @@ impl<'s, Q: ReadyQueues> Objects<'s, Q> {
 
     /// The calling job gives up its internal resource.
     pub fn give_up(&mut self)
-        requires { AreFit self.old }
         ensures { Becomes (λ _S o. with_caller_in (caller_in o) slot_given_up o) self.old self.new }
     {
         if let Some(task) = self.calling_task() {
@@ -210,10 +196,9 @@ impl<'s, Q: ReadyQueues> Objects<'s, Q> {
 
     /// The registers and the place of who executes.
     #[inline(always)]
-    pub fn cpu_of(&self, owner: Owner) -> Cpu
-        requires fit { AreFit self.now }
+    pub fn cpu_of(&self, owner: Owner) -> &Cpu
         requires who { IsThere self.now owner }
-        ensures { result ≡ context_in (kept_in self.now) owner }
+        ensures { result.now ≡ context_in (kept_in self.now) owner }
     {
         match owner {
             Owner::Task(task) => {
@@ -230,20 +215,10 @@ impl<'s, Q: ReadyQueues> Objects<'s, Q> {
     /// A service of a program with the values of the registers of who executes.
     #[inline(always)]
     pub fn with_values(&self, owner: Owner, service: &Service<Register>) -> Service<u32>
-        requires fit { AreFit self.now }
         requires who { IsThere self.now owner }
         ensures { result ≡ at_values (context_in (kept_in self.now) owner) service.now }
     {
-        match owner {
-            Owner::Task(task) => {
-                let slot = &self.slots[task.number() as usize];
-                slot.with_values(service)
-            }
-            Owner::Routine(_) => match &self.active {
-                None => unreachable!(),
-                Some(active) => active.with_values(service),
-            },
-        }
+        self.cpu_of(owner).with_values(service)
     }
 
     /// A plain instruction of who executes, on its registers, its place and its window.
@@ -254,20 +229,9 @@ impl<'s, Q: ReadyQueues> Objects<'s, Q> {
         owner: Owner,
         packed: PackedInstr,
     ) -> Effect
-        requires fit { AreFit self.old }
         requires who { IsThere self.old owner }
-        requires plain { is_plain (instr_of packed) ≡ true }
-        requires next { HasNext (plain_of (instr_of packed)) (context_in (kept_in self.old) owner) }
-        ensures system { self.new.system ≡ self.old.system }
-        ensures effect { result
-            ≡ (plain (plain_of (instr_of packed)) (context_in (kept_in self.old) owner)
-            (word windows.old owner)).effect }
-        ensures words { (o : Owner) (i : ℕ)
-            → word windows.new o i ≡ words_after (word windows.old) owner result o i }
-        ensures kept { kept_in self.new
-            ≡ with_context_in (caller_as owner)
-            (plain (plain_of (instr_of packed)) (context_in (kept_in self.old) owner)
-            (word windows.old owner)).context (kept_in self.old) }
+        requires plain { IsPlainAt packed (context_in (kept_in self.old) owner) }
+        ensures { ExecutesPlain packed owner self.old self.new windows.old windows.new result }
     {
         match owner {
             Owner::Task(task) => {
@@ -284,7 +248,6 @@ impl<'s, Q: ReadyQueues> Objects<'s, Q> {
     /// Gives who executed other registers and another place, where it is still there.
     #[inline(always)]
     pub fn go_on(&mut self, owner: Owner, cpu: Cpu)
-        requires fit { AreFit self.old }
         requires who { MayGoOn self.old owner }
         ensures { Becomes (λ _S. with_context_in (caller_as owner) cpu) self.old self.new }
     {
@@ -302,10 +265,10 @@ impl<'s, Q: ReadyQueues> Objects<'s, Q> {
             }
         }
     }
+
     /// Who called takes what a service answers, and goes on to the next instruction, where it is still there.
     #[inline(always)]
     pub fn answer(&mut self, owner: Owner, status: Status, results: Results)
-        requires fit { AreFit self.old }
         requires who { MayGoOn self.old owner }
         requires room { IsThere self.old owner
             → (context_in (kept_in self.old) owner).place + 1 < MAX_INSTRUCTIONS }
@@ -322,7 +285,7 @@ impl<'s, Q: ReadyQueues> Objects<'s, Q> {
             }
             Owner::Routine(_) => {
                 if let Some(active) = &mut self.active {
-                    let mut cpu = active.cpu();
+                    let mut cpu = active.cpu().save();
                     cpu.answer(status, results);
                     active.go_on(cpu);
                 }

@@ -1,25 +1,17 @@
 //! OSEK/VDX OS: specification of operating system services. The service table, row by row.
 
-ghost use Rattle.std.specs.Prelude.{◌≡◌, ◌<◌, ◌+◌, ◌^◌, Some, None};
+ghost use Rattle.std.specs.Prelude.{◌≡◌, Some};
 ghost use Rattle.osek_base.specs.declared.status.Status.{Status};
 ghost use Rattle.osek_base.specs.declared.trace_event.Results.{Results};
 ghost use Rattle.osek_base.specs.Tick.{at_values};
 ghost use Rattle.services.specs.Dispatched.{is_refusal};
 ghost use Rattle.services.specs.Objects.{kept_in, AreFit};
-ghost use Rattle.services.specs.declared.calls.Call.{Call as CallOf};
-ghost use Rattle.services.specs.Calls.{call_in, context_in, IsKnown, IsKnownCall, IsOnAlarm, IsThere};
-ghost use Rattle.services.specs.Steps.{Replies};
+ghost use Rattle.services.specs.Calls.{context_in, IsKnown, IsOnAlarm, IsThere};
+ghost use Rattle.services.specs.Steps.{Answers, Replies};
 
 use crate::objects::Objects;
-use osek_base::{Control, Owner, Register, Results, Service, Status};
+use osek_base::{Owner, Register, Results, Service, Status};
 use ready_queues::ReadyQueues;
-
-/// A call of a system service, with the values of its registers: one with a status, or one without.
-#[derive(Clone, Copy, Debug, PartialEq, Eq)]
-pub enum Call {
-    Service(Service<u32>),
-    Control(Control),
-}
 
 /// What a service answers: its status, None for a service without one, and at most three results, which come with E_OK
 /// alone.
@@ -30,17 +22,6 @@ pub struct Answer {
 }
 
 impl Answer {
-    /// A service without a status answers nothing.
-    #[inline(always)]
-    pub(crate) fn silent() -> Self
-        ensures { result ≡ record { status = None; results = Results.Nothing } }
-    {
-        Answer {
-            status: None,
-            results: Results::Nothing,
-        }
-    }
-
     /// A status without results.
     #[inline(always)]
     pub(crate) fn plain(status: Status) -> Self
@@ -87,36 +68,6 @@ impl Answer {
 }
 
 impl<'s, Q: ReadyQueues> Objects<'s, Q> {
-    /// A service with a status is refused with 32 while interrupts are off.
-    #[tactic(auto, unfolding(kept_state::specs::KeptService::service_in, kept_state::specs::KeptService::unmasked_in))]
-    #[inline(always)]
-    pub fn call(&mut self, call: &Call) -> Answer
-        requires fit { AreFit self.old }
-        requires known { IsKnownCall self.old.system call.now }
-        requires all { self.old.suspended_all + 1 < 2 ^ 32 }
-        requires os { self.old.suspended_os + 1 < 2 ^ 32 }
-        ensures system { self.new.system ≡ self.old.system }
-        ensures status { result.status
-            ≡ (call_in self.old.system (kept_in self.old) call.now).status }
-        ensures results { result.results
-            ≡ (call_in self.old.system (kept_in self.old) call.now).results }
-        ensures kept { kept_in self.new
-            ≡ (call_in self.old.system (kept_in self.old) call.now).state }
-    {
-        match call {
-            Call::Control(control) => {
-                self.control(control);
-                Answer::silent()
-            }
-            Call::Service(service) => {
-                if self.interrupts_off() {
-                    return Answer::plain(Status::SysDisabled);
-                }
-                self.serve(service)
-            }
-        }
-    }
-
     /// A service of a program with a status, by who executes, with the values of its registers. It is refused with 32 while
     /// interrupts are off.
     #[tactic(auto, unfolding(kept_state::specs::KeptService::service_in, kept_state::specs::KeptService::unmasked_in))]
@@ -126,17 +77,8 @@ impl<'s, Q: ReadyQueues> Objects<'s, Q> {
         requires who { IsThere self.old owner }
         requires known { IsKnown self.old.system
             (at_values (context_in (kept_in self.old) owner) service.now) }
-        ensures system { self.new.system ≡ self.old.system }
-        ensures status { result.status
-            ≡ (call_in self.old.system (kept_in self.old)
-            (CallOf.Service (at_values (context_in (kept_in self.old) owner) service.now))).status }
-        ensures results { result.results
-            ≡ (call_in self.old.system (kept_in self.old)
-            (CallOf.Service
-            (at_values (context_in (kept_in self.old) owner) service.now))).results }
-        ensures kept { kept_in self.new
-            ≡ (call_in self.old.system (kept_in self.old)
-            (CallOf.Service (at_values (context_in (kept_in self.old) owner) service.now))).state }
+        ensures { Answers (at_values (context_in (kept_in self.old) owner) service.now) self.old
+            self.new result }
     {
         if self.interrupts_off() {
             return Answer::plain(Status::SysDisabled);
@@ -164,7 +106,7 @@ impl<'s, Q: ReadyQueues> Objects<'s, Q> {
             Service::GetTaskId => Answer::one(self.running_task()),
             Service::GetTaskState(task) => match task {
                 None => Answer::plain(Status::Id),
-                Some(task) => Answer::one(self.state_number(task)),
+                Some(task) => Answer::one(self.task_state(task).number() as u32),
             },
             Service::GetResource(resource) => match &resource {
                 None => Answer::plain(Status::Id),

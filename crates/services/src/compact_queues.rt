@@ -3,7 +3,7 @@
 ghost use Rattle.std.specs.Prelude.{◌≡◌, ◌<◌, ◌≤◌, length, drop, take, slice_index_or, true, false};
 ghost use Rattle.std.specs.List.{list_any};
 ghost use Rattle.std.specs.Vec.{vec_capacity};
-ghost use Rattle.services.specs.CompactQueues.{first_level, first_ready, is_below, no_entry, placed};
+ghost use Rattle.services.specs.CompactQueues.{AreLeft, first_level, first_ready, is_below, no_entry, placed};
 
 use crate::copy_queues::CopyQueues;
 use crate::ready_entry::ReadyEntry;
@@ -106,8 +106,8 @@ fn first_ready(entries: &[ReadyEntry]) -> Option<TaskId>
 
 /// Takes the first entry out, if there is one.
 fn drop_first(entries: &mut Vec<ReadyEntry>)
-    ensures items { entries.new.items ≡ drop 1 entries.old.items }
-    ensures capacity { vec_capacity entries.old ≤ vec_capacity entries.new }
+    ensures { AreLeft (drop 1 entries.old.items) entries.new.items (vec_capacity entries.old)
+        (vec_capacity entries.new) }
 {
     if !entries.is_empty() {
         entries.remove(0);
@@ -117,8 +117,8 @@ fn drop_first(entries: &mut Vec<ReadyEntry>)
 /// Adds an entry before the first one of a level below `from`.
 fn put(entries: &mut Vec<ReadyEntry>, from: u8, entry: ReadyEntry)
     requires { length entries.old.items < vec_capacity entries.old }
-    ensures items { entries.new.items ≡ placed from entry entries.old.items }
-    ensures capacity { vec_capacity entries.old ≤ vec_capacity entries.new }
+    ensures { AreLeft (placed from entry entries.old.items) entries.new.items
+        (vec_capacity entries.old) (vec_capacity entries.new) }
 {
     let place = place_below(entries, from);
     match entries.insert(place, entry) {
@@ -146,8 +146,8 @@ fn place_below(entries: &[ReadyEntry], from: u8) -> usize
 /// The content becomes some entries, for which there is room.
 fn replace(entries: &mut Vec<ReadyEntry>, others: &[ReadyEntry])
     requires { length others.now ≤ vec_capacity entries.old }
-    ensures items { entries.new.items ≡ others.now }
-    ensures capacity { vec_capacity entries.old ≤ vec_capacity entries.new }
+    ensures { AreLeft others.now entries.new.items (vec_capacity entries.old)
+        (vec_capacity entries.new) }
 {
     entries.clear();
     match entries.extend_from_slice(others) {

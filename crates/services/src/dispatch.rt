@@ -1,15 +1,16 @@
 //! OSEK/VDX OS: task management, scheduling policy; hook routines. Jobs are made, released and dispatched.
 
-ghost use Rattle.std.specs.Prelude.{◌≡◌, ◌<◌, ◌≤◌, ◌+◌, ◌++◌, [], Some, suc, false, length, ℕ};
+ghost use Rattle.std.specs.Prelude.{◌≡◌, ◌<◌, ◌≤◌, ◌+◌, Some, suc, false, length, ℕ};
 ghost use Rattle.osek_base.specs.System.{activation_of, priority_of};
 ghost use Rattle.osek_base.specs.Ceiling.{top_priority};
 ghost use Rattle.ready_queues.specs.Queues.{total};
-ghost use Rattle.ready_queues.specs.Moves.{put_first, first, highest, changed_at};
+ghost use Rattle.ready_queues.specs.Moves.{put_first, highest, changed_at};
 ghost use Rattle.kept_state.specs.Moves.{activated_in, released_in, contender, dynamic_in, may_dispatch_in, slot_entered, nobody, stays, dispatched, rescheduled, left_in, entered_in};
 ghost use Rattle.kept_state.specs.Standing.{room_for};
 ghost use Rattle.ready_queues.specs.LevelLists.{by_level};
 ghost use Rattle.services.specs.Objects.{by_task, kept_in, AreFit};
-ghost use Rattle.services.specs.Steps.{Becomes, Does};
+ghost use Rattle.services.specs.Dispatched.{IsHighest};
+ghost use Rattle.services.specs.Steps.{Becomes, Does, Records};
 
 use crate::objects::Objects;
 use osek_base::{MAX_RECORDS, System, TaskId, TickRecord, TraceEvent};
@@ -58,7 +59,6 @@ impl<'s, Q: ReadyQueues> Objects<'s, Q> {
     /// The running task, if its job stands and doesn't wait.
     #[inline(always)]
     pub fn contender(&self) -> Option<TaskId>
-        requires { AreFit self.now }
         ensures { result ≡ contender (kept_in self.now) }
     {
         match &self.running {
@@ -96,8 +96,7 @@ impl<'s, Q: ReadyQueues> Objects<'s, Q> {
     #[inline(never)]
     fn stop(&mut self, record_of_tick: &mut TickRecord)
         requires { length record_of_tick.old < MAX_RECORDS }
-        ensures does { Does nobody self.old self.new record_of_tick.old record_of_tick.new }
-        ensures few { length record_of_tick.new ≤ length record_of_tick.old + 1 }
+        ensures { Does nobody self.old self.new record_of_tick.old record_of_tick.new }
     {
         record_left(self.system, &self.running, record_of_tick);
         self.running = None;
@@ -137,14 +136,10 @@ impl<'s, Q: ReadyQueues> Objects<'s, Q> {
     /// The first of the highest level leaves its queue and runs.
     #[inline(always)]
     fn dispatch(&mut self, level: u8, record_of_tick: &mut TickRecord)
-        requires level { level ≤ top_priority self.old.system }
-        requires some { 0 < length (by_level self.old.queues level) }
-        requires none { (l : ℕ) → level < l → by_level self.old.queues l ≡ [] }
-        requires known { first (by_level self.old.queues level) < length self.old.system.tasks }
+        requires highest { IsHighest self.old.system (by_level self.old.queues) level }
         requires room { length record_of_tick.old + 2 ≤ MAX_RECORDS }
-        ensures does { Does (λ S o. dispatched S level o.queues o) self.old self.new
+        ensures { Does (λ S o. dispatched S level o.queues o) self.old self.new
             record_of_tick.old record_of_tick.new }
-        ensures few { length record_of_tick.new ≤ length record_of_tick.old + 2 }
     {
         record_left(self.system, &self.running, record_of_tick);
         let task = self.ready.take_first(level);
@@ -156,15 +151,11 @@ impl<'s, Q: ReadyQueues> Objects<'s, Q> {
     #[inline(always)]
     fn preempt(&mut self, task: TaskId, own: u8, level: u8, record_of_tick: &mut TickRecord)
         requires own { own < level }
-        requires level { level ≤ top_priority self.old.system }
         requires free { total (by_level self.old.queues) < room_for self.old.system }
-        requires some { 0 < length (by_level self.old.queues level) }
-        requires none { (l : ℕ) → level < l → by_level self.old.queues l ≡ [] }
-        requires known { first (by_level self.old.queues level) < length self.old.system.tasks }
+        requires highest { IsHighest self.old.system (by_level self.old.queues) level }
         requires room { length record_of_tick.old + 2 ≤ MAX_RECORDS }
-        ensures does { Does (λ S o. dispatched S level (put_first o.queues own task) o) self.old
+        ensures { Does (λ S o. dispatched S level (put_first o.queues own task) o) self.old
             self.new record_of_tick.old record_of_tick.new }
-        ensures few { length record_of_tick.new ≤ length record_of_tick.old + 2 }
     {
         self.put_back(own, task);
         self.dispatch(level, record_of_tick);
@@ -194,7 +185,6 @@ impl<'s, Q: ReadyQueues> Objects<'s, Q> {
         requires room { length record_of_tick.old + 2 ≤ MAX_RECORDS }
         ensures could { result ≡ may_dispatch_in (kept_in self.old) }
         ensures does { Does rescheduled self.old self.new record_of_tick.old record_of_tick.new }
-        ensures few { length record_of_tick.new ≤ length record_of_tick.old + 2 }
     {
         if !self.may_dispatch() {
             return false;
@@ -225,8 +215,7 @@ impl<'s, Q: ReadyQueues> Objects<'s, Q> {
 #[inline(always)]
 fn record_left(system: &System, task: &Option<TaskId>, record_of_tick: &mut TickRecord)
     requires { length record_of_tick.old < MAX_RECORDS }
-    ensures events { record_of_tick.new ≡ record_of_tick.old ++ left_in system.now task.now }
-    ensures few { length record_of_tick.new ≤ length record_of_tick.old + 1 }
+    ensures { Records (left_in system.now task.now) record_of_tick.old record_of_tick.new }
 {
     if let Some(task) = task
         && system.hooks().post_task
@@ -239,8 +228,7 @@ fn record_left(system: &System, task: &Option<TaskId>, record_of_tick: &mut Tick
 #[inline(always)]
 fn record_entered(system: &System, task: TaskId, record_of_tick: &mut TickRecord)
     requires { length record_of_tick.old < MAX_RECORDS }
-    ensures events { record_of_tick.new ≡ record_of_tick.old ++ entered_in system.now task }
-    ensures few { length record_of_tick.new ≤ length record_of_tick.old + 1 }
+    ensures { Records (entered_in system.now task) record_of_tick.old record_of_tick.new }
 {
     if system.hooks().pre_task {
         record_of_tick.push(TraceEvent::Pre(task));

@@ -4,8 +4,7 @@ ghost use Rattle.std.specs.Prelude.{◌≡◌, ◌<◌, Some, length};
 ghost use Rattle.osek_base.specs.declared.instr.Service.{Service};
 ghost use Rattle.kept_state.specs.KeptService.{caller_in, unmasked_in, event_awaited_in};
 ghost use Rattle.services.specs.Objects.{AreFit};
-ghost use Rattle.services.specs.Calls.{unmasked};
-ghost use Rattle.services.specs.Steps.{Acts, Becomes, Serves};
+ghost use Rattle.services.specs.Steps.{Acts, Becomes, Serves, Tells};
 
 use crate::calls::Answer;
 use crate::objects::Objects;
@@ -40,7 +39,6 @@ impl<'s, Q: ReadyQueues> Objects<'s, Q> {
     /// The caller's events lose a mask. E_OS_CALLEVEL in a routine, E_OS_ACCESS where the caller is basic.
     #[tactic(auto, unfolding(kept_state::specs::KeptService::unmasked_in))]
     pub fn clear_event(&mut self, mask: u32) -> Status
-        requires { AreFit self.old }
         ensures { Serves (Service.ClearEvent mask) self.old self.new result }
     {
         if self.by_routine() {
@@ -60,12 +58,8 @@ impl<'s, Q: ReadyQueues> Objects<'s, Q> {
     #[tactic(auto, unfolding(kept_state::specs::KeptService::unmasked_in))]
     #[inline(always)]
     pub fn get_event(&self, task: TaskId) -> Answer
-        requires fit { AreFit self.now }
         requires task { task < length self.now.system.tasks }
-        ensures status { result.status
-            ≡ Some (unmasked self.now (Service.GetEvent (Some task))).status }
-        ensures results { result.results
-            ≡ (unmasked self.now (Service.GetEvent (Some task))).results }
+        ensures { Tells (Service.GetEvent (Some task)) self.now result }
     {
         if !self.system.is_extended(task) {
             return Answer::plain(Status::Access);
@@ -80,7 +74,6 @@ impl<'s, Q: ReadyQueues> Objects<'s, Q> {
     /// E_OS_CALLEVEL in a routine, E_OS_ACCESS where the caller is basic, E_OS_RESOURCE where it holds a resource.
     #[tactic(auto, unfolding(kept_state::specs::KeptService::unmasked_in))]
     pub fn wait_event(&mut self, mask: u32) -> Status
-        requires { AreFit self.old }
         ensures { Serves (Service.WaitEvent mask) self.old self.new result }
     {
         if self.by_routine() {
@@ -98,7 +91,6 @@ impl<'s, Q: ReadyQueues> Objects<'s, Q> {
 
     /// Where none of the events of a mask is set, the caller waits for them and gives up its internal resource.
     fn wait_caller(&mut self, mask: u32)
-        requires { AreFit self.old }
         ensures { Becomes (λ _S o. event_awaited_in (caller_in o) mask o) self.old self.new }
     {
         if let Some(task) = self.calling_task()

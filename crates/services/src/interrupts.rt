@@ -1,24 +1,20 @@
 //! OSEK/VDX OS: interrupt processing. Pending and active routines, and the services that turn interrupts off and on.
 
-ghost use Rattle.std.specs.Prelude.{◌≡◌, ◌<◌, ◌+◌, ◌^◌, IfSome, Some, ℕ, true, false, slice_index_or, slice_set, length};
+ghost use Rattle.std.specs.Prelude.{◌≡◌, ◌<◌, ◌+◌, ◌^◌, IfSome, Some, true, false, slice_index_or, slice_set, length};
 ghost use Rattle.osek_base.specs.Lists.{below, foremost};
 ghost use Rattle.osek_base.specs.System.{routine};
-ghost use Rattle.osek_base.specs.declared.ids.Owner.{Owner};
-ghost use Rattle.osek_base.specs.Instruction.{plain};
-ghost use Rattle.osek_base.specs.State.{interrupts_off, words_after};
-ghost use Rattle.machine.specs.Windows.{word};
-ghost use Rattle.machine.specs.Execution.{HasNext};
-ghost use Rattle.machine.specs.Packed.{instr_of, is_plain, plain_of};
-ghost use Rattle.osek_base.specs.Tick.{at_values, moved, routine_choice};
+ghost use Rattle.osek_base.specs.State.{interrupts_off};
+ghost use Rattle.osek_base.specs.Tick.{moved, routine_choice};
 ghost use Rattle.kept_state.specs.KeptService.{bare};
 ghost use Rattle.kept_state.specs.KeptTick.{controlled_in, routine_started_in, start_phase_in};
 ghost use Rattle.kept_state.specs.Moves.{may_dispatch_in};
 ghost use Rattle.services.specs.Objects.{kept_in};
+ghost use Rattle.services.specs.PlainSteps.{IsPlainAt, StepsPlain, plain_context};
 ghost use Rattle.services.specs.Steps.{Becomes};
 
 use crate::objects::Objects;
 use machine::{Cpu, PackedInstr, Windows, exec_packed};
-use osek_base::{Control, Effect, IsrId, Owner, Register, Service, System};
+use osek_base::{Control, Effect, IsrId, Owner, System};
 use ready_queues::ReadyQueues;
 use std::marker::Model;
 
@@ -48,10 +44,11 @@ impl Active {
     }
 
     /// The registers and the place of the routine.
-    pub fn cpu(&self) -> Cpu
-        ensures { result ≡ self.now.context }
+    #[inline(always)]
+    pub fn cpu(&self) -> &Cpu
+        ensures { result.now ≡ self.now.context }
     {
-        self.cpu.save()
+        &self.cpu
     }
 
     /// A plain instruction of the routine, on its registers, its place and its owner's window.
@@ -62,27 +59,12 @@ impl Active {
         owner: Owner,
         packed: PackedInstr,
     ) -> Effect
-        requires plain { is_plain (instr_of packed) ≡ true }
-        requires next { HasNext (plain_of (instr_of packed)) self.old.context }
-        ensures effect { result
-            ≡ (plain (plain_of (instr_of packed)) self.old.context
-            (word windows.old owner)).effect }
-        ensures words { (o : Owner) (i : ℕ)
-            → word windows.new o i ≡ words_after (word windows.old) owner result o i }
+        requires { IsPlainAt packed self.old.context }
+        ensures steps { StepsPlain packed owner self.old.context windows.old windows.new result }
         ensures context { self.new
-            ≡ moved
-            (plain (plain_of (instr_of packed)) self.old.context (word windows.old owner)).context
-            self.old }
+            ≡ moved (plain_context packed self.old.context windows.old owner) self.old }
     {
         exec_packed(&mut self.cpu, windows, owner, packed)
-    }
-
-    /// A service of a program with the values of the routine's registers.
-    #[inline(always)]
-    pub fn with_values(&self, service: &Service<Register>) -> Service<u32>
-        ensures { result ≡ at_values self.now.context service.now }
-    {
-        self.cpu.with_values(service)
     }
 
     /// The routine gets other registers and another place.

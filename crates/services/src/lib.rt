@@ -22,7 +22,7 @@ mod shared_window;
 mod slot;
 mod task_services;
 
-pub use calls::{Answer, Call};
+pub use calls::Answer;
 pub use compact_queues::CompactQueues;
 pub use copy_queues::CopyQueues;
 pub use interrupts::Active;

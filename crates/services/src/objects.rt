@@ -1,6 +1,6 @@
 //! OSEK/VDX OS: system services. The objects of a running system that services read and change.
 
-ghost use Rattle.std.specs.Prelude.{◌≡◌, ◌<◌, IfOk, is_some, replicate, slice_index, slice_set, length};
+ghost use Rattle.std.specs.Prelude.{◌≡◌, ◌<◌, IfOk, replicate, slice_index, slice_set, length};
 ghost use Rattle.osek_base.specs.Proper.{IsProper};
 ghost use Rattle.osek_base.specs.State.{no_shared};
 ghost use Rattle.osek_base.specs.Trace.{starting_alarms};
@@ -65,7 +65,7 @@ impl<'s, Q: ReadyQueues> Model for Objects<'s, Q> {
     } };
 
     ghost invariant = { λ c. IsSized c.system.now c.slots.items c.masks.items c.pending.items
-        c.shared.items c.alarms c.ready.room };
+        c.shared.items c.alarms c.ready.room c.running };
 }
 
 /// The sum of the ACTIVATION values.
@@ -158,26 +158,6 @@ impl<'s, Q: ReadyQueues> Objects<'s, Q> {
         slot.count() == 0
     }
 
-    /// How many jobs a task has.
-    #[inline(always)]
-    pub fn job_count(&self, task: TaskId) -> u8
-        requires { task < length self.now.system.tasks }
-        ensures { result ≡ (by_task self.now.slots task).count }
-    {
-        let slot = &self.slots[task.number() as usize];
-        slot.count()
-    }
-
-    /// Whether the oldest job of a task waits for an event.
-    #[inline(always)]
-    pub fn waits(&self, task: TaskId) -> bool
-        requires { task < length self.now.system.tasks }
-        ensures { result ≡ is_some (by_task self.now.slots task).waits_for }
-    {
-        let slot = &self.slots[task.number() as usize];
-        slot.waits()
-    }
-
     /// A task's events, as a mask.
     pub fn events_of(&self, task: TaskId) -> u32
         requires { task < length self.now.system.tasks }
@@ -187,6 +167,7 @@ impl<'s, Q: ReadyQueues> Objects<'s, Q> {
     }
 
     /// How many jobs a task has, and what its oldest one holds, waits for and has in its registers.
+    #[inline(always)]
     pub fn slot(&self, task: TaskId) -> &Slot
         requires { task < length self.now.system.tasks }
         ensures { result.now ≡ by_task self.now.slots task }

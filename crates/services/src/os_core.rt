@@ -1,34 +1,28 @@
 //! OSEK/VDX OS: system services. The core of a kernel: the objects of a running system, which stand for a state of it.
 
-ghost use Rattle.std.specs.Prelude.{◌≡◌, ◌<◌, ◌≤◌, ◌+◌, ◌++◌, ◌&&◌, ◌||◌, IfOk, IfSome, MatchOption, Some, ℕ, false, true, is_some, slice_index, slice_set, length};
+ghost use Rattle.std.specs.Prelude.{◌≡◌, ◌<◌, ◌≤◌, ◌+◌, ◌&&◌, ◌||◌, IfOk, IfSome, MatchOption, Some, false, true, slice_index, slice_set, length};
 ghost use Rattle.osek_base.specs.declared.instr.Service.{Service};
-ghost use Rattle.osek_base.specs.declared.ids.Owner.{Owner};
-ghost use Rattle.osek_base.specs.Instruction.{plain};
-ghost use Rattle.osek_base.specs.State.{Words, shared_window, still, words_after};
-ghost use Rattle.machine.specs.Windows.{word};
+ghost use Rattle.osek_base.specs.State.{shared_window, still};
 ghost use Rattle.osek_base.specs.Tick.{answered, at_values};
-ghost use Rattle.machine.specs.Execution.{HasNext};
-ghost use Rattle.machine.specs.Packed.{instr_of, is_plain, plain_of};
-ghost use Rattle.osek_base.specs.Alarm.{due_alarms, alarms_advanced};
 ghost use Rattle.osek_base.specs.Trace.{starting_alarms};
 ghost use Rattle.run_laws.proofs.Formed.{IsPlaced};
-ghost use Rattle.kept_state.specs.KeptService.{ByNobody, bare, caller_in, unmasked_in};
+ghost use Rattle.kept_state.specs.KeptService.{ByNobody, caller_in};
 ghost use Rattle.kept_state.specs.KeptTick.{silent_in, start_phase_in, still_in, with_context_in};
 ghost use Rattle.kept_state.specs.Moves.{contender, rescheduled};
 ghost use Rattle.kept_state.specs.Standing.{MayServe, runner_waits};
+ghost use Rattle.services.specs.AsDefined.{HasActed, IsControlled, IsServed};
+ghost use Rattle.services.specs.Calls.{IsExecuting, IsKnown, IsThere, MayGoOn, caller_as, context_in};
 ghost use Rattle.services.specs.Dispatched.{is_refusal};
-ghost use Rattle.ready_queues.specs.LevelLists.{level_lists};
-ghost use Rattle.services.specs.Objects.{StandsFor, kept_in, kept_of};
-ghost use Rattle.services.specs.AsDefined.{ActsAsDefined, CallsAsDefined};
-ghost use Rattle.services.specs.declared.calls.Call.{Call as CallOf};
-ghost use Rattle.services.specs.Calls.{IsExecuting, IsKnown, IsKnownCall, IsThere, MayGoOn, IsSameCaller, call_in, caller_as, calling_task, context_in};
+ghost use Rattle.services.specs.Objects.{StandsFor, kept_in};
+ghost use Rattle.services.specs.PlainSteps.{ExecutesPlain, IsPlainAt, plain_context};
+ghost use Rattle.services.specs.Steps.{Advances, Becomes, Does};
 
-use crate::calls::{Answer, Call};
+use crate::calls::Answer;
 use crate::objects::Objects;
 use alarms::DueList;
 use machine::{Cpu, PackedInstr, Windows};
 use osek_base::{
-    AlarmId, Effect, IsrId, MAX_ACTIVATION, MAX_INSTRUCTIONS, MAX_RECORDS, MAX_TICKS, ModeId,
+    Control, Effect, IsrId, MAX_ACTIVATION, MAX_INSTRUCTIONS, MAX_RECORDS, MAX_TICKS, ModeId,
     Owner, Register, ResourceNumber, Results, SHARED_WORDS, Service, Status, System, TaskId,
     TickRecord,
 };
@@ -107,13 +101,6 @@ impl<'s, Q: ReadyQueues> Core<'s, Q> {
         self.objects.start_alarms(mode);
     }
 
-    /// The ready queues.
-    pub fn queues(&self) -> &Q
-        ensures { level_lists (Q.queues result.now) ≡ self.now.queues }
-    {
-        self.objects.ready.queues()
-    }
-
     /// The word of a resource's window.
     pub fn shared_word(&self, resource: ResourceNumber, index: u32) -> u32
         requires resource { resource < length self.now.system.resources }
@@ -123,14 +110,6 @@ impl<'s, Q: ReadyQueues> Core<'s, Q> {
         self.objects.shared_word(resource, index)
     }
 
-    /// Whether the run is over, by ShutdownOS.
-    #[inline(always)]
-    pub fn is_over(&self) -> bool
-        ensures { result ≡ self.now.over }
-    {
-        self.objects.over
-    }
-
     /// How many jobs a task has.
     #[inline(always)]
     pub fn job_count(&self, task: TaskId) -> u8
@@ -138,42 +117,7 @@ impl<'s, Q: ReadyQueues> Core<'s, Q> {
         ensures value { result ≡ ((kept_in self.now).slots task).count }
         ensures few { result ≤ MAX_ACTIVATION }
     {
-        self.objects.job_count(task)
-    }
-
-    /// Whether the oldest job of a task waits for an event.
-    #[inline(always)]
-    pub fn waits(&self, task: TaskId) -> bool
-        requires { task < length self.now.system.tasks }
-        ensures { result ≡ is_some ((kept_in self.now).slots task).waits_for }
-    {
-        self.objects.waits(task)
-    }
-
-    /// The running task, also where its job has ended.
-    #[inline(always)]
-    pub fn running(&self) -> Option<TaskId>
-        ensures value { result ≡ self.now.running }
-        ensures known { IfSome result (λ t. t < length self.now.system.tasks) }
-    {
-        self.objects.running()
-    }
-
-    /// Whether the job of the running task has ended.
-    #[inline(always)]
-    pub fn is_gone(&self) -> bool
-        ensures { result ≡ self.now.gone }
-    {
-        self.objects.gone
-    }
-
-    /// The task that executes, if no routine does.
-    #[inline(always)]
-    pub fn executing_task(&self) -> Option<TaskId>
-        ensures value { result ≡ calling_task (caller_in (kept_in self.now)) }
-        ensures known { IfSome result (λ t. t < length self.now.system.tasks) }
-    {
-        self.objects.calling_task()
+        self.objects.slot(task).count()
     }
 
     /// ActivateTask by an alarm, or at boot: a new job of a task, or E_OS_LIMIT where it has as many as its ACTIVATION
@@ -181,15 +125,7 @@ impl<'s, Q: ReadyQueues> Core<'s, Q> {
     #[inline(always)]
     pub fn activate(&mut self, task: TaskId) -> Status
         requires { task < length self.old.system.tasks }
-        ensures system { self.new.system ≡ self.old.system }
-        ensures status { result
-            ≡ (unmasked_in self.old.system ByNobody (kept_in self.old)
-            (Service.ActivateTask (Some task))).status }
-        ensures kept { kept_in self.new
-            ≡ (unmasked_in self.old.system ByNobody (kept_in self.old)
-            (Service.ActivateTask (Some task))).state }
-        ensures defined { ActsAsDefined self.old self.new (Service.ActivateTask (Some task))
-            result }
+        ensures { HasActed (Service.ActivateTask (Some task)) self.old self.new result }
     {
         self.is_dispatched = false;
         self.objects.activate(task)
@@ -200,41 +136,21 @@ impl<'s, Q: ReadyQueues> Core<'s, Q> {
     pub fn set_event(&mut self, task: TaskId, mask: u32) -> Status
         requires task { task < length self.old.system.tasks }
         requires ready { runner_waits (kept_in self.old) ≡ false }
-        ensures system { self.new.system ≡ self.old.system }
-        ensures status { result
-            ≡ (unmasked_in self.old.system ByNobody (kept_in self.old)
-            (Service.SetEvent (Some task) mask)).status }
-        ensures kept { kept_in self.new
-            ≡ (unmasked_in self.old.system ByNobody (kept_in self.old)
-            (Service.SetEvent (Some task) mask)).state }
-        ensures defined { ActsAsDefined self.old self.new (Service.SetEvent (Some task) mask)
-            result }
+        ensures { HasActed (Service.SetEvent (Some task) mask) self.old self.new result }
     {
         self.is_dispatched = false;
         self.objects.set_event(task, mask)
     }
 
-    /// A service is called by the active routine, or else by the running task. While interrupts are off, one with a status
-    /// is answered 32, and nothing changes.
+    /// A service without a status, by the active routine, or else by the running task.
     #[inline(always)]
-    pub fn call(&mut self, call: &Call) -> Answer
-        requires known { IsKnownCall self.old.system call.now }
-        requires serves { MayServe self.old.system (kept_in self.old) }
+    pub fn control(&mut self, control: &Control)
         requires all { self.old.suspended_all < MAX_TICKS }
         requires os { self.old.suspended_os < MAX_TICKS }
-        ensures system { self.new.system ≡ self.old.system }
-        ensures caller { IsSameCaller self.old self.new }
-        ensures status { result.status
-            ≡ (call_in self.old.system (kept_in self.old) call.now).status }
-        ensures results { result.results
-            ≡ (call_in self.old.system (kept_in self.old) call.now).results }
-        ensures kept { kept_in self.new
-            ≡ (call_in self.old.system (kept_in self.old) call.now).state }
-        ensures defined { CallsAsDefined self.old self.new call.now result.status result.results }
+        ensures { IsControlled control.now self.old self.new }
     {
-        let answer = self.objects.call(call);
-        self.is_dispatched = stays_known(self.is_dispatched, &answer);
-        answer
+        self.is_dispatched = false;
+        self.objects.control(control);
     }
 
     /// A service of a program with a status, by who executes, with the values of its registers. While interrupts are off, it
@@ -245,21 +161,8 @@ impl<'s, Q: ReadyQueues> Core<'s, Q> {
         requires known { IsKnown self.old.system
             (at_values (context_in (kept_in self.old) owner) service.now) }
         requires serves { MayServe self.old.system (kept_in self.old) }
-        ensures system { self.new.system ≡ self.old.system }
-        ensures caller { IsSameCaller self.old self.new }
-        ensures status { result.status
-            ≡ (call_in self.old.system (kept_in self.old)
-            (CallOf.Service (at_values (context_in (kept_in self.old) owner) service.now))).status }
-        ensures results { result.results
-            ≡ (call_in self.old.system (kept_in self.old)
-            (CallOf.Service
-            (at_values (context_in (kept_in self.old) owner) service.now))).results }
-        ensures kept { kept_in self.new
-            ≡ (call_in self.old.system (kept_in self.old)
-            (CallOf.Service (at_values (context_in (kept_in self.old) owner) service.now))).state }
-        ensures defined { CallsAsDefined self.old self.new
-            (CallOf.Service (at_values (context_in (kept_in self.old) owner) service.now))
-            result.status result.results }
+        ensures { IsServed (at_values (context_in (kept_in self.old) owner) service.now) self.old
+            self.new result }
     {
         let answer = self.objects.serve_program(owner, service);
         self.is_dispatched = stays_known(self.is_dispatched, &answer);
@@ -283,11 +186,7 @@ impl<'s, Q: ReadyQueues> Core<'s, Q> {
         requires { length record_of_tick.old + 2 ≤ MAX_RECORDS }
         ensures contender { result ≡ contender (kept_in self.old) }
         ensures known { IfSome result (λ t. t < length self.old.system.tasks) }
-        ensures system { self.new.system ≡ self.old.system }
-        ensures kept { kept_in self.new ≡ (rescheduled self.old.system (kept_in self.old)).state }
-        ensures events { record_of_tick.new
-            ≡ record_of_tick.old ++ (rescheduled self.old.system (kept_in self.old)).events }
-        ensures few { length record_of_tick.new ≤ length record_of_tick.old + 2 }
+        ensures does { Does rescheduled self.old self.new record_of_tick.old record_of_tick.new }
     {
         let runner = self.objects.contender();
         let could = self.objects.reschedule(&runner, record_of_tick);
@@ -300,15 +199,7 @@ impl<'s, Q: ReadyQueues> Core<'s, Q> {
     #[inline(always)]
     pub fn advance(&mut self, due: &mut DueList)
         requires { self.old.tick + 1 < MAX_TICKS }
-        ensures due { due.new
-            ≡ due_alarms self.old.system
-            (bare (record (kept_in self.old) { tick = self.old.tick + 1 })) }
-        ensures objects { self.new
-            ≡ record self.old {
-              tick = self.old.tick + 1;
-              alarms = alarms_advanced self.old.system
-                  (bare (record (kept_in self.old) { tick = self.old.tick + 1 }));
-            } }
+        ensures { Advances self.old self.new due.new }
     {
         self.objects.advance(due);
     }
@@ -325,8 +216,7 @@ impl<'s, Q: ReadyQueues> Core<'s, Q> {
     /// first declared: its registers and its place are 0, and its flag is cleared.
     #[inline(always)]
     pub fn start_routine(&mut self)
-        ensures system { self.new.system ≡ self.old.system }
-        ensures kept { kept_in self.new ≡ start_phase_in self.old.system (kept_in self.old) }
+        ensures { Becomes start_phase_in self.old self.new }
     {
         self.objects.start_routine();
     }
@@ -348,7 +238,7 @@ impl<'s, Q: ReadyQueues> Core<'s, Q> {
         requires { IsExecuting (kept_in self.now) owner }
         ensures { result ≡ context_in (kept_in self.now) owner }
     {
-        self.objects.cpu_of(owner)
+        self.objects.cpu_of(owner).save()
     }
 
     /// A plain instruction of who executes, on its registers, its place and its window.
@@ -360,21 +250,10 @@ impl<'s, Q: ReadyQueues> Core<'s, Q> {
         packed: PackedInstr,
     ) -> Effect
         requires who { IsExecuting (kept_in self.old) owner }
-        requires plain { is_plain (instr_of packed) ≡ true }
-        requires next { HasNext (plain_of (instr_of packed)) (context_in (kept_in self.old) owner) }
+        requires plain { IsPlainAt packed (context_in (kept_in self.old) owner) }
         requires placed { IsPlaced self.old.system owner
-            (plain (plain_of (instr_of packed)) (context_in (kept_in self.old) owner)
-            (word windows.old owner)).context }
-        ensures system { self.new.system ≡ self.old.system }
-        ensures effect { result
-            ≡ (plain (plain_of (instr_of packed)) (context_in (kept_in self.old) owner)
-            (word windows.old owner)).effect }
-        ensures words { (o : Owner) (i : ℕ)
-            → word windows.new o i ≡ words_after (word windows.old) owner result o i }
-        ensures kept { kept_in self.new
-            ≡ with_context_in (caller_as owner)
-            (plain (plain_of (instr_of packed)) (context_in (kept_in self.old) owner)
-            (word windows.old owner)).context (kept_in self.old) }
+            (plain_context packed (context_in (kept_in self.old) owner) windows.old owner) }
+        ensures { ExecutesPlain packed owner self.old self.new windows.old windows.new result }
     {
         self.objects.exec_packed(windows, owner, packed)
     }
@@ -384,11 +263,11 @@ impl<'s, Q: ReadyQueues> Core<'s, Q> {
     pub fn go_on(&mut self, owner: Owner, cpu: Cpu)
         requires who { MayGoOn self.old owner }
         requires placed { IsPlaced self.old.system owner cpu }
-        ensures system { self.new.system ≡ self.old.system }
-        ensures kept { kept_in self.new ≡ with_context_in (caller_as owner) cpu (kept_in self.old) }
+        ensures { Becomes (λ _S. with_context_in (caller_as owner) cpu) self.old self.new }
     {
         self.objects.go_on(owner, cpu);
     }
+
     /// Who called takes what a service answers, and goes on to the next instruction, where it is still there.
     #[inline(always)]
     pub fn answer(&mut self, owner: Owner, status: Status, results: Results)
@@ -398,10 +277,9 @@ impl<'s, Q: ReadyQueues> Core<'s, Q> {
         requires placed { IsThere self.old owner
             → IsPlaced self.old.system owner
             (answered status results (context_in (kept_in self.old) owner)) }
-        ensures system { self.new.system ≡ self.old.system }
-        ensures kept { kept_in self.new
-            ≡ with_context_in (caller_as owner)
-            (answered status results (context_in (kept_in self.old) owner)) (kept_in self.old) }
+        ensures { Becomes
+            (λ _S o. with_context_in (caller_as owner)
+            (answered status results (context_in o owner)) o) self.old self.new }
     {
         self.objects.answer(owner, status, results);
     }

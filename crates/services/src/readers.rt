@@ -3,20 +3,19 @@
 ghost use Rattle.std.specs.Prelude.{◌≡◌, ◌<◌, IfSome, None, false, slice_index_or, length};
 ghost use Rattle.std.specs.Option.{option_map};
 ghost use Rattle.alarms.specs.Alarms.{cycle_of};
-ghost use Rattle.osek_base.specs.State.{interrupts_off};
-ghost use Rattle.kept_state.specs.KeptService.{bare, holds_in, task_state_in};
+ghost use Rattle.kept_state.specs.KeptService.{bare};
+ghost use Rattle.ready_queues.specs.LevelLists.{level_lists};
 ghost use Rattle.services.specs.Objects.{by_task, kept_in};
 ghost use Rattle.services.specs.Seen.{counts_left, holder_in, priority_in, routine_of};
 
 use crate::interrupts::Active;
 use crate::objects::Objects;
-use crate::os_core::Core;
-use osek_base::{AlarmId, IsrId, ResId, TaskId, TaskState};
+use osek_base::{AlarmId, IsrId, ResId, TaskId};
 use ready_queues::ReadyQueues;
 
 impl<'s, Q: ReadyQueues> Objects<'s, Q> {
     /// The dynamic priority of a task's oldest job, where it has one.
-    pub fn oldest_priority(&self, task: TaskId) -> Option<u8>
+    pub fn dynamic_priority(&self, task: TaskId) -> Option<u8>
         requires { task < length self.now.system.tasks }
         ensures { result ≡ priority_in self.now.system task (by_task self.now.slots task) }
     {
@@ -27,25 +26,6 @@ impl<'s, Q: ReadyQueues> Objects<'s, Q> {
         Some(slot.dynamic(self.system, task))
     }
 
-    /// The events of which a task's oldest job waits for one, as a mask; None where it doesn't wait.
-    pub fn awaited(&self, task: TaskId) -> Option<u32>
-        requires { task < length self.now.system.tasks }
-        ensures { result ≡ (by_task self.now.slots task).waits_for }
-    {
-        let slot = &self.slots[task.number() as usize];
-        slot.awaited()
-    }
-
-    /// Whether a task's oldest job holds a resource.
-    #[inline(always)]
-    pub fn holds(&self, task: TaskId, resource: &ResId) -> bool
-        requires { task < length self.now.system.tasks }
-        ensures { result ≡ holds_in resource.now (by_task self.now.slots task) }
-    {
-        let slot = &self.slots[task.number() as usize];
-        slot.holds(resource)
-    }
-
     /// The first task whose oldest job holds a resource.
     pub fn holder(&self, resource: &ResId) -> Option<TaskId>
         ensures value { result ≡ holder_in self.now.system (kept_in self.now) resource.now }
@@ -53,7 +33,7 @@ impl<'s, Q: ReadyQueues> Objects<'s, Q> {
     {
         for number in 0..self.system.task_count() {
             let task = TaskId::new(number as u8);
-            if self.holds(task, resource) {
+            if self.slot(task).holds(resource) {
                 return Some(task);
             }
         }
@@ -75,7 +55,23 @@ impl<'s, Q: ReadyQueues> Objects<'s, Q> {
         &self.active
     }
 
+    /// The ready queues.
+    pub fn queues(&self) -> &Q
+        ensures { level_lists (Q.queues result.now) ≡ self.now.queues }
+    {
+        self.ready.queues()
+    }
+
+    /// Whether the run is over, by ShutdownOS.
+    #[inline(always)]
+    pub fn is_over(&self) -> bool
+        ensures { result ≡ self.now.over }
+    {
+        self.over
+    }
+
     /// Whether the job of the running task has ended.
+    #[inline(always)]
     pub fn is_gone(&self) -> bool
         ensures { result ≡ self.now.gone }
     {
@@ -127,77 +123,5 @@ impl<'s, Q: ReadyQueues> Objects<'s, Q> {
         ensures { result ≡ cycle_of (slice_index_or self.now.alarms alarm None) }
     {
         self.alarms.cycle(alarm)
-    }
-}
-
-impl<'s, Q: ReadyQueues> Core<'s, Q> {
-    /// The state of a task, as GetTaskState answers it.
-    pub fn task_state(&self, task: TaskId) -> TaskState
-        requires { task < length self.now.system.tasks }
-        ensures { result ≡ task_state_in (kept_in self.now) task }
-    {
-        self.objects.task_state(task)
-    }
-
-    /// The dynamic priority of a task's oldest job, where it has one.
-    pub fn dynamic_priority(&self, task: TaskId) -> Option<u8>
-        requires { task < length self.now.system.tasks }
-        ensures { result ≡ priority_in self.now.system task ((kept_in self.now).slots task) }
-    {
-        self.objects.oldest_priority(task)
-    }
-
-    /// The events of which a task's oldest job waits for one, as a mask; None where it doesn't wait.
-    pub fn awaited(&self, task: TaskId) -> Option<u32>
-        requires { task < length self.now.system.tasks }
-        ensures { result ≡ ((kept_in self.now).slots task).waits_for }
-    {
-        self.objects.awaited(task)
-    }
-
-    /// Whether a task's oldest job holds a resource.
-    pub fn holds(&self, task: TaskId, resource: &ResId) -> bool
-        requires { task < length self.now.system.tasks }
-        ensures { result ≡ holds_in resource.now ((kept_in self.now).slots task) }
-    {
-        self.objects.holds(task, resource)
-    }
-
-    /// The first task whose oldest job holds a resource.
-    pub fn holder(&self, resource: &ResId) -> Option<TaskId>
-        ensures value { result ≡ holder_in self.now.system (kept_in self.now) resource.now }
-        ensures known { IfSome result (λ t. t < length self.now.system.tasks) }
-    {
-        self.objects.holder(resource)
-    }
-
-    /// Whether an interrupt of a routine has arrived and not started it yet.
-    pub fn is_pending(&self, routine: IsrId) -> bool
-        requires { routine < length self.now.system.routines }
-        ensures { result ≡ slice_index_or self.now.pending routine false }
-    {
-        self.objects.is_pending(routine)
-    }
-
-    /// The active routine.
-    pub fn active_routine(&self) -> Option<IsrId>
-        ensures { result ≡ option_map routine_of self.now.active }
-    {
-        self.objects.active_routine()
-    }
-
-    /// Whether interrupts are off: the switch is set, or a nesting count is above 0.
-    pub fn are_interrupts_off(&self) -> bool
-        ensures { result ≡ interrupts_off (bare (kept_in self.now)) }
-    {
-        self.objects.interrupts_off()
-    }
-
-    /// How many counts an alarm has before it expires, as GetAlarm answers it; None while it is off.
-    pub fn counts_left(&self, alarm: AlarmId) -> Option<u32>
-        requires { alarm < length self.now.system.alarms }
-        ensures { result ≡ counts_left self.now.system (bare (kept_in self.now)) alarm }
-    {
-        self.objects.counts_left(alarm)
     }
 }

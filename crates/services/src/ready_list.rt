@@ -4,6 +4,7 @@ ghost use Rattle.std.specs.Prelude.{◌≡◌, ◌<◌, ◌≤◌, suc, [], IfOk
 ghost use Rattle.ready_queues.specs.Queues.{total};
 ghost use Rattle.ready_queues.specs.Moves.{put_last, put_first, without_first_at_level, first, highest};
 ghost use Rattle.ready_queues.specs.LevelLists.{by_level, level_lists};
+ghost use Rattle.services.specs.Steps.{ReadyBecomes};
 
 use crate::copy_queues::CopyQueues;
 use osek_base::TaskId;
@@ -49,8 +50,7 @@ impl<Q: ReadyQueues> ReadyList<Q> {
     pub fn put_last(&mut self, level: u8, task: TaskId)
         requires level { level < LEVELS }
         requires room { total (by_level self.old.lists) < self.old.room }
-        ensures lists { by_level self.new.lists ≡ put_last (by_level self.old.lists) level task }
-        ensures room { self.new.room ≡ self.old.room }
+        ensures { ReadyBecomes (λ q. put_last q level task) self.old self.new }
     {
         self.queues.put_newest(level, task);
     }
@@ -60,8 +60,7 @@ impl<Q: ReadyQueues> ReadyList<Q> {
     pub fn put_first(&mut self, level: u8, task: TaskId)
         requires level { level < LEVELS }
         requires room { total (by_level self.old.lists) < self.old.room }
-        ensures lists { by_level self.new.lists ≡ put_first (by_level self.old.lists) level task }
-        ensures room { self.new.room ≡ self.old.room }
+        ensures { ReadyBecomes (λ q. put_first q level task) self.old self.new }
     {
         self.queues.put_oldest(level, task);
     }
@@ -83,9 +82,7 @@ impl<Q: ReadyQueues> ReadyList<Q> {
         requires none { (l : ℕ) → level < l → by_level self.old.lists l ≡ [] }
         requires level { level < LEVELS }
         ensures task { result ≡ first (by_level self.old.lists level) }
-        ensures lists { by_level self.new.lists
-            ≡ without_first_at_level (by_level self.old.lists) level }
-        ensures room { self.new.room ≡ self.old.room }
+        ensures becomes { ReadyBecomes (λ q. without_first_at_level q level) self.old self.new }
     {
         match self.queues.take_first() {
             Some(task) => task,

@@ -5,7 +5,7 @@ ghost use Rattle.std.specs.List.{list_any};
 ghost use Rattle.osek_base.specs.declared.instr.Service.{Service};
 ghost use Rattle.osek_base.specs.declared.status.Status.{Status};
 ghost use Rattle.kept_state.specs.KeptService.{caller_in, got_last_in, holds_in, is_held_in, slot_gets, slot_releases, with_caller_in};
-ghost use Rattle.services.specs.Objects.{kept_in, AreFit};
+ghost use Rattle.services.specs.Objects.{kept_in};
 ghost use Rattle.services.specs.Steps.{Becomes, Serves};
 
 use crate::objects::Objects;
@@ -18,7 +18,6 @@ impl<'s, Q: ReadyQueues> Objects<'s, Q> {
     /// it. RES_SCHEDULER needn't be listed.
     #[tactic(auto, unfolding(kept_state::specs::KeptService::unmasked_in))]
     pub fn get_resource(&mut self, resource: &ResId) -> Status
-        requires { AreFit self.old }
         ensures { Serves (Service.GetResource (Some resource.now)) self.old self.new result }
     {
         if self.by_routine() {
@@ -38,7 +37,6 @@ impl<'s, Q: ReadyQueues> Objects<'s, Q> {
     /// priority; E_OS_NOFUNC where it isn't the last that the caller got and still holds.
     #[tactic(auto, unfolding(kept_state::specs::KeptService::unmasked_in))]
     pub fn release_resource(&mut self, resource: &ResId) -> Status
-        requires { AreFit self.old }
         ensures { Serves (Service.ReleaseResource (Some resource.now)) self.old self.new result }
     {
         if self.by_routine() {
@@ -59,7 +57,6 @@ impl<'s, Q: ReadyQueues> Objects<'s, Q> {
 
     /// The calling job gets a resource that no job holds.
     fn get_held(&mut self, resource: &ResId)
-        requires fit { AreFit self.old }
         requires free { is_held_in self.old.system (kept_in self.old) resource.now ≡ false }
         ensures { Becomes (λ _S o. with_caller_in (caller_in o) (slot_gets resource.now) o)
             self.old self.new }
@@ -73,7 +70,6 @@ impl<'s, Q: ReadyQueues> Objects<'s, Q> {
     /// The calling job releases a resource. E_OS_NOFUNC where it isn't the last that the job got and still holds; then
     /// nothing changes.
     fn release_held(&mut self, resource: &ResId) -> Status
-        requires { AreFit self.old }
         ensures system { self.new.system ≡ self.old.system }
         ensures status { result
             ≡ (if got_last_in (kept_in self.old) (caller_in (kept_in self.old)) resource.now

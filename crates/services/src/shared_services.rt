@@ -6,9 +6,8 @@ ghost use Rattle.osek_base.specs.declared.ids.ResId.{ResId};
 ghost use Rattle.osek_base.specs.Lists.{same_resource};
 ghost use Rattle.osek_base.specs.State.{shared_word, with_shared};
 ghost use Rattle.osek_base.specs.Service.{word_of, word_stored};
-ghost use Rattle.services.specs.Objects.{AreFit};
-ghost use Rattle.services.specs.Calls.{unmasked, IsSharedOperand};
-ghost use Rattle.services.specs.Steps.{Serves};
+ghost use Rattle.services.specs.Calls.{IsSharedOperand};
+ghost use Rattle.services.specs.Steps.{Serves, Tells};
 
 use crate::calls::Answer;
 use crate::objects::Objects;
@@ -21,12 +20,8 @@ impl<'s, Q: ReadyQueues> Objects<'s, Q> {
     #[tactic(auto, unfolding(kept_state::specs::KeptService::unmasked_in))]
     #[inline(always)]
     pub fn load_shared(&self, resource: &ResId, index: u32) -> Answer
-        requires fit { AreFit self.now }
         requires known { IsSharedOperand self.now.system (Some resource.now) }
-        ensures status { result.status
-            ≡ Some (unmasked self.now (Service.LoadShared (Some resource.now) index)).status }
-        ensures results { result.results
-            ≡ (unmasked self.now (Service.LoadShared (Some resource.now) index)).results }
+        ensures { Tells (Service.LoadShared (Some resource.now) index) self.now result }
     {
         if self.by_routine() {
             return Answer::plain(Status::Access);
@@ -44,7 +39,6 @@ impl<'s, Q: ReadyQueues> Objects<'s, Q> {
     /// value. E_OS_ACCESS in a routine, for RES_SCHEDULER, or where the caller doesn't hold the resource.
     #[tactic(auto, unfolding(kept_state::specs::KeptService::unmasked_in))]
     pub fn store_shared(&mut self, resource: &ResId, index: u32, new: u32) -> Status
-        requires fit { AreFit self.old }
         requires known { IsSharedOperand self.old.system (Some resource.now) }
         ensures { Serves (Service.StoreShared (Some resource.now) index new) self.old self.new
             result }

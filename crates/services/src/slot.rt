@@ -1,26 +1,19 @@
 //! OSEK/VDX OS: task management, task state model. The control block of a task.
 
 ghost use Rattle.osek_base.specs.declared.limits.TheConstants.{MAX_RESOURCES};
-ghost use Rattle.std.specs.Prelude.{if◌then◌else◌, ◌≡◌, ◌<◌, ◌≤◌, ◌+◌, ◌-◌, ℕ, IsFalse, is_some, length, true};
+ghost use Rattle.std.specs.Prelude.{if◌then◌else◌, ◌≡◌, ◌<◌, ◌≤◌, ◌+◌, ◌-◌, IsFalse, is_some, length};
 ghost use Rattle.osek_base.specs.Lists.{is_empty};
 ghost use Rattle.osek_base.specs.Service.{is_met, is_resource};
 ghost use Rattle.osek_base.specs.Lists.{last_of};
-ghost use Rattle.osek_base.specs.declared.ids.Owner.{Owner};
 ghost use Rattle.osek_base.specs.declared.status.Status.{Status};
-ghost use Rattle.osek_base.specs.Instruction.{plain};
-ghost use Rattle.osek_base.specs.State.{words_after};
-ghost use Rattle.osek_base.specs.Tick.{answered, at_values};
-ghost use Rattle.machine.specs.Windows.{word};
-ghost use Rattle.machine.specs.Execution.{HasNext};
-ghost use Rattle.machine.specs.Packed.{instr_of, is_plain, plain_of};
+ghost use Rattle.osek_base.specs.Tick.{answered};
 ghost use Rattle.kept_state.specs.Kept.{unbegun};
 ghost use Rattle.kept_state.specs.KeptService.{slot_given_up, slot_gets, slot_releases, slot_waiting, slot_moved, holds_in};
 ghost use Rattle.kept_state.specs.Moves.{one_more, slot_entered, slot_woken, dynamic_in};
+ghost use Rattle.services.specs.PlainSteps.{IsPlainAt, StepsPlain, plain_context};
 
 use machine::{Cpu, PackedInstr, Windows, exec_packed};
-use osek_base::{
-    Effect, MAX_INSTRUCTIONS, Owner, Register, ResId, Results, Service, Status, System, TaskId,
-};
+use osek_base::{Effect, MAX_INSTRUCTIONS, Owner, ResId, Results, Status, System, TaskId};
 use resources::Held;
 use std::marker::Model;
 
@@ -235,10 +228,10 @@ impl Slot {
 
     /// The registers and the place of the oldest job.
     #[inline(always)]
-    pub fn cpu(&self) -> Cpu
-        ensures { result ≡ self.now.context }
+    pub fn cpu(&self) -> &Cpu
+        ensures { result.now ≡ self.now.context }
     {
-        self.cpu.save()
+        &self.cpu
     }
 
     /// The oldest job gets other registers and another place.
@@ -257,27 +250,12 @@ impl Slot {
         owner: Owner,
         packed: PackedInstr,
     ) -> Effect
-        requires plain { is_plain (instr_of packed) ≡ true }
-        requires next { HasNext (plain_of (instr_of packed)) self.old.context }
-        ensures effect { result
-            ≡ (plain (plain_of (instr_of packed)) self.old.context
-            (word windows.old owner)).effect }
-        ensures words { (o : Owner) (i : ℕ)
-            → word windows.new o i ≡ words_after (word windows.old) owner result o i }
+        requires { IsPlainAt packed self.old.context }
+        ensures steps { StepsPlain packed owner self.old.context windows.old windows.new result }
         ensures context { self.new
-            ≡ slot_moved
-            (plain (plain_of (instr_of packed)) self.old.context (word windows.old owner)).context
-            self.old }
+            ≡ slot_moved (plain_context packed self.old.context windows.old owner) self.old }
     {
         exec_packed(&mut self.cpu, windows, owner, packed)
-    }
-
-    /// A service of a program with the values of the oldest job's registers.
-    #[inline(always)]
-    pub fn with_values(&self, service: &Service<Register>) -> Service<u32>
-        ensures { result ≡ at_values self.now.context service.now }
-    {
-        self.cpu.with_values(service)
     }
 
     /// The oldest job takes what a service answers, and goes on to the next instruction.

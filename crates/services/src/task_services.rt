@@ -2,7 +2,6 @@
 
 ghost use Rattle.std.specs.Prelude.{◌≡◌, ◌<◌, ◌&&◌, not, Some, length};
 ghost use Rattle.osek_base.specs.declared.instr.Service.{Service};
-ghost use Rattle.osek_base.specs.Service.{state_number};
 ghost use Rattle.kept_state.specs.KeptService.{caller_in, unmasked_in, is_own_in, is_full_in, task_state_in};
 ghost use Rattle.services.specs.Objects.{kept_in, AreFit};
 ghost use Rattle.services.specs.Calls.{IsTaskOperand};
@@ -74,7 +73,6 @@ impl<'s, Q: ReadyQueues> Objects<'s, Q> {
 
     /// Whether a task isn't the caller's own and has as many jobs as its ACTIVATION allows.
     fn is_chain_full(&self, task: TaskId) -> bool
-        requires fit { AreFit self.now }
         requires task { task < length self.now.system.tasks }
         ensures { result
             ≡ (not (is_own_in (caller_in (kept_in self.now)) task)
@@ -102,14 +100,6 @@ impl<'s, Q: ReadyQueues> Objects<'s, Q> {
             self.give_up();
         }
         Status::Ok
-    }
-
-    /// The number of a task's state: 0 running, 1 waiting, 2 ready, 3 suspended.
-    pub fn state_number(&self, task: TaskId) -> u32
-        requires { task < length self.now.system.tasks }
-        ensures { result ≡ state_number (task_state_in (kept_in self.now) task) }
-    {
-        self.task_state(task).number() as u32
     }
 
     /// The state of a task.

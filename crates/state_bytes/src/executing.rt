@@ -63,7 +63,7 @@ fn push_routine(out: &mut Vec<u8>, needs: &Needs, active: &Active) -> Result<(),
 {
     let routine = active.routine();
     push_number(out, routine.number() as u32)?;
-    push_context(out, needs, &Owner::Routine(routine), &active.cpu())
+    push_context(out, needs, &Owner::Routine(routine), active.cpu())
 }
 
 /// Adds the active routine, if there is one.

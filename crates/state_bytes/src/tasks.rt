@@ -94,7 +94,7 @@ fn push_job(out: &mut Vec<u8>, needs: &Needs, task: TaskId, slot: &Slot) -> Resu
 {
     push_first_of_job(out, slot)?;
     push_awaited(out, slot.awaited())?;
-    push_context(out, needs, &Owner::Task(task), &slot.cpu())
+    push_context(out, needs, &Owner::Task(task), slot.cpu())
 }
 
 /// Adds how many jobs a task has, and the oldest one, if there is one.

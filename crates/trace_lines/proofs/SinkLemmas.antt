@@ -1,11 +1,11 @@
 -- How the bytes that a sink takes add up over several writes.
-use Rattle.std.proofs.Common.{◌≡◌, ℕ, ◌+◌, ◌-◌, List, [], ◌++◌, length, take, drop, Option, Some, None, Result, Ok, Err, sym, ap, subst, ◌∙◌, append_assoc, append-nil}
+use Rattle.std.proofs.Common.{◌≡◌, ℕ, ◌+◌, ◌-◌, Bool, true, List, [], ◌++◌, length, take, drop, Option, Some, None, Result, Ok, Err, sym, ap, subst, ◌∙◌, append_assoc, append-nil}
 use Rattle.std.proofs.KnownBytes.{Appends-nil}
 use Rattle.std.proofs.lemmas.List.{take_rest, take-append-drop}
 use Rattle.std.proofs.Math.Seq.{take-add}
 use Rattle.std.specs.Io.KnownBytes.{Appends, Keeps}
-use Rattle.std.specs.Result.{OnOk, OnErr}
-use Rattle.trace_lines.specs.Sinks.{AppendsSome, Passes}
+use Rattle.std.specs.Result.{IsErrAnd}
+use Rattle.trace_lines.specs.Sinks.{AppendsSome, Passes, Writing}
 
 pub appends_more : (a b c : Option (List ℕ)) (xs ys : List ℕ) → Appends a b xs → Appends b c ys → Appends a c (xs ++ ys)
 appends_more None b c xs ys p q = tt
@@ -105,16 +105,23 @@ passed_some a b c p q xs h k =
       taken = appends_more a b c h.front k.front h.taken k.taken;
     }
 
--- ---- results
+-- ---- what is done to a sink
 
-pub on_err : {T E : Type 0} (r : Result T E) (P : Type 0) → P → OnErr r P
-on_err (Ok x) P p = tt
-on_err (Err e) P p = p
+module _ {X : Type 0} (taken : X → Option (List ℕ)) (has_failed : X → Bool)
+    (D : Option (List ℕ) → Option (List ℕ) → Type 0) (bytes : List ℕ) where
+  -- a failed write ends it
+  pub stops : {T E : Type 0} (Q : E → Type 0) (old new : X) (r : Result T E) → IsErrAnd r Q
+      → AppendsSome (taken old) (taken new) bytes → has_failed new ≡ true → Writing taken has_failed old new D bytes r
+  stops Q old new (Ok x) h part failed = absurd h
+  stops Q old new (Err e) h part failed = record { written = tt; beginning = part; still = tt; failed = failed }
 
-pub on_ok_map : {T E : Type 0} (r : Result T E) (P Q : Type 0) → (P → Q) → OnOk r P → OnOk r Q
-on_ok_map (Ok x) P Q f p = f p
-on_ok_map (Err e) P Q f p = tt
-
-pub on_err_map : {T E : Type 0} (r : Result T E) (P Q : Type 0) → (P → Q) → OnErr r P → OnErr r Q
-on_err_map (Ok x) P Q f p = tt
-on_err_map (Err e) P Q f p = f p
+  -- where something was done before
+  pub goes_on : {T E : Type 0} (C : Option (List ℕ) → Option (List ℕ) → Type 0) (more : List ℕ) (old mid new : X) (r : Result T E)
+      → has_failed mid ≡ has_failed old
+      → (D (taken mid) (taken new) → C (taken old) (taken new))
+      → (AppendsSome (taken mid) (taken new) bytes → AppendsSome (taken old) (taken new) more)
+      → Writing taken has_failed mid new D bytes r → Writing taken has_failed old new C more r
+  goes_on C more old mid new (Ok x) same all part h =
+      record { written = all h.written; beginning = tt; still = h.still ∙ same; failed = tt }
+  goes_on C more old mid new (Err e) same all part h =
+      record { written = tt; beginning = part h.beginning; still = tt; failed = h.failed }

@@ -1,5 +1,5 @@
 -- What a sink tells of its writes. No part of the standards.
-use Rattle.std.specs.Prelude.{ℕ, Bool, true, ◌==◌, not, ◌&&◌, List, ◌++◌, ◌≡◌, Option, Ok, Err}
+use Rattle.std.specs.Prelude.{ℕ, Bool, true, ◌==◌, not, ◌&&◌, List, ◌++◌, ◌≡◌, Option, Ok, Err, OnOk, OnErr}
 use Rattle.std.specs.Io.KnownBytes.{Appends}
 use Rattle.std.specs.declared.result.Result.{Result}
 
@@ -25,3 +25,21 @@ pub record Passes (old new : Option (List ℕ)) (waited waits bytes : List ℕ) 
   pub front : List ℕ
   pub whole : front ++ waits ≡ waited ++ bytes
   pub taken : Appends old new front
+
+-- what writing some bytes, or none, does to a sink. Ok: all is done, and no write failed. Err: the sink took a beginning of the
+-- bytes, and a write failed
+pub record Writing {X T E : Type 0} (taken : X → Option (List ℕ)) (has_failed : X → Bool) (old new : X)
+    (IsDone : Option (List ℕ) → Option (List ℕ) → Type 0) (bytes : List ℕ) (answer : Result T E) : Type 0 where
+  pub written : OnOk answer (IsDone (taken old) (taken new))
+  pub beginning : OnErr answer (AppendsSome (taken old) (taken new) bytes)
+  pub still : OnOk answer (has_failed new ≡ has_failed old)
+  pub failed : OnErr answer (has_failed new ≡ true)
+
+-- the sink takes the bytes
+abbrev pub Puts : {X T E : Type 0} → (X → Option (List ℕ)) → (X → Bool) → X → X → List ℕ → Result T E → Type 0
+Puts taken has_failed old new bytes answer = Writing taken has_failed old new (λ a b. Appends a b bytes) bytes answer
+
+-- the bytes pass by way of a block, behind those that waited there
+abbrev pub PutsBehind : {X T E : Type 0} → (X → Option (List ℕ)) → (X → Bool) → X → X → List ℕ → List ℕ → List ℕ → Result T E → Type 0
+PutsBehind taken has_failed old new waited waits bytes answer =
+    Writing taken has_failed old new (λ a b. Passes a b waited waits bytes) (waited ++ bytes) answer

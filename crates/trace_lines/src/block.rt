@@ -1,8 +1,7 @@
 //! Lines that wait to be written, no part of the standards.
 
-ghost use Rattle.std.specs.Prelude.{◌≡◌, ◌+◌, ◌<◌, ◌≤◌, [], ◌∷◌, ◌++◌, length, take, false, true, OnOk, OnErr};
-ghost use Rattle.std.specs.Io.KnownBytes.{Appends};
-ghost use Rattle.trace_lines.specs.Sinks.{AppendsSome, Passes};
+ghost use Rattle.std.specs.Prelude.{◌≡◌, ◌+◌, ◌<◌, ◌≤◌, [], ◌∷◌, ◌++◌, length, take, OnOk};
+ghost use Rattle.trace_lines.specs.Sinks.{Passes, Puts, Writing};
 
 use crate::short_text::ShortText;
 use crate::sink::{Sink, SinkFault, write_all};
@@ -162,12 +161,8 @@ impl Text for Block {
 /// Writes what waits. The first write that fails ends it.
 #[inline(never)]
 pub fn flush<S: Sink>(text: &mut Block, out: &mut S) -> Result<(), SinkFault>
-    requires { S.has_failed out.old ≡ false }
     ensures empty { OnOk result (text.new ≡ []) }
-    ensures written { OnOk result (Appends (S.taken out.old) (S.taken out.new) text.old) }
-    ensures beginning { OnErr result (AppendsSome (S.taken out.old) (S.taken out.new) text.old) }
-    ensures still { OnOk result (S.has_failed out.new ≡ false) }
-    ensures failed { OnErr result (S.has_failed out.new ≡ true) }
+    ensures puts { Puts S.taken S.has_failed out.old out.new text.old result }
 {
     write_all(out, text.as_slice())?;
     text.clear();
@@ -177,13 +172,9 @@ pub fn flush<S: Sink>(text: &mut Block, out: &mut S) -> Result<(), SinkFault>
 /// Writes what waits where the next record might find no room.
 #[inline(always)]
 pub(crate) fn make_room<S: Sink>(text: &mut Block, out: &mut S) -> Result<(), SinkFault>
-    requires { S.has_failed out.old ≡ false }
     ensures room { OnOk result (length text.new + RECORD_SIZE ≤ BLOCK_SIZE) }
-    ensures written { OnOk result
-        (Passes (S.taken out.old) (S.taken out.new) text.old text.new []) }
-    ensures beginning { OnErr result (AppendsSome (S.taken out.old) (S.taken out.new) text.old) }
-    ensures still { OnOk result (S.has_failed out.new ≡ false) }
-    ensures failed { OnErr result (S.has_failed out.new ≡ true) }
+    ensures puts { Writing S.taken S.has_failed out.old out.new
+        (λ a b. Passes a b text.old text.new []) text.old result }
 {
     if text.len() > BLOCK_SIZE - RECORD_SIZE {
         flush(text, out)?;

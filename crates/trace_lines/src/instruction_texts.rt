@@ -97,6 +97,14 @@ impl<'s> InstructionTexts<'s> {
         })
     }
 
+    /// The system that they are of.
+    #[inline(always)]
+    pub fn system(&self) -> &'s System
+        ensures { result.now ≡ self.now }
+    {
+        self.system
+    }
+
     /// The text of the instruction at a place of a task's or routine's program.
     #[inline(always)]
     fn text_at(&self, who: &Owner, place: &Place) -> Option<&KeptText>

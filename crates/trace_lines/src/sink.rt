@@ -1,8 +1,8 @@
 //! Where a trace is written, no part of the standards.
 
-ghost use Rattle.std.specs.Prelude.{◌≡◌, ◌≤◌, ◌||◌, ℕ, Bool, List, None, IfOk, OnOk, OnErr, length, take, true, false};
+ghost use Rattle.std.specs.Prelude.{◌≡◌, ◌≤◌, ◌||◌, ℕ, Bool, List, None, IfOk, length, take, false};
 ghost use Rattle.std.specs.Io.KnownBytes.{Appends, WriteAppends};
-ghost use Rattle.trace_lines.specs.Sinks.{is_failed_write, AppendsSome};
+ghost use Rattle.trace_lines.specs.Sinks.{is_failed_write, Puts};
 
 use std::io::Write;
 use std::marker::Model;
@@ -87,11 +87,7 @@ impl<W: Write> Sink for StdSink<W> {
 
 /// Writes all the bytes, by as many writes as it takes. The first that fails ends it.
 pub(crate) fn write_all<S: Sink>(out: &mut S, bytes: &[u8]) -> Result<(), SinkFault>
-    requires { S.has_failed out.old ≡ false }
-    ensures ok { OnOk result (Appends (S.taken out.old) (S.taken out.new) bytes.now) }
-    ensures still { OnOk result (S.has_failed out.new ≡ false) }
-    ensures beginning { OnErr result (AppendsSome (S.taken out.old) (S.taken out.new) bytes.now) }
-    ensures failed { OnErr result (S.has_failed out.new ≡ true) }
+    ensures { Puts S.taken S.has_failed out.old out.new bytes.now result }
 {
     let mut done = 0;
     'writes: while done < bytes.len() {

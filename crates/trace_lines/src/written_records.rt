@@ -1,12 +1,12 @@
 //! The records of a tick as lines that are written, no part of the standards.
 
-ghost use Rattle.std.specs.Prelude.{◌≡◌, ◌≤◌, ◌+◌, ◌∷◌, ◌++◌, length, false, true, IfSome, OnOk, OnErr};
+ghost use Rattle.std.specs.Prelude.{◌≡◌, ◌≤◌, ◌+◌, ◌∷◌, ◌++◌, length, IfSome};
 ghost use Rattle.std.specs.List.{AllByRecursion};
 ghost use Rattle.osek_base.specs.declared.trace_event.TraceEvent.{TraceEvent};
 ghost use Rattle.osek_base.specs.Executed.{StandsIn, executed_record, idle_or_executed};
 ghost use Rattle.trace_lines.specs.Lines.{record_text, tick_text};
 ghost use Rattle.trace_lines.specs.Programs.{IsOfProgram};
-ghost use Rattle.trace_lines.specs.Sinks.{AppendsSome, Passes};
+ghost use Rattle.trace_lines.specs.Sinks.{PutsBehind};
 
 use crate::block::{BLOCK_SIZE, Block, RECORD_SIZE, make_room};
 use crate::instruction_texts::InstructionTexts;
@@ -45,15 +45,8 @@ fn write_record<S: Sink>(
     out: &mut S,
 ) -> Result<(), SinkFault>
     requires listed { IsOfProgram texts.now event.now }
-    requires fresh { S.has_failed out.old ≡ false }
-    ensures written { OnOk result
-        (Passes (S.taken out.old) (S.taken out.new) text.old text.new
-        (record_text texts.now.names tick.now number event.now)) }
-    ensures beginning { OnErr result
-        (AppendsSome (S.taken out.old) (S.taken out.new)
-        (text.old ++ record_text texts.now.names tick.now number event.now)) }
-    ensures still { OnOk result (S.has_failed out.new ≡ false) }
-    ensures failed { OnErr result (S.has_failed out.new ≡ true) }
+    ensures { PutsBehind S.taken S.has_failed out.old out.new text.old text.new
+        (record_text texts.now.names tick.now number event.now) result }
 {
     make_room(text, out)?;
     push_record(texts, tick, number, event, text);
@@ -71,15 +64,8 @@ fn write_records<S: Sink>(
     out: &mut S,
 ) -> Result<(), SinkFault>
     requires listed { AllByRecursion (IsOfProgram texts.now) entries.now }
-    requires fresh { S.has_failed out.old ≡ false }
-    ensures written { OnOk result
-        (Passes (S.taken out.old) (S.taken out.new) text.old text.new
-        (tick_text texts.now.names tick.now number entries.now)) }
-    ensures beginning { OnErr result
-        (AppendsSome (S.taken out.old) (S.taken out.new)
-        (text.old ++ tick_text texts.now.names tick.now number entries.now)) }
-    ensures still { OnOk result (S.has_failed out.new ≡ false) }
-    ensures failed { OnErr result (S.has_failed out.new ≡ true) }
+    ensures { PutsBehind S.taken S.has_failed out.old out.new text.old text.new
+        (tick_text texts.now.names tick.now number entries.now) result }
 {
     'records: for entry in entries {
         write_record(texts, tick, number, entry.event(), text, out)?;
@@ -98,15 +84,8 @@ pub fn write_tick<S: Sink>(
     out: &mut S,
 ) -> Result<(), SinkFault>
     requires listed { AllByRecursion (IsOfProgram texts.now) records.now }
-    requires fresh { S.has_failed out.old ≡ false }
-    ensures written { OnOk result
-        (Passes (S.taken out.old) (S.taken out.new) text.old text.new
-        (tick_text texts.now.names tick.now number records.now)) }
-    ensures beginning { OnErr result
-        (AppendsSome (S.taken out.old) (S.taken out.new)
-        (text.old ++ tick_text texts.now.names tick.now number records.now)) }
-    ensures still { OnOk result (S.has_failed out.new ≡ false) }
-    ensures failed { OnErr result (S.has_failed out.new ≡ true) }
+    ensures { PutsBehind S.taken S.has_failed out.old out.new text.old text.new
+        (tick_text texts.now.names tick.now number records.now) result }
 {
     if records.len() == 0 {
         return Ok(());
@@ -154,16 +133,8 @@ fn write_executed<S: Sink>(
     out: &mut S,
 ) -> Result<(), SinkFault>
     requires placed { IfSome executed.now (StandsIn texts.now) }
-    requires fresh { S.has_failed out.old ≡ false }
-    ensures written { OnOk result
-        (Passes (S.taken out.old) (S.taken out.new) text.old text.new
-        (record_text texts.now.names tick.now number (idle_or_executed texts.now executed.now))) }
-    ensures beginning { OnErr result
-        (AppendsSome (S.taken out.old) (S.taken out.new)
-        (text.old
-        ++ record_text texts.now.names tick.now number (idle_or_executed texts.now executed.now))) }
-    ensures still { OnOk result (S.has_failed out.new ≡ false) }
-    ensures failed { OnErr result (S.has_failed out.new ≡ true) }
+    ensures { PutsBehind S.taken S.has_failed out.old out.new text.old text.new
+        (record_text texts.now.names tick.now number (idle_or_executed texts.now executed.now)) result }
 {
     make_room(text, out)?;
     match executed {
@@ -189,18 +160,9 @@ pub fn write_tick_parts<S: Sink>(
     requires before { AllByRecursion (IsOfProgram texts.now) before.now }
     requires placed { IfSome executed.now (StandsIn texts.now) }
     requires behind { AllByRecursion (IsOfProgram texts.now) behind.now }
-    requires fresh { S.has_failed out.old ≡ false }
-    ensures written { OnOk result
-        (Passes (S.taken out.old) (S.taken out.new) text.old text.new
+    ensures { PutsBehind S.taken S.has_failed out.old out.new text.old text.new
         (tick_text texts.now.names tick.now number
-        (before.now ++ idle_or_executed texts.now executed.now ∷ behind.now))) }
-    ensures beginning { OnErr result
-        (AppendsSome (S.taken out.old) (S.taken out.new)
-        (text.old
-        ++ tick_text texts.now.names tick.now number
-        (before.now ++ idle_or_executed texts.now executed.now ∷ behind.now))) }
-    ensures still { OnOk result (S.has_failed out.new ≡ false) }
-    ensures failed { OnErr result (S.has_failed out.new ≡ true) }
+        (before.now ++ idle_or_executed texts.now executed.now ∷ behind.now)) result }
 {
     write_tick(texts, tick, number, before, text, out)?;
     write_executed(texts, tick, number, executed, text, out)?;

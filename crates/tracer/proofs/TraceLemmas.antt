@@ -8,21 +8,24 @@ use Rattle.kernel.specs.Run.{Run}
 use Rattle.osek_base.specs.Text.{text}
 use Rattle.tracer.specs.Shown.{numbers_shown, text_shown, view_text}
 use Rattle.tracer.specs.UpperRuns.{RefusesPartition}
-use Rattle.tracer.specs.WholeRuns.{IsBegun, IsTextOf, IsShown, RefusesSystem, RefusesStart}
+use Rattle.tracer.specs.WholeRuns.{Input, IsBegun, IsTextOf, IsShown, RefusesSystem, RefusesStart}
 use Rattle.tracer.specs.declared.run_fault.RunFault.{RunFault}
 use Rattle.tracer.specs.declared.shown.Shown.{Shown}
 use Rattle.tracer.proofs.RunTextLemmas.{all_shown, view_shown}
 
--- what is shown of a run that was begun
-pub shown_of : (irqs mode : List ℕ) (ticks : ℕ) (shown : Shown) (S : System) (r : Run) → IsBegun S irqs mode r
-    → IsShown S shown irqs mode ticks (text_shown S shown (numbers_shown shown r.system r.mode r.arrivals) (run r.system r.mode r.arrivals ticks))
-shown_of irqs mode ticks shown S r begun =
+-- what is shown of a run that was begun, by texts of its system, in the ticks that are asked for
+pub shown_of : (i : Input) (shown : Shown) (S V : System) (r : Run) (ticks : ℕ) → V ≡ S → ticks ≡ i.ticks → IsBegun S i.irqs i.mode r
+    → IsShown S shown i (text_shown V shown (numbers_shown shown r.system r.mode r.arrivals) (run r.system r.mode r.arrivals ticks))
+shown_of i shown S V r ticks same asked begun =
     record {
       number = r.mode;
       arrivals = r.arrivals;
       listed = begun.listed;
       started = begun.started;
-      spelled = ap (λ (s : System). text_shown S shown (numbers_shown shown s r.mode r.arrivals) (run s r.mode r.arrivals ticks)) begun.system;
+      spelled =
+          ap (λ (s : System). text_shown V shown (numbers_shown shown s r.mode r.arrivals) (run s r.mode r.arrivals ticks)) begun.system
+          ∙ ap (λ (v : System). text_shown v shown (numbers_shown shown S r.mode r.arrivals) (run S r.mode r.arrivals ticks)) same
+          ∙ ap (λ t. text_shown S shown (numbers_shown shown S r.mode r.arrivals) (run S r.mode r.arrivals t)) asked;
     }
 
 -- one text spelled in another way
@@ -39,16 +42,14 @@ spelled_as S f g irqs mode bytes same h =
     }
 
 -- all of it is the trace
-pub trace_of : (irqs mode : List ℕ) (ticks : ℕ) (S : System) (bytes : List ℕ) → IsShown S Shown.All irqs mode ticks bytes
-    → IsTextOf S (λ number arrivals. text S.names (run S number arrivals ticks)) irqs mode bytes
-trace_of irqs mode ticks S bytes =
-    spelled_as S _ _ irqs mode bytes (λ number arrivals. all_shown S (run S number arrivals ticks))
+pub trace_of : (i : Input) (S : System) (bytes : List ℕ) → IsShown S Shown.All i bytes
+    → IsTextOf S (λ number arrivals. text S.names (run S number arrivals i.ticks)) i.irqs i.mode bytes
+trace_of i S bytes = spelled_as S _ _ i.irqs i.mode bytes (λ number arrivals. all_shown S (run S number arrivals i.ticks))
 
 -- the view at p is its text
-pub view_of : (irqs mode : List ℕ) (ticks p : ℕ) (S : System) (bytes : List ℕ) → IsShown S (Shown.View p) irqs mode ticks bytes
-    → IsTextOf S (λ number arrivals. view_text S p (run S number arrivals ticks)) irqs mode bytes
-view_of irqs mode ticks p S bytes =
-    spelled_as S _ _ irqs mode bytes (λ number arrivals. view_shown S p (run S number arrivals ticks))
+pub view_of : (i : Input) (p : ℕ) (S : System) (bytes : List ℕ) → IsShown S (Shown.View p) i bytes
+    → IsTextOf S (λ number arrivals. view_text S p (run S number arrivals i.ticks)) i.irqs i.mode bytes
+view_of i p S bytes = spelled_as S _ _ i.irqs i.mode bytes (λ number arrivals. view_shown S p (run S number arrivals i.ticks))
 
 -- ---- faults
 

@@ -3,3 +3,4 @@ pub mod Writing
 pub mod RunFaults
 pub mod WholeRuns
 pub mod UpperRuns
+pub mod Ticks

@@ -7,16 +7,16 @@ use Rattle.osek_base.specs.Trace.{run}
 use Rattle.partition_check.specs.Partition.{denial_of}
 use Rattle.partition_check.specs.declared.denial.NamedDenial.{NamedDenial}
 use Rattle.tracer.specs.Shown.{view_text}
-use Rattle.tracer.specs.WholeRuns.{IsSystemOf, IsTextOf, RefusesSystem, RefusesStart}
+use Rattle.tracer.specs.WholeRuns.{Input, IsSystemOf, IsTextOf, RefusesSystem, RefusesStart}
 use Rattle.tracer.specs.declared.run_fault.RunFault.{RunFault}
 
 -- ---- what is written
 
 -- the bytes are the text of the view at p of so many ticks of the system of the texts, which is separable at p
-abbrev pub IsView : List ℕ → List ℕ → List ℕ → List ℕ → ℕ → ℕ → List ℕ → Type 0
-IsView oil asm irqs mode ticks p bytes =
-    (S : System) × IsSystemOf oil asm S × Separable S p
-    × IsTextOf S (λ number arrivals. view_text S p (run S number arrivals ticks)) irqs mode bytes
+abbrev pub IsView : Input → ℕ → List ℕ → Type 0
+IsView i p bytes =
+    (S : System) × IsSystemOf i.oil i.asm S × Separable S p
+    × IsTextOf S (λ number arrivals. view_text S p (run S number arrivals i.ticks)) i.irqs i.mode bytes
 
 -- ---- the first refusal
 
@@ -31,8 +31,8 @@ RefusesPartition S p (RunFault.Denied told) = IsFirstDenial S p told
 RefusesPartition S p _ = ⊥
 
 -- of the system; or else of its partition; or else of the start
-abbrev pub IsFirstViewRefusal : List ℕ → List ℕ → List ℕ → List ℕ → ℕ → RunFault → Type 0
-IsFirstViewRefusal oil asm irqs mode p fault =
-    RefusesSystem oil asm fault
-    ⊎ ((S : System) × IsSystemOf oil asm S
-    × (RefusesPartition S p fault ⊎ (Separable S p × RefusesStart S irqs mode fault)))
+abbrev pub IsFirstViewRefusal : Input → ℕ → RunFault → Type 0
+IsFirstViewRefusal i p fault =
+    RefusesSystem i.oil i.asm fault
+    ⊎ ((S : System) × IsSystemOf i.oil i.asm S
+    × (RefusesPartition S p fault ⊎ (Separable S p × RefusesStart S i.irqs i.mode fault)))

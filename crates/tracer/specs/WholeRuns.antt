@@ -22,6 +22,14 @@ use Rattle.tracer.specs.Shown.{numbers_shown, text_shown}
 use Rattle.tracer.specs.declared.run_fault.RunFault.{RunFault}
 use Rattle.tracer.specs.declared.shown.Shown.{Shown}
 
+-- what a trace is asked for by
+pub record Input : Type 0 where
+  pub oil : List ℕ
+  pub asm : List ℕ
+  pub irqs : List ℕ
+  pub mode : List ℕ
+  pub ticks : ℕ
+
 -- ---- the system of two texts
 
 -- what generation gives of a file and programs, in which no fault applies
@@ -55,26 +63,25 @@ pub record IsTextOf (S : System) (text_of : ℕ → List Arrival → List ℕ) (
   pub spelled : bytes ≡ text_of number arrivals
 
 -- the bytes are what is shown of so many ticks of the system
-abbrev pub IsShown : System → Shown → List ℕ → List ℕ → ℕ → List ℕ → Type 0
-IsShown S shown irqs mode ticks =
-    IsTextOf S (λ number arrivals. text_shown S shown (numbers_shown shown S number arrivals) (run S number arrivals ticks)) irqs mode
+abbrev pub IsShown : System → Shown → Input → List ℕ → Type 0
+IsShown S shown i =
+    IsTextOf S (λ number arrivals. text_shown S shown (numbers_shown shown S number arrivals) (run S number arrivals i.ticks)) i.irqs i.mode
 
 -- the bytes are what is shown of so many ticks of the system of the texts
-abbrev pub IsShownOf : List ℕ → List ℕ → Shown → List ℕ → List ℕ → ℕ → List ℕ → Type 0
-IsShownOf oil asm shown irqs mode ticks bytes =
-    (S : System) × IsSystemOf oil asm S × IsShown S shown irqs mode ticks bytes
+abbrev pub IsShownOf : Input → Shown → List ℕ → Type 0
+IsShownOf i shown bytes = (S : System) × IsSystemOf i.oil i.asm S × IsShown S shown i bytes
 
 -- the bytes are the trace of so many ticks of the system of the texts
-abbrev pub IsTrace : List ℕ → List ℕ → List ℕ → List ℕ → ℕ → List ℕ → Type 0
-IsTrace oil asm irqs mode ticks bytes =
-    (S : System) × IsSystemOf oil asm S
-    × IsTextOf S (λ number arrivals. text S.names (run S number arrivals ticks)) irqs mode bytes
+abbrev pub IsTrace : Input → List ℕ → Type 0
+IsTrace i bytes =
+    (S : System) × IsSystemOf i.oil i.asm S
+    × IsTextOf S (λ number arrivals. text S.names (run S number arrivals i.ticks)) i.irqs i.mode bytes
 
 -- the bytes are that trace with the numbers of blockers
-abbrev pub IsBlockingTrace : List ℕ → List ℕ → List ℕ → List ℕ → ℕ → List ℕ → Type 0
-IsBlockingTrace oil asm irqs mode ticks bytes =
-    (S : System) × IsSystemOf oil asm S
-    × IsTextOf S (λ number arrivals. blocking_text S number arrivals ticks) irqs mode bytes
+abbrev pub IsBlockingTrace : Input → List ℕ → Type 0
+IsBlockingTrace i bytes =
+    (S : System) × IsSystemOf i.oil i.asm S
+    × IsTextOf S (λ number arrivals. blocking_text S number arrivals i.ticks) i.irqs i.mode bytes
 
 -- ---- the first fault
 
@@ -100,6 +107,6 @@ RefusesStart S irqs mode RunFault.Memory = Unit {0}
 RefusesStart S irqs mode _ = ⊥
 
 -- of the system, or else of the start
-abbrev pub IsFirstRefusal : List ℕ → List ℕ → List ℕ → List ℕ → RunFault → Type 0
-IsFirstRefusal oil asm irqs mode fault =
-    RefusesSystem oil asm fault ⊎ ((S : System) × IsSystemOf oil asm S × RefusesStart S irqs mode fault)
+abbrev pub IsFirstRefusal : Input → RunFault → Type 0
+IsFirstRefusal i fault =
+    RefusesSystem i.oil i.asm fault ⊎ ((S : System) × IsSystemOf i.oil i.asm S × RefusesStart S i.irqs i.mode fault)

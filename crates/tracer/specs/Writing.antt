@@ -1,5 +1,5 @@
 -- What a run answers that writes to a sink. No part of the standards.
-use Rattle.std.specs.Prelude.{◌≡◌, ℕ, Bool, true, false, List, Option, Ok, Err}
+use Rattle.std.specs.Prelude.{◌≡◌, ℕ, Bool, true, List, Option, Ok, Err}
 use Rattle.std.specs.Io.KnownBytes.{Appends}
 use Rattle.std.specs.declared.result.Result.{Result}
 use Rattle.trace_lines.specs.Sinks.{AppendsSome}
@@ -11,7 +11,7 @@ use Rattle.tracer.specs.declared.run_fault.RunFault.{RunFault}
 abbrev pub Writes : {X T : Type 0} → (X → Option (List ℕ)) → (X → Bool) → (List ℕ → Type 0) → (RunFault → Type 0)
     → X → X → Result T RunFault → Type 0
 Writes taken has_failed IsAsked Refuses old new (Ok x) =
-    ((bytes : List ℕ) × IsAsked bytes × Appends (taken old) (taken new) bytes) × (has_failed new ≡ false)
+    ((bytes : List ℕ) × IsAsked bytes × Appends (taken old) (taken new) bytes) × (has_failed new ≡ has_failed old)
 Writes taken has_failed IsAsked Refuses old new (Err RunFault.Write) =
     ((bytes : List ℕ) × IsAsked bytes × AppendsSome (taken old) (taken new) bytes) × (has_failed new ≡ true)
 Writes taken has_failed IsAsked Refuses old new (Err fault) = (new ≡ old) × Refuses fault

@@ -4,12 +4,14 @@
 mod run_fault;
 mod shown;
 mod system_texts;
+mod trace_input;
 mod upper_run;
 mod whole_run;
 mod written_ticks;
 
 pub use run_fault::RunFault;
 pub use system_texts::read_system;
+pub use trace_input::TraceInput;
 pub use trace_lines::{LineText, Sink, SinkFault, StdSink, line_text, upper_view};
 pub use upper_run::run_upper;
 pub use whole_run::{run, run_blocking};

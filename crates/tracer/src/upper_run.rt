@@ -1,6 +1,6 @@
 //! Partitions, no part of the standards. From the three texts to the view at a priority.
 
-ghost use Rattle.std.specs.Prelude.{◌≡◌, ◌≤◌, false, IfErr, OnOk};
+ghost use Rattle.std.specs.Prelude.{IfErr, OnOk};
 ghost use Rattle.osek_base.specs.Separable.{Separable};
 ghost use Rattle.tracer.specs.Writing.{Writes};
 ghost use Rattle.tracer.specs.UpperRuns.{IsView, RefusesPartition, IsFirstViewRefusal};
@@ -10,8 +10,9 @@ ghost use Rattle.tracer.specs.declared.shown.Shown.{Shown};
 use crate::run_fault::RunFault;
 use crate::shown::Shown;
 use crate::system_texts::read_system;
+use crate::trace_input::TraceInput;
 use crate::whole_run::write_run;
-use osek_base::{MAX_TICKS, System};
+use osek_base::System;
 use partition_check::check_partition;
 use std::alloc::Global;
 use trace_lines::Sink;
@@ -28,53 +29,41 @@ fn check_upper(system: &System, p: u8) -> Result<(), RunFault>
     }
 }
 
-/// Writes the view at p of a run of a system, or of its upper part by itself, which is the same.
-fn write_view<S: Sink>(
+/// Writes the view at p of a run of a system's upper part by itself, which is that of the system.
+fn write_alone<S: Sink>(
     alloc: Global,
     system: &System,
     p: u8,
-    alone: bool,
-    irqs: &[u8],
-    mode: &str,
-    ticks: u32,
+    input: &TraceInput<'_>,
     out: &mut S,
 ) -> Result<(), RunFault>
-    requires separable { Separable system.now p }
-    requires ticks { ticks ≤ MAX_TICKS }
-    requires fresh { S.has_failed out.old ≡ false }
-    ensures { Writes S.taken S.has_failed
-        (IsShown system.now (Shown.View p) irqs.now mode.now ticks)
-        (RefusesStart system.now irqs.now mode.now) out.old out.new result }
+    requires { Separable system.now p }
+    ensures { Writes S.taken S.has_failed (IsShown system.now (Shown.View p) input.now)
+        (RefusesStart system.now input.now.irqs input.now.mode) out.old out.new result }
 {
-    if !alone {
-        return write_run(alloc, system, Shown::View(p), irqs, mode, ticks, out);
-    }
     let part = upper_only(alloc, system, p)?;
-    write_run(alloc, &part, Shown::View(p), irqs, mode, ticks, out)
+    write_run(alloc, &part, Shown::View(p), input, out)
 }
 
-/// Runs a system for some ticks, at most 1,000,000, and writes the view at p, 0 to 63: the trace as far as it is of tasks of
-/// priority p or more, of routines, and of alarms that act on such tasks. All is as in `run`, but that the partition at p is
-/// checked before the arrival list is read: where it is denied, the answer is the first denial, and nothing is written.
+/// Runs a system for some ticks, and writes the view at p, 0 to 63: the trace as far as it is of tasks of priority p or more,
+/// of routines, and of alarms that act on such tasks. All is as in `run`, but that the partition at p is checked before the
+/// arrival list is read: where it is denied, the answer is the first denial, and nothing is written.
 ///
 /// With `alone` it is the upper part of the system that is run, by itself. What is written is the same.
 pub fn run_upper<S: Sink>(
     alloc: Global,
-    oil: &[u8],
-    asm: &[u8],
-    irqs: &[u8],
-    mode: &str,
-    ticks: u32,
+    input: &TraceInput<'_>,
     p: u8,
     alone: bool,
     out: &mut S,
 ) -> Result<(), RunFault>
-    requires ticks { ticks ≤ MAX_TICKS }
-    requires fresh { S.has_failed out.old ≡ false }
-    ensures { Writes S.taken S.has_failed (IsView oil.now asm.now irqs.now mode.now ticks p)
-        (IsFirstViewRefusal oil.now asm.now irqs.now mode.now p) out.old out.new result }
+    ensures { Writes S.taken S.has_failed (IsView input.now p) (IsFirstViewRefusal input.now p)
+        out.old out.new result }
 {
-    let system = read_system(alloc, oil, asm)?;
+    let system = read_system(alloc, input.oil(), input.asm())?;
     check_upper(&system, p)?;
-    write_view(alloc, &system, p, alone, irqs, mode, ticks, out)
+    if alone {
+        return write_alone(alloc, &system, p, input, out);
+    }
+    write_run(alloc, &system, Shown::View(p), input, out)
 }

@@ -7,4 +7,4 @@ pub returns-clause-picture : goal.returns-clause-picture
 returns-clause-picture c =
     ap picture c.copy_from.ensures
     ∙ booted_state c.args.system.now c.args.mode c.in_ok-booted.booted
-    c.in_ok-booted.ensures.booted
+    c.in_ok-booted.ensures

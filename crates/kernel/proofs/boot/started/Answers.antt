@@ -59,9 +59,13 @@ loop-number-preserved g c =
           })
     ]
 
-pub returns-clause-kept : goal.returns-clause-kept
-returns-clause-kept g c =
+pub returns : goal.returns
+returns g c =
     let S = c.args.system.now in
     let v = c.loop-number.invariant in
     let n : c.loop-number.number ≡ length S.tasks = omega (arith, c.loop-number-test.false, c.loop-number.auto.number-end, c.task_count-number-end.ensures.value) in
-    v.starting.kept ∙ ap (λ k. all_activated_in S (filter (starts_in S c.args.mode) (below k)) (begun_in S c.args.mode)) n
+    record {
+      system = v.system;
+      kept =
+          v.starting.kept ∙ ap (λ k. all_activated_in S (filter (starts_in S c.args.mode) (below k)) (begun_in S c.args.mode)) n;
+    }

@@ -2,7 +2,7 @@ use Rattle.std.proofs.Common.{sym, ◌∙◌, subst}
 use Rattle.std.specs.Prelude.{IfSome}
 use Rattle.search.specs.Rules.{NoneMay, NoMoreMay}
 use Rattle.search.specs.Visited.{GoesOn}
-use Rattle.search.proofs.VisitLemmas.{goes_on, again, ends}
+use Rattle.search.proofs.VisitLemmas.{again, ends, goes_on, goes_past}
 use Rattle.search.proofs.searching.try_choices.Goals as goal
 use Rattle.search.proofs.searching.try_choices.Goals.{In_ok-try_choice}
 use Rattle.search.proofs.searching.try_choices.Given.{Over}
@@ -32,10 +32,28 @@ returns-in-Itself-clause-visits g c =
 
 pub choices-preserved : goal.choices-preserved
 choices-preserved g c =
+    let past =
+    subst (GoesOn (g.S.Steps.rules (g.S.Steps.setting c.args.steps.now)) (g.S.Steps.is_noted c.try_choice.new.steps) c.choices.table.nodes.items
+    c.choices.table.agenda c.try_choice.new.table.nodes.items c.try_choice.new.table.agenda c.args.number c.in-Some.choice) c.in-Before.is
+    (tried g (goal.at.choices-preserved g c).In_ok-try_choice) in
+    record {
+      setting = c.in_ok-try_choice.ensures.setting ∙ c.choices.invariant.setting;
+      notes = λ x choice noted. c.in_ok-try_choice.ensures.notes x choice (c.choices.invariant.notes x choice noted);
+      visiting =
+          goes_past (g.S.Steps.rules (g.S.Steps.setting c.args.steps.now)) g.S.Steps.is_noted
+          c.choices.steps c.try_choice.new.steps c.in_ok-try_choice.ensures.notes
+          c.args.table.now.nodes.items c.choices.table.nodes.items c.try_choice.new.table.nodes.items c.args.table.now.agenda c.choices.table.agenda
+          c.try_choice.new.table.agenda c.args.number c.choices.from c.in-Some.choice c.choices.invariant.visiting past
+          c.node.result.now c.node.ensures
+          (subst (λ s. NoneMay (g.S.Steps.rules s) c.node.result.now c.choices.from c.in-Some.choice) c.choices.invariant.setting c.in-Some.ensures.next.others);
+    }
+
+pub choices-preserved-in-Apart : goal.choices-preserved-in-Apart
+choices-preserved-in-Apart g c =
     let went =
     subst (GoesOn (g.S.Steps.rules (g.S.Steps.setting c.args.steps.now)) (g.S.Steps.is_noted c.try_choice.new.steps) c.choices.table.nodes.items
     c.choices.table.agenda c.try_choice.new.table.nodes.items c.try_choice.new.table.agenda c.args.number c.in-Some.choice) c.in-Apart.is
-    (tried g (goal.at.choices-preserved g c).In_ok-try_choice) in
+    (tried g (goal.at.choices-preserved-in-Apart g c).In_ok-try_choice) in
     record {
       setting = c.in_ok-try_choice.ensures.setting ∙ c.choices.invariant.setting;
       notes = λ x choice noted. c.in_ok-try_choice.ensures.notes x choice (c.choices.invariant.notes x choice noted);

@@ -1,4 +1,4 @@
-use Rattle.std.proofs.Common.{length, ◌-◌, ◌≡◌, ◌≤◌, take, false}
+use Rattle.std.proofs.Common.{length, ◌-◌, ◌≡◌, ◌≤◌, take}
 use Rattle.std.specs.Io.KnownBytes.{Appends}
 use Rattle.trace_lines.proofs.sink.write_all.Given as goal
 
@@ -7,7 +7,7 @@ invariant-writes g l =
     record {
       within : l.done ≤ length l.bytes;
       so_far : Appends (g.S.Sink.taken l.initial.out) (g.S.Sink.taken l.out) (take l.done l.bytes);
-      still : g.S.Sink.has_failed l.out ≡ false;
+      still : g.S.Sink.has_failed l.out ≡ g.S.Sink.has_failed l.initial.out;
     }
 
 abbrev pub decreases-writes : goal.decreases-writes

@@ -9,7 +9,7 @@ use Rattle.trace_lines.specs.Programs.{IsOfProgram}
 use Rattle.trace_lines.specs.Sinks.{AppendsSome, Passes}
 use Rattle.trace_lines.proofs.EachLemmas.{all_at}
 use Rattle.trace_lines.proofs.TickTexts.{texts_append}
-use Rattle.trace_lines.proofs.SinkLemmas.{begins_longer, passes_more, stops_later, on_err}
+use Rattle.trace_lines.proofs.SinkLemmas.{begins_longer, passes_more, stops_later, stops}
 use Rattle.trace_lines.proofs.written_records.write_records.Goals as goal
 
 -- a tick's text up to a record, that of the record, and the rest
@@ -41,11 +41,14 @@ one_more f xs i x h e =
     ∙ sym (texts_append f (take i xs) (x ∷ []))
     ∙ ap (flat_map f) (ap (λ y. take i xs ++ y ∷ []) e ∙ sym (take-suc xs i x h) ∙ ap (λ n. take n xs) (sym (add-one i)))
 
-pub write_record-requires-clause-listed : goal.write_record-requires-clause-listed
-write_record-requires-clause-listed g c =
-    rw (c.event.ensures)
-    (all_at (IsOfProgram c.args.texts.now) c.args.entries.now c.records.entry-index c.entry-item.result c.requires.listed
-    c.records-test.true c.entry-item.is)
+pub write_record-requires : goal.write_record-requires
+write_record-requires g c =
+    record {
+      listed =
+          rw (c.event.ensures)
+          (all_at (IsOfProgram c.args.texts.now) c.args.entries.now c.records.entry-index c.entry-item.result c.requires.listed
+          c.records-test.true c.entry-item.is);
+    }
 
 pub records-preserved : goal.records-preserved
 records-preserved g c =
@@ -56,13 +59,14 @@ records-preserved g c =
           subst (Passes (g.S.Sink.taken c.args.out.now) (g.S.Sink.taken c.write_record.new.out) c.args.text.now c.write_record.new.text)
           (one_more text items c.records.entry-index c.entry-item.result c.records-test.true c.entry-item.is)
           (passes_more _ _ _ _ _ _ _ _ c.records.invariant.so_far (rw (c.event.ensures) at c.in_ok-write_record.ensures.written));
-      still = c.in_ok-write_record.ensures.still;
+      still = c.in_ok-write_record.ensures.still ∙ c.records.invariant.still;
     }
 
-pub returns-in_err-write_record-clause-beginning : goal.returns-in_err-write_record-clause-beginning
-returns-in_err-write_record-clause-beginning g c =
-    on_err c.from_residual.result _
+pub returns-in_err-write_record : goal.returns-in_err-write_record
+returns-in_err-write_record g c =
+    stops g.S.Sink.taken g.S.Sink.has_failed _ _ _ c.args.out.now _ c.from_residual.result c.from_residual.ensures.1
     (stopped_at _ _ _ _ _ c.args.texts.now.names c.args.tick.now c.args.number c.args.entries.now c.records.entry-index c.entry-item.result
     c.records-test.true c.entry-item.is
     c.records.invariant.so_far
     (rw (c.event.ensures) at c.in_err-write_record.ensures.beginning))
+    c.in_err-write_record.ensures.failed

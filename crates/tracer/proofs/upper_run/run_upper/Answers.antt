@@ -9,40 +9,44 @@ use Rattle.tracer.proofs.upper_run.run_upper.Goals as goal
 
 pub returns-in_err-system : goal.returns-in_err-system
 returns-in_err-system g c =
-    let oil = c.args.oil.now in
-    let asm = c.args.asm.now in
-    let irqs = c.args.irqs.now in
-    let mode = c.args.mode.now in
+    let i = c.args.input.now in
     let p = c.args.p in
     let e = err_from_is_err_and c.from_residual.result c.from_residual.ensures.1 in
-    refused g.S.Sink.taken g.S.Sink.has_failed (IsView oil asm irqs mode c.args.ticks p) (IsFirstViewRefusal oil asm irqs mode p) c.args.out.now _ _
-    (e.1 ∙ ap Err e.2) (no_write_of_system oil asm _ c.in_err-system.ensures.refusal) (inl c.in_err-system.ensures.refusal)
+    let h = rw (c.oil.ensures, c.asm.ensures) at c.in_err-system.ensures.refusal in
+    refused g.S.Sink.taken g.S.Sink.has_failed (IsView i p) (IsFirstViewRefusal i p) c.args.out.now _ _
+    (e.1 ∙ ap Err e.2) (no_write_of_system i.oil i.asm _ h) (inl h)
 
 pub returns-in_err-check_upper : goal.returns-in_err-check_upper
 returns-in_err-check_upper g c =
     let S = c.in_ok-system.system in
-    let oil = c.args.oil.now in
-    let asm = c.args.asm.now in
-    let irqs = c.args.irqs.now in
-    let mode = c.args.mode.now in
+    let i = c.args.input.now in
     let p = c.args.p in
     let e = err_from_is_err_and c.from_residual-in_err-check_upper.result c.from_residual-in_err-check_upper.ensures.1 in
-    refused g.S.Sink.taken g.S.Sink.has_failed (IsView oil asm irqs mode c.args.ticks p) (IsFirstViewRefusal oil asm irqs mode p) c.args.out.now _ _
+    let made = rw (c.oil.ensures, c.asm.ensures) at c.in_ok-system.ensures.made in
+    refused g.S.Sink.taken g.S.Sink.has_failed (IsView i p) (IsFirstViewRefusal i p) c.args.out.now _ _
     (e.1 ∙ ap Err e.2) (no_write_of_partition S p _ c.in_err-check_upper.ensures.denies)
-    (inr (S, c.in_ok-system.ensures.made, inl c.in_err-check_upper.ensures.denies))
+    (inr (S, made, inl c.in_err-check_upper.ensures.denies))
+
+pub returns-then-alone : goal.returns-then-alone
+returns-then-alone g c =
+    let S = c.in_ok-system.system in
+    let made = rw (c.oil.ensures, c.asm.ensures) at c.in_ok-system.ensures.made in
+    let accepts = c.in_ok-check_upper.ensures.accepts in
+    let i = c.args.input.now in
+    let p = c.args.p in
+    as_asked g.S.Sink.taken g.S.Sink.has_failed (IsShown S (Shown.View p) i) (RefusesStart S i.irqs i.mode)
+    (IsView i p) (IsFirstViewRefusal i p) c.args.out.now c.write_alone.new.out c.write_alone.result
+    (λ bytes shown. (S, made, accepts, view_of i p S bytes shown)) (λ fault h. inr (S, made, inr (accepts, h)))
+    c.write_alone.ensures
 
 pub returns : goal.returns
 returns g c =
     let S = c.in_ok-system.system in
-    let made = c.in_ok-system.ensures.made in
+    let made = rw (c.oil.ensures, c.asm.ensures) at c.in_ok-system.ensures.made in
     let accepts = c.in_ok-check_upper.ensures.accepts in
-    let oil = c.args.oil.now in
-    let asm = c.args.asm.now in
-    let irqs = c.args.irqs.now in
-    let mode = c.args.mode.now in
-    let ticks = c.args.ticks in
+    let i = c.args.input.now in
     let p = c.args.p in
-    as_asked g.S.Sink.taken g.S.Sink.has_failed (IsShown S (Shown.View p) irqs mode ticks) (RefusesStart S irqs mode)
-    (IsView oil asm irqs mode ticks p) (IsFirstViewRefusal oil asm irqs mode p) c.args.out.now c.write_view.new.out c.write_view.result
-    (λ bytes shown. (S, made, accepts, view_of irqs mode ticks p S bytes shown)) (λ fault h. inr (S, made, inr (accepts, h)))
-    c.write_view.ensures
+    as_asked g.S.Sink.taken g.S.Sink.has_failed (IsShown S (Shown.View p) i) (RefusesStart S i.irqs i.mode)
+    (IsView i p) (IsFirstViewRefusal i p) c.args.out.now c.write_run.new.out c.write_run.result
+    (λ bytes shown. (S, made, accepts, view_of i p S bytes shown)) (λ fault h. inr (S, made, inr (accepts, h)))
+    c.write_run.ensures

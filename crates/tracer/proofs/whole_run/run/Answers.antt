@@ -6,11 +6,7 @@ use Rattle.tracer.proofs.whole_run.run.Goals as goal
 
 pub returns : goal.returns
 returns g c =
-    let oil = c.args.oil.now in
-    let asm = c.args.asm.now in
-    let irqs = c.args.irqs.now in
-    let mode = c.args.mode.now in
-    let ticks = c.args.ticks in
-    as_asked g.S.Sink.taken g.S.Sink.has_failed (IsShownOf oil asm Shown.All irqs mode ticks) (IsFirstRefusal oil asm irqs mode)
-    (IsTrace oil asm irqs mode ticks) (IsFirstRefusal oil asm irqs mode) c.args.out.now c.write_system.new.out c.write_system.result
-    (λ bytes h. (h.0, h.1, trace_of irqs mode ticks h.0 bytes h.2)) (λ fault h. h) c.write_system.ensures
+    let i = c.args.input.now in
+    as_asked g.S.Sink.taken g.S.Sink.has_failed (IsShownOf i Shown.All) (IsFirstRefusal i) (IsTrace i) (IsFirstRefusal i)
+    c.args.out.now c.write_system.new.out c.write_system.result
+    (λ bytes h. (h.0, h.1, trace_of i h.0 bytes h.2)) (λ fault h. h) c.write_system.ensures

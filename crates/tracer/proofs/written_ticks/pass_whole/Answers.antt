@@ -1,15 +1,14 @@
-use Rattle.std.proofs.Common.{◌≡◌, ℕ, ◌+◌, ◌-◌, List, ◌∷◌, ◌++◌, Option, arith, ap, sym, subst, ◌∙◌}
-use Rattle.std.specs.Prelude.{IfSome, OnOk, OnErr}
+use Rattle.std.proofs.Common.{◌≡◌, ℕ, ◌+◌, ◌-◌, List, ◌∷◌, ◌++◌, Option, refl, arith, ap, sym, subst, ◌∙◌}
+use Rattle.std.specs.Prelude.{IfSome}
 use Rattle.std.specs.List.{AllByRecursion}
 use Rattle.osek_base.specs.declared.trace_event.TraceEvent.{TraceEvent}
 use Rattle.osek_base.specs.Executed.{StandsIn, idle_or_executed}
-use Rattle.osek_base.specs.Names.{Names}
 use Rattle.osek_base.specs.System.{System}
 use Rattle.kernel.specs.Run.{Run}
 use Rattle.blocking_laws.specs.Steps.{record_at}
 use Rattle.trace_lines.specs.Lines.{tick_text}
 use Rattle.trace_lines.specs.Programs.{IsOfProgram}
-use Rattle.trace_lines.specs.Sinks.{AppendsSome, Passes}
+use Rattle.trace_lines.specs.Sinks.{PutsBehind}
 use Rattle.trace_lines.proofs.EachLemmas.{all_split}
 use Rattle.tracer.specs.Shown.{numbers_shown, records_shown, tick_text_shown}
 use Rattle.tracer.specs.declared.shown.Shown.{Shown}
@@ -27,61 +26,52 @@ number_of_last shown k new number next is =
     ∙ ap (numbers_shown shown k.system k.mode k.arrivals) last
 
 -- where all is shown, a tick's text is that of its records
-whole_text : (V : System) (names : Names) (shown : Shown) (k : Run) (t : ℕ) (number : Option ℕ) (told : List TraceEvent)
-    → ((all : List TraceEvent) → records_shown V shown all ≡ all) → names ≡ V.names → t ≡ k.ticks
+whole_text : (V : System) (shown : Shown) (k : Run) (t : ℕ) (number : Option ℕ) (told : List TraceEvent)
+    → ((all : List TraceEvent) → records_shown V shown all ≡ all) → t ≡ k.ticks
     → number ≡ numbers_shown shown k.system k.mode k.arrivals k.ticks → told ≡ record_at k.system k.mode k.arrivals k.ticks
-    → tick_text names t number told ≡ tick_text_shown V shown k.system k.mode k.arrivals k.ticks
-whole_text V names shown k t number told all same counted number_is as_told =
-    ap (λ n. tick_text names n number told) counted
-    ∙ same_tick_text names V.names k.ticks number _ told _ same number_is (as_told ∙ sym (all (record_at k.system k.mode k.arrivals k.ticks)))
+    → tick_text V.names t number told ≡ tick_text_shown V shown k.system k.mode k.arrivals k.ticks
+whole_text V shown k t number told all counted number_is as_told =
+    ap (λ n. tick_text V.names n number told) counted
+    ∙ same_tick_text V.names V.names k.ticks number _ told _ refl number_is (as_told ∙ sym (all (record_at k.system k.mode k.arrivals k.ticks)))
 
 -- the records before and behind that of the instruction
-listed : (T S : System) (k : Run) (before behind : List TraceEvent) (own : TraceEvent) → k.system ≡ S → T ≡ S
+listed : (T : System) (k : Run) (before behind : List TraceEvent) (own : TraceEvent) → k.system ≡ T
     → before ++ own ∷ behind ≡ record_at k.system k.mode k.arrivals k.ticks
     → AllByRecursion (IsOfProgram T) before × AllByRecursion (IsOfProgram T) (own ∷ behind)
-listed T S k before behind own system texts told =
+listed T k before behind own system told =
     all_split (IsOfProgram T) before (own ∷ behind)
-    (subst (λ (U : System). AllByRecursion (IsOfProgram U) (before ++ own ∷ behind)) (system ∙ sym texts)
+    (subst (λ (U : System). AllByRecursion (IsOfProgram U) (before ++ own ∷ behind)) system
     (subst (AllByRecursion (IsOfProgram k.system)) (sym told) (all_of_program k.system k.mode k.arrivals k.ticks)))
 
 pub write_tick_parts-requires-clause-before : goal.write_tick_parts-requires-clause-before
 write_tick_parts-requires-clause-before g c =
     let k : Run = c.args.kernel.now in
-    (listed c.args.texts.now c.args._system.now k c.tick_parts-executed.new.before c.tick_parts-executed.new.behind (idle_or_executed k.system c.tick_parts-executed.result)
-    c.requires.system c.requires.texts c.tick_parts-executed.ensures.records).0
+    (listed c.args.lines.now.texts.now k c.tick_parts-executed.new.before c.tick_parts-executed.new.behind (idle_or_executed k.system c.tick_parts-executed.result)
+    c.requires.ready.system c.tick_parts-executed.ensures.records).0
 
 pub write_tick_parts-requires-clause-behind : goal.write_tick_parts-requires-clause-behind
 write_tick_parts-requires-clause-behind g c =
     let k : Run = c.args.kernel.now in
-    (listed c.args.texts.now c.args._system.now k c.tick_parts-executed.new.before c.tick_parts-executed.new.behind (idle_or_executed k.system c.tick_parts-executed.result)
-    c.requires.system c.requires.texts c.tick_parts-executed.ensures.records).1.1
+    (listed c.args.lines.now.texts.now k c.tick_parts-executed.new.before c.tick_parts-executed.new.behind (idle_or_executed k.system c.tick_parts-executed.result)
+    c.requires.ready.system c.tick_parts-executed.ensures.records).1.1
 
 pub write_tick_parts-requires-clause-placed : goal.write_tick_parts-requires-clause-placed
 write_tick_parts-requires-clause-placed g c =
-    subst (λ (S : System). IfSome c.tick_parts-executed.result (StandsIn S)) (c.requires.system ∙ sym c.requires.texts) c.tick_parts-executed.ensures.there
+    subst (λ (S : System). IfSome c.tick_parts-executed.result (StandsIn S)) c.requires.ready.system c.tick_parts-executed.ensures.there
 
-pub returns-clause-written : goal.returns-clause-written
-returns-clause-written g c =
+pub returns : goal.returns
+returns g c =
     let k : Run = c.args.kernel.now in
-    let T = c.args.texts.now in
+    let T : System = c.args.lines.now.texts.now in
     let parts = λ (S : System). c.tick_parts-executed.new.before ++ idle_or_executed S c.tick_parts-executed.result ∷ c.tick_parts-executed.new.behind in
     let text =
-    whole_text c.args._system.now T.names c.args.shown k c.args.digits.now c.number_shown-number.result (parts T) c.requires.all
-    (ap (λ (S : System). S.names) c.requires.texts) c.requires.counted
+    whole_text T c.args.shown k c.args.lines.now.digits c.number_shown-number.result (parts T) c.requires.all c.requires.ready.counted
     (number_of_last c.args.shown k c.tick_parts-executed.new.self c.number_shown-number.result c.tick_parts-executed.ensures.next c.number_shown-number.ensures)
-    (ap parts (c.requires.texts ∙ sym c.requires.system) ∙ c.tick_parts-executed.ensures.records) in
-    subst (λ t. OnOk c.write_tick_parts.result (Passes (g.S.Sink.taken c.args.out.now) (g.S.Sink.taken c.write_tick_parts.new.out) c.args.text.now c.write_tick_parts.new.text t)) text
-    c.write_tick_parts.ensures.written
-
-pub returns-clause-beginning : goal.returns-clause-beginning
-returns-clause-beginning g c =
-    let k : Run = c.args.kernel.now in
-    let T = c.args.texts.now in
-    let parts = λ (S : System). c.tick_parts-executed.new.before ++ idle_or_executed S c.tick_parts-executed.result ∷ c.tick_parts-executed.new.behind in
-    let text =
-    whole_text c.args._system.now T.names c.args.shown k c.args.digits.now c.number_shown-number.result (parts T) c.requires.all
-    (ap (λ (S : System). S.names) c.requires.texts) c.requires.counted
-    (number_of_last c.args.shown k c.tick_parts-executed.new.self c.number_shown-number.result c.tick_parts-executed.ensures.next c.number_shown-number.ensures)
-    (ap parts (c.requires.texts ∙ sym c.requires.system) ∙ c.tick_parts-executed.ensures.records) in
-    subst (λ t. OnErr c.write_tick_parts.result (AppendsSome (g.S.Sink.taken c.args.out.now) (g.S.Sink.taken c.write_tick_parts.new.out) (c.args.text.now ++ t))) text
-    c.write_tick_parts.ensures.beginning
+    (ap parts (sym c.requires.ready.system) ∙ c.tick_parts-executed.ensures.records) in
+    record {
+      puts =
+          subst
+          (λ t. PutsBehind g.S.Sink.taken g.S.Sink.has_failed c.args.out.now c.write_tick_parts.new.out c.args.room.now.text c.write_tick_parts.new.text t c.write_tick_parts.result)
+          text c.write_tick_parts.ensures;
+      next = c.tick_parts-executed.ensures.next;
+    }

@@ -1,8 +1,109 @@
-use Rattle.trace_lines.proofs.SinkLemmas.{passed_some, on_err_map}
+use Rattle.std.proofs.Common.{◌≡◌, ℕ, ◌+◌, ◌<◌, ◌≤◌, false, ◌||◌, Option, [], ◌++◌, refl, sym, ap, subst, ◌∙◌, arith}
+use Rattle.std.specs.Prelude.{nat_le}
+use Rattle.osek_base.specs.System.{System}
+use Rattle.osek_base.specs.Trace.{run}
+use Rattle.kernel.specs.Run.{Run, is_over, run_of}
+use Rattle.tracer.specs.Shown.{numbers_shown, text_shown, tick_text_shown}
+use Rattle.trace_lines.specs.Sinks.{AppendsSome, Passes}
+use Rattle.trace_lines.proofs.SinkLemmas.{passes_none, passed_all, passed_some, stops, goes_on}
+use Rattle.tracer.proofs.RunTextLemmas.{text_begun, passes_tick, passes_part, passed_whole}
 use Rattle.tracer.proofs.written_ticks.write_ticks.Goals as goal
+use Rattle.tracer.proofs.written_ticks.write_ticks.Goals.{else-ticks-test, then-ticks-test+then-is_shut_down}
 
-pub returns-clause-beginning : goal.returns-clause-beginning
-returns-clause-beginning g c =
-    on_err_map c.flush.result _ _
-    (passed_some _ _ _ _ _ _ (rw (c.new-text.ensures) at c.in_ok-pass_ticks.ensures.written))
-    c.flush.ensures.beginning
+-- before its last tick a run is over exactly where it was shut down
+over_is : (r : Run) (ticks : ℕ) → r.ticks < ticks → ticks ≤ 1000000 → is_over r ≡ (run_of r).state.over
+over_is r ticks below limit =
+    let few : nat_le 1000000 r.ticks ≡ false = grind (arith, below, limit) in
+    ap (λ b. b || (run_of r).state.over) few
+
+pub pass_tick-requires : goal.pass_tick-requires
+pass_tick-requires g c =
+    let v = c.ticks.invariant in
+    record {
+      system = ap (λ (r : Run). r.system) v.at ∙ c.requires.system ∙ sym v.kept;
+      counted = v.counted;
+      blockers = c.requires.blockers;
+      going = over_is c.ticks.kernel c.args.ticks (rw (c.ticks-in-ticks.ensures) at c.ticks-test.true) c.requires.ticks ∙ sym c.is_shut_down.ensures ∙ c.if-is_shut_down.false;
+    }
+
+pub ticks-init : goal.ticks-init
+ticks-init g c =
+    let k : Run = c.args.kernel.now in
+    let V : System = c.args.texts.now in
+    let numbers : ℕ → Option ℕ = numbers_shown c.args.shown k.system k.mode k.arrivals in
+    let taken = g.S.Sink.taken c.args.out.now in
+    record {
+      so_far =
+          subst (λ n. Passes taken taken [] c.new-4.result (text_shown V c.args.shown numbers (run k.system k.mode k.arrivals n))) (sym c.requires.begun)
+          (subst (Passes taken taken [] c.new-4.result) (sym (text_begun V c.args.shown numbers k.system k.mode k.arrivals))
+          (subst (λ w. Passes taken taken [] w []) (sym c.new-4.ensures) (passes_none taken [])));
+      at = refl;
+      within = omega (arith, c.requires.begun);
+      counted = c.new.ensures ∙ sym c.requires.begun;
+      kept = refl;
+      still = refl;
+    }
+
+pub ticks-preserved : goal.ticks-preserved
+ticks-preserved g c =
+    let k : Run = c.args.kernel.now in
+    let V : System = c.args.texts.now in
+    let numbers : ℕ → Option ℕ = numbers_shown c.args.shown k.system k.mode k.arrivals in
+    let v = c.ticks.invariant in
+    let n = c.ticks.kernel.ticks in
+    let below : n < c.args.ticks = rw (c.ticks-in-ticks.ensures) at c.ticks-test.true in
+    let on = over_is c.ticks.kernel c.args.ticks below c.requires.ticks ∙ sym c.is_shut_down.ensures ∙ c.if-is_shut_down.false in
+    let going = ap is_over (sym v.at) ∙ on in
+    let text = ap (λ (S : System). tick_text_shown S c.args.shown c.ticks.kernel.system c.ticks.kernel.mode c.ticks.kernel.arrivals n) v.kept
+    ∙ ap (λ (r : Run). tick_text_shown V c.args.shown r.system r.mode r.arrivals r.ticks) v.at in
+    let more : c.pass_tick.new.kernel.ticks ≡ n + 1 = ap (λ (r : Run). r.ticks) c.pass_tick.ensures.next in
+    record {
+      so_far =
+          subst (λ m. Passes (g.S.Sink.taken c.args.out.now) (g.S.Sink.taken c.pass_tick.new.out) [] c.pass_tick.new.room.text (text_shown V c.args.shown numbers (run k.system k.mode k.arrivals m))) (sym more)
+          (passes_tick V c.args.shown numbers k.system k.mode k.arrivals _ _ _ _ _ _ n going v.so_far
+          (subst (Passes (g.S.Sink.taken c.ticks.out) (g.S.Sink.taken c.pass_tick.new.out) c.ticks.room.text c.pass_tick.new.room.text) text c.in_ok-pass_tick.ensures.puts.written));
+      at =
+          c.pass_tick.ensures.next ∙ ap (λ (r : Run). record r { ticks = r.ticks + 1 }) v.at
+          ∙ ap (λ m. record k { ticks = m }) (sym more);
+      within = omega (arith, more, below);
+      counted = c.advance.ensures ∙ ap (λ m. m + 1) v.counted ∙ sym more;
+      kept = v.kept;
+      still = c.in_ok-pass_tick.ensures.puts.still ∙ v.still;
+    }
+
+pub returns-in_err-pass_tick : goal.returns-in_err-pass_tick
+returns-in_err-pass_tick g c =
+    let k : Run = c.args.kernel.now in
+    let V : System = c.args.texts.now in
+    let numbers : ℕ → Option ℕ = numbers_shown c.args.shown k.system k.mode k.arrivals in
+    let v = c.ticks.invariant in
+    let n = c.ticks.kernel.ticks in
+    let below : n < c.args.ticks = rw (c.ticks-in-ticks.ensures) at c.ticks-test.true in
+    let on = over_is c.ticks.kernel c.args.ticks below c.requires.ticks ∙ sym c.is_shut_down.ensures ∙ c.if-is_shut_down.false in
+    let text = ap (λ (S : System). tick_text_shown S c.args.shown c.ticks.kernel.system c.ticks.kernel.mode c.ticks.kernel.arrivals n) v.kept
+    ∙ ap (λ (r : Run). tick_text_shown V c.args.shown r.system r.mode r.arrivals r.ticks) v.at in
+    stops g.S.Sink.taken g.S.Sink.has_failed _ _ _ c.args.out.now _ c.from_residual.result c.from_residual.ensures.1
+    (passes_part V c.args.shown numbers k.system k.mode k.arrivals _ _ _ _ _ n c.args.ticks below (ap is_over (sym v.at) ∙ on) v.so_far
+    (subst (λ t. AppendsSome (g.S.Sink.taken c.ticks.out) (g.S.Sink.taken c.pass_tick.new.out) (c.ticks.room.text ++ t)) text c.in_err-pass_tick.ensures.puts.beginning))
+    c.in_err-pass_tick.ensures.puts.failed
+
+pub returns : goal.returns
+returns g c =
+    let k : Run = c.args.kernel.now in
+    let V : System = c.args.texts.now in
+    let numbers : ℕ → Option ℕ = numbers_shown c.args.shown k.system k.mode k.arrivals in
+    let v = c.ticks.invariant in
+    let n = c.ticks.kernel.ticks in
+    let taken = g.S.Sink.taken in
+    let passed : Passes (taken c.args.out.now) (taken c.ticks.out) [] c.ticks.room.text (text_shown V c.args.shown numbers (run k.system k.mode k.arrivals c.args.ticks)) =
+    elim c.ticks-test.branch [
+      | else-ticks-test w ↦
+          let last : n ≡ c.args.ticks = grind (arith, v.within, w.ticks-test.false, c.ticks-in-ticks.ensures) in
+          subst (λ m. Passes (taken c.args.out.now) (taken c.ticks.out) [] c.ticks.room.text (text_shown V c.args.shown numbers (run k.system k.mode k.arrivals m))) last v.so_far
+      | then-ticks-test+then-is_shut_down w ↦
+          let below : n < c.args.ticks = rw (c.ticks-in-ticks.ensures) at w.ticks-test.true in
+          let over = over_is c.ticks.kernel c.args.ticks below c.requires.ticks ∙ sym w.is_shut_down.ensures ∙ w.if-is_shut_down.true in
+          passed_whole V c.args.shown numbers k.system k.mode k.arrivals _ _ _ _ n c.args.ticks below c.requires.ticks (ap is_over (sym v.at) ∙ over) v.so_far
+    ] in
+    goes_on g.S.Sink.taken g.S.Sink.has_failed _ _ _ _ c.args.out.now c.ticks.out _ c.flush.result v.still
+    (passed_all _ _ _ _ _ _ passed) (passed_some _ _ _ _ _ _ passed) c.flush.ensures.puts

@@ -10,7 +10,6 @@ invariant_of-result-2 g c = record {
     system = c.in_ok-states.ensures.system i;
     needs = c.in_ok-states.ensures.needs i;
   };
-  system = ap system_of c.current.view_is ∙ c.in_ok-current.ensures.booted.system;
+  system = ap system_of c.current.view_is ∙ c.in_ok-current.ensures.system;
   of_run = subst (IsOfRun false) (sym c.current.view_is) c.in_ok-current.ensures.of_run;
-  remembered = c.new-memo.ensures _;
 }

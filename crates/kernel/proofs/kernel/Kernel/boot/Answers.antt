@@ -5,15 +5,14 @@ use Rattle.osek_base.specs.System.{System}
 use Rattle.kernel.specs.Machine.{HasCome, next_tick}
 use Rattle.kernel.specs.Run.{AreLeft}
 use Rattle.kernel.proofs.ArrivalLemmas.{all_left}
-use Rattle.kernel.proofs.LawLemmas.{lawful}
 use Rattle.kernel.proofs.kernel.Kernel.boot.Goals as goal
 
 pub invariant_of-result : goal.invariant_of-result
 invariant_of-result g c =
-    let b = c.in_ok-machine.ensures.booted in
+    let b = c.in_ok-machine.ensures in
     let m = c.in_ok-machine.machine in
     record {
-      proper = c.mode_of.ensures.proper;
+      proper = c.names.ensures.proper;
       known = c.requires;
       routines = c.in_ok-routines.ensures ∙ ap (λ (xs : List Arrival). map (λ (a : Arrival). a.routine) xs) c.list.ensures.value;
       left =
@@ -23,6 +22,3 @@ invariant_of-result g c =
       forward = omega arith;
       come = subst (λ (T : System). HasCome g.B.Blockers.are_counted T c.in-Some.mode c.args.arrivals (next_tick m) m) b.system (b.begins c.args.arrivals);
     }
-
-pub returns-clause-lawful : goal.returns-clause-lawful
-returns-clause-lawful g c = lawful _ c.mode_of.ensures.proper

@@ -7,4 +7,4 @@ pub returns-clause-seen : goal.returns-clause-seen
 returns-clause-seen g c =
     let k = c.args.self.now in
     c.tick_with.ensures.seen
-    ∙ tasks_told k.system c.tick_with.ensures.proper k.mode k.arrivals k.ticks (going k.system k.mode k.arrivals k.ticks c.requires).on
+    ∙ tasks_told k.system c.tick_with.ensures.done.proper k.mode k.arrivals k.ticks (going k.system k.mode k.arrivals k.ticks c.requires).on

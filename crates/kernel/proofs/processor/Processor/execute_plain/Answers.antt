@@ -13,12 +13,17 @@ use Rattle.kernel.proofs.NextLemmas.{executed_does, fetched}
 use Rattle.kernel.proofs.PlaceLemmas.{has_next, plain_stays}
 use Rattle.kernel.proofs.processor.Processor.execute_plain.Goals as goal
 
-pub exec_packed-requires-clause-next : goal.exec_packed-requires-clause-next
-exec_packed-requires-clause-next g c =
+pub exec_packed-requires-clause-plain : goal.exec_packed-requires-clause-plain
+exec_packed-requires-clause-plain g c =
     let k = c.self.inside in
     let next = c.args.next in
     let f = fetched c.args.self.now k.system.now k.core k.windows k.code next c.self.view_is c.self.invariant c.requires.next in
-    has_next k.core.system next.owner (executing k.core next.owner).cpu f.known (plain_of (instr_of next.packed)) (f.instruction ∙ plain_is (instr_of next.packed) c.requires.plain)
+    record {
+      tells = c.requires.plain;
+      next =
+          has_next k.core.system next.owner (executing k.core next.owner).cpu f.known (plain_of (instr_of next.packed))
+          (f.instruction ∙ plain_is (instr_of next.packed) c.requires.plain);
+    }
 
 pub exec_packed-requires-clause-placed : goal.exec_packed-requires-clause-placed
 exec_packed-requires-clause-placed g c =

@@ -1,7 +1,8 @@
-use Rattle.std.proofs.Common.{◌++◌, ◌+◌, ◌<◌, refl, sym, ◌∙◌, ap, subst}
+use Rattle.std.proofs.Common.{◌≡◌, ◌++◌, ◌+◌, ◌<◌, List, length, refl, sym, ◌∙◌, ap, subst, arith}
 use Rattle.osek_base.specs.declared.instr.Instr.{Instr}
 use Rattle.osek_base.specs.declared.trace_event.Outcome.{Outcome}
 use Rattle.osek_base.specs.declared.trace_event.Source.{Source}
+use Rattle.osek_base.specs.declared.trace_event.TraceEvent.{TraceEvent}
 use Rattle.osek_base.specs.Instruction.{Context}
 use Rattle.osek_base.specs.Tick.{answered, error_record}
 use Rattle.run_laws.proofs.Formed.{IsPlaced}
@@ -19,7 +20,7 @@ pub serve-answer-requires-clause-known : goal.serve-answer-requires-clause-known
 serve-answer-requires-clause-known g c =
     let k = c.self.inside in
     let next = c.args.next.now in
-    let f = fetched c.args.self.now k.system.now k.core k.windows k.code next c.self.view_is c.self.invariant c.requires.next in
+    let f = fetched c.args.self.now k.system.now k.core k.windows k.code next c.self.view_is c.self.invariant c.requires.comes.next in
     let e = executing k.core next.owner in
     let is = c.requires.service in
     service_known k.core.system e.owner e.cpu f.known c.args.service.now (f.instruction ∙ is)
@@ -28,7 +29,7 @@ pub answer-requires-clause-room : goal.answer-requires-clause-room
 answer-requires-clause-room g c = λ there.
     let k = c.self.inside in
     let next = c.args.next.now in
-    let f = fetched c.args.self.now k.system.now k.core k.windows k.code next c.self.view_is c.self.invariant c.requires.next in
+    let f = fetched c.args.self.now k.system.now k.core k.windows k.code next c.self.view_is c.self.invariant c.requires.comes.next in
     let e = executing k.core next.owner in
     let is = c.requires.service in
     subst (λ (x : Context). x.place + 1 < 1024)
@@ -39,7 +40,7 @@ pub answer-requires-clause-placed : goal.answer-requires-clause-placed
 answer-requires-clause-placed g c = λ there.
     let k = c.self.inside in
     let next = c.args.next.now in
-    let f = fetched c.args.self.now k.system.now k.core k.windows k.code next c.self.view_is c.self.invariant c.requires.next in
+    let f = fetched c.args.self.now k.system.now k.core k.windows k.code next c.self.view_is c.self.invariant c.requires.comes.next in
     let e = executing k.core next.owner in
     let r = c.serve-answer in
     let is = c.requires.service in
@@ -48,22 +49,27 @@ answer-requires-clause-placed g c = λ there.
     (sym (context_still k.core r.new.self e.owner r.ensures.caller there))
     (service_stays k.core.system e.owner e.cpu f.known f.proper c.args.service.now _ _ (f.instruction ∙ is) f.placed))
 
-pub returns-clause-does : goal.returns-clause-does
-returns-clause-does g c =
+pub returns : goal.returns
+returns g c =
     let k = c.self.inside in
     let next = c.args.next.now in
-    let f = fetched c.args.self.now k.system.now k.core k.windows k.code next c.self.view_is c.self.invariant c.requires.next in
+    let f = fetched c.args.self.now k.system.now k.core k.windows k.code next c.self.view_is c.self.invariant c.requires.comes.next in
     let e = executing k.core next.owner in
     let r = c.serve-answer in
     let call = c.args.service.now in
     let status = sym c.in-Some.is ∙ r.ensures.status in
     let is = c.requires.service in
-    executed_does c.args.self.now k.core c.answer.new.self k.windows k.windows next c.self.view_is f (Instr.Service call) is
-    (Outcome.Answer c.in-Some.status r.result.results) c.record_error.new.records (c.answer.ensures.system ∙ r.ensures.system)
-    (service_goes k.core.system e call (word k.windows) k.core r.new.self c.answer.new.self (answered c.in-Some.status r.result.results e.cpu)
-    c.in-Some.status r.result.results f.who status r.ensures.results r.ensures.kept refl
-    (c.answer.ensures.kept ∙ answered_still k.core r.new.self e.owner c.in-Some.status r.result.results r.ensures.caller))
-    (service_told k.core.system e call (word k.windows) k.core c.in-Some.status r.result.results f.who status r.ensures.results
-    c.record_error.new.records
-    (c.record_error.ensures.events ∙ ap (λ v. v ++ error_record k.system.now (Source.Owner e.owner) (Instr.Service call) c.in-Some.status) c.requires.none
-    ∙ ap (λ T. error_record T (Source.Owner e.owner) (Instr.Service call) c.in-Some.status) (sym c.self.invariant.system)))
+    let none : length c.args.behind.now ≡ 0 = ap (λ (v : List TraceEvent). length v) c.requires.comes.none in
+    record {
+      does =
+          executed_does c.args.self.now k.core c.answer.new.self k.windows k.windows next c.self.view_is f (Instr.Service call) is
+          (Outcome.Answer c.in-Some.status r.result.results) c.record_error.new.records (c.answer.ensures.system ∙ r.ensures.system)
+          (service_goes k.core.system e call (word k.windows) k.core r.new.self c.answer.new.self (answered c.in-Some.status r.result.results e.cpu)
+          c.in-Some.status r.result.results f.who status r.ensures.results r.ensures.kept refl
+          (c.answer.ensures.kept ∙ answered_still k.core r.new.self e.owner c.in-Some.status r.result.results r.ensures.caller))
+          (service_told k.core.system e call (word k.windows) k.core c.in-Some.status r.result.results f.who status r.ensures.results
+          c.record_error.new.records
+          (c.record_error.ensures.value ∙ ap (λ v. v ++ error_record k.system.now (Source.Owner e.owner) (Instr.Service call) c.in-Some.status) c.requires.comes.none
+          ∙ ap (λ T. error_record T (Source.Owner e.owner) (Instr.Service call) c.in-Some.status) (sym c.self.invariant.system)));
+      few = omega (arith, c.record_error.ensures.few, none);
+    }

@@ -1,12 +1,12 @@
-use Rattle.std.proofs.Common.{length, ◌≡◌, ◌+◌, ◌<◌, ◌∷◌, ◌++◌, false, sym, ◌∙◌, ap, subst}
+use Rattle.std.proofs.Common.{length, ◌≡◌, ◌+◌, ◌<◌, ◌∷◌, ◌++◌, false, sym, ◌∙◌, ap, subst, arith}
+use Rattle.std.specs.Prelude.{IfSome}
 use Rattle.std.specs.List.{All}
 use Rattle.std.proofs.lemmas.List.Elements.{recursion_from_All}
 use Rattle.osek_base.specs.declared.limits.TheConstants.{MAX_TICKS}
-use Rattle.osek_base.specs.Executed.{idle_or_executed}
-use Rattle.osek_base.specs.Trace.{arriving}
-use Rattle.kernel.specs.Machine.{IsOfRun, IsRun, Machine, Ticks, between, next_tick, picture, system_of}
+use Rattle.osek_base.specs.Executed.{StandsIn, idle_or_executed}
+use Rattle.kernel.specs.Machine.{HasTicked, Machine, Ticks, between, next_tick, picture, system_of}
 use Rattle.kernel.specs.Processor.{system_of as system_in}
-use Rattle.kernel.proofs.TickLemmas.{before_tick, has_begun, may_act, ticked}
+use Rattle.kernel.proofs.TickLemmas.{has_begun, may_start, ticked}
 use Rattle.kernel.proofs.ticking.Machine.tick_with.Goals as goal
 
 -- the tick is below the limit
@@ -17,22 +17,22 @@ Follows m = next_tick m < MAX_TICKS
 abbrev IsOn : Machine → Type 0
 IsOn m = (picture m).over ≡ false
 
-pub early_phases-requires-clause-before : goal.early_phases-requires-clause-before
-early_phases-requires-clause-before g c =
-    let k = c.self.inside in
-    before_tick g.B.Blockers.are_counted k.watched k.ticks k.opening k.acted c.self.invariant (subst Follows (sym c.self.view_is) c.requires.limit)
-
 pub early_phases-requires-clause-may : goal.early_phases-requires-clause-may
 early_phases-requires-clause-may g c =
     let k = c.self.inside in
-    may_act g.B.Blockers.are_counted k.watched k.ticks k.opening k.acted c.self.invariant (subst Follows (sym c.self.view_is) c.requires.limit)
+    may_start g.B.Blockers.are_counted k.watched k.ticks k.opening k.acted c.self.invariant (subst Follows (sym c.self.view_is) c.requires.limit)
+    c.put_first.new.records c.put_first.ensures.value
 
-pub execute_phase-executed-requires-clause-begun : goal.execute_phase-executed-requires-clause-begun
-execute_phase-executed-requires-clause-begun g c =
+pub execute_phase-executed-requires : goal.execute_phase-executed-requires
+execute_phase-executed-requires g c =
     let k = c.self.inside in
-    has_begun g.B.Blockers.are_counted k.watched k.ticks k.opening k.acted c.self.invariant (subst Follows (sym c.self.view_is) c.requires.limit)
-    c.args.arrived.now c.early_phases.new.self c.begin.new.self c.put_first.new.records c.early_phases.new.before
-    (subst IsOn (sym c.self.view_is) c.requires.on) c.early_phases.ensures.does c.begin.ensures
+    record {
+      begun =
+          has_begun g.B.Blockers.are_counted k.watched k.ticks k.opening k.acted c.self.invariant (subst Follows (sym c.self.view_is) c.requires.limit)
+          c.args.arrived.now c.early_phases.new.self c.begin.new.self c.put_first.new.records c.early_phases.new.before
+          (subst IsOn (sym c.self.view_is) c.requires.on) c.early_phases.ensures.does c.begin.ensures;
+      none = c.clear.ensures;
+    }
 
 pub invariant_of-self : goal.invariant_of-self
 invariant_of-self g c =
@@ -47,41 +47,11 @@ invariant_of-self g c =
     c.put_first.ensures.value c.put_first.ensures.after c.early_phases.ensures.acted
     (record { one = c.early_phases.ensures.does; two = c.begin.ensures; three = r.ensures.does; four = c.last_phase.ensures.does })).keeps
 
-pub returns-clause-was_of_run : goal.returns-clause-was_of_run
-returns-clause-was_of_run g c = subst (IsOfRun g.B.Blockers.are_counted) c.self.view_is c.self.invariant.of_run
-
-pub returns-clause-of_run : goal.returns-clause-of_run
-returns-clause-of_run g c =
+pub returns-clause-done : goal.returns-clause-done
+returns-clause-done g c =
     let k = c.self.inside in
     let r = c.execute_phase-executed in
-    (ticked g.B.Blockers.are_counted c.args.arrived.now k.ticks k.watched c.early_phases.new.self c.begin.new.self r.new.self c.last_phase.new.self
-    k.opening c.put_first.new.opening c.put_first.new.records c.early_phases.new.before r.new.behind c.last_phase.new.records
-    k.acted c.early_phases.new.acted (idle_or_executed (system_in c.begin.new.self.processor) r.result) c.self.invariant (subst Follows (sym c.self.view_is) c.requires.limit)
-    (subst IsOn (sym c.self.view_is) c.requires.on)
-    (recursion_from_All (λ i. i < length (system_in k.watched.processor).routines) c.args.arrived.now
-    (subst (λ (x : Machine). All (λ i. i < length (system_of x).routines) c.args.arrived.now) (sym c.self.view_is) c.requires.known))
-    c.put_first.ensures.value c.put_first.ensures.after c.early_phases.ensures.acted
-    (record { one = c.early_phases.ensures.does; two = c.begin.ensures; three = r.ensures.does; four = c.last_phase.ensures.does })).keeps.of_run
-
-pub returns-clause-goes_on : goal.returns-clause-goes_on
-returns-clause-goes_on g c =
-    let k = c.self.inside in
-    let r = c.execute_phase-executed in
-    let all = ticked g.B.Blockers.are_counted c.args.arrived.now k.ticks k.watched c.early_phases.new.self c.begin.new.self r.new.self c.last_phase.new.self
-    k.opening c.put_first.new.opening c.put_first.new.records c.early_phases.new.before r.new.behind c.last_phase.new.records
-    k.acted c.early_phases.new.acted (idle_or_executed (system_in c.begin.new.self.processor) r.result) c.self.invariant (subst Follows (sym c.self.view_is) c.requires.limit)
-    (subst IsOn (sym c.self.view_is) c.requires.on)
-    (recursion_from_All (λ i. i < length (system_in k.watched.processor).routines) c.args.arrived.now
-    (subst (λ (x : Machine). All (λ i. i < length (system_of x).routines) c.args.arrived.now) (sym c.self.view_is) c.requires.known))
-    c.put_first.ensures.value c.put_first.ensures.after c.early_phases.ensures.acted
-    (record { one = c.early_phases.ensures.does; two = c.begin.ensures; three = r.ensures.does; four = c.last_phase.ensures.does }) in
-    λ mode arrivals arrive come. all.goes_on mode arrivals (ap (λ (x : Machine). arriving arrivals (next_tick x)) c.self.view_is ∙ arrive)
-    (subst (IsRun g.B.Blockers.are_counted mode arrivals) (sym c.self.view_is) come)
-
-pub returns-clause-ticks : goal.returns-clause-ticks
-returns-clause-ticks g c =
-    let k = c.self.inside in
-    let r = c.execute_phase-executed in
+    let counted = g.B.Blockers.are_counted in
     let all = ticked g.B.Blockers.are_counted c.args.arrived.now k.ticks k.watched c.early_phases.new.self c.begin.new.self r.new.self c.last_phase.new.self
     k.opening c.put_first.new.opening c.put_first.new.records c.early_phases.new.before r.new.behind c.last_phase.new.records
     k.acted c.early_phases.new.acted (idle_or_executed (system_in c.begin.new.self.processor) r.result) c.self.invariant (subst Follows (sym c.self.view_is) c.requires.limit)
@@ -92,7 +62,17 @@ returns-clause-ticks g c =
     (record { one = c.early_phases.ensures.does; two = c.begin.ensures; three = r.ensures.does; four = c.last_phase.ensures.does }) in
     let system : system_in c.begin.new.self.processor ≡ system_in k.watched.processor =
     ap system_in c.begin.ensures.processor ∙ c.early_phases.ensures.does.does.system in
-    let old = between k.watched k.ticks k.opening k.acted in
     let new = between c.last_phase.new.self (k.ticks + 1) c.put_first.new.opening c.early_phases.new.acted in
-    subst (λ (x : Machine). Ticks c.args.arrived.now x new (c.early_phases.new.before ++ idle_or_executed (system_of x) r.result ∷ c.last_phase.new.records)) c.self.view_is
-    (subst (λ T. Ticks c.args.arrived.now old new (c.early_phases.new.before ++ idle_or_executed T r.result ∷ c.last_phase.new.records)) system all.ticks)
+    let behind = c.last_phase.new.records in
+    subst (λ (x : Machine). HasTicked counted c.args.arrived.now x new c.early_phases.new.before r.result behind) c.self.view_is
+    (record {
+      ticks =
+          subst (λ T. Ticks c.args.arrived.now (between k.watched k.ticks k.opening k.acted) new (c.early_phases.new.before ++ idle_or_executed T r.result ∷ behind))
+          system all.ticks;
+      goes_on = all.goes_on;
+      was_of_run = c.self.invariant.of_run;
+      of_run = all.keeps.of_run;
+      there = subst (λ T. IfSome r.result (StandsIn T)) system r.ensures.there;
+      few = omega (arith, c.early_phases.ensures.few, r.ensures.few, c.last_phase.ensures.few);
+      acted = c.early_phases.ensures.acted;
+    })

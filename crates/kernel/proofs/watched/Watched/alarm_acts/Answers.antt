@@ -1,19 +1,41 @@
 use Rattle.std.proofs.Common.{◌<◌, length, sym, subst}
-use Rattle.kernel.specs.Watches.{MayAct, Watched}
+use Rattle.kernel.specs.declared.stamping.Look.{Look}
+use Rattle.kernel.specs.Looking.{MayLook}
+use Rattle.kernel.specs.Watches.{AlarmActs, MayAct, Watched}
 use Rattle.kernel.proofs.WatchLemmas.{acts_watched, may_act_more, watched_of}
 use Rattle.kernel.proofs.watched.Watched.alarm_acts.Goals as goal
 
-pub returns-clause-may : goal.returns-clause-may
-returns-clause-may g c =
+pub looked_at-requires : goal.looked_at-requires
+looked_at-requires g c = λ on.
+    let k = c.self.inside in
+    let task = c.acted_on-task in
+    let may = subst (MayAct g.B.Blockers.are_counted) (sym c.self.view_is) c.requires.may in
+    subst (λ (v : Look). MayLook v c.look.result k.blocking.stamps) (sym c.look-before.ensures.value)
+    (record {
+      task = subst (λ n. task.result < n) (sym (c.self.invariant on)) task.ensures.known;
+      counted = may.each on task.result;
+      few = c.look.ensures.few;
+    })
+
+pub returns : goal.returns
+returns g c =
     let counted = g.B.Blockers.are_counted in
     let old : Watched = watched_of c.self.inside.processor c.self.inside.blocking in
     let new : Watched = watched_of c.alarm_acts-status.new.self c.looked_at.new.self in
     let task = c.acted_on-task in
-    may_act_more counted c.args.alarm c.args.tick old new c.args.records.now c.alarm_acts-status.new.records
-    (acts_watched counted c.args.alarm task.result c.args.tick old c.alarm_acts-status.new.self c.look-before.result c.look.result c.looked_at.new.self
-    c.args.records.now c.alarm_acts-status.new.records c.alarm_acts-status.ensures.does task.ensures.value c.look-before.ensures.value c.look.ensures.value
-    c.looked_at.ensures.stamps c.looked_at.ensures.told)
-    (λ on.
-    subst (λ n. n < length c.self.inside.blocking.stamps) task.ensures.value
-    (subst (λ n. task.result < n) (sym (c.self.invariant on)) task.ensures.known))
-    (subst (λ w. MayAct counted w) (sym c.self.view_is) c.requires.may)
+    let r = c.alarm_acts-status in
+    let acted = acts_watched counted c.args.alarm task.result c.args.tick old r.new.self c.look-before.result c.look.result c.looked_at.new.self
+    c.args.records.now r.new.records r.ensures.does task.ensures.value c.look-before.ensures.value c.look.ensures.value
+    c.looked_at.ensures.stamps c.looked_at.ensures.told in
+    subst (λ w. AlarmActs counted c.args.alarm c.args.tick w new c.args.records.now r.new.records r.result) c.self.view_is
+    (record {
+      does = acted;
+      may =
+          may_act_more counted c.args.alarm c.args.tick old new c.args.records.now r.new.records acted
+          (λ on.
+          subst (λ n. n < length c.self.inside.blocking.stamps) task.ensures.value
+          (subst (λ n. task.result < n) (sym (c.self.invariant on)) task.ensures.known))
+          (subst (λ w. MayAct counted w) (sym c.self.view_is) c.requires.may);
+      status = r.ensures.status;
+      few = r.ensures.few;
+    })

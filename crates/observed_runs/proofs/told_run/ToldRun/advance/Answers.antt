@@ -19,16 +19,16 @@ invariant_of-self g c =
     let e = c.of-self-inside in
     let v = c.self.invariant in
     let here = sym v.system in
-    let told = executed_told k.system t.new.before t.new.behind t.result k.mode k.arrivals k.ticks t.ensures.records in
+    let told = executed_told k.system t.new.before t.new.behind t.result k.mode k.arrivals k.ticks t.ensures.done.records in
     record {
-      system = ap (λ (r : Run). r.system) t.ensures.next ∙ v.system;
-      few = subst (λ (r : Run). length r.arrivals ≤ MAX_ARRIVALS) (sym t.ensures.next) v.few;
+      system = ap (λ (r : Run). r.system) t.ensures.done.next ∙ v.system;
+      few = subst (λ (r : Run). length r.arrivals ≤ MAX_ARRIVALS) (sym t.ensures.done.next) v.few;
       told = λ later.
           one_on k new
           (λ S mode arrivals n. IsTold S mode arrivals n (run_of new).state c.note.new.self e.result t.new.at.tasks.items c.join.new.records)
-          t.ensures.next
+          t.ensures.done.next
           (record {
-            behind = state_more k new t.ensures.next (subst (λ (r : Run). is_over r ≡ false) (sym c.self.view_is) c.requires);
+            behind = state_more k new t.ensures.done.next (subst (λ (r : Run). is_over r ≡ false) (sym c.self.view_is) c.requires);
             known = record {
               jobs =
                   c.note.ensures.jobs
@@ -44,6 +44,6 @@ invariant_of-self g c =
             };
             each = t.ensures.seen;
             recorded =
-                c.join.ensures ∙ ap (λ S. t.new.before ++ idle_or_executed S t.result ∷ t.new.behind) here ∙ t.ensures.records;
+                c.join.ensures ∙ ap (λ S. t.new.before ++ idle_or_executed S t.result ∷ t.new.behind) here ∙ t.ensures.done.records;
           });
     }

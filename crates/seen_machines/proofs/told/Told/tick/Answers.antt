@@ -12,10 +12,10 @@ returns-clause-told g c =
     let t = c.tick_seen-executed in
     let e = c.of-self.ensures in
     let S : System = system_of m in
-    let here : c.system.result.now ≡ S = c.system.ensures ∙ t.ensures.ticks.system in
+    let here : c.system.result.now ≡ S = c.system.ensures ∙ t.ensures.done.ticks.system in
     let told : t.result ≡ executed_in (tick_in S c.args.arrived.now (picture m)).events =
-    executed_is g.B.Blockers.are_counted m c.args.arrived.now t.ensures.was_of_run c.requires.on
-    t.new.before t.new.behind t.result t.ensures.ticks.events in
+    executed_is g.B.Blockers.are_counted m c.args.arrived.now t.ensures.done.was_of_run c.requires.on
+    t.new.before t.new.behind t.result t.ensures.done.ticks.events in
     record {
       jobs = c.note.ensures.jobs;
       pending = c.note.ensures.pending;

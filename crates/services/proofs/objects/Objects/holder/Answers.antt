@@ -12,7 +12,7 @@ returns-then-holds-clause-value g c =
     let count = c.task_count-number-end.ensures.value ∙ ap (λ (k : Objects). length k.system.tasks) c.self.view_is in
     let k = c.loop-number.number in
     let low : k < length o.system.tasks = omega (arith, c.loop-number-test.true, count) in
-    let passes : test k ≡ true = ap test (sym c.new-task.ensures) ∙ sym c.holds.ensures ∙ c.if-holds.true in
+    let passes : test k ≡ true = ap test (sym c.new-task.ensures) ∙ sym (c.holds.ensures ∙ ap (holds_in c.args.resource.now) c.slot.ensures) ∙ c.if-holds.true in
     ap (λ (t : ℕ). Some t) c.new-task.ensures
     ∙ sym (c.loop-number.invariant ∙ first_here test (length o.system.tasks) k low passes)
 
@@ -23,7 +23,7 @@ loop-number-preserved g c =
     let count = c.task_count-number-end.ensures.value ∙ ap (λ (k : Objects). length k.system.tasks) c.self.view_is in
     let k = c.loop-number.number in
     let low : k < length o.system.tasks = omega (arith, c.loop-number-test.true, count) in
-    let fails : test k ≡ false = ap test (sym c.new-task.ensures) ∙ sym c.holds.ensures ∙ c.if-holds.false in
+    let fails : test k ≡ false = ap test (sym c.new-task.ensures) ∙ sym (c.holds.ensures ∙ ap (holds_in c.args.resource.now) c.slot.ensures) ∙ c.if-holds.false in
     c.loop-number.invariant ∙ first_later test (length o.system.tasks) k low fails
 
 pub returns-clause-value : goal.returns-clause-value

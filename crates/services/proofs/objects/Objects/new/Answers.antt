@@ -21,6 +21,7 @@ invariant_of-result g c =
       shared = ap length windows ∙ length-replicate c.resource_count.result no_shared ∙ c.resource_count.ensures.value;
       alarms = search rules;
       room = c.in_ok-with_room.ensures.room ∙ c.room_for.ensures;
+      running = tt;
     }
 
 pub returns-clause-kept : goal.returns-clause-kept

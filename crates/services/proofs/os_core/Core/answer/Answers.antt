@@ -5,11 +5,8 @@ use Rattle.kept_state.specs.KeptTick.{with_context_in}
 use Rattle.services.specs.Objects.{Objects, kept_in}
 use Rattle.services.specs.Calls.{IsThere, MayGoOn, caller_as, context_in}
 use Rattle.services.proofs.DispatchedLemmas.{gone_on_dispatched, still_dispatched}
-use Rattle.services.proofs.StandsLemmas.{fit_where_stands, stands_gone_on_there}
+use Rattle.services.proofs.StandsLemmas.{stands_gone_on_there}
 use Rattle.services.proofs.os_core.Core.answer.Goals as goal
-
-pub answer-requires-clause-fit : goal.answer-requires-clause-fit
-answer-requires-clause-fit g c = fit_where_stands c.self.inside.objects c.self.invariant.stands
 
 pub answer-requires-clause-room : goal.answer-requires-clause-room
 answer-requires-clause-room g c =

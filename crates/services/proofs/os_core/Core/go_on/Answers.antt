@@ -1,4 +1,4 @@
-use Rattle.services.proofs.StandsLemmas.{fit_where_stands, stands_gone_on}
+use Rattle.services.proofs.StandsLemmas.{stands_gone_on}
 use Rattle.services.proofs.os_core.Core.go_on.Goals as goal
 use Rattle.std.proofs.Common.{sym, subst}
 use Rattle.run_laws.proofs.Formed.{IsPlaced}
@@ -8,9 +8,6 @@ use Rattle.kept_state.specs.KeptTick.{with_context_in}
 use Rattle.services.specs.Objects.{kept_in}
 use Rattle.services.specs.Calls.{caller_as}
 use Rattle.services.proofs.DispatchedLemmas.{gone_on_dispatched, still_dispatched}
-
-pub go_on-requires-clause-fit : goal.go_on-requires-clause-fit
-go_on-requires-clause-fit g c = fit_where_stands c.self.inside.objects c.self.invariant.stands
 
 pub invariant_of-self : goal.invariant_of-self
 invariant_of-self g c =

@@ -9,9 +9,6 @@ use Rattle.services.proofs.os_core.Core.reschedule.Goals as goal
 pub reschedule-could-requires-clause-fit : goal.reschedule-could-requires-clause-fit
 reschedule-could-requires-clause-fit g c = fit_where_stands c.self.inside.objects c.self.invariant.stands
 
-pub contender-runner-requires : goal.contender-runner-requires
-contender-runner-requires g c = fit_where_stands c.self.inside.objects c.self.invariant.stands
-
 pub returns-clause-known : goal.returns-clause-known
 returns-clause-known g c =
     let o : Objects = c.self.inside.objects in

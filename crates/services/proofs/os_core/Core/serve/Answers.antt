@@ -1,14 +1,14 @@
-use Rattle.services.specs.AsDefined.{CallsAsDefined}
-use Rattle.services.proofs.AsDefinedLemmas.{called_as_defined}
 use Rattle.std.proofs.Common.{sym, ◌∙◌, subst}
 use Rattle.osek_base.specs.Tick.{at_values}
+use Rattle.osek_base.specs.Types.{ServiceCall}
 use Rattle.kept_state.specs.Standing.{MayServe}
-use Rattle.services.specs.declared.calls.Call.{Call}
+use Rattle.services.specs.AsDefined.{IsServed}
 use Rattle.services.specs.Objects.{Objects, kept_in}
-use Rattle.services.specs.Calls.{IsExecuting, IsKnown, IsSameCaller, context_in}
-use Rattle.services.proofs.CallerLemmas.{same_caller, there}
-use Rattle.services.proofs.DispatchedLemmas.{called_dispatched}
-use Rattle.services.proofs.StandsLemmas.{fit_where_stands, stands_called}
+use Rattle.services.specs.Calls.{IsExecuting, IsKnown, context_in}
+use Rattle.services.proofs.AsDefinedLemmas.{served_as_defined}
+use Rattle.services.proofs.CallerLemmas.{served_caller, there}
+use Rattle.services.proofs.DispatchedLemmas.{served_dispatched}
+use Rattle.services.proofs.StandsLemmas.{fit_where_stands, stands_served}
 use Rattle.services.proofs.os_core.Core.serve.Goals as goal
 
 pub serve_program-answer-requires-clause-fit : goal.serve_program-answer-requires-clause-fit
@@ -26,35 +26,34 @@ serve_program-answer-requires-clause-known g c =
 pub invariant_of-self : goal.invariant_of-self
 invariant_of-self g c =
     let o : Objects = c.self.inside.objects in
-    let call : Call = Call.Service (at_values (context_in (kept_in o) c.args.owner) c.args.service.now) in
-    let n : Objects = c.serve_program-answer.new.self in
+    let call : ServiceCall = at_values (context_in (kept_in o) c.args.owner) c.args.service.now in
+    let r = c.serve_program-answer in
     record {
       stands =
-          stands_called o n c.serve_program-answer.ensures.system call c.self.invariant.stands
+          stands_served o r.new.self r.ensures.system call c.self.invariant.stands
           (subst (λ (k : Objects). IsKnown k.system (at_values (context_in (kept_in k) c.args.owner) c.args.service.now)) (sym c.self.view_is) c.requires.known)
-          (subst (λ (k : Objects). MayServe k.system (kept_in k)) (sym c.self.view_is) c.requires.serves) c.serve_program-answer.ensures.kept;
+          (subst (λ (k : Objects). MayServe k.system (kept_in k)) (sym c.self.view_is) c.requires.serves) r.ensures.kept;
       dispatched = λ known.
-          called_dispatched o n call c.self.inside.is_dispatched c.serve_program-answer.result.status c.serve_program-answer.ensures.system
-          c.serve_program-answer.ensures.kept c.serve_program-answer.ensures.status c.self.invariant.dispatched (sym c.stays_known-self-inside.ensures ∙ known);
+          served_dispatched o r.new.self call c.self.inside.is_dispatched r.result r.ensures c.self.invariant.dispatched
+          (sym c.stays_known-self-inside.ensures ∙ known);
     }
 
-pub returns-clause-caller : goal.returns-clause-caller
-returns-clause-caller g c =
+pub returns : goal.returns
+returns g c =
     let o : Objects = c.self.inside.objects in
-    let call : Call = Call.Service (at_values (context_in (kept_in o) c.args.owner) c.args.service.now) in
-    subst (λ (k : Objects). IsSameCaller k c.serve_program-answer.new.self) c.self.view_is
-    (same_caller o c.serve_program-answer.new.self call c.serve_program-answer.ensures.kept)
-
-pub returns-clause-defined : goal.returns-clause-defined
-returns-clause-defined g c =
-    let o : Objects = c.self.inside.objects in
-    let n : Objects = c.serve_program-answer.new.self in
-    let call : Call = Call.Service (at_values (context_in (kept_in o) c.args.owner) c.args.service.now) in
-    let answer = c.serve_program-answer.result in
+    let call : ServiceCall = at_values (context_in (kept_in o) c.args.owner) c.args.service.now in
+    let r = c.serve_program-answer in
     subst
-    (λ (k : Objects). CallsAsDefined k n (Call.Service (at_values (context_in (kept_in k) c.args.owner) c.args.service.now)) answer.status answer.results)
+    (λ (k : Objects). IsServed (at_values (context_in (kept_in k) c.args.owner) c.args.service.now) k r.new.self r.result)
     c.self.view_is
-    (called_as_defined o n c.serve_program-answer.ensures.system call answer.status answer.results
-    (subst (λ (k : Objects). IsKnown k.system (at_values (context_in (kept_in k) c.args.owner) c.args.service.now)) (sym c.self.view_is) c.requires.known)
-    (subst (λ (k : Objects). MayServe k.system (kept_in k)) (sym c.self.view_is) c.requires.serves)
-    c.serve_program-answer.ensures.status c.serve_program-answer.ensures.results c.serve_program-answer.ensures.kept)
+    (record {
+      system = r.ensures.system;
+      caller = served_caller o r.new.self call r.ensures.kept;
+      status = r.ensures.status;
+      results = r.ensures.results;
+      kept = r.ensures.kept;
+      defined =
+          served_as_defined o r.new.self r.ensures.system call r.result
+          (subst (λ (k : Objects). IsKnown k.system (at_values (context_in (kept_in k) c.args.owner) c.args.service.now)) (sym c.self.view_is) c.requires.known)
+          (subst (λ (k : Objects). MayServe k.system (kept_in k)) (sym c.self.view_is) c.requires.serves) r.ensures;
+    })

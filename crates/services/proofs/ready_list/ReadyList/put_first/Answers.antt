@@ -1,4 +1,4 @@
-use Rattle.std.proofs.Common.{◌<◌, ap, sym, subst}
+use Rattle.std.proofs.Common.{◌<◌, ◌∙◌, ap, sym, subst}
 use Rattle.ready_queues.specs.Kept.{Levels}
 use Rattle.ready_queues.specs.LevelLists.{by_level}
 use Rattle.ready_queues.specs.Queues.{total}
@@ -12,6 +12,10 @@ put_oldest-requires-clause-room g c =
     subst (λ n. n < g.Q.ReadyQueues.room c.self.inside.queues) (total-by_level q)
     (subst (λ (v : Levels). total (by_level v.lists) < v.room) (sym c.self.view_is) c.requires.room)
 
-pub returns-clause-lists : goal.returns-clause-lists
-returns-clause-lists g c =
-    list-put_first (g.Q.ReadyQueues.queues c.self.inside.queues) _ (ap (λ (v : Levels). v.lists) c.self.view_is) c.args.level c.args.task _ c.requires.level c.put_oldest.ensures.tasks
+pub returns : goal.returns
+returns g c = record {
+  lists =
+      list-put_first (g.Q.ReadyQueues.queues c.self.inside.queues) _ (ap (λ (v : Levels). v.lists) c.self.view_is) c.args.level c.args.task _ c.requires.level
+      c.put_oldest.ensures.tasks;
+  room = c.put_oldest.ensures.room ∙ ap (λ (v : Levels). v.room) c.self.view_is;
+}

@@ -30,7 +30,10 @@ returns-clause-task g c =
     let same : Some c.in-Some.task ≡ Some (first (by_level lists c.args.level)) = sym c.in-Some.is ∙ c.take_first.ensures.value ∙ e in
     cc
 
-pub returns-clause-lists : goal.returns-clause-lists
-returns-clause-lists g c =
+pub returns-clause-becomes : goal.returns-clause-becomes
+returns-clause-becomes g c =
     let top = on_top c.args.self.now.lists c.args.level c.requires.level c.requires.some c.requires.none in
-    list-without_first _ _ (ap (λ (v : Levels). v.lists) c.self.view_is) c.args.level _ top c.take_first.ensures.tasks
+    record {
+      lists = list-without_first _ _ (ap (λ (v : Levels). v.lists) c.self.view_is) c.args.level _ top c.take_first.ensures.tasks;
+      room = c.take_first.ensures.room ∙ ap (λ (v : Levels). v.room) c.self.view_is;
+    }

@@ -6,7 +6,7 @@ use Rattle.witnesses.proofs.walk.Walk.begin.Goals as goal
 pub invariant_of-result : goal.invariant_of-result
 invariant_of-result c =
     begun c.args.system.now c.args.mode c.args.arrivals.now c.in_ok-routines.routines.items
-    c.in_ok-machine.machine c.new.result c.in_ok-machine.ensures.booted c.requires
+    c.in_ok-machine.machine c.new.result c.in_ok-machine.ensures c.requires
     (c.in_ok-routines.ensures
     ∙ ap (λ (xs : List Arrival). map (λ (a : Arrival). a.routine) xs) c.list.ensures.value)
     c.list.ensures.kept

@@ -1,4 +1,4 @@
--- What came of a node comes of it once more, also with interrupts that are lost.
+-- A set of routines repeats the set without those whose interrupts are lost.
 use Rattle.std.proofs.Common.{ℕ, ◌≡◌, ◌<◌, ◌≤◌, arith, Bool, true, false, get_or, refl, sym, ◌∙◌, subst, length}
 use Rattle.std.specs.Prelude.{◌≢◌, IsTrue}
 use Rattle.std.specs.Int.{bit_at}
@@ -9,34 +9,15 @@ use Rattle.osek_base.specs.System.{System}
 use Rattle.same_future.specs.Spans.{is_pending_in}
 use Rattle.kept_state.specs.Kept.{Kept}
 use Rattle.kernel.specs.Machine.{Machine, picture}
-use Rattle.search.specs.Rules.{StaysNoted}
+use Rattle.search.specs.Rules.{Repeats}
 use Rattle.bound_labels.specs.Labels.{arrives_in}
 use Rattle.bound_peaks.specs.Peaks.{Peaks, has_come}
 use Rattle.run_bounds.specs.Lost.{IsWithoutLost, LoseNothing, LostChangeNothing}
-use Rattle.run_bounds.specs.Nodes.{AreNoted, IsNext, May, Node, Setting, StandsFor}
+use Rattle.run_bounds.specs.Nodes.{AreNoted, IsNext, May, Node, Setting, StandsFor, rules_of}
 use Rattle.run_bounds.specs.Trying.{OneStateTells, TellsAll}
-use Rattle.bounds.specs.declared.memo.Made.{Made}
-use Rattle.bounds.specs.declared.memo.Memo.{Memo}
 use Rattle.bounds.specs.Held.{IsIn}
 use Rattle.bounds.specs.Exploring.{AreNotedIn, Explorer, IsGround, setting_of}
-use Rattle.bounds.specs.Remembered.{AreRemembered, IsRemembered}
 use Rattle.bounds.proofs.Exploring.{stands}
-
--- ---- what is noted stays so
-
-pub still : (e f : Explorer) (x : Node) → setting_of f ≡ setting_of e → StaysNoted AreNotedIn e f
-    → (made : Made) → IsRemembered e x made → IsRemembered f x made
-still e f x same stays made is = record {
-  next = subst (λ (s : Setting). IsNext s x made.set made.node) (sym same) is.next;
-  noted = stays x made.set is.noted;
-}
-
-pub still_remembered : (e f : Explorer) (memo : Memo) → setting_of f ≡ setting_of e
-    → StaysNoted AreNotedIn e f → AreRemembered e memo → AreRemembered f memo
-still_remembered e f memo same stays are x from =
-    λ k d low. still e f x same stays (get_or memo.made.items k d) (are x from k d low)
-
--- ---- interrupts that are lost
 
 pub few_routines : (S : System) → IsProper S → length S.routines ≤ MAX_ROUTINES
 few_routines S proper =
@@ -92,11 +73,30 @@ module _ (e : Explorer) (x : Node) (set fewer : ℕ) (m : Machine) (tells : OneS
   abbrev nothing : LoseNothing (setting_of e) x set fewer (picture m)
   nothing = lost (setting_of e) x set fewer (picture m) may without
 
-  pub next_again : (y : Node) → IsNext (setting_of e) x fewer y → IsNext (setting_of e) x set y
-  next_again y comes = all.next y (nothing.next y (comes (picture m) here))
+  next_too : (y : Node) → IsNext (setting_of e) x fewer y → IsNext (setting_of e) x set y
+  next_too y comes = all.next y (nothing.next y (comes (picture m) here))
 
-  pub noted_again : (peaks : Peaks) → AreNoted (setting_of e) peaks x fewer
+  noted_too : (peaks : Peaks) → AreNoted (setting_of e) peaks x fewer
       → ((i : ℕ) → i < length (setting_of e).system.routines → IsTrue (arrives_in set i)
       → arrives_in fewer i ≡ false → has_come peaks.losses i ≡ true)
       → AreNoted (setting_of e) peaks x set
-  noted_again peaks noted losses = all.noted peaks (nothing.noted peaks (noted (picture m) here) losses)
+  noted_too peaks noted losses =
+      all.noted peaks (nothing.noted peaks (noted (picture m) here) losses)
+
+  may_fewer : fewer < set → May (setting_of e) x fewer
+  may_fewer low = record {
+    going = may.going;
+    low = (let least = may.low in omega (arith, low, least));
+    free = λ i inside arrives. may.free i inside (without.less i arrives);
+  }
+
+  pub repeats_it : fewer < set → (peaks : Peaks)
+      → ((i : ℕ) → i < length (setting_of e).system.routines → IsTrue (arrives_in set i)
+      → arrives_in fewer i ≡ false → has_come peaks.losses i ≡ true)
+      → Repeats (rules_of (setting_of e)) (AreNoted (setting_of e) peaks) x set fewer
+  repeats_it low peaks losses = record {
+    low = low;
+    may = may_fewer low;
+    next = next_too;
+    noted = λ noted. noted_too peaks noted losses;
+  }
