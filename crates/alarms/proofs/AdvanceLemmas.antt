@@ -117,13 +117,16 @@ module _ (tick : ℕ) (old new : List CounterAlarms) (first before flags : ℕ) 
     raised = next_raised;
   }
 
-module _ (tick : ℕ) (ks new : List CounterAlarms) (numbers : List ℕ) (whole : AreWhole tick ks numbers) (all : AreAdvanced tick ks new) where
-  advanced_counters : (ns : List ℕ) → ((a : ℕ) → a < length ns → number_of ns a < length ks) → counters_of new ns ≡ counters_of ks ns
-  advanced_counters [] known = refl
-  advanced_counters (n ∷ ns) known =
-      ap₂ (λ (c : Counter) (cs : List Counter). c ∷ cs) (all.counters n (known 0 (omega arith)))
-      (advanced_counters ns (λ a inside. known (suc a) (omega arith)))
+-- counters with other alarms are the same counters
+pub same_counters : (ks new : List CounterAlarms) (ns : List ℕ)
+    → ((k : ℕ) → k < length ks → (counter_at new k).counter ≡ (counter_at ks k).counter)
+    → ((a : ℕ) → a < length ns → number_of ns a < length ks) → counters_of new ns ≡ counters_of ks ns
+same_counters ks new [] same known = refl
+same_counters ks new (n ∷ ns) same known =
+    ap₂ (λ (c : Counter) (cs : List Counter). c ∷ cs) (same n (known 0 (omega arith)))
+    (same_counters ks new ns same (λ a inside. known (suc a) (omega arith)))
 
+module _ (tick : ℕ) (ks new : List CounterAlarms) (numbers : List ℕ) (whole : AreWhole tick ks numbers) (all : AreAdvanced tick ks new) where
   module _ (S : System) (table : IsTableOf S (table_of tick ks numbers)) where
     as_many : length numbers ≡ length S.alarms
     as_many = sym (length-expiries tick ks numbers) ∙ table.expiries
@@ -151,7 +154,7 @@ module _ (tick : ℕ) (ks new : List CounterAlarms) (numbers : List ℕ) (whole 
     pub advanced_table : table_of (tick + 1) new numbers ≡ expired S (next_tick (table_of tick ks numbers))
     advanced_table =
         ap₂ (λ (es : List (Option Expiry)) (cs : List Counter). record { expiries = es; counters = cs; tick = tick + 1 })
-        advanced_expiries (advanced_counters numbers whole.known)
+        advanced_expiries (same_counters ks new numbers all.counters whole.known)
 
     abbrev due_on : ℕ → CounterAlarms → Bool
     due_on a k = is_due_at (count_of (tick + 1) k) (expiry_in tick k a)

@@ -141,7 +141,7 @@ length-inserted (x ∷ rest) t = elim (cases_Bool (list_all (is_sooner t) (x ∷
   | inr late ↦ rw late (omega (arith, length-inserted rest t))
 ]
 
-none_there : (ws : List Wait) (a : ℕ) → has a ws ≡ false → wait_of a ws ≡ None
+pub none_there : (ws : List Wait) (a : ℕ) → has a ws ≡ false → wait_of a ws ≡ None
 none_there [] a none = refl
 none_there (x ∷ ws) a none =
     let away : eqb x.alarm a ≡ false = or_first _ _ none in

@@ -5,6 +5,8 @@ mod CountLemmas
 mod CounterLemmas
 mod ExpiryLemmas
 mod IdleLemmas
+mod PassLemmas
+mod PassedLemmas
 mod PlaceLemmas
 mod TableLemmas
 mod WaitLemmas

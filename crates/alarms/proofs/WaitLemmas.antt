@@ -1,13 +1,14 @@
 -- Waits of lists of differences.
-use Rattle.std.proofs.Common.{ℕ, zero, suc, ◌≡◌, ◌<◌, ◌≤◌, ◌+◌, ◌-◌, List, [], ◌∷◌, ◌++◌, map, take, drop, length, get_or, set, None, Some, Bool, true, false, ◌&&◌, refl, sym, ◌∙◌, ap, arith, eqb, ltb, add-zero, append_assoc, ◌||◌}
+use Rattle.std.proofs.Common.{ℕ, zero, suc, ◌≡◌, ◌<◌, ◌≤◌, ◌+◌, ◌-◌, List, [], ◌∷◌, ◌++◌, map, take, drop, length, get_or, set, None, Some, Bool, true, false, ◌&&◌, refl, sym, ◌∙◌, ap, arith, eqb, leb, ltb, add-zero, append_assoc, ◌||◌}
 use Rattle.std.proofs.Math.Seq.{drop-cons, take-suc, take-suc-set, drop-set-lt, set_split}
 use Rattle.std.proofs.lemmas.List.{take-append-drop, drop_all, append-nil, length-set, get_or-set_same}
 use Rattle.std.specs.List.{insert, remove}
 use Rattle.std.proofs.lemmas.Bool.Decides.{nat_tests}
-use Rattle.std.proofs.lemmas.Bool.{ltb-true, lt-ltb, ltb-false, ne_eqb, and_parts, and_right}
+use Rattle.std.proofs.Math.Bool.{or-true}
+use Rattle.std.proofs.lemmas.Bool.{le-leb, ltb-true, lt-ltb, ltb-false, ne_eqb, and_parts, and_right}
 use Rattle.std.specs.List.{list_all, list_any}
 use Rattle.alarms.specs.declared.difference_list.Waiting.{Waiting}
-use Rattle.alarms.specs.Waits.{Wait, span, wait_before, waits, is_sooner, inserted, without, wait_of, left_in, cycle_in, one_less, cut, not_waiting, cut_at, grown, grown_at, is_of, are_ahead}
+use Rattle.alarms.specs.Waits.{Wait, span, wait_before, waits, is_sooner, inserted, without, wait_of, left_in, cycle_in, less_by, IsSoonest, cut, not_waiting, cut_at, grown, grown_at, is_of, are_ahead, are_beyond}
 
 pub span-append : (xs ys : List Waiting) → span (xs ++ ys) ≡ span xs + span ys
 span-append [] ys = omega arith
@@ -27,12 +28,12 @@ not_all : (t : Wait) (front after : List Waiting) (e : Waiting) → is_sooner t 
 not_all t [] after e late = rw late refl
 not_all t (x ∷ front) after e late = rw (not_all t front after e late) (and-false _)
 
-pub put_first : (t : Wait) (new : Waiting) (after : List Waiting)
+pub put_oldest : (t : Wait) (new : Waiting) (after : List Waiting)
     → wait_before (span after) new ≡ t
     → list_all (is_sooner t) (waits after) ≡ true
     → waits (new ∷ after) ≡ inserted t (waits after)
-put_first t new [] is all = rw is refl
-put_first t new (e ∷ after) is all = rw (all, is) refl
+put_oldest t new [] is all = rw is refl
+put_oldest t new (e ∷ after) is all = rw (all, is) refl
 
 -- an entry is put before an end whose waits are sooner, and the one before it is cut
 span-put : (new e : Waiting) (front after : List Waiting) → new.difference ≤ e.difference
@@ -48,7 +49,7 @@ pub put_between : (t : Wait) (new e : Waiting) (front after : List Waiting)
     → waits (front ++ cut e new.difference ∷ new ∷ after) ≡ inserted t (waits (front ++ e ∷ after))
 put_between t new e [] after is all late low =
     let same : (e.difference - new.difference) + (new.difference + span after) ≡ e.difference + span after = omega arith in
-    rw (late, ← put_first t new after is all, same) refl
+    rw (late, ← put_oldest t new after is all, same) refl
 put_between t new e (x ∷ front) after is all late low =
     rw (and_right (is_sooner t (wait_before (span (front ++ e ∷ after)) x)) _ (not_all t front after e late), span-put new e front after low, put_between t new e front after is all late low) refl
 
@@ -95,7 +96,7 @@ pub inserted_at : (es : List Waiting) (place : ℕ) (t : Wait) (new : Waiting)
     → list_all (is_sooner t) (waits (drop place es)) ≡ true
     → (0 < place → is_sooner (record { alarm = t.alarm; left = new.difference; cycle = 0 }) (wait_before 0 (get_or es (place - 1) not_waiting)) ≡ false)
     → waits (insert (cut_at es place new.difference) place new) ≡ inserted t (waits es)
-inserted_at es zero t new within is all late = put_first t new es is all
+inserted_at es zero t new within is all late = put_oldest t new es is all
 inserted_at es (suc p) t new within is all late =
     let one : suc p - 1 ≡ p = omega arith in
     let e = get_or es p not_waiting in
@@ -127,9 +128,9 @@ span-out : (d e : Waiting) (front after : List Waiting) → span (front ++ grown
 span-out d e [] after = omega arith
 span-out d e (x ∷ front) after = ap (λ n. x.difference + n) (span-out d e front after)
 
-span-cut : (front : List Waiting) (e : Waiting) → 1 ≤ e.difference → span (front ++ cut e 1 ∷ []) + 1 ≡ span (front ++ e ∷ [])
-span-cut [] e some = omega arith
-span-cut (x ∷ front) e some = omega (arith, span-cut front e some)
+span-cut : (m : ℕ) (front : List Waiting) (e : Waiting) → m ≤ e.difference → span (front ++ cut e m ∷ []) + m ≡ span (front ++ e ∷ [])
+span-cut m [] e some = omega arith
+span-cut m (x ∷ front) e some = omega (arith, span-cut m front e some)
 
 pub none_left : (a : ℕ) (es : List Waiting) → list_any (is_of a) es ≡ false → without a (waits es) ≡ waits es
 none_left a [] none = refl
@@ -230,17 +231,17 @@ taken_span es (suc p) within =
     ap span (remove_made es p within) ∙ (span-out (get_or es p not_waiting) (get_or es (suc p) not_waiting) (take p es) (drop (suc (suc p)) es) ∙ ap span (sym (split_two es p within))) in
     omega arith
 
--- ---- one count passes
+-- ---- some counts pass
 
-pub one_passes : (front : List Waiting) (e : Waiting) → 1 ≤ e.difference
-    → waits (front ++ cut e 1 ∷ []) ≡ map one_less (waits (front ++ e ∷ []))
-one_passes [] e some =
-    let same : (e.difference - 1) + 0 ≡ (e.difference + 0) - 1 = omega arith in
+some_pass : (m : ℕ) (front : List Waiting) (e : Waiting) → m ≤ e.difference
+    → waits (front ++ cut e m ∷ []) ≡ map (less_by m) (waits (front ++ e ∷ []))
+some_pass m [] e some =
+    let same : (e.difference - m) + 0 ≡ (e.difference + 0) - m = omega arith in
     rw same refl
-one_passes (x ∷ front) e some =
-    let less : span (front ++ cut e 1 ∷ []) + 1 ≡ span (front ++ e ∷ []) = span-cut front e some in
-    let same : x.difference + span (front ++ cut e 1 ∷ []) ≡ (x.difference + span (front ++ e ∷ [])) - 1 = omega arith in
-    rw (same, one_passes front e some) refl
+some_pass m (x ∷ front) e some =
+    let less : span (front ++ cut e m ∷ []) + m ≡ span (front ++ e ∷ []) = span-cut m front e some in
+    let same : x.difference + span (front ++ cut e m ∷ []) ≡ (x.difference + span (front ++ e ∷ [])) - m = omega arith in
+    rw (same, some_pass m front e some) refl
 
 -- ---- the last wait is over
 
@@ -250,42 +251,42 @@ over_last (x ∷ front) e none =
     let same : span (front ++ e ∷ []) ≡ span front = omega (arith, span-append front (e ∷ [])) in
     rw (same, over_last front e none) refl
 
-cut_made : (es : List Waiting) (p : ℕ) → suc p ≡ length es → cut_at es (length es) 1 ≡ take p es ++ cut (get_or es p not_waiting) 1 ∷ []
-cut_made es p all =
+cut_made : (m : ℕ) (es : List Waiting) (p : ℕ) → suc p ≡ length es → cut_at es (length es) m ≡ take p es ++ cut (get_or es p not_waiting) m ∷ []
+cut_made m es p all =
     let one : suc p - 1 ≡ p = omega arith in
     let later : eqb (suc p) 0 ≡ false = ne_eqb (suc p) 0 (omega arith) in
-    rw (← all, later, one, set_split es p (cut (get_or es p not_waiting) 1) (omega arith), drop_all (suc p) es (omega arith)) refl
+    rw (← all, later, one, set_split es p (cut (get_or es p not_waiting) m) (omega arith), drop_all (suc p) es (omega arith)) refl
 
 split_last : (es : List Waiting) (p : ℕ) → suc p ≡ length es → es ≡ take p es ++ get_or es p not_waiting ∷ []
 split_last es p all = split_at es p not_waiting (omega arith) ∙ rw (drop_all (suc p) es (omega arith)) refl
 
-ahead_last : (front : List Waiting) (e : Waiting) → are_ahead (waits (front ++ e ∷ [])) ≡ true → 1 ≤ e.difference
-ahead_last [] e ahead = omega (arith, ltb-true 0 (e.difference + 0) (and_parts _ _ ahead).0)
-ahead_last (x ∷ front) e ahead = ahead_last front e (and_parts _ _ ahead).1
+beyond_last : (m : ℕ) (front : List Waiting) (e : Waiting) → are_beyond m (waits (front ++ e ∷ [])) ≡ true → m < e.difference
+beyond_last m [] e beyond = omega (arith, ltb-true m (e.difference + 0) (and_parts _ _ beyond).0)
+beyond_last m (x ∷ front) e beyond = beyond_last m front e (and_parts _ _ beyond).1
 
-pub last_ahead : (es : List Waiting) (p : ℕ) → suc p ≡ length es → are_ahead (waits es) ≡ true → 1 ≤ (get_or es p not_waiting).difference
-last_ahead es p all ahead = ahead_last (take p es) (get_or es p not_waiting) (rw (split_last es p all) at ahead)
-
-pub last_ahead_n : (es : List Waiting) (n : ℕ) → n ≡ length es → 0 < n → are_ahead (waits es) ≡ true → 1 ≤ (get_or es (n - 1) not_waiting).difference
-last_ahead_n es zero all more ahead = absurd (omega arith)
-last_ahead_n es (suc p) all more ahead =
+pub last_beyond : (m : ℕ) (es : List Waiting) (n : ℕ) → n ≡ length es → 0 < n → are_beyond m (waits es) ≡ true → m < (get_or es (n - 1) not_waiting).difference
+last_beyond m es zero all more beyond = absurd (omega arith)
+last_beyond m es (suc p) all more beyond =
     let one : suc p - 1 ≡ p = omega arith in
-    rw one (last_ahead es p all ahead)
+    rw one (beyond_last m (take p es) (get_or es p not_waiting) (rw (split_last es p all) at beyond))
 
 nothing : (es : List Waiting) → length es ≡ 0 → es ≡ []
 nothing [] none = refl
 nothing (e ∷ es) none = absurd (omega arith)
 
-pub counted : (es : List Waiting) (n : ℕ) → n ≡ length es → are_ahead (waits es) ≡ true → waits (cut_at es (length es) 1) ≡ map one_less (waits es)
-counted es zero all ahead = rw (nothing es (sym all)) refl
-counted es (suc p) all ahead =
-    ap waits (cut_made es p all)
-    ∙ (one_passes (take p es) (get_or es p not_waiting) (last_ahead es p all ahead) ∙ ap (λ (xs : List Waiting). map one_less (waits xs)) (sym (split_last es p all)))
+pub counted : (m : ℕ) (es : List Waiting) (n : ℕ) → n ≡ length es → (0 < n → m ≤ (get_or es (n - 1) not_waiting).difference)
+    → waits (cut_at es (length es) m) ≡ map (less_by m) (waits es)
+counted m es zero all low = rw (nothing es (sym all)) refl
+counted m es (suc p) all low =
+    let one : suc p - 1 ≡ p = omega arith in
+    let low_p : m ≤ (get_or es p not_waiting).difference = rw one at (low (omega arith)) in
+    ap waits (cut_made m es p all)
+    ∙ (some_pass m (take p es) (get_or es p not_waiting) low_p ∙ ap (λ (xs : List Waiting). map (less_by m) (waits xs)) (sym (split_last es p all)))
 
-pub counted_span : (es : List Waiting) (n : ℕ) → n ≡ length es → span (cut_at es (length es) 1) ≤ span es
-counted_span es zero all = rw (nothing es (sym all)) (omega arith)
-counted_span es (suc p) all =
-    let made = ap span (cut_made es p all) ∙ span-append (take p es) (cut (get_or es p not_waiting) 1 ∷ []) in
+pub counted_span : (m : ℕ) (es : List Waiting) (n : ℕ) → n ≡ length es → span (cut_at es (length es) m) ≤ span es
+counted_span m es zero all = rw (nothing es (sym all)) (omega arith)
+counted_span m es (suc p) all =
+    let made = ap span (cut_made m es p all) ∙ span-append (take p es) (cut (get_or es p not_waiting) m ∷ []) in
     let whole = ap span (split_last es p all) ∙ span-append (take p es) (get_or es p not_waiting ∷ []) in
     omega arith
 
@@ -349,3 +350,26 @@ written_ahead es n e all more test =
     let long : length (set es (n - 1) e) ≡ length es = length-set es (n - 1) e in
     let here : get_or (set es (n - 1) e) (n - 1) not_waiting ≡ e = get_or-set_same es (n - 1) e not_waiting (omega (arith, all)) in
     over_test (set es (n - 1) e) n (all ∙ sym long) more (ap (λ (x : Waiting). eqb x.difference 0) here ∙ test)
+
+-- ---- the wait that is over first is the last
+
+last_span : (front : List Waiting) (e : Waiting) → e.difference ≤ span (front ++ e ∷ [])
+last_span front e = omega (arith, span-append front (e ∷ []))
+
+soonest_last : (front : List Waiting) (e : Waiting) → IsSoonest e.difference (waits (front ++ e ∷ []))
+soonest_last [] e =
+    let none : e.difference + 0 ≡ e.difference = omega arith in
+    let least : leb e.difference e.difference ≡ true = le-leb e.difference e.difference (omega arith) in
+    let same : eqb e.difference e.difference ≡ true = grind (arith, nat_tests) in
+    record { least = rw (none, least) refl; some = rw (none, same) refl }
+soonest_last (x ∷ front) e =
+    let rest = soonest_last front e in
+    let low : e.difference ≤ span (front ++ e ∷ []) = last_span front e in
+    let here : leb e.difference (x.difference + span (front ++ e ∷ [])) ≡ true = le-leb _ _ (omega arith) in
+    record { least = rw here rest.least; some = rw rest.some (or-true _) }
+
+pub soonest_there : (es : List Waiting) (n : ℕ) → n ≡ length es → 0 < n → IsSoonest (get_or es (n - 1) not_waiting).difference (waits es)
+soonest_there es zero all more = absurd (omega arith)
+soonest_there es (suc p) all more =
+    let one : suc p - 1 ≡ p = omega arith in
+    rw one (rw (sym (split_last es p all)) at (soonest_last (take p es) (get_or es p not_waiting)))

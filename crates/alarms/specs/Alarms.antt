@@ -1,5 +1,5 @@
 -- OSEK/VDX OS: alarms, counters and alarm management. The alarms of a system with their expiries, by counts that never wrap.
-use Rattle.std.specs.Prelude.{ℕ, ◌+◌, ◌-◌, ◌/◌, ◌≡◌, if◌then◌else◌, List, map, Option, None, Some, length, slice_index_or}
+use Rattle.std.specs.Prelude.{ℕ, ◌+◌, ◌-◌, ◌/◌, ◌≡◌, ◌<◌, if◌then◌else◌, List, [], map, Option, None, Some, length, slice_index_or}
 use Rattle.osek_base.specs.declared.status.Status.{Status}
 use Rattle.osek_base.specs.Types.{ServiceCall}
 use Rattle.osek_base.specs.declared.task.Counter.{Counter}
@@ -68,3 +68,12 @@ due_of S a = due_alarms S (state_of S a)
 
 abbrev pub expired : System → AlarmTable → AlarmTable
 expired S a = record a { expiries = alarms_advanced S (state_of S a) }
+
+-- the same alarms some ticks later
+abbrev pub later : ℕ → AlarmTable → AlarmTable
+later n a = record a { tick = a.tick + n }
+
+-- so many ticks passed at once, in none of which an alarm is due
+pub record HavePassed (n : ℕ) (old new : AlarmTable) : Type 0 where
+  pub none : (S : System) → IsTableOf S old → (k : ℕ) → k < n → due_of S (later (k + 1) old) ≡ []
+  pub after : new ≡ later n old

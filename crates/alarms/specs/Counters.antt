@@ -1,6 +1,6 @@
 -- OSEK/VDX OS: counters and alarm management. Counters with their running alarms, and the table of all alarms that they
 -- stand for.
-use Rattle.std.specs.Prelude.{ℕ, ◌+◌, ◌*◌, ◌/◌, ◌≡◌, ◌≤◌, ◌<◌, ◌^◌, List, [], map, Option, None, length, true, slice_index_or, if◌then◌else◌, ◌==◌}
+use Rattle.std.specs.Prelude.{ℕ, ◌+◌, ◌-◌, ◌*◌, ◌/◌, ◌≡◌, ◌≤◌, ◌<◌, ◌^◌, List, [], map, Bool, Option, None, length, true, slice_index_or, if◌then◌else◌, ◌==◌}
 use Rattle.osek_base.specs.declared.limits.TheConstants.{MAX_TICKS, MAX_ALARMS}
 use Rattle.osek_base.specs.declared.task.Counter.{Counter}
 use Rattle.osek_base.specs.Lists.{below}
@@ -8,7 +8,7 @@ use Rattle.osek_base.specs.System.{no_counter}
 use Rattle.osek_base.specs.State.{Expiry}
 use Rattle.alarms.specs.declared.counter_alarms.CounterAlarms.{CounterAlarms}
 use Rattle.alarms.specs.Alarms.{AlarmTable, expired_at}
-use Rattle.alarms.specs.Waits.{wait_of, expiry_at, are_ahead, are_apart}
+use Rattle.alarms.specs.Waits.{wait_of, expiry_at, are_ahead, are_apart, are_beyond}
 
 -- a counter at 0 with no running alarm: it grows first once its base has passed
 abbrev pub idle : Counter → CounterAlarms
@@ -32,6 +32,13 @@ pub record IsReady (tick : ℕ) (k : CounterAlarms) : Type 0 where
   pub next_is : k.next ≡ count_of tick k * k.counter.ticks_per_base + k.counter.ticks_per_base
   pub ahead : are_ahead k.running ≡ true
   pub apart : are_apart k.running ≡ true
+
+-- how many counts a counter grows in the ticks after this one, and whether none of its alarms is due in them
+abbrev pub growth : ℕ → ℕ → CounterAlarms → ℕ
+growth tick n k = count_of (tick + n) k - count_of tick k
+
+abbrev pub is_quiet_for : ℕ → ℕ → CounterAlarms → Bool
+is_quiet_for tick n k = are_beyond (growth tick n k) k.running
 
 -- the counter of that number, and that of an alarm, by the numbers of the alarms' counters
 abbrev pub counter_at : List CounterAlarms → ℕ → CounterAlarms
@@ -78,3 +85,10 @@ pub record AreAdvanced (tick : ℕ) (old new : List CounterAlarms) : Type 0 wher
   pub counters : (k : ℕ) → k < length old → (counter_at new k).counter ≡ (counter_at old k).counter
   pub expiries : (k a : ℕ) → k < length old
       → expiry_in (tick + 1) (counter_at new k) a ≡ expired_at (count_of (tick + 1) (counter_at old k)) (expiry_in tick (counter_at old k) a)
+
+-- the counters have gone through some ticks in which no alarm is due
+pub record ArePassed (tick n : ℕ) (old new : List CounterAlarms) : Type 0 where
+  pub same : length new ≡ length old
+  pub ready : (k : ℕ) → k < length old → IsReady (tick + n) (counter_at new k)
+  pub counters : (k : ℕ) → k < length old → (counter_at new k).counter ≡ (counter_at old k).counter
+  pub expiries : (k a : ℕ) → k < length old → expiry_in (tick + n) (counter_at new k) a ≡ expiry_in tick (counter_at old k) a

@@ -1,5 +1,5 @@
 -- OSEK/VDX OS: counters and alarm management. The running alarms of one counter, the one that expires last first.
-use Rattle.std.specs.Prelude.{ℕ, ◌+◌, ◌-◌, ◌≤◌, ◌≡◌, Bool, true, false, length, not, nat_lt, ◌==◌, ◌&&◌, ◌||◌, if◌then◌else◌, List, [], ◌∷◌, Option, Some, None, slice_index_or, slice_set}
+use Rattle.std.specs.Prelude.{ℕ, ◌+◌, ◌-◌, ◌≤◌, ◌≡◌, Bool, true, false, length, not, nat_le, nat_lt, ◌==◌, ◌&&◌, ◌||◌, if◌then◌else◌, List, [], ◌∷◌, Option, Some, None, slice_index_or, slice_set}
 use Rattle.std.specs.Int.{bit_at}
 use Rattle.std.specs.List.{list_all, list_any}
 use Rattle.osek_base.specs.declared.limits.TheConstants.{MAX_ALARMS}
@@ -80,9 +80,22 @@ cycle_in (Some w) = Some w.cycle
 abbrev pub one_less : Wait → Wait
 one_less w = record w { left = w.left - 1 }
 
+-- so many counts less
+abbrev pub less_by : ℕ → Wait → Wait
+less_by n w = record w { left = w.left - n }
+
 -- whether no wait is over
 abbrev pub are_ahead : List Wait → Bool
 are_ahead ws = list_all (λ w. nat_lt 0 w.left) ws
+
+-- whether none is over after so many counts
+abbrev pub are_beyond : ℕ → List Wait → Bool
+are_beyond n ws = list_all (λ w. nat_lt n w.left) ws
+
+-- so many counts are left of the wait that is over first
+pub record IsSoonest (n : ℕ) (ws : List Wait) : Type 0 where
+  pub least : list_all (λ w. nat_le n w.left) ws ≡ true
+  pub some : list_any (λ w. w.left == n) ws ≡ true
 
 -- whether an alarm has a wait, and whether each alarm has at most one
 abbrev pub has : ℕ → List Wait → Bool

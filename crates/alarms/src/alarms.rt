@@ -1,6 +1,6 @@
 //! The alarms of a system.
 
-ghost use Rattle.std.specs.Prelude.{◌≡◌, ◌<◌, ◌≤◌, ◌+◌, ◌^◌, ℕ, length, map, replicate, Option, None, Some, is_some, slice_index_or, slice_set};
+ghost use Rattle.std.specs.Prelude.{◌≡◌, ◌<◌, ◌≤◌, ◌+◌, ◌^◌, ℕ, [], length, map, replicate, Option, None, Some, is_some, slice_index_or, slice_set};
 ghost use Rattle.std.specs.List.{filter};
 ghost use Rattle.osek_base.specs.Lists.{below};
 ghost use Rattle.osek_base.specs.System.{System as Configured, alarm_start_in, counter, counter_of};
@@ -8,11 +8,12 @@ ghost use Rattle.osek_base.specs.Alarm.{is_bad_cycle, next_count};
 ghost use Rattle.osek_base.specs.declared.instr.Service.{Service};
 ghost use Rattle.osek_base.specs.Trace.{first_expiry, starting_alarms};
 ghost use Rattle.alarms.specs.Waits.{is_raised};
-ghost use Rattle.alarms.specs.Alarms.{IsTableOf, status_of, after_call, counter_in, count_in, remaining_at, remaining_of, cycle_of, next_tick, due_of, expired};
+ghost use Rattle.alarms.specs.Alarms.{IsTableOf, status_of, after_call, counter_in, count_in, remaining_at, remaining_of, cycle_of, next_tick, due_of, expired, HavePassed, later};
 
 use crate::counter_alarms::CounterAlarms;
 use crate::counters::{
-    advance_each, cancel_on, counter_numbers, idle_counters, replace_counters, start_on,
+    advance_each, cancel_on, counter_numbers, idle_counters, pass_each, quiet_ticks,
+    replace_counters, start_on,
 };
 use crate::due_alarms::DueAlarms;
 use crate::due_list::DueList;
@@ -210,6 +211,22 @@ impl Alarms {
         advance_each(&mut self.counters, tick, &mut due);
         self.tick = tick + 1;
         due
+    }
+
+    /// The ticks that follow pass, at most some, up to the one before the first in which an alarm is due. Answers how many
+    /// passed.
+    pub fn pass(&mut self, most: u32) -> u32
+        requires { self.old.tick + most < MAX_TICKS }
+        ensures few { result ≤ most }
+        ensures passed { HavePassed result self.old self.new }
+        ensures last { result < most → (S : Configured) → IsTableOf S self.old
+            → due_of S (later (result + 1) self.old) ≡ [] → ⊥ }
+    {
+        let tick = self.tick;
+        let passed = quiet_ticks(&self.counters, tick, most);
+        pass_each(&mut self.counters, tick, passed);
+        self.tick = tick + passed;
+        passed
     }
 
     /// Whether an alarm is on.

@@ -1,10 +1,10 @@
 //! A counter and its alarms.
 
-ghost use Rattle.std.specs.Prelude.{◌≡◌, ◌<◌, ◌≤◌, ◌+◌, ◌||◌, ◌^◌, ℕ};
+ghost use Rattle.std.specs.Prelude.{◌≡◌, ◌<◌, ◌≤◌, ◌+◌, ◌||◌, ◌^◌, ℕ, true, false};
 ghost use Rattle.osek_base.specs.Alarm.{is_due_at, next_count};
 ghost use Rattle.alarms.specs.Alarms.{expired_at};
 ghost use Rattle.alarms.specs.Waits.{is_raised};
-ghost use Rattle.alarms.specs.Counters.{IsReady, count_of, expiry_in, idle};
+ghost use Rattle.alarms.specs.Counters.{IsReady, count_of, expiry_in, idle, is_quiet_for};
 
 use crate::difference_list::DifferenceList;
 use crate::due_alarms::DueAlarms;
@@ -78,6 +78,48 @@ impl CounterAlarms {
         if tick + 1 == self.next {
             self.next += self.counter.ticks_per_base;
             self.running.advance(due);
+        }
+    }
+
+    /// How many of the ticks after `tick` pass, at most `most`, before one in which an alarm is due.
+    pub fn quiet_ticks(&self, tick: u32, most: u32) -> u32
+        requires tick { tick + most < MAX_TICKS }
+        requires ready { IsReady tick self.now }
+        ensures few { result ≤ most }
+        ensures quiet { is_quiet_for tick result self.now ≡ true }
+        ensures last { result < most → is_quiet_for tick (result + 1) self.now ≡ false }
+    {
+        match self.running.soonest() {
+            None => most,
+            Some(left) => {
+                let base = self.counter.ticks_per_base as u64;
+                let due = self.next as u64 + (left as u64 - 1) * base;
+                let passed = due - 1 - tick as u64;
+                if passed < most as u64 {
+                    passed as u32
+                } else {
+                    most
+                }
+            }
+        }
+    }
+
+    /// Some ticks after `tick` pass, in which no alarm is due.
+    pub fn pass(&mut self, tick: u32, ticks: u32)
+        requires tick { tick + ticks < MAX_TICKS }
+        requires ready { IsReady tick self.old }
+        requires quiet { is_quiet_for tick ticks self.old ≡ true }
+        ensures ready { IsReady (tick + ticks) self.new }
+        ensures counter { self.new.counter ≡ self.old.counter }
+        ensures expiries { (a : ℕ)
+            → expiry_in (tick + ticks) self.new a ≡ expiry_in tick self.old a }
+    {
+        let reached = tick + ticks;
+        if reached >= self.next {
+            let base = self.counter.ticks_per_base;
+            let more = (reached - self.next) / base;
+            self.next += more * base + base;
+            self.running.count_down_by(more + 1);
         }
     }
 

@@ -1,10 +1,10 @@
 //! The counters of a system, with their alarms.
 
-ghost use Rattle.std.specs.Prelude.{◌≡◌, ◌<◌, ◌≤◌, ◌+◌, ◌||◌, ℕ, length, map, slice_set};
-ghost use Rattle.std.specs.List.{list_any};
+ghost use Rattle.std.specs.Prelude.{◌≡◌, ◌<◌, ◌≤◌, ◌+◌, ◌||◌, ℕ, length, map, slice_set, true, false};
+ghost use Rattle.std.specs.List.{list_all, list_any};
 ghost use Rattle.osek_base.specs.Alarm.{is_due_at};
 ghost use Rattle.alarms.specs.Waits.{is_raised, inserted, without};
-ghost use Rattle.alarms.specs.Counters.{AreAdvanced, IsReady, count_of, counter_at, expiry_in, idle};
+ghost use Rattle.alarms.specs.Counters.{AreAdvanced, ArePassed, IsReady, count_of, counter_at, expiry_in, idle, is_quiet_for};
 
 use crate::counter_alarms::CounterAlarms;
 use crate::due_alarms::DueAlarms;
@@ -86,6 +86,40 @@ pub fn advance_each(
     for number in 0..counters.len() {
         let counter = &mut counters[number];
         counter.advance(tick, due);
+    }
+}
+
+/// How many of the ticks after `tick` pass, at most `most`, before one in which an alarm of any counter is due.
+pub fn quiet_ticks(counters: &ArrayVec<CounterAlarms, MAX_COUNTERS>, tick: u32, most: u32) -> u32
+    requires tick { tick + most < MAX_TICKS }
+    requires ready { (k : ℕ) → k < length counters.now.items
+        → IsReady tick (counter_at counters.now.items k) }
+    ensures few { result ≤ most }
+    ensures quiet { (k : ℕ) → k < length counters.now.items
+        → is_quiet_for tick result (counter_at counters.now.items k) ≡ true }
+    ensures last { result < most
+        → list_all (is_quiet_for tick (result + 1)) counters.now.items ≡ false }
+{
+    let mut least = most;
+    for number in 0..counters.len() {
+        let counter = &counters[number];
+        least = counter.quiet_ticks(tick, least);
+    }
+    least
+}
+
+/// Some ticks after `tick` pass, in which no alarm of any counter is due.
+pub fn pass_each(counters: &mut ArrayVec<CounterAlarms, MAX_COUNTERS>, tick: u32, ticks: u32)
+    requires tick { tick + ticks < MAX_TICKS }
+    requires ready { (k : ℕ) → k < length counters.old.items
+        → IsReady tick (counter_at counters.old.items k) }
+    requires quiet { (k : ℕ) → k < length counters.old.items
+        → is_quiet_for tick ticks (counter_at counters.old.items k) ≡ true }
+    ensures { ArePassed tick ticks counters.old.items counters.new.items }
+{
+    for number in 0..counters.len() {
+        let counter = &mut counters[number];
+        counter.pass(tick, ticks);
     }
 }
 

@@ -2,7 +2,7 @@
 
 ghost use Rattle.std.specs.Prelude.{◌≡◌, ◌==◌, ◌<◌, ◌≤◌, ◌^◌, ◌+◌, ◌-◌, [], ◌∷◌, ◌++◌, ◌||◌, ℕ, length, map, is_some, drop, take, Option, Some, None, IfSome, IfNone, MatchOption, slice_index_or, true, false};
 ghost use Rattle.std.specs.List.{list_all, insert, remove, list_any};
-ghost use Rattle.alarms.specs.Waits.{span, inserted, without, wait_of, left_in, cycle_in, one_less, Wait, waits, wait_before, is_sooner, not_waiting, cut_at, grown_at, is_of, are_ahead, are_apart, overs, is_over, again, is_raised, restarted};
+ghost use Rattle.alarms.specs.Waits.{span, inserted, without, wait_of, left_in, cycle_in, one_less, Wait, waits, wait_before, is_sooner, not_waiting, cut_at, grown_at, is_of, are_ahead, are_beyond, less_by, IsSoonest, are_apart, overs, is_over, again, is_raised, restarted};
 
 use crate::due_alarms::DueAlarms;
 use crate::replacing::replace;
@@ -133,6 +133,25 @@ impl DifferenceList {
         ensures ahead { result ≡ false → are_ahead self.new ≡ true }
     {
         cut_last(&mut self.entries)
+    }
+
+    /// How many counts are left of the wait that is over first. None where no alarm is running.
+    pub fn soonest(&self) -> Option<u32>
+        ensures { MatchOption result (self.now ≡ []) (λ n. IsSoonest n self.now) }
+    {
+        let len = self.entries.len();
+        if len == 0 {
+            return None;
+        }
+        Some(self.entries[len - 1].difference)
+    }
+
+    /// Some counts pass, after which no wait is over.
+    pub fn count_down_by(&mut self, counts: u32)
+        requires { are_beyond counts self.old ≡ true }
+        ensures waits { self.new ≡ map (less_by counts) self.old }
+    {
+        cut_last_by(&mut self.entries, counts);
     }
 
     /// Takes the last wait out, where it is over. None where no wait is over.
@@ -282,6 +301,20 @@ fn cut_last(entries: &mut ArrayVec<Waiting, MAX_ALARMS>) -> bool
     let last = &mut entries[len - 1];
     last.difference -= 1;
     last.difference == 0
+}
+
+/// The last wait is some counts shorter.
+fn cut_last_by(entries: &mut ArrayVec<Waiting, MAX_ALARMS>, counts: u32)
+    requires { 0 < length entries.old.items
+        → counts
+        ≤ (slice_index_or entries.old.items (length entries.old.items - 1) not_waiting).difference }
+    ensures { entries.new.items ≡ cut_at entries.old.items (length entries.old.items) counts }
+{
+    let len = entries.len();
+    if len > 0 {
+        let last = &mut entries[len - 1];
+        last.difference -= counts;
+    }
 }
 
 /// Takes an entry out, whose difference the entry before it gets.

@@ -14,7 +14,7 @@ use Rattle.run_laws.proofs.Lists.{Pairs, clash, all_weaker, all_both, all_any, p
 use Rattle.run_laws.proofs.Foremost.{AreApart, same_ids, same_self, equal, static_le}
 use Rattle.run_laws.proofs.Ranked.{IsBehind}
 use Rattle.kept_state.specs.Kept.{is_at, is_queued, task_of, queue}
-use Rattle.ready_queues.specs.Moves.{put_first, without_first_at_level, rest, first, highest}
+use Rattle.ready_queues.specs.QueueMoves.{put_oldest, without_first_at_level, rest, first, highest}
 use Rattle.kept_state.proofs.Parts.{filter_same, filter_twice, filter_all, any_has}
 
 -- ---- the best of a list
@@ -307,7 +307,7 @@ module _ (S : System) where
         go false e = off_level l e
 
     pub put_back : (l : ℕ)
-        → all_ready jobs l ≡ put_first (queue S (Some c.id) jobs) (dynamic_priority S c) c.id.task l
+        → all_ready jobs l ≡ put_oldest (queue S (Some c.id) jobs) (dynamic_priority S c) c.id.task l
     put_back l = go (dynamic_priority S c == l) refl
       where
         go : (b : Bool) → (dynamic_priority S c == l) ≡ b

@@ -13,7 +13,7 @@ use Rattle.run_laws.proofs.Foremost.{equal}
 use Rattle.run_laws.proofs.RankedTick.{IsRunState, IsExecuting, before_executing, run_ordered}
 use Rattle.run_laws.proofs.FormedTick.{run_form}
 use Rattle.kept_state.specs.Kept.{Kept, Slot}
-use Rattle.ready_queues.specs.Moves.{changed_at}
+use Rattle.ready_queues.specs.QueueMoves.{changed_at}
 use Rattle.kept_state.specs.Moves.{one_more, activated_in, slot_woken, released_in}
 use Rattle.kept_state.specs.KeptService.{ByNobody, refusals_in, reply_in, unmasked_in, with_mask}
 use Rattle.kept_state.specs.Standing.{waits_in, runner_waits, ReadyBetweenTicks, ActionKeepsReady, BeforeAlike, ServesInRuns}

@@ -14,7 +14,7 @@ use Rattle.run_laws.proofs.Lists.{Pairs, clash, all_weaker, all_any, all_kept, a
 use Rattle.run_laws.proofs.Foremost.{same_ids, same_self, equal, idle_priority}
 use Rattle.run_laws.proofs.Single.{IsSoundJob, IsSoundPair}
 use Rattle.kept_state.specs.Kept.{Slot, unbegun, slot_with, slot_of, slots_of, runs, is_at, task_of, queue, is_gone, kept}
-use Rattle.ready_queues.specs.Moves.{changed_at, put_last}
+use Rattle.ready_queues.specs.QueueMoves.{changed_at, put_newest}
 use Rattle.kept_state.specs.Moves.{one_more, activated_in, ended_in, slot_changed}
 use Rattle.kept_state.proofs.Parts.{filter_unmoved, filter_moved, filter_same, filter_twice, filter_all, map_unmoved, any_moved, filter_swap, IsOldest}
 
@@ -144,7 +144,7 @@ module _ (S : System) (t : ℕ) where
   pub newest_queue : (running : Option JobId) (jobs : List Job) (new : Job) → runs running new ≡ false
       → waits new ≡ false → dynamic_priority S new ≡ priority_of S t
       → new.id.task ≡ t → (l : ℕ)
-      → queue S running (jobs ++ new ∷ []) l ≡ put_last (queue S running jobs) (priority_of S t) t l
+      → queue S running (jobs ++ new ∷ []) l ≡ put_newest (queue S running jobs) (priority_of S t) t l
   newest_queue running jobs new idle ready level task l =
       ap (map task_of) (filter-append (is_at S running l) jobs (new ∷ []))
       ∙ rw (idle, ready, level) (appended new (filter (is_at S running l) jobs) (priority_of S t == l))

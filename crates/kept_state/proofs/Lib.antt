@@ -14,3 +14,4 @@ pub mod Standing
 pub mod InRuns
 pub mod Nesting
 pub mod Words
+pub mod Quiet

@@ -13,7 +13,7 @@ use Rattle.run_laws.proofs.Lists.{Pairs, clash, all_weaker, all_any, all_filter,
 use Rattle.run_laws.proofs.Foremost.{same_self, equal, idle_priority}
 use Rattle.run_laws.proofs.Single.{IsSoundPair}
 use Rattle.kept_state.specs.Kept.{slot_of, slots_of, runs, is_at, task_of, queue, is_gone, kept}
-use Rattle.ready_queues.specs.Moves.{changed_at, put_last}
+use Rattle.ready_queues.specs.QueueMoves.{changed_at, put_newest}
 use Rattle.kept_state.specs.Moves.{slot_woken, released_in}
 use Rattle.kept_state.proofs.Parts.{filter_same, filter_twice, filter_all, any_parts, IsOldest}
 use Rattle.kept_state.proofs.JobMoves.{newest_queue, but_of, elsewhere}
@@ -79,7 +79,7 @@ module _ (S : System) (s : State) (n : JobId) (o : IsOldest n s.jobs) (pairs : P
   woken_runs (Some r) = refl
 
   release_queue : (l : ℕ)
-      → queue S s.running after l ≡ put_last (queue S s.running s.jobs) (priority_of S n.task) n.task l
+      → queue S s.running after l ≡ put_newest (queue S s.running s.jobs) (priority_of S n.task) n.task l
   release_queue l =
       newest_queue S n.task s.running (jobs_but n s.jobs) (woken o.job) (woken_runs s.running ∙ apart) refl
       (idle_priority S (woken o.job) idle.0 idle.1 ∙ ap (λ (m : JobId). priority_of S m.task) o.id)

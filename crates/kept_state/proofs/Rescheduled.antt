@@ -21,7 +21,7 @@ use Rattle.run_laws.proofs.Single.{IsSoundPair, HasRunner, AreSingle, IsSingle}
 use Rattle.run_laws.proofs.SingleMoves.{other_way, chosen_single, is_best}
 use Rattle.run_laws.proofs.Ranked.{IsBehind}
 use Rattle.kept_state.specs.Kept.{Slot, slot_with, slot_of, slots_of, runs, is_at, is_queued, task_of, task_in, queue, is_gone, kept}
-use Rattle.ready_queues.specs.Moves.{changed_at, put_first, first, highest}
+use Rattle.ready_queues.specs.QueueMoves.{changed_at, put_oldest, first, highest}
 use Rattle.kept_state.specs.Moves.{kept_recorded, left_in, entered_in, dynamic_in, slot_entered, stays, entered_as, dispatched, contender_of, contender, chosen, rescheduled}
 use Rattle.kept_state.proofs.Parts.{filter_same, any_moved, found_any, IsOldest, oldest}
 use Rattle.kept_state.proofs.JobMoves.{one_changed, keeps_id, changed_queue, changed_gone, changed_of, changed_slots}
@@ -260,11 +260,11 @@ module _ (S : System) (s : State) (single : IsSingle S s) where
     above : (y : Job) (b : Bool) → nat_le (dynamic_priority S y) (dynamic_priority S r) ≡ b
         → choice S s.jobs ≡ cond b (Some r) (Some y)
         → kept_recorded S (switched S (cond b (Some r) (Some y)) s)
-        ≡ cond b (stays S r.id.task (kept S s)) (dispatched S (dynamic_priority S y) (put_first (queue S s.running s.jobs) (dynamic_priority S r) r.id.task) (kept S s))
+        ≡ cond b (stays S r.id.task (kept S s)) (dispatched S (dynamic_priority S y) (put_oldest (queue S s.running s.jobs) (dynamic_priority S r) r.id.task) (kept S s))
     above y true e falls = stays_recorded falls
     above y false e falls =
-        dispatched_kept y falls other (put_first (queue S s.running s.jobs) (dynamic_priority S r) r.id.task)
-        (λ l. put_back S r s.jobs apart itself level_first l ∙ ap (λ o. put_first (queue S o s.jobs) (dynamic_priority S r) r.id.task l) (sym runs_r))
+        dispatched_kept y falls other (put_oldest (queue S s.running s.jobs) (dynamic_priority S r) r.id.task)
+        (λ l. put_back S r s.jobs apart itself level_first l ∙ ap (λ o. put_oldest (queue S o s.jobs) (dynamic_priority S r) r.id.task l) (sym runs_r))
       where
         self : nat_le (dynamic_priority S r) (dynamic_priority S r) ≡ true
         self = grind arith
@@ -286,7 +286,7 @@ module _ (S : System) (s : State) (single : IsSingle S s) where
     against (Some y) falls =
         above y (nat_le (dynamic_priority S y) (dynamic_priority S r)) refl falls
         ∙ ap
-        (λ d. cond (nat_le (dynamic_priority S y) d) (stays S r.id.task (kept S s)) (dispatched S (dynamic_priority S y) (put_first (queue S s.running s.jobs) d r.id.task) (kept S s)))
+        (λ d. cond (nat_le (dynamic_priority S y) d) (stays S r.id.task (kept S s)) (dispatched S (dynamic_priority S y) (put_oldest (queue S s.running s.jobs) d r.id.task) (kept S s)))
         (sym level_is)
 
     pub one_contends : kept_recorded S (switched S (choice S s.jobs) s)

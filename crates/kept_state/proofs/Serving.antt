@@ -14,7 +14,7 @@ use Rattle.run_laws.proofs.Foremost.{same_self, static_le}
 use Rattle.run_laws.proofs.Single.{IsSingle}
 use Rattle.run_laws.proofs.Ranked.{IsRankedPair, IsBehind, AreRanked, HasReady, IsUnder, IsBefore, IsDispatched, HasDispatched, raised_ready}
 use Rattle.kept_state.specs.Kept.{is_queued, runs, slot_of, queue, slots_of, is_gone, task_in, kept}
-use Rattle.ready_queues.specs.Moves.{highest}
+use Rattle.ready_queues.specs.QueueMoves.{highest}
 use Rattle.kept_state.specs.Moves.{contender, contender_of, dynamic_in}
 use Rattle.kept_state.specs.KeptService.{is_above}
 use Rattle.kept_state.specs.Standing.{is_overtaken, is_overtaken_by}

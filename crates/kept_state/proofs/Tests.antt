@@ -24,7 +24,7 @@ use Rattle.run_laws.proofs.Foremost.{AreApart, same_self, equal, only}
 use Rattle.run_laws.proofs.Known.{IsCaller, IsRunningCaller}
 use Rattle.run_laws.proofs.Single.{IsSoundJob, IsSoundPair}
 use Rattle.kept_state.specs.Kept.{Slot, unbegun, slot_with, slot_of, slots_of, is_queued, task_in, queue, kept}
-use Rattle.ready_queues.specs.Moves.{highest}
+use Rattle.ready_queues.specs.QueueMoves.{highest}
 use Rattle.kept_state.specs.KeptService.{kept_caller, by_routine_in, holds_any_in, is_own_in, is_basic_in, may_take_in, is_above_ceiling_in, got_last_in, caller_holds_in, is_full_in, is_suspended_in, holds_in, is_held_in, is_above, is_outranked_in, running_number, task_state_in, refusals_in, results_in}
 use Rattle.kept_state.proofs.Parts.{IsOldest}
 use Rattle.kept_state.proofs.Settled.{IsSettled}

@@ -13,7 +13,7 @@ use Rattle.osek_base.specs.State.{Words, interrupts_off}
 use Rattle.osek_base.specs.Service.{first_refusal, is_met, meets}
 use Rattle.osek_base.specs.Tick.{routine_choice}
 use Rattle.kept_state.specs.Kept.{Kept, Slot}
-use Rattle.ready_queues.specs.Moves.{highest}
+use Rattle.ready_queues.specs.QueueMoves.{highest}
 use Rattle.kept_state.specs.Moves.{KeptRecorded, activated_in, released_in, slot_changed, contender, dynamic_in, chosen, may_dispatch_in, rescheduled}
 use Rattle.kept_state.specs.KeptService.{KeptCaller, ByTask, ByRoutine, ByNobody, KeptReply, bare, with_mask, with_caller_in, caller_ended_in, slot_given_up, slot_gets, slot_releases, slot_waiting, slot_moved, events_cleared_in, event_awaited_in, is_outranked_in, refusals_in, results_in, effect_in, reply_in, unmasked_in, service_in}
 use Rattle.kept_state.specs.KeptTick.{controlled_in, with_context_in, routine_started_in, start_phase_in}

@@ -14,7 +14,7 @@ use Rattle.osek_base.specs.Instruction.{Context}
 use Rattle.osek_base.specs.State.{State, interrupts_off}
 use Rattle.osek_base.specs.Service.{Caller, JobCalls, RoutineCalls, NobodyCalls, Reply, may_take, is_resource, refusals, first_refusal, results, invalid_task, state_number, is_met, meets, effect, answer, word_stored}
 use Rattle.kept_state.specs.Kept.{Kept, Slot, kept}
-use Rattle.ready_queues.specs.Moves.{highest}
+use Rattle.ready_queues.specs.QueueMoves.{highest}
 use Rattle.kept_state.specs.Moves.{slot_changed, ended_in, activated_in, released_in}
 
 -- who calls: the running task, the active routine, or neither

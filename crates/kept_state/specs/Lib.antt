@@ -3,3 +3,4 @@ pub mod Moves
 pub mod KeptService
 pub mod KeptTick
 pub mod Standing
+pub mod Quiet

@@ -5,7 +5,7 @@ use Rattle.osek_base.specs.Reschedule.{hooked, Recorded}
 use Rattle.osek_base.specs.Lists.{greatest}
 use Rattle.osek_base.specs.System.{System, priority_of, is_extended}
 use Rattle.osek_base.specs.Ceiling.{ceiling, internal_ceiling, top_priority}
-use Rattle.ready_queues.specs.Moves.{changed_at, put_last, put_first, first, without_first_at_level, highest}
+use Rattle.ready_queues.specs.QueueMoves.{changed_at, put_newest, put_oldest, first, without_first_at_level, highest}
 use Rattle.kept_state.specs.Kept.{Kept, Slot, unbegun, kept}
 
 -- a task has one more job
@@ -16,7 +16,7 @@ one_more a = record a { count = a.count + 1 }
 abbrev pub activated_in : System → ℕ → Kept → Kept
 activated_in S t o =
     record o {
-      queues = put_last o.queues (priority_of S t) t;
+      queues = put_newest o.queues (priority_of S t) t;
       slots = changed_at o.slots t (one_more (o.slots t));
       masks = if is_extended S t && ((o.slots t).count == 0) then slice_set o.masks t 0 else o.masks;
     }
@@ -36,7 +36,7 @@ slot_woken a = record a { waits_for = None }
 abbrev pub released_in : System → ℕ → Kept → Kept
 released_in S t o =
     record o {
-      queues = put_last o.queues (priority_of S t) t;
+      queues = put_newest o.queues (priority_of S t) t;
       slots = changed_at o.slots t (slot_woken (o.slots t));
     }
 
@@ -100,7 +100,7 @@ chosen S None (Some l) o = dispatched S l o.queues o
 chosen S (Some t) None o = stays S t o
 chosen S (Some t) (Some l) o =
     if nat_le l (dynamic_in S t (o.slots t)) then stays S t o
-    else dispatched S l (put_first o.queues (dynamic_in S t (o.slots t)) t) o
+    else dispatched S l (put_oldest o.queues (dynamic_in S t (o.slots t)) t) o
 
 abbrev pub may_dispatch_in : Kept → Bool
 may_dispatch_in o = not (is_some o.active) && not (o.disabled || nat_lt 0 o.suspended_all || nat_lt 0 o.suspended_os)

@@ -24,7 +24,7 @@ use Rattle.run_laws.proofs.Ranked.{AreRanked}
 use Rattle.run_laws.proofs.Formed.{HasActive, HasForm, IsPlaced}
 use Rattle.ready_queues.specs.Queues.{total}
 use Rattle.kept_state.specs.Kept.{Kept, Slot, kept}
-use Rattle.ready_queues.specs.Moves.{highest}
+use Rattle.ready_queues.specs.QueueMoves.{highest}
 use Rattle.kept_state.specs.Moves.{contender, dynamic_in, may_dispatch_in, rescheduled, kept_recorded}
 use Rattle.kept_state.specs.KeptService.{ByNobody, bare, caller_in, is_above, is_full_in, kept_reply, moved_in, service_in, unmasked_in}
 use Rattle.kept_state.specs.KeptTick.{before_execution_in, controlled_in, start_phase_in, still_in}

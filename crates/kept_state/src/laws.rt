@@ -4,6 +4,7 @@
 //! the step of the same name does over what is kept.
 
 ghost use Rattle.kept_state.specs.KeptTick.{BootsAlike, TicksAlike};
+ghost use Rattle.kept_state.specs.Quiet.{QuietTicks};
 ghost use Rattle.kept_state.specs.Standing.{ActionKeepsReady, ActivateStands, AdvanceStands, BeforeAlike, ControlStands, FewNested, FitsWhereStanding, FlagStands, JobMoveStands, ReadyBetweenTicks, RescheduleStands, RoutineMoveStands, ServesInRuns, ServiceStands, SetEventStands, StartStands, StartedStands, StillStands};
 
 /// What is kept of a standing state fits: tasks and places exist, no task has too many jobs,
@@ -105,4 +106,10 @@ pub fn boots()
 /// Each tick of a run records and leaves what it does over what is kept.
 pub fn ticks()
     ensures { TicksAlike }
+{}
+
+/// A tick of a quiet state, in which no alarm is due and no interrupt arrives, records that nobody executes, and leaves all else
+/// as it was.
+pub fn quiet_ticks()
+    ensures { QuietTicks }
 {}

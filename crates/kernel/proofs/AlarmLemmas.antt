@@ -1,27 +1,22 @@
 -- Due alarms act in turn; at the first tick none is due.
-use Rattle.std.proofs.Common.{◌≡◌, ℕ, zero, suc, ◌/◌, ◌≤◌, Bool, true, false, not, ◌&&◌, cond, List, [], ◌∷◌, ◌++◌, map, take, length, refl, sym, ◌∙◌, ap, ap₂, arith}
+use Rattle.std.proofs.Common.{◌≡◌, ℕ, zero, suc, ◌/◌, Bool, true, false, not, ◌&&◌, List, [], ◌∷◌, ◌++◌, length, refl, sym, ◌∙◌, ap, ap₂}
 use Rattle.std.specs.Prelude.{Option, None, slice_index_or}
-use Rattle.std.specs.List.{filter}
-use Rattle.std.proofs.Math.Seq.{take-length}
 use Rattle.std.proofs.lemmas.Bool.{false≢true}
-use Rattle.std.proofs.lemmas.List.{map-append, take_more}
-use Rattle.std.proofs.lemmas.List.Elements.{filter-append}
-use Rattle.std.proofs.Math.Numerals.{add-one}
 use Rattle.std.proofs.Math.Nat.{zero-div}
 use Rattle.osek_base.specs.declared.task.Action.{Action}
 use Rattle.osek_base.specs.declared.status.Status.{Status}
 use Rattle.osek_base.specs.declared.trace_event.Source.{Source}
 use Rattle.osek_base.specs.declared.trace_event.TraceEvent.{TraceEvent}
 use Rattle.osek_base.specs.declared.instr.Instr.{Instr}
-use Rattle.osek_base.specs.Lists.{below}
 use Rattle.osek_base.specs.System.{System, alarm, counter_of}
 use Rattle.osek_base.specs.State.{State, Expiry, Words}
-use Rattle.osek_base.specs.Alarm.{count, expiry, is_due, is_due_at, due_alarms, alarms_advanced, renewed}
+use Rattle.osek_base.specs.Alarm.{count, expiry, is_due, is_due_at, due_alarms, alarms_advanced}
 use Rattle.osek_base.specs.Tick.{action_call, error_record}
 use Rattle.kept_state.specs.Kept.{Kept}
 use Rattle.kept_state.specs.Moves.{KeptRecorded}
 use Rattle.kept_state.specs.KeptService.{ByNobody, KeptReply, bare, unmasked_in}
 use Rattle.kept_state.specs.KeptTick.{alarm_reply_in, alarm_acts_in, alarms_act_in, alarm_phase_in, silent_in}
+use Rattle.kept_state.proofs.Quiet.{nothing_due as none_due, nothing_advanced as none_advanced}
 use Rattle.kept_state.proofs.Words.{with_words, reply_with, unmasked_words}
 use Rattle.services.specs.Objects.{Objects, kept_of, kept_in}
 use Rattle.kernel.specs.Processor.{AreAhead}
@@ -65,21 +60,6 @@ none_at [] i ahead = refl
 none_at (e ∷ rest) zero ahead = (head_tail _ _ ahead).0
 none_at (e ∷ rest) (suc i) ahead = none_at rest i (head_tail _ _ ahead).1
 
-filter_none : (test : ℕ → Bool) (n : ℕ) → ((i : ℕ) → test i ≡ false) → filter test (below n) ≡ []
-filter_none test zero none = refl
-filter_none test (suc n) none = filter-append test (below n) (n ∷ []) ∙ rw (filter_none test n none, none n) refl
-
-map_read : (alarms : List (Option Expiry)) (n : ℕ) → n ≤ length alarms → map (λ i. slice_index_or alarms i None) (below n) ≡ take n alarms
-map_read alarms zero low = refl
-map_read alarms (suc n) low =
-    map-append (λ i. slice_index_or alarms i None) (below n) (n ∷ [])
-    ∙ ap (λ v. v ++ slice_index_or alarms n None ∷ []) (map_read alarms n (omega arith))
-    ∙ sym (take_more alarms n None (omega arith)) ∙ ap (λ k. take k alarms) (add-one n)
-
-map_same : (f g : ℕ → Option Expiry) (numbers : List ℕ) → ((i : ℕ) → f i ≡ g i) → map f numbers ≡ map g numbers
-map_same f g [] same = refl
-map_same f g (i ∷ rest) same = rw (same i, map_same f g rest same) refl
-
 module _ (S : System) (s : State) (first : s.tick ≡ 0) (size : length s.alarms ≡ length S.alarms) (ahead : AreAhead s.alarms) where
   at_zero : (a : ℕ) → count S s a ≡ 0
   at_zero a = ap (λ t. t / (counter_of S a).ticks_per_base) first ∙ zero-div (counter_of S a).ticks_per_base
@@ -88,16 +68,10 @@ module _ (S : System) (s : State) (first : s.tick ≡ 0) (size : length s.alarms
   not_due a = ap (λ n. is_due_at n (expiry s a)) (at_zero a) ∙ none_at s.alarms a ahead
 
   pub nothing_due : due_alarms S s ≡ []
-  nothing_due = filter_none (is_due S s) (length S.alarms) not_due
-
-  same_expiry : (a : ℕ) → cond (is_due S s a) (renewed (expiry s a)) (expiry s a) ≡ expiry s a
-  same_expiry a = rw (not_due a) refl
+  nothing_due = none_due S s size (λ a low. not_due a)
 
   nothing_advanced : alarms_advanced S s ≡ s.alarms
-  nothing_advanced =
-      map_same _ (expiry s) (below (length S.alarms)) same_expiry
-      ∙ ap (λ n. map (λ i. slice_index_or s.alarms i None) (below n)) (sym size)
-      ∙ map_read s.alarms (length s.alarms) (omega arith) ∙ take-length s.alarms
+  nothing_advanced = none_advanced S s size (λ a low. not_due a)
 
 -- at the first tick nothing is due
 pub first_alarm_phase : (S : System) (o : Kept) → o.tick ≡ 0 → length o.alarms ≡ length S.alarms → AreAhead o.alarms → alarm_phase_in S o ≡ silent_in o

@@ -14,7 +14,7 @@ use Rattle.osek_base.specs.ArrivalList.{are_in_order, is_arrival_list}
 use Rattle.osek_base.specs.Trace.{arriving}
 use Rattle.osek_base.proofs.PlaceLemmas.{and_split}
 use Rattle.run_laws.proofs.Lists.{all_kept}
-use Rattle.kernel.specs.Run.{AreLeft, HaveArrived}
+use Rattle.kernel.specs.Progress.{AreFree, AreLeft, HaveArrived}
 
 -- a list in order: its first tick, and its rest
 pub record IsInOrder (least : ℕ) (a : Arrival) (rest : List Arrival) : Type 0 where
@@ -162,6 +162,64 @@ all_left list h = record {
   ordered = (and_split _ _ h).1;
   same = λ t low. refl;
 }
+
+-- ---- the ticks before the next
+
+module _ (list : List Arrival) (cursor tick : ℕ) (left : AreLeft list cursor tick) where
+  free_from : (n : ℕ) → are_in_order (tick + n) (drop cursor list) ≡ true → AreFree list cursor tick n
+  free_from n ordered = record {
+    none = λ k low. left.same (tick + k) (omega arith) ∙ none_before (tick + n) (tick + k) (drop cursor list) ordered (omega (arith, low));
+    left = record {
+      within = left.within;
+      ordered = ordered;
+      same = λ t low. left.same t (omega (arith, low));
+    };
+  }
+
+  module _ (a : Arrival) (low : cursor < length list) (found : a ≡ get_or list cursor a) where
+    abbrev later_ones : List Arrival
+    later_ones = drop (suc cursor) list
+
+    here : drop cursor list ≡ a ∷ later_ones
+    here = drop-cons list cursor a low ∙ ap (λ v. v ∷ later_ones) (sym found)
+
+    first_left : IsInOrder tick a later_ones
+    first_left = order_split tick a later_ones (sym (ap (are_in_order tick) here) ∙ left.ordered)
+
+    pub not_before : tick ≤ a.tick
+    not_before = first_left.first
+
+    pub free_until : (n : ℕ) → n ≤ a.tick - tick → AreFree list cursor tick n
+    free_until n few =
+        let first = not_before in
+        free_from n (ap (are_in_order (tick + n)) here
+        ∙ order_later tick (tick + n) a later_ones (sym (ap (are_in_order tick) here) ∙ left.ordered) (omega (arith, few, first)))
+
+  pub free_at_end : (n : ℕ) → length list ≤ cursor → AreFree list cursor tick n
+  free_at_end n end = free_from n (ap (are_in_order (tick + n)) (drop_of_length-le list end))
+
+-- from an earlier tick on, the same stand in order
+order_earlier : (least earlier : ℕ) (xs : List Arrival) → are_in_order least xs ≡ true → earlier ≤ least → are_in_order earlier xs ≡ true
+order_earlier least earlier [] h low = refl
+order_earlier least earlier (a ∷ rest) h low =
+    let o : IsInOrder least a rest = order_split least a rest h in
+    let first = o.first in
+    order_later least earlier a rest h (omega (arith, first, low))
+
+-- and some of those ticks later
+pub left_behind : (list : List Arrival) (cursor tick n m : ℕ) → AreLeft list cursor tick → AreFree list cursor tick n → m ≤ n
+    → AreLeft list cursor (tick + m)
+left_behind list cursor tick n m left free few = record {
+  within = left.within;
+  ordered = order_earlier (tick + n) (tick + m) (drop cursor list) free.left.ordered (omega (arith, few));
+  same = λ t low. left.same t (omega (arith, low));
+}
+
+-- none arrived between a cursor and itself
+pub none_between : (xs : List ℕ) (cursor : ℕ) → slice_range xs cursor cursor ≡ []
+none_between xs cursor =
+    let none : cursor - cursor ≡ 0 = omega arith in
+    ap (λ k. take k (drop cursor xs)) none
 
 -- ---- they are routines of the system
 

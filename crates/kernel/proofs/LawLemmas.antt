@@ -4,9 +4,9 @@ use Rattle.run_laws.proofs.SingleTick.{starts_singly}
 use Rattle.run_laws.proofs.Excluding.{excludes}
 use Rattle.run_laws.proofs.Blocking.{blocks_once}
 use Rattle.run_laws.proofs.Protection.{protects}
-use Rattle.kernel.specs.Run.{Run, IsLawful}
+use Rattle.kernel.specs.Progress.{Progress, IsLawful}
 
-pub lawful : (r : Run) → IsProper r.system → IsLawful r
+pub lawful : (r : Progress) → IsProper r.system → IsLawful r
 lawful r proper = record {
   single_start = λ n. starts_singly r.system r.mode r.arrivals n proper;
   exclusion = λ n. excludes r.system r.mode r.arrivals n proper;

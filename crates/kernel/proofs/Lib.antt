@@ -21,6 +21,9 @@ pub mod SeenLemmas
 pub mod ToldLemmas
 pub mod PastLemmas
 pub mod TickLemmas
+pub mod QuietLemmas
+pub mod IdleLemmas
+pub mod IdleRuns
 pub mod BootStamps
 pub mod BootLemmas
 pub mod LawLemmas

@@ -7,7 +7,7 @@ use Rattle.osek_base.specs.declared.arrivals.Arrival.{Arrival}
 use Rattle.osek_base.specs.System.{System}
 use Rattle.osek_base.specs.Trace.{Run, run}
 use Rattle.blocking_laws.proofs.StepLemmas.{run_more}
-use Rattle.kernel.specs.Run.{is_over}
+use Rattle.kernel.specs.Progress.{is_over}
 
 -- a run of n ticks that isn't over, and isn't at the limit
 pub record IsGoing (S : System) (mode : ℕ) (arrivals : List Arrival) (n : ℕ) : Type 0 where

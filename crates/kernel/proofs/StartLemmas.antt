@@ -20,7 +20,7 @@ use Rattle.osek_base.specs.Trace.{all_activated, starting_alarms, starting_tasks
 use Rattle.osek_base.specs.declared.arrivals.Arrival.{Arrival}
 use Rattle.osek_base.proofs.PlaceLemmas.{all_at, and_split}
 use Rattle.kept_state.specs.Kept.{Kept, Slot}
-use Rattle.ready_queues.specs.Moves.{changed_at}
+use Rattle.ready_queues.specs.QueueMoves.{changed_at}
 use Rattle.kept_state.specs.Moves.{activated_in, rescheduled}
 use Rattle.kept_state.specs.KeptService.{ByNobody, is_full_in, unmasked_in}
 use Rattle.kept_state.specs.KeptTick.{all_activated_in, begun_in, boot_in}

@@ -71,7 +71,7 @@ module _ (S : System) (proper : IsProper S) (mode : ℕ) (arrivals : List Arriva
       ∙ ap (λ t. t + 1) (run_tick S mode arrivals n going)
 
 -- one tick further, where these interrupts arrive
-further : (S : System) (proper : IsProper S) (mode : ℕ) (arrivals : List Arrival) (n : ℕ) (k : Kept) → k ≡ kept S (run S mode arrivals n).state
+pub further : (S : System) (proper : IsProper S) (mode : ℕ) (arrivals : List Arrival) (n : ℕ) (k : Kept) → k ≡ kept S (run S mode arrivals n).state
     → (run S mode arrivals n).state.over ≡ false
     → (tick_in S (arriving arrivals n) k).after ≡ kept S (run S mode arrivals (n + 1)).state
 further S proper mode arrivals n k same going =

@@ -6,7 +6,7 @@ use Rattle.osek_base.specs.Proper.{IsProper}
 use Rattle.osek_base.specs.System.{System}
 use Rattle.osek_base.specs.Trace.{arriving}
 use Rattle.kernel.specs.Machine.{HasCome, Machine, next_tick}
-use Rattle.kernel.specs.Run.{AreKnown, AreLeft}
+use Rattle.kernel.specs.Progress.{AreKnown, AreLeft}
 
 pub record IsKept (counted : Bool) (S : System) (mode : ℕ) (arrivals : List Arrival) (lent : List ℕ) (earlier cursor : ℕ) (m : Machine) : Type 0 where
   pub proper : IsProper S

@@ -1,6 +1,6 @@
 //! OSEK/VDX OS: alarms. The alarms that acted in a tick.
 
-ghost use Rattle.std.specs.Prelude.{◌≡◌};
+ghost use Rattle.std.specs.Prelude.{◌≡◌, []};
 
 use alarms::DueList;
 
@@ -12,6 +12,14 @@ pub struct Acted {
 }
 
 impl Acted {
+    /// No alarm was due.
+    pub fn clear(&mut self)
+        ensures { self.new ≡ record { due = []; refused = [] } }
+    {
+        self.due.clear();
+        self.refused.clear();
+    }
+
     /// Both become those of another tick.
     pub fn copy_from(&mut self, other: &Acted)
         ensures { self.new ≡ other.now }

@@ -2,6 +2,7 @@
 
 ghost use Rattle.std.specs.Prelude.{◌≡◌, ◌<◌, true, IfSome, length};
 ghost use Rattle.blocking_laws.specs.Looks.{preempted_by};
+ghost use Rattle.kernel.specs.Idle.{rested};
 ghost use Rattle.kernel.specs.Looking.{IsNumber, MayBegin, MayFollow, MayLook, looked_between, number_told, stood_between};
 ghost use Rattle.kernel.specs.Processor.{system_of};
 ghost use Rattle.kernel.specs.Watches.{Follows, IsFresh, Spends};
@@ -112,6 +113,14 @@ impl<B: Blockers> Blocking<B> {
         if B::are_counted() {
             executed_since(&mut self.stamps, before, after, tick);
         }
+    }
+
+    /// Nobody executes, so that no number is told.
+    #[inline(always)]
+    pub fn rest(&mut self)
+        ensures { self.new ≡ rested self.old }
+    {
+        self.begun.stamp = None;
     }
 
     /// Where a task executes, the stamp of its job is taken and its level noted.

@@ -8,7 +8,7 @@ ghost use Rattle.osek_base.specs.State.{shared_window};
 ghost use Rattle.kept_state.specs.Kept.{kept};
 ghost use Rattle.kernel.specs.Looking.{IsNumber};
 ghost use Rattle.kernel.specs.Machine.{IsSharedWord};
-ghost use Rattle.kernel.specs.Run.{AreKnown, AreLeft, Boots, HasRun, HasRunApart, HaveArrived, is_over, run_of};
+ghost use Rattle.kernel.specs.Progress.{AreFree, AreKnown, AreLeft, Boots, HasIdled, HasRun, HasRunApart, HaveArrived, is_over, run_of};
 ghost use Rattle.blocking_laws.specs.Steps.{step_at};
 ghost use Rattle.kernel.specs.Told.{task_at};
 ghost use Rattle.osek_base.specs.Lists.{below};
@@ -24,6 +24,7 @@ use osek_base::{
 };
 use ready_queues::ReadyQueues;
 use std::alloc::{AllocError, Global};
+use std::cmp;
 use std::marker::Model;
 
 /// A kernel that runs a system from boot in a mode, with the interrupts of a list of arrivals, over ready queues of any kind.
@@ -44,9 +45,9 @@ pub struct Kernel<'s, Q: ReadyQueues, B: Blockers = Counted> {
 impl<'s, Q: ReadyQueues, B: Blockers> Model for Kernel<'s, Q, B> {
     ghost use Rattle.kernel.specs.Keeping.{IsKept};
     ghost use Rattle.kernel.specs.Machine.{next_tick};
-    ghost use Rattle.kernel.specs.Run.{Run};
+    ghost use Rattle.kernel.specs.Progress.{Progress};
 
-    ghost Value = { Run };
+    ghost Value = { Progress };
 
     ghost view = { λ k. record {
       system = k.system.now;
@@ -158,6 +159,39 @@ impl<'s, Q: ReadyQueues, B: Blockers> Kernel<'s, Q, B> {
         self.machine.blockers()
     }
 
+    /// The ticks that follow, at most some, are done at once as long as nothing happens in them: no interrupt arrives, no alarm
+    /// is due, and nobody executes. Answers how many were done. The first tick is none of these.
+    #[tactic(auto, using(crate::proofs::LawLemmas::lawful))]
+    #[inline(always)]
+    pub fn pass_idle(&mut self, most: u32) -> u32
+        requires { self.old.ticks + most ≤ MAX_TICKS }
+        ensures few { result ≤ most }
+        ensures idled { HasIdled self.old self.new result }
+    {
+        if self.machine.is_quiet() {
+            self.pass_quiet(most)
+        } else {
+            0
+        }
+    }
+
+    /// As `pass_idle`.
+    #[tactic(auto, using(crate::proofs::LawLemmas::lawful))]
+    #[inline(never)]
+    fn pass_quiet(&mut self, most: u32) -> u32
+        requires { self.old.ticks + most ≤ MAX_TICKS }
+        ensures few { result ≤ most }
+        ensures idled { HasIdled self.old self.new result }
+    {
+        let tick = self.machine.next_tick();
+        let free = ticks_before(self.arrivals.list(), self.arrived, tick, most);
+        let idle = self.machine.pass_idle(free);
+        if 0 < idle {
+            self.earlier = self.arrived;
+        }
+        idle
+    }
+
     /// Does one tick, and answers its records. It takes no memory and never fails.
     pub fn tick(&mut self) -> TickRecord
         requires { is_over self.old ≡ false }
@@ -251,6 +285,19 @@ fn arrived_by(list: &[Arrival], arrived: usize, tick: u32) -> usize
         next += 1;
     }
     next
+}
+
+/// How many of the ticks from one on, at most some, come before the next arrival, where so many have arrived.
+fn ticks_before(list: &[Arrival], arrived: usize, tick: u32, most: u32) -> u32
+    requires { AreLeft list.now arrived tick }
+    ensures few { result ≤ most }
+    ensures free { AreFree list.now arrived tick result }
+{
+    if arrived < list.len() {
+        cmp::min(list[arrived].tick - tick, most)
+    } else {
+        most
+    }
 }
 
 /// Adds some records at the end.

@@ -1,14 +1,16 @@
 //! OSEK/VDX OS: system services; the modelled processor. A system in the midst of a tick, and three of its phases.
 
-ghost use Rattle.std.specs.Prelude.{◌≡◌, ◌<◌, ◌≤◌, ◌+◌, length};
+ghost use Rattle.std.specs.Prelude.{◌≡◌, ◌<◌, ◌≤◌, ◌+◌, true, length};
 ghost use Rattle.std.specs.List.{All};
 ghost use Rattle.osek_base.specs.Tick.{flagged};
 ghost use Rattle.kept_state.specs.KeptTick.{arrival_phase_in, start_phase_in};
-ghost use Rattle.kernel.specs.Processor.{system_of};
+ghost use Rattle.kept_state.specs.Quiet.{IsQuiet};
+ghost use Rattle.kernel.specs.Idle.{HasPassed};
+ghost use Rattle.kernel.specs.Processor.{picture, system_of};
 ghost use Rattle.kernel.specs.Does.{Becomes, Reschedules};
 
 use machine::{Code, Windows};
-use osek_base::{IsrId, MAX_RECORDS, System, TaskId, TickRecord};
+use osek_base::{IsrId, MAX_RECORDS, MAX_TICKS, System, TaskId, TickRecord};
 use ready_queues::ReadyQueues;
 use services::Core;
 use std::marker::Model;
@@ -34,6 +36,25 @@ impl<'s, Q: ReadyQueues> Model for Processor<'s, Q> {
 }
 
 impl<'s, Q: ReadyQueues> Processor<'s, Q> {
+    /// Whether nothing happens in a tick in which no alarm is due and no interrupt arrives.
+    #[inline(always)]
+    pub fn is_quiet(&self) -> bool
+        ensures { result ≡ true → IsQuiet (system_of self.now) (picture self.now) }
+    {
+        self.core.is_quiet()
+    }
+
+    /// The ticks that follow pass, at most some, up to the one before the first in which an alarm is due. Answers how many
+    /// passed.
+    #[inline(always)]
+    pub fn pass(&mut self, most: u32) -> u32
+        requires { self.old.objects.tick + most < MAX_TICKS }
+        ensures few { result ≤ most }
+        ensures passed { HasPassed result self.old self.new }
+    {
+        self.core.pass(most)
+    }
+
     /// Interrupts arrive: they set pending flags.
     #[inline(always)]
     pub fn arrival_phase(&mut self, arrived: &[IsrId])

@@ -1,9 +1,11 @@
 //! OSEK/VDX OS: alarms; interrupt processing; task management, scheduling policy. The phases of a tick round its instruction,
 //! in which the stamps follow that tell since when jobs are ready.
 
-ghost use Rattle.std.specs.Prelude.{◌≡◌, ◌<◌, ◌≤◌, ◌+◌, length};
+ghost use Rattle.std.specs.Prelude.{◌≡◌, ◌<◌, ◌≤◌, ◌+◌, true, length};
 ghost use Rattle.std.specs.List.{All};
+ghost use Rattle.kept_state.specs.Quiet.{IsQuiet};
 ghost use Rattle.kernel.specs.Does.{Adds};
+ghost use Rattle.kernel.specs.Idle.{Passes};
 ghost use Rattle.kernel.specs.Processor.{picture, system_of};
 ghost use Rattle.kernel.specs.Told.{if_refused};
 ghost use Rattle.kernel.specs.Watches.{AlarmActs, AllAct, MayActAll, MayActNow, MayStart, Starts, WatchesWithin, early, last, phase_of_alarms, rescheduling};
@@ -14,7 +16,7 @@ use crate::blocking::Blocking;
 use crate::looker::Looker;
 use crate::processor::Processor;
 use alarms::DueList;
-use osek_base::{AlarmId, IsrId, MAX_ALARMS, MAX_RECORDS, Status, TickRecord};
+use osek_base::{AlarmId, IsrId, MAX_ALARMS, MAX_RECORDS, MAX_TICKS, Status, TickRecord};
 use ready_queues::ReadyQueues;
 use std::marker::Model;
 
@@ -58,6 +60,29 @@ impl<'s, Q: ReadyQueues, B: Blockers> Watched<'s, Q, B> {
         self.processor.arrival_phase(arrived);
         self.reschedule(tick, before);
         self.processor.start_phase();
+    }
+
+    /// Whether nothing happens in a tick in which no alarm is due and no interrupt arrives.
+    #[inline(always)]
+    pub fn is_quiet(&self) -> bool
+        ensures { result ≡ true
+            → IsQuiet (system_of self.now.processor) (picture self.now.processor) }
+    {
+        self.processor.is_quiet()
+    }
+
+    /// The ticks that follow pass, at most some, up to the one before the first in which an alarm is due; nobody executes in
+    /// them. Answers how many passed.
+    pub fn pass(&mut self, most: u32) -> u32
+        requires { self.old.processor.objects.tick + most < MAX_TICKS }
+        ensures few { result ≤ most }
+        ensures passes { Passes result self.old self.new }
+    {
+        let passed = self.processor.pass(most);
+        if 0 < passed {
+            self.blocking.rest();
+        }
+        passed
     }
 
     /// Lets somebody look at the processor.

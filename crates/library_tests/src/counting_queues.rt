@@ -17,7 +17,7 @@ struct CountingQueues {
 }
 
 impl ReadyQueues for CountingQueues {
-    ghost use Rattle.ready_queues.specs.Kept.{tasks_of};
+    ghost use Rattle.ready_queues.specs.Levels.{tasks_of};
 
     ghost queues = { λ s. tasks_of s.queues };
 

@@ -6,10 +6,10 @@ use Rattle.osek_base.specs.declared.arrivals.Arrival.{Arrival}
 use Rattle.osek_base.specs.Lists.{below}
 use Rattle.osek_base.specs.System.{System}
 use Rattle.osek_base.specs.declared.limits.TheConstants.{MAX_ARRIVALS}
-use Rattle.osek_base.specs.Trace.{Run as RunSoFar, arriving}
+use Rattle.osek_base.specs.Trace.{Run, arriving}
 use Rattle.blocking_laws.proofs.StepLemmas.{run_more}
 use Rattle.kernel.proofs.RunLemmas.{going}
-use Rattle.kernel.specs.Run.{Run, is_over, run_of}
+use Rattle.kernel.specs.Progress.{Progress, is_over, run_of}
 use Rattle.observed_runs.specs.Observed.{tick_at}
 use Rattle.std.specs.Prelude.{◌==◌}
 use Rattle.std.specs.List.{filter}
@@ -27,19 +27,19 @@ module _ {X : Type 0} (f : ℕ → X) where
       ]
 
 -- what is said of the tick that comes is said of the last one behind it
-pub one_on : (k new : Run) (P : System → ℕ → List Arrival → ℕ → Type 0) → new ≡ record k { ticks = k.ticks + 1 }
+pub one_on : (k new : Progress) (P : System → ℕ → List Arrival → ℕ → Type 0) → new ≡ record k { ticks = k.ticks + 1 }
     → P k.system k.mode k.arrivals k.ticks → P new.system new.mode new.arrivals (new.ticks - 1)
 one_on k new P next h =
     let last : k.ticks + 1 - 1 ≡ k.ticks = omega arith in
-    subst (λ (r : Run). P r.system r.mode r.arrivals (r.ticks - 1)) (sym next)
+    subst (λ (r : Progress). P r.system r.mode r.arrivals (r.ticks - 1)) (sym next)
     (subst (λ n. P k.system k.mode k.arrivals n) (sym last) h)
 
 -- the state behind a tick
-pub state_more : (k new : Run) → new ≡ record k { ticks = k.ticks + 1 } → is_over k ≡ false
+pub state_more : (k new : Progress) → new ≡ record k { ticks = k.ticks + 1 } → is_over k ≡ false
     → (run_of new).state ≡ (tick_at k.system k.mode k.arrivals k.ticks).after
 state_more k new next on =
-    ap (λ (r : Run). (run_of r).state) next
-    ∙ ap (λ (r : RunSoFar). r.state) (run_more k.system k.mode k.arrivals k.ticks (going k.system k.mode k.arrivals k.ticks on).on)
+    ap (λ (r : Progress). (run_of r).state) next
+    ∙ ap (λ (r : Run). r.state) (run_more k.system k.mode k.arrivals k.ticks (going k.system k.mode k.arrivals k.ticks on).on)
 
 fewer : {X : Type 0} (test : X → Bool) (xs : List X) → length (filter test xs) ≤ length xs
 fewer test [] = omega arith

@@ -23,7 +23,7 @@ use Rattle.osek_base.specs.System.{System, alarm}
 use Rattle.osek_base.specs.Tick.{action_call, before_execution, caller_executes, execute_phase, executed, executor, routine_choice, tick}
 use Rattle.osek_base.specs.Trace.{arriving, run}
 use Rattle.run_laws.proofs.Foremost.{equal}
-use Rattle.ready_queues.specs.Moves.{changed_at, first, highest, put_first}
+use Rattle.ready_queues.specs.QueueMoves.{changed_at, first, highest, put_oldest}
 use Rattle.kept_state.specs.Kept.{Kept, Slot, kept, slot_of}
 use Rattle.kept_state.specs.KeptService.{ByNobody, bare, holds_in, refusals_in, reply_in, unmasked_in, with_mask}
 use Rattle.kept_state.specs.KeptTick.{alarm_acts_in, alarm_phase_in, alarms_act_in, arrival_phase_in, before_execution_in, routine_started_in, start_phase_in}
@@ -132,9 +132,9 @@ module _ (S : System) (o : Kept) where
   chosen_same (Some t) None = stays_same t
   chosen_same (Some t) (Some l) = go (nat_le l (dynamic_in S t (o.slots t)))
     where
-      go : (b : Bool) → HoldSame o (cond b (stays S t o) (dispatched S l (put_first o.queues (dynamic_in S t (o.slots t)) t) o)).state
+      go : (b : Bool) → HoldSame o (cond b (stays S t o) (dispatched S l (put_oldest o.queues (dynamic_in S t (o.slots t)) t) o)).state
       go true = stays_same t
-      go false = dispatched_same l (put_first o.queues (dynamic_in S t (o.slots t)) t)
+      go false = dispatched_same l (put_oldest o.queues (dynamic_in S t (o.slots t)) t)
 
   rescheduled_same : HoldSame o (rescheduled S o).state
   unfolding rescheduled

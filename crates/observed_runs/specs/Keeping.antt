@@ -8,7 +8,7 @@ use Rattle.osek_base.specs.State.{State}
 use Rattle.osek_base.specs.System.{System}
 use Rattle.observations.specs.declared.observation.Observation.{Observation}
 use Rattle.blocking_laws.specs.Steps.{record_at}
-use Rattle.kernel.specs.Run.{Run, run_of}
+use Rattle.kernel.specs.Progress.{Progress, run_of}
 use Rattle.kernel.specs.Told.{task_at}
 use Rattle.observed_runs.specs.declared.before.Before.{Before}
 use Rattle.observed_runs.specs.declared.execution.Execution.{Execution}
@@ -16,7 +16,7 @@ use Rattle.kernel.specs.declared.task_at.TaskAt.{TaskAt}
 use Rattle.observed_runs.specs.Observed.{IsObserved, Ticked, active_routine, ending, is_pending, jobs_before, refusing, tick_at}
 
 -- the tick of a run that was done last
-abbrev pub last_tick : Run → Ticked
+abbrev pub last_tick : Progress → Ticked
 last_tick r = tick_at r.system r.mode r.arrivals (r.ticks - 1)
 
 -- what was known before a tick
@@ -40,11 +40,11 @@ pub record IsTold (S : System) (mode : ℕ) (arrivals : List Arrival) (n : ℕ) 
   pub recorded : records ≡ record_at S mode arrivals n
 
 -- beside a run, its system, that its arrivals are few, and what is told of the tick done last
-pub record IsTelling (r : Run) (S : System) (before : Before) (e : Execution) (tasks : List TaskAt) (records : List TraceEvent) : Type 0 where
+pub record IsTelling (r : Progress) (S : System) (before : Before) (e : Execution) (tasks : List TaskAt) (records : List TraceEvent) : Type 0 where
   pub system : r.system ≡ S
   pub few : length r.arrivals ≤ MAX_ARRIVALS
   pub told : 1 ≤ r.ticks → IsTold r.system r.mode r.arrivals (r.ticks - 1) (run_of r).state before e tasks records
 
 -- and what is seen of it
-abbrev pub IsKept : Bool → Run → Observation → Type 0
+abbrev pub IsKept : Bool → Progress → Observation → Type 0
 IsKept counted r o = 1 ≤ r.ticks → IsObserved counted r.system r.mode r.arrivals (r.ticks - 1) o

@@ -2,7 +2,7 @@
 
 ghost use Rattle.std.specs.Prelude.{◌≡◌};
 ghost use Rattle.osek_base.specs.Proper.{IsProper};
-ghost use Rattle.kernel.specs.Run.{run_of};
+ghost use Rattle.kernel.specs.Progress.{run_of};
 ghost use Rattle.observed_runs.specs.Observed.{holders_seen};
 
 use arrayvec::ArrayVec;

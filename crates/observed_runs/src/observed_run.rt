@@ -4,7 +4,7 @@ ghost use Rattle.std.specs.Prelude.{◌≡◌, ◌+◌, ◌-◌, ◌≤◌, fals
 ghost use Rattle.osek_base.specs.BlockingText.{blockers_at};
 ghost use Rattle.osek_base.specs.Names.{number_of};
 ghost use Rattle.kernel.specs.declared.boot.BootFault.{BootFault};
-ghost use Rattle.kernel.specs.Run.{AreKnown, is_over};
+ghost use Rattle.kernel.specs.Progress.{AreKnown, is_over};
 ghost use Rattle.blocking_laws.specs.Steps.{record_at, step_at};
 ghost use Rattle.observed_runs.specs.Keeping.{last_tick};
 ghost use Rattle.observed_runs.specs.Observed.{IsObserved, IsSeen, holders_seen};
@@ -26,10 +26,10 @@ pub struct ObservedRun<'s, B: Blockers> {
 }
 
 impl<'s, B: Blockers> Model for ObservedRun<'s, B> {
-    ghost use Rattle.kernel.specs.Run.{Run};
+    ghost use Rattle.kernel.specs.Progress.{Progress};
     ghost use Rattle.observed_runs.specs.Keeping.{IsKept};
 
-    ghost Value = { Run };
+    ghost Value = { Progress };
 
     ghost view = { λ r. r.told };
 

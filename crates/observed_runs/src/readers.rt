@@ -5,7 +5,7 @@ ghost use Rattle.std.specs.List.{AllByRecursion};
 ghost use Rattle.osek_base.specs.Service.{task_state};
 ghost use Rattle.osek_base.specs.State.{jobs_of};
 ghost use Rattle.osek_base.specs.System.{alarm};
-ghost use Rattle.kernel.specs.Run.{run_of};
+ghost use Rattle.kernel.specs.Progress.{run_of};
 ghost use Rattle.observed_runs.specs.Keeping.{last_tick};
 ghost use Rattle.kernel.specs.Told.{task_at};
 ghost use Rattle.observed_runs.specs.Observed.{

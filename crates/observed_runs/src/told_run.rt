@@ -5,7 +5,7 @@ ghost use Rattle.osek_base.specs.Executed.{StandsIn, idle_or_executed};
 ghost use Rattle.osek_base.specs.Names.{number_of};
 ghost use Rattle.osek_base.specs.Proper.{IsProper};
 ghost use Rattle.kernel.specs.declared.boot.BootFault.{BootFault};
-ghost use Rattle.kernel.specs.Run.{AreKnown, is_over, run_of};
+ghost use Rattle.kernel.specs.Progress.{AreKnown, is_over, run_of};
 ghost use Rattle.blocking_laws.specs.Steps.{record_at};
 ghost use Rattle.observed_runs.specs.Observed.{executed_in, holders_seen};
 
@@ -34,10 +34,10 @@ pub(crate) struct ToldRun<'s, B: Blockers> {
 }
 
 impl<'s, B: Blockers> Model for ToldRun<'s, B> {
-    ghost use Rattle.kernel.specs.Run.{Run};
+    ghost use Rattle.kernel.specs.Progress.{Progress};
     ghost use Rattle.observed_runs.specs.Keeping.{IsTelling};
 
-    ghost Value = { Run };
+    ghost Value = { Progress };
 
     ghost view = { λ r. r.kernel };
 

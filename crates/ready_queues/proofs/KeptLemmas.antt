@@ -6,7 +6,7 @@ use Rattle.std.proofs.Math.Path.{fun_ext}
 use Rattle.circular_buffer.specs.Buffer.{Buffer, buffer}
 use Rattle.ready_queues.specs.declared.ready_queues.TheConstants.{LEVELS}
 use Rattle.ready_queues.specs.Queues.{Queues, no_tasks, with_level, total, top_level, first_at, first_task, without_first_at, without_first}
-use Rattle.ready_queues.specs.Kept.{Levels, tasks_of, items_of, seen, ring_at, tasks_at, IsCounted}
+use Rattle.ready_queues.specs.Levels.{Levels, tasks_of, items_of, seen, ring_at, tasks_at, IsCounted}
 use Rattle.ready_queues.proofs.Writes.{with_level-same, with_level-other, same_queues, total_below-with_level, length-le-total, total_below-none}
 use Rattle.ready_queues.proofs.Tops.{IsTop, top_below-some, top_below-is}
 

@@ -4,9 +4,9 @@ use Rattle.std.proofs.Common.{◌≡◌, ℕ, ◌<◌, ◌≤◌, Some, List, []
 use Rattle.ready_queues.specs.declared.ready_queues.TheConstants.{LEVELS}
 use Rattle.ready_queues.specs.Queues.{Queues, top_level, first_task, with_newest, with_oldest, without_first}
 use Rattle.ready_queues.specs.LevelLists.{level_lists, by_level}
-use Rattle.ready_queues.specs.Moves.{put_last, put_first, first, without_first_at_level, highest}
+use Rattle.ready_queues.specs.QueueMoves.{put_newest, put_oldest, first, without_first_at_level, highest}
 use Rattle.ready_queues.proofs.LevelLists.{by_level-with_newest, by_level-with_oldest, by_level-without_first, top_level-by_level, first_task-by_level}
-use Rattle.ready_queues.proofs.MoveLemmas.{with_newest-put_last, with_oldest-put_first, first_task-first, without_first-level, highest-top}
+use Rattle.ready_queues.proofs.MoveLemmas.{with_newest-put_newest, with_oldest-put_oldest, first_task-first, without_first-level, highest-top}
 
 module _ (q : Queues) (lists : List (List ℕ)) (is : level_lists q ≡ lists) where
   pub top-list : top_level q ≡ top_level (by_level lists)
@@ -16,18 +16,18 @@ module _ (q : Queues) (lists : List (List ℕ)) (is : level_lists q ≡ lists) w
   first-list = sym (first_task-by_level q) ∙ ap (λ ls. first_task (by_level ls)) is
 
   -- after put_newest
-  pub list-put_last : (l t : ℕ) (new : Queues) → l < LEVELS → new ≡ with_newest l t q
-      → by_level (level_lists new) ≡ put_last (by_level lists) l t
-  list-put_last l t new low put =
+  pub list-put_newest : (l t : ℕ) (new : Queues) → l < LEVELS → new ≡ with_newest l t q
+      → by_level (level_lists new) ≡ put_newest (by_level lists) l t
+  list-put_newest l t new low put =
       ap (λ (p : Queues). by_level (level_lists p)) put ∙ by_level-with_newest l t q low
-      ∙ with_newest-put_last l t (by_level (level_lists q)) ∙ ap (λ ls. put_last (by_level ls) l t) is
+      ∙ with_newest-put_newest l t (by_level (level_lists q)) ∙ ap (λ ls. put_newest (by_level ls) l t) is
 
   -- after put_oldest
-  pub list-put_first : (l t : ℕ) (new : Queues) → l < LEVELS → new ≡ with_oldest l t q
-      → by_level (level_lists new) ≡ put_first (by_level lists) l t
-  list-put_first l t new low put =
+  pub list-put_oldest : (l t : ℕ) (new : Queues) → l < LEVELS → new ≡ with_oldest l t q
+      → by_level (level_lists new) ≡ put_oldest (by_level lists) l t
+  list-put_oldest l t new low put =
       ap (λ (p : Queues). by_level (level_lists p)) put ∙ by_level-with_oldest l t q low
-      ∙ with_oldest-put_first l t (by_level (level_lists q)) ∙ ap (λ ls. put_first (by_level ls) l t) is
+      ∙ with_oldest-put_oldest l t (by_level (level_lists q)) ∙ ap (λ ls. put_oldest (by_level ls) l t) is
 
   -- what take_first gives, where a level is on top
   pub taken-first : (l : ℕ) → top_level (by_level lists) ≡ Some l → first_task q ≡ Some (first (by_level lists l))

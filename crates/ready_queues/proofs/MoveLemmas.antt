@@ -3,18 +3,18 @@ use Rattle.std.proofs.Common.{◌≡◌, ℕ, zero, suc, ◌+◌, ◌-◌, ◌<�
 use Rattle.osek_base.specs.Lists.{is_empty}
 use Rattle.ready_queues.specs.declared.ready_queues.TheConstants.{LEVELS}
 use Rattle.ready_queues.specs.Queues.{Queues, with_level, or_below, top_below, top_level, first_at, first_task, with_newest, with_oldest, without_first_at, without_first, HasNoneAbove}
-use Rattle.ready_queues.specs.Moves.{changed_at, put_last, put_first, rest, first, without_first_at_level, highest}
+use Rattle.ready_queues.specs.QueueMoves.{changed_at, put_newest, put_oldest, rest, first, without_first_at_level, highest}
 use Rattle.ready_queues.proofs.Tops.{IsTop, top_below-is}
 
 pub with_level-changed_at : (l : ℕ) (xs : List ℕ) (q : Queues) → with_level l xs q ≡ changed_at q l xs
 unfolding with_level
 with_level-changed_at l xs q = refl
 
-pub with_newest-put_last : (l t : ℕ) (q : Queues) → with_newest l t q ≡ put_last q l t
-with_newest-put_last l t q = with_level-changed_at l (q l ++ t ∷ []) q
+pub with_newest-put_newest : (l t : ℕ) (q : Queues) → with_newest l t q ≡ put_newest q l t
+with_newest-put_newest l t q = with_level-changed_at l (q l ++ t ∷ []) q
 
-pub with_oldest-put_first : (l t : ℕ) (q : Queues) → with_oldest l t q ≡ put_first q l t
-with_oldest-put_first l t q = with_level-changed_at l (t ∷ q l) q
+pub with_oldest-put_oldest : (l t : ℕ) (q : Queues) → with_oldest l t q ≡ put_oldest q l t
+with_oldest-put_oldest l t q = with_level-changed_at l (t ∷ q l) q
 
 drop-rest : (xs : List ℕ) → drop 1 xs ≡ rest xs
 drop-rest [] = refl
@@ -70,8 +70,8 @@ highest-none_above n q low high = highest-top (suc n) q (omega arith) (λ k from
 
 -- the laws that a caller names by `using(..)` whose moves name their level
 pub ruleset move_laws = (
-  with_newest-put_last,
-  with_oldest-put_first,
+  with_newest-put_newest,
+  with_oldest-put_oldest,
   first_task-first,
   without_first-level,
   highest-none_above,

@@ -10,7 +10,7 @@ use Rattle.circular_buffer.specs.Buffer.{Buffer, buffer}
 use Rattle.ready_queues.specs.declared.ready_queues.TheConstants.{LEVELS}
 use Rattle.ready_queues.specs.Queues.{Queues, with_level, top_level}
 use Rattle.ready_queues.specs.LevelSet.{IsWithBit, IsHighest}
-use Rattle.ready_queues.specs.Kept.{tasks_at, bit_of, IsCounted, IsMarked}
+use Rattle.ready_queues.specs.Levels.{tasks_at, bit_of, IsCounted, IsMarked}
 use Rattle.ready_queues.proofs.Writes.{with_level-same, with_level-other}
 use Rattle.ready_queues.proofs.Tops.{top_below-some, top_below-none}
 use Rattle.ready_queues.proofs.KeptLemmas.{tasks_at-set, tasks_at-new, IsAtTop}

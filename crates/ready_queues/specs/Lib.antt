@@ -1,6 +1,6 @@
 pub mod Queues
-pub mod Moves
+pub mod QueueMoves
 pub mod LevelLists
 pub mod Level
 pub mod LevelSet
-pub mod Kept
+pub mod Levels

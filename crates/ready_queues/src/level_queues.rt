@@ -21,7 +21,7 @@ pub struct LevelQueues {
 }
 
 impl Model for LevelQueues {
-    ghost use Rattle.ready_queues.specs.Kept.{Levels, seen, IsCounted, IsMarked};
+    ghost use Rattle.ready_queues.specs.Levels.{Levels, seen, IsCounted, IsMarked};
 
     ghost Value = { Levels };
 
@@ -31,7 +31,7 @@ impl Model for LevelQueues {
 }
 
 impl ReadyQueues for LevelQueues {
-    ghost use Rattle.ready_queues.specs.Kept.{tasks_of};
+    ghost use Rattle.ready_queues.specs.Levels.{tasks_of};
 
     ghost queues = { λ s. tasks_of s };
 

@@ -19,7 +19,7 @@ pub struct ListQueues {
 }
 
 impl Model for ListQueues {
-    ghost use Rattle.ready_queues.specs.Kept.{Levels, seen, IsCounted};
+    ghost use Rattle.ready_queues.specs.Levels.{Levels, seen, IsCounted};
 
     ghost Value = { Levels };
 
@@ -29,7 +29,7 @@ impl Model for ListQueues {
 }
 
 impl ReadyQueues for ListQueues {
-    ghost use Rattle.ready_queues.specs.Kept.{tasks_of};
+    ghost use Rattle.ready_queues.specs.Levels.{tasks_of};
 
     ghost queues = { λ s. tasks_of s };
 

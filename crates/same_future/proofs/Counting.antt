@@ -16,7 +16,7 @@ use Rattle.osek_base.specs.Trace.{boot, run}
 use Rattle.osek_base.specs.Proper.{IsProper}
 use Rattle.run_laws.proofs.Lists.{none_some}
 use Rattle.run_laws.proofs.RunSteps.{state_more}
-use Rattle.ready_queues.specs.Moves.{highest}
+use Rattle.ready_queues.specs.QueueMoves.{highest}
 use Rattle.kept_state.specs.Kept.{kept, slot_of}
 use Rattle.kept_state.specs.Moves.{rescheduled}
 use Rattle.kept_state.specs.KeptService.{unmasked_in, service_in}

@@ -1,7 +1,7 @@
 -- What the table of six entries shows: the longest response, and that no interrupt is lost.
 use Rattle.std.proofs.Common.{ℕ, zero, suc, ◌≡◌, ◌<◌, false, [], ◌∷◌, refl, arith}
 use Rattle.std.specs.Prelude.{Some, IfSome}
-use Rattle.ready_queues.specs.Moves.{highest}
+use Rattle.ready_queues.specs.QueueMoves.{highest}
 use Rattle.kept_state.specs.Moves.{rescheduled}
 use Rattle.kept_state.specs.KeptService.{unmasked_in, service_in}
 use Rattle.kept_state.specs.KeptTick.{alarm_phase_in, start_phase_in, execute_phase_in, tick_in, boot_in}

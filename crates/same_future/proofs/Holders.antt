@@ -8,7 +8,7 @@ use Rattle.osek_base.specs.System.{System}
 use Rattle.osek_base.specs.Ceiling.{top_priority}
 use Rattle.osek_base.specs.Proper.{IsProper}
 use Rattle.osek_base.specs.Trace.{run, starting_tasks}
-use Rattle.ready_queues.specs.Moves.{highest, put_first}
+use Rattle.ready_queues.specs.QueueMoves.{highest, put_oldest}
 use Rattle.kept_state.specs.Kept.{Kept, Slot}
 use Rattle.kept_state.specs.Moves.{KeptRecorded, activated_in, one_more, contender, stays, dispatched, chosen, dynamic_in, slot_entered, may_dispatch_in, rescheduled}
 use Rattle.kept_state.specs.KeptService.{holds_in}
@@ -43,7 +43,7 @@ module _ (S : System) where
   chosen_none (Some t) None o none = changed_none o t (slot_entered S t) (λ a. refl) none
   chosen_none (Some t) (Some l) o none = go (nat_le l (dynamic_in S t (o.slots t)))
     where
-      go : (b : Bool) → HoldNothing (cond b (stays S t o) (dispatched S l (put_first o.queues (dynamic_in S t (o.slots t)) t) o)).state
+      go : (b : Bool) → HoldNothing (cond b (stays S t o) (dispatched S l (put_oldest o.queues (dynamic_in S t (o.slots t)) t) o)).state
       go true = changed_none o t (slot_entered S t) (λ a. refl) none
       go false = changed_none o _ (slot_entered S _) (λ a. refl) none
 

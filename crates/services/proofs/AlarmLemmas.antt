@@ -6,10 +6,11 @@ use Rattle.osek_base.specs.declared.task.Counter.{Counter}
 use Rattle.osek_base.specs.declared.status.Status.{Status}
 use Rattle.osek_base.specs.State.{State}
 use Rattle.osek_base.specs.Service.{NobodyCalls, changed}
-use Rattle.alarms.specs.Alarms.{AlarmTable, after_call, refusal, state_of, status_of}
+use Rattle.alarms.specs.Alarms.{AlarmTable, HavePassed, IsTableOf, after_call, refusal, state_of, status_of}
 use Rattle.kept_state.specs.KeptService.{caller_in, changed_in, unmasked_in}
 use Rattle.services.specs.Objects.{Objects, kept_in}
 use Rattle.services.specs.Calls.{unmasked}
+use Rattle.services.specs.Quiet.{HasPassed}
 
 abbrev pub table : List Counter → Objects → AlarmTable
 table counters o = record { expiries = o.alarms; counters = counters; tick = o.tick }
@@ -64,3 +65,11 @@ set_abs_kept cs o a x y t e =
         ≡ changed_in o.system (caller_in (kept_in o)) (kept_in o) (Service.SetAbsAlarm (Some a) x y) r
     go None = refl
     go (Some refusal) = refl
+
+-- ticks in which no alarm is due
+pub ticks_passed : (cs : List Counter) (o : Objects) (n : ℕ) (t : AlarmTable) → IsTableOf o.system (table cs o) → HavePassed n (table cs o) t
+    → HasPassed n o (record o { alarms = t.expiries; tick = t.tick })
+ticks_passed cs o n t sized passed = record {
+  none = passed.none o.system sized;
+  after = ap (λ (u : AlarmTable). record o { alarms = u.expiries; tick = u.tick }) passed.after;
+}

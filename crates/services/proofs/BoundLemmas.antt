@@ -13,7 +13,7 @@ use Rattle.osek_base.proofs.PlaceLemmas.{and_split}
 use Rattle.run_laws.proofs.Known.{proper_at}
 use Rattle.ready_queues.specs.Queues.{total}
 use Rattle.kept_state.specs.Kept.{Kept, unbegun}
-use Rattle.ready_queues.specs.Moves.{highest, put_first, first}
+use Rattle.ready_queues.specs.QueueMoves.{highest, put_oldest, first}
 use Rattle.kept_state.specs.Moves.{contender, contender_of}
 use Rattle.kept_state.specs.KeptService.{KeptCaller, ByTask, ByRoutine, ByNobody, caller_in, caller_by, is_own_in, is_full_in, caller_ended_in}
 use Rattle.kept_state.specs.Standing.{Fits, room_for}
@@ -146,5 +146,5 @@ highest_of S o l fits h =
     }
 
 -- a lower level got a task
-pub put_below : (q : ℕ → List ℕ) (own task level : ℕ) → own < level → put_first q own task level ≡ q level
+pub put_below : (q : ℕ → List ℕ) (own task level : ℕ) → own < level → put_oldest q own task level ≡ q level
 put_below q own task level less = let e : (own == level) ≡ false = grind arith in rw e refl

@@ -9,7 +9,7 @@ use Rattle.osek_base.specs.declared.ids.ResId.{ResId}
 use Rattle.osek_base.specs.Lists.{last_of}
 use Rattle.osek_base.specs.Service.{is_resource}
 use Rattle.run_laws.proofs.Foremost.{equal, self_equal}
-use Rattle.ready_queues.specs.Moves.{changed_at}
+use Rattle.ready_queues.specs.QueueMoves.{changed_at}
 use Rattle.kept_state.specs.Kept.{Slot, unbegun}
 use Rattle.kept_state.specs.KeptService.{KeptCaller, ByTask, ByRoutine, ByNobody, caller_in, got_last_in, slot_releases, with_caller_in}
 use Rattle.services.specs.Calls.{calling_task}

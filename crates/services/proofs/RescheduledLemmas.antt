@@ -8,7 +8,7 @@ use Rattle.osek_base.specs.Reschedule.{reschedule}
 use Rattle.run_laws.proofs.Foremost.{self_equal}
 use Rattle.run_laws.proofs.RankedMoves.{IsAfterReschedule, reschedule_ordered}
 use Rattle.kept_state.specs.Kept.{Kept, Slot, kept}
-use Rattle.ready_queues.specs.Moves.{changed_at, first, highest, put_first}
+use Rattle.ready_queues.specs.QueueMoves.{changed_at, first, highest, put_oldest}
 use Rattle.kept_state.specs.Moves.{KeptRecorded, chosen, contender, contender_of, dispatched, dynamic_in, may_dispatch_in, rescheduled, slot_entered, stays}
 use Rattle.kept_state.specs.KeptService.{is_above}
 use Rattle.kept_state.specs.Standing.{IsStanding, is_overtaken, is_overtaken_by, runner_waits, waits_in}
@@ -76,12 +76,12 @@ module _ (S : System) where
     chosen_dispatched (Some t) contends (Some l) some waits behind = go (nat_le l (dynamic_in S t (o.slots t))) waits behind
       where
         preempting : KeptRecorded
-        preempting = dispatched S l (put_first o.queues (dynamic_in S t (o.slots t)) t) o
+        preempting = dispatched S l (put_oldest o.queues (dynamic_in S t (o.slots t)) t) o
 
         go : (b : Bool) → runner_waits (cond b (stays S t o) preempting).state ≡ false → is_overtaken S (cond b (stays S t o) preempting).state ≡ false
             → is_dispatched_in S (cond b (stays S t o) preempting).state ≡ true
         go true w h = stays_dispatched t contends w h
-        go false w h = entered_dispatched l (put_first o.queues (dynamic_in S t (o.slots t)) t) w h
+        go false w h = entered_dispatched l (put_oldest o.queues (dynamic_in S t (o.slots t)) t) w h
 
     reschedule_dispatched : may_dispatch_in o ≡ true → runner_waits (rescheduled S o).state ≡ false → is_overtaken S (rescheduled S o).state ≡ false
         → is_dispatched_in S (rescheduled S o).state ≡ true

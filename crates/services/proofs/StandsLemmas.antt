@@ -24,7 +24,7 @@ use Rattle.kept_state.specs.KeptService.{slot_moved, ByTask, ByRoutine, ByNobody
 use Rattle.kept_state.specs.KeptTick.{still_in, start_phase_in, controlled_in, with_context_in}
 use Rattle.kept_state.specs.Standing.{IsStanding, Fits, MayServe, IsRunnerPlaced, runner_waits, is_overtaken_by}
 use Rattle.kept_state.proofs.Fitting.{fits_where_standing}
-use Rattle.kept_state.proofs.Standing.{still_stands, started_stands, activate_stands, set_event_stands, service_stands, control_stands, reschedule_stands, advance_stands, flag_stands, start_stands, job_move_stands, routine_move_stands}
+use Rattle.kept_state.proofs.Standing.{alarms_stand, still_stands, started_stands, activate_stands, set_event_stands, service_stands, control_stands, reschedule_stands, advance_stands, flag_stands, start_stands, job_move_stands, routine_move_stands}
 use Rattle.kept_state.proofs.Words.{with_words, unmasked_words, service_words, control_words, context_words, start_phase_words, rescheduled_words}
 use Rattle.services.specs.Objects.{Objects, StandsFor, Stands, AreFit, by_task, kept_in, kept_of}
 use Rattle.services.specs.Dispatched.{IsCore}
@@ -108,6 +108,12 @@ module _ (o n : Objects) where
       stands_after o n s (record s { tick = s.tick + 1; alarms = alarms_advanced o.system (record s { tick = s.tick + 1 }) })
       (λ k. record k { tick = k.tick + 1; alarms = alarms_advanced o.system (bare (record k { tick = k.tick + 1 })) }) stands
       (ap (λ (x : Objects). x.system) new) (λ w k. refl) (ap kept_in new) (advance_stands o.system s stands.standing, refl)
+
+  pub stands_passed : (m : ℕ) → Stands o → n ≡ record o { tick = o.tick + m } → Stands n
+  stands_passed m (s, stands) new =
+      stands_after o n s (record s { tick = s.tick + m }) (λ k. record k { tick = k.tick + m }) stands
+      (ap (λ (x : Objects). x.system) new) (λ w k. refl) (ap kept_in new)
+      (alarms_stand o.system s stands.standing (s.tick + m) s.alarms stands.standing.form.formed.alarms, refl)
 
 overtaken_in : (S : System) (o : Objects) (w : Words) (r : Option ℕ) → is_overtaken_by S r (kept_of w o) ≡ is_overtaken_by S r (kept_in o)
 overtaken_in S o w None = refl

@@ -4,7 +4,7 @@ use Rattle.osek_base.specs.declared.status.Status.{Status}
 use Rattle.osek_base.specs.System.{System}
 use Rattle.osek_base.specs.Ceiling.{internal_ceiling, top_priority}
 use Rattle.kept_state.specs.Kept.{Kept, Slot}
-use Rattle.ready_queues.specs.Moves.{first, highest}
+use Rattle.ready_queues.specs.QueueMoves.{first, highest}
 use Rattle.kept_state.specs.Moves.{dynamic_in}
 use Rattle.kept_state.specs.KeptService.{is_above}
 use Rattle.services.specs.Objects.{Objects, Stands, kept_in}

@@ -6,3 +6,5 @@ pub mod AsDefined
 pub mod Dispatched
 pub mod Seen
 pub mod CompactQueues
+pub mod Quiet
+pub mod Lending

@@ -22,11 +22,6 @@ pub record IsPlainAt (packed : PackedInstr) (x : Context) : Type 0 where
 abbrev pub plain_context : PackedInstr → Context → List ℕ → Owner → Context
 plain_context packed x windows owner = (plain (plain_of (instr_of packed)) x (word windows owner)).context
 
--- its effect, and the words of all windows after it
-pub record StepsPlain (packed : PackedInstr) (owner : Owner) (x : Context) (old new : List ℕ) (told : Effect) : Type 0 where
-  pub effect : told ≡ (plain (plain_of (instr_of packed)) x (word old owner)).effect
-  pub words : (o : Owner) (i : ℕ) → word new o i ≡ words_after (word old) owner told o i
-
 -- who executes goes on so, and all else that is kept stays
 pub record ExecutesPlain (packed : PackedInstr) (owner : Owner) (old new : Objects) (before after : List ℕ) (told : Effect) : Type 0 where
   pub system : new.system ≡ old.system

@@ -5,7 +5,7 @@ use Rattle.osek_base.specs.declared.status.Status.{Status}
 use Rattle.osek_base.specs.declared.trace_event.TraceEvent.{TraceEvent}
 use Rattle.osek_base.specs.System.{System}
 use Rattle.osek_base.specs.Alarm.{alarms_advanced, due_alarms}
-use Rattle.ready_queues.specs.Kept.{Levels}
+use Rattle.ready_queues.specs.Levels.{Levels}
 use Rattle.ready_queues.specs.LevelLists.{by_level}
 use Rattle.ready_queues.specs.Queues.{Queues}
 use Rattle.kept_state.specs.Kept.{Kept}

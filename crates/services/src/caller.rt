@@ -1,20 +1,14 @@
 //! OSEK/VDX OS: system services. Who calls: the active routine, or else the running task.
 
-ghost use Rattle.std.specs.Prelude.{◌≡◌, ◌<◌, ◌+◌, MatchOption, IfSome, length};
+ghost use Rattle.std.specs.Prelude.{◌≡◌, ◌<◌, MatchOption, IfSome, length};
 ghost use Rattle.run_laws.proofs.Formed.{IsPlaced};
 ghost use Rattle.kept_state.specs.KeptService.{ByNobody, by_routine_in, caller_in, holds_any_in, is_above_ceiling_in, is_basic_in, is_outranked_in, is_own_in, may_take_in, caller_holds_in, running_number, with_caller_in, caller_ended_in, slot_given_up};
-ghost use Rattle.kept_state.specs.KeptTick.{with_context_in};
 ghost use Rattle.services.specs.Objects.{kept_in, AreFit};
-ghost use Rattle.services.specs.Calls.{calling_task, caller_as, context_in, IsExecuting, IsThere, MayGoOn};
-ghost use Rattle.osek_base.specs.Tick.{answered, at_values};
-ghost use Rattle.services.specs.PlainSteps.{ExecutesPlain, IsPlainAt};
+ghost use Rattle.services.specs.Calls.{calling_task, context_in, IsExecuting};
 ghost use Rattle.services.specs.Steps.{Becomes};
 
 use crate::objects::Objects;
-use machine::{Cpu, PackedInstr, Windows};
-use osek_base::{
-    Effect, MAX_INSTRUCTIONS, Owner, Register, ResId, Results, Service, Status, TaskId,
-};
+use osek_base::{Owner, ResId, TaskId};
 use ready_queues::ReadyQueues;
 
 /// What GetTaskID answers where no task is running.
@@ -191,105 +185,6 @@ impl<'s, Q: ReadyQueues> Objects<'s, Q> {
         match self.calling_task() {
             None => None,
             Some(task) => Some(Owner::Task(task)),
-        }
-    }
-
-    /// The registers and the place of who executes.
-    #[inline(always)]
-    pub fn cpu_of(&self, owner: Owner) -> &Cpu
-        requires who { IsThere self.now owner }
-        ensures { result.now ≡ context_in (kept_in self.now) owner }
-    {
-        match owner {
-            Owner::Task(task) => {
-                let slot = &self.slots[task.number() as usize];
-                slot.cpu()
-            }
-            Owner::Routine(_) => match &self.active {
-                None => unreachable!(),
-                Some(active) => active.cpu(),
-            },
-        }
-    }
-
-    /// A service of a program with the values of the registers of who executes.
-    #[inline(always)]
-    pub fn with_values(&self, owner: Owner, service: &Service<Register>) -> Service<u32>
-        requires who { IsThere self.now owner }
-        ensures { result ≡ at_values (context_in (kept_in self.now) owner) service.now }
-    {
-        self.cpu_of(owner).with_values(service)
-    }
-
-    /// A plain instruction of who executes, on its registers, its place and its window.
-    #[inline(always)]
-    pub fn exec_packed(
-        &mut self,
-        windows: &mut Windows,
-        owner: Owner,
-        packed: PackedInstr,
-    ) -> Effect
-        requires who { IsThere self.old owner }
-        requires plain { IsPlainAt packed (context_in (kept_in self.old) owner) }
-        ensures { ExecutesPlain packed owner self.old self.new windows.old windows.new result }
-    {
-        match owner {
-            Owner::Task(task) => {
-                let slot = &mut self.slots[task.number() as usize];
-                slot.exec_packed(windows, owner, packed)
-            }
-            Owner::Routine(_) => match &mut self.active {
-                None => unreachable!(),
-                Some(active) => active.exec_packed(windows, owner, packed),
-            },
-        }
-    }
-
-    /// Gives who executed other registers and another place, where it is still there.
-    #[inline(always)]
-    pub fn go_on(&mut self, owner: Owner, cpu: Cpu)
-        requires who { MayGoOn self.old owner }
-        ensures { Becomes (λ _S. with_context_in (caller_as owner) cpu) self.old self.new }
-    {
-        match owner {
-            Owner::Task(task) => {
-                if !self.gone {
-                    let slot = &mut self.slots[task.number() as usize];
-                    slot.go_on(cpu);
-                }
-            }
-            Owner::Routine(_) => {
-                if let Some(active) = &mut self.active {
-                    active.go_on(cpu);
-                }
-            }
-        }
-    }
-
-    /// Who called takes what a service answers, and goes on to the next instruction, where it is still there.
-    #[inline(always)]
-    pub fn answer(&mut self, owner: Owner, status: Status, results: Results)
-        requires who { MayGoOn self.old owner }
-        requires room { IsThere self.old owner
-            → (context_in (kept_in self.old) owner).place + 1 < MAX_INSTRUCTIONS }
-        ensures { Becomes
-            (λ _S o. with_context_in (caller_as owner)
-            (answered status results (context_in o owner)) o) self.old self.new }
-    {
-        match owner {
-            Owner::Task(task) => {
-                if !self.gone {
-                    let slot = &mut self.slots[task.number() as usize];
-                    slot.answer(status, results);
-                }
-            }
-            Owner::Routine(_) => {
-                if let Some(active) = &mut self.active {
-                    let mut cpu = active.cpu().save();
-                    cpu.answer(status, results);
-                    active.go_on(cpu);
-                }
-            }
         }
     }
 }

@@ -3,6 +3,7 @@
 ghost use Rattle.std.specs.Prelude.{◌≡◌, length};
 
 use crate::copy_queues::CopyQueues;
+use crate::interrupts::Active;
 use crate::objects::Objects;
 use crate::os_core::Core;
 use crate::shared_window::SharedWindow;
@@ -18,7 +19,7 @@ impl<'s, Q: CopyQueues> Objects<'s, Q> {
         copy_slots(&mut self.slots, &other.slots);
         self.running = other.running;
         self.gone = other.gone;
-        self.active = other.active;
+        self.active = copied(&other.active);
         self.pending.copy_from_slice(&other.pending);
         self.disabled = other.disabled;
         self.suspended_all = other.suspended_all;
@@ -60,5 +61,15 @@ fn copy_windows(windows: &mut [SharedWindow], others: &[SharedWindow])
     for number in 0..windows.len() {
         let window = &mut windows[number];
         window.copy_from(&others[number]);
+    }
+}
+
+/// The active routine, if there is one, with its registers and its place.
+fn copied(active: &Option<Active>) -> Option<Active>
+    ensures { result ≡ active.now }
+{
+    match active {
+        None => None,
+        Some(active) => Some(active.save()),
     }
 }

@@ -4,7 +4,7 @@ ghost use Rattle.std.specs.Prelude.{◌≡◌, ◌<◌, ◌≤◌, ◌+◌, Some
 ghost use Rattle.osek_base.specs.System.{activation_of, priority_of};
 ghost use Rattle.osek_base.specs.Ceiling.{top_priority};
 ghost use Rattle.ready_queues.specs.Queues.{total};
-ghost use Rattle.ready_queues.specs.Moves.{put_first, highest, changed_at};
+ghost use Rattle.ready_queues.specs.QueueMoves.{put_oldest, highest, changed_at};
 ghost use Rattle.kept_state.specs.Moves.{activated_in, released_in, contender, dynamic_in, may_dispatch_in, slot_entered, nobody, stays, dispatched, rescheduled, left_in, entered_in};
 ghost use Rattle.kept_state.specs.Standing.{room_for};
 ghost use Rattle.ready_queues.specs.LevelLists.{by_level};
@@ -29,7 +29,7 @@ impl<'s, Q: ReadyQueues> Objects<'s, Q> {
             self.put_events(task, 0);
         }
         let level = self.level_of(task);
-        self.ready.put_last(level, task);
+        self.ready.put_newest(level, task);
         let slot = &mut self.slots[task.number() as usize];
         slot.add();
     }
@@ -41,7 +41,7 @@ impl<'s, Q: ReadyQueues> Objects<'s, Q> {
         ensures { Becomes (λ S. released_in S task) self.old self.new }
     {
         let priority = self.level_of(task);
-        self.ready.put_last(priority, task);
+        self.ready.put_newest(priority, task);
         let slot = &mut self.slots[task.number() as usize];
         slot.wake();
     }
@@ -154,7 +154,7 @@ impl<'s, Q: ReadyQueues> Objects<'s, Q> {
         requires free { total (by_level self.old.queues) < room_for self.old.system }
         requires highest { IsHighest self.old.system (by_level self.old.queues) level }
         requires room { length record_of_tick.old + 2 ≤ MAX_RECORDS }
-        ensures { Does (λ S o. dispatched S level (put_first o.queues own task) o) self.old
+        ensures { Does (λ S o. dispatched S level (put_oldest o.queues own task) o) self.old
             self.new record_of_tick.old record_of_tick.new }
     {
         self.put_back(own, task);
@@ -168,9 +168,9 @@ impl<'s, Q: ReadyQueues> Objects<'s, Q> {
         requires room { total (by_level self.old.queues) < room_for self.old.system }
         ensures others { self.new ≡ record self.old { queues = self.new.queues } }
         ensures queues { by_level self.new.queues
-            ≡ put_first (by_level self.old.queues) level task }
+            ≡ put_oldest (by_level self.old.queues) level task }
     {
-        self.ready.put_first(level, task);
+        self.ready.put_oldest(level, task);
     }
 
     /// With no routine active and interrupts on, the task that is to run becomes the running one: the first of the highest

@@ -1,25 +1,25 @@
 //! OSEK/VDX OS: interrupt processing. Pending and active routines, and the services that turn interrupts off and on.
 
 ghost use Rattle.std.specs.Prelude.{◌≡◌, ◌<◌, ◌+◌, ◌^◌, IfSome, Some, true, false, slice_index_or, slice_set, length};
+ghost use Rattle.std.specs.Borrow.{sem};
 ghost use Rattle.osek_base.specs.Lists.{below, foremost};
 ghost use Rattle.osek_base.specs.System.{routine};
 ghost use Rattle.osek_base.specs.State.{interrupts_off};
-ghost use Rattle.osek_base.specs.Tick.{moved, routine_choice};
+ghost use Rattle.osek_base.specs.Tick.{routine_choice};
 ghost use Rattle.kept_state.specs.KeptService.{bare};
 ghost use Rattle.kept_state.specs.KeptTick.{controlled_in, routine_started_in, start_phase_in};
 ghost use Rattle.kept_state.specs.Moves.{may_dispatch_in};
 ghost use Rattle.services.specs.Objects.{kept_in};
-ghost use Rattle.services.specs.PlainSteps.{IsPlainAt, StepsPlain, plain_context};
 ghost use Rattle.services.specs.Steps.{Becomes};
 
 use crate::objects::Objects;
-use machine::{Cpu, PackedInstr, Windows, exec_packed};
-use osek_base::{Control, Effect, IsrId, Owner, System};
+use machine::Cpu;
+use osek_base::{Control, IsrId, System};
 use ready_queues::ReadyQueues;
 use std::marker::Model;
 
 /// The active interrupt routine, with its registers and place.
-#[derive(Clone, Copy)]
+#[derive(Drop)]
 pub struct Active {
     pub routine: IsrId,
     pub cpu: Cpu,
@@ -31,11 +31,22 @@ impl Model for Active {
     ghost Value = { Executing };
 
     ghost view = { λ a. record { routine = a.routine; context = a.cpu } };
-
-    ghost inverse = { λ x. record { routine = x.routine; cpu = x.context } };
 }
 
 impl Active {
+    ghost use Rattle.services.specs.Lending.{LendsOfActive};
+
+    /// The routine with its registers and its place, to be kept.
+    #[inline(always)]
+    pub fn save(&self) -> Active
+        ensures { result ≡ self.now }
+    {
+        Active {
+            routine: self.routine,
+            cpu: self.cpu.save(),
+        }
+    }
+
     /// Which routine it is.
     pub fn routine(&self) -> IsrId
         ensures { result ≡ self.now.routine }
@@ -51,27 +62,13 @@ impl Active {
         &self.cpu
     }
 
-    /// A plain instruction of the routine, on its registers, its place and its owner's window.
-    #[inline(never)]
-    pub fn exec_packed(
-        &mut self,
-        windows: &mut Windows,
-        owner: Owner,
-        packed: PackedInstr,
-    ) -> Effect
-        requires { IsPlainAt packed self.old.context }
-        ensures steps { StepsPlain packed owner self.old.context windows.old windows.new result }
-        ensures context { self.new
-            ≡ moved (plain_context packed self.old.context windows.old owner) self.old }
+    /// The registers and the place of the routine, to be changed.
+    #[inline(always)]
+    pub fn cpu_mut(&mut self) -> &mut Cpu
+        ensures* lends { sem 𝓛 (LendsOfActive self.entry result) }
+        ensures value { result.now ≡ self.old.context }
     {
-        exec_packed(&mut self.cpu, windows, owner, packed)
-    }
-
-    /// The routine gets other registers and another place.
-    pub fn go_on(&mut self, cpu: Cpu)
-        ensures { self.new ≡ moved cpu self.old }
-    {
-        self.cpu.load(&cpu);
+        &mut self.cpu
     }
 }
 
@@ -139,7 +136,7 @@ impl<'s, Q: ReadyQueues> Objects<'s, Q> {
 
     /// Among the pending routines the first declared with the greatest priority.
     #[inline(always)]
-    fn pending_routine(&self) -> Option<IsrId>
+    pub(crate) fn pending_routine(&self) -> Option<IsrId>
         ensures choice { result ≡ routine_choice self.now.system (bare (kept_in self.now)) }
         ensures known { IfSome result (λ i. i < length self.now.system.routines) }
     {

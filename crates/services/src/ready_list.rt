@@ -2,7 +2,7 @@
 
 ghost use Rattle.std.specs.Prelude.{◌≡◌, ◌<◌, ◌≤◌, suc, [], IfOk, replicate, length, ℕ};
 ghost use Rattle.ready_queues.specs.Queues.{total};
-ghost use Rattle.ready_queues.specs.Moves.{put_last, put_first, without_first_at_level, first, highest};
+ghost use Rattle.ready_queues.specs.QueueMoves.{put_newest, put_oldest, without_first_at_level, first, highest};
 ghost use Rattle.ready_queues.specs.LevelLists.{by_level, level_lists};
 ghost use Rattle.services.specs.Steps.{ReadyBecomes};
 
@@ -20,7 +20,7 @@ pub struct ReadyList<Q: ReadyQueues> {
 
 impl<Q: ReadyQueues> Model for ReadyList<Q> {
     ghost use Rattle.ready_queues.specs.LevelLists.{level_lists};
-    ghost use Rattle.ready_queues.specs.Kept.{Levels};
+    ghost use Rattle.ready_queues.specs.Levels.{Levels};
 
     ghost Value = { Levels };
 
@@ -47,20 +47,20 @@ impl<Q: ReadyQueues> ReadyList<Q> {
 
     /// Adds a task behind those of its level.
     #[inline(always)]
-    pub fn put_last(&mut self, level: u8, task: TaskId)
+    pub fn put_newest(&mut self, level: u8, task: TaskId)
         requires level { level < LEVELS }
         requires room { total (by_level self.old.lists) < self.old.room }
-        ensures { ReadyBecomes (λ q. put_last q level task) self.old self.new }
+        ensures { ReadyBecomes (λ q. put_newest q level task) self.old self.new }
     {
         self.queues.put_newest(level, task);
     }
 
     /// Adds a task before those of its level.
     #[inline(always)]
-    pub fn put_first(&mut self, level: u8, task: TaskId)
+    pub fn put_oldest(&mut self, level: u8, task: TaskId)
         requires level { level < LEVELS }
         requires room { total (by_level self.old.lists) < self.old.room }
-        ensures { ReadyBecomes (λ q. put_first q level task) self.old self.new }
+        ensures { ReadyBecomes (λ q. put_oldest q level task) self.old self.new }
     {
         self.queues.put_oldest(level, task);
     }

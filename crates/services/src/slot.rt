@@ -2,18 +2,17 @@
 
 ghost use Rattle.osek_base.specs.declared.limits.TheConstants.{MAX_RESOURCES};
 ghost use Rattle.std.specs.Prelude.{if◌then◌else◌, ◌≡◌, ◌<◌, ◌≤◌, ◌+◌, ◌-◌, IsFalse, is_some, length};
+ghost use Rattle.std.specs.Borrow.{sem};
 ghost use Rattle.osek_base.specs.Lists.{is_empty};
 ghost use Rattle.osek_base.specs.Service.{is_met, is_resource};
 ghost use Rattle.osek_base.specs.Lists.{last_of};
 ghost use Rattle.osek_base.specs.declared.status.Status.{Status};
-ghost use Rattle.osek_base.specs.Tick.{answered};
 ghost use Rattle.kept_state.specs.Kept.{unbegun};
-ghost use Rattle.kept_state.specs.KeptService.{slot_given_up, slot_gets, slot_releases, slot_waiting, slot_moved, holds_in};
+ghost use Rattle.kept_state.specs.KeptService.{slot_given_up, slot_gets, slot_releases, slot_waiting, holds_in};
 ghost use Rattle.kept_state.specs.Moves.{one_more, slot_entered, slot_woken, dynamic_in};
-ghost use Rattle.services.specs.PlainSteps.{IsPlainAt, StepsPlain, plain_context};
 
-use machine::{Cpu, PackedInstr, Windows, exec_packed};
-use osek_base::{Effect, MAX_INSTRUCTIONS, Owner, ResId, Results, Status, System, TaskId};
+use machine::Cpu;
+use osek_base::{ResId, Status, System, TaskId};
 use resources::Held;
 use std::marker::Model;
 
@@ -44,6 +43,8 @@ impl Model for Slot {
 }
 
 impl Slot {
+    ghost use Rattle.services.specs.Lending.{LendsOfSlot};
+
     /// A task without a job.
     pub fn new() -> Self
         ensures { result ≡ unbegun 0 }
@@ -234,36 +235,12 @@ impl Slot {
         &self.cpu
     }
 
-    /// The oldest job gets other registers and another place.
+    /// The registers and the place of the oldest job, to be changed.
     #[inline(always)]
-    pub fn go_on(&mut self, cpu: Cpu)
-        ensures { self.new ≡ slot_moved cpu self.old }
+    pub fn cpu_mut(&mut self) -> &mut Cpu
+        ensures* lends { sem 𝓛 (LendsOfSlot self.entry result) }
+        ensures value { result.now ≡ self.old.context }
     {
-        self.cpu.load(&cpu);
-    }
-
-    /// A plain instruction of the oldest job, on its registers, its place and its owner's window.
-    #[inline(always)]
-    pub fn exec_packed(
-        &mut self,
-        windows: &mut Windows,
-        owner: Owner,
-        packed: PackedInstr,
-    ) -> Effect
-        requires { IsPlainAt packed self.old.context }
-        ensures steps { StepsPlain packed owner self.old.context windows.old windows.new result }
-        ensures context { self.new
-            ≡ slot_moved (plain_context packed self.old.context windows.old owner) self.old }
-    {
-        exec_packed(&mut self.cpu, windows, owner, packed)
-    }
-
-    /// The oldest job takes what a service answers, and goes on to the next instruction.
-    #[inline(always)]
-    pub fn answer(&mut self, status: Status, results: Results)
-        requires { self.old.context.place + 1 < MAX_INSTRUCTIONS }
-        ensures { self.new ≡ slot_moved (answered status results self.old.context) self.old }
-    {
-        self.cpu.answer(status, results);
+        &mut self.cpu
     }
 }

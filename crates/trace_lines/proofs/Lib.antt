@@ -2,3 +2,4 @@ pub mod SinkLemmas
 pub mod TickTexts
 pub mod NumberLemmas
 pub mod EachLemmas
+pub mod IdleLemmas

@@ -1,5 +1,5 @@
 -- What is written of the records of a tick. No part of the standards.
-use Rattle.std.specs.Prelude.{ℕ, List, [], ◌∷◌, ◌++◌, ◌≡◌, ◌≤◌, ◌==◌, if◌then◌else◌, Option, codes, decimal, length}
+use Rattle.std.specs.Prelude.{ℕ, zero, suc, ◌+◌, List, [], ◌∷◌, ◌++◌, ◌≡◌, ◌≤◌, ◌==◌, if◌then◌else◌, Option, None, codes, decimal, length}
 use Rattle.std.specs.List.{flat_map}
 use Rattle.osek_base.specs.declared.ids.Owner.{Owner}
 use Rattle.osek_base.specs.declared.instr.Instr.{Instr}
@@ -7,6 +7,7 @@ use Rattle.osek_base.specs.declared.trace_event.TraceEvent.{TraceEvent}
 use Rattle.osek_base.specs.Names.{Names, owner_name}
 use Rattle.osek_base.specs.Text.{instruction_text, line}
 use Rattle.osek_base.specs.BlockingText.{blockers_text}
+use Rattle.trace_lines.specs.declared.idle_lines.IdleWord.{IdleWord}
 
 -- the digits of a number but for the last
 abbrev pub front_digits : ℕ → List ℕ
@@ -27,6 +28,24 @@ record_text names t number event = ended (numbered_line names t number event)
 -- the text of a tick
 abbrev pub tick_text : Names → ℕ → Option ℕ → List TraceEvent → List ℕ
 tick_text names t number events = flat_map (record_text names t number) events
+
+-- the record of a tick in which nothing happens: in a view it is told as any that isn't shown
+abbrev pub event_of : IdleWord → TraceEvent
+event_of IdleWord.Idle = TraceEvent.Idle
+event_of IdleWord.Other = TraceEvent.Other
+
+-- the texts of n ticks, from tick t on
+abbrev pub texts_from : (ℕ → List ℕ) → ℕ → ℕ → List ℕ
+texts_from text_of t zero = []
+texts_from text_of t (suc n) = texts_from text_of t n ++ text_of (t + n)
+
+-- where each tick has that record alone
+abbrev pub same_ticks_text : Names → TraceEvent → ℕ → ℕ → List ℕ
+same_ticks_text names event = texts_from (λ k. tick_text names k None (event ∷ []))
+
+-- where each tick has one line, and these end alike: the number, a space and the ending
+abbrev pub lines_from : List ℕ → ℕ → ℕ → List ℕ
+lines_from ending = texts_from (λ k. decimal k ++ codes " " ++ ending)
 
 -- what the line of an instruction has between the tick and the outcome
 abbrev pub executed_text : Names → Owner → ℕ → Instr → List ℕ

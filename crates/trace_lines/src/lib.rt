@@ -3,6 +3,7 @@
 
 mod block;
 mod block_outcome;
+mod idle_lines;
 mod instruction_texts;
 mod kept_text;
 mod line;
@@ -15,6 +16,7 @@ mod view;
 mod written_records;
 
 pub use block::{Block, flush};
+pub use idle_lines::{IdleWord, write_idle_ticks};
 pub use instruction_texts::InstructionTexts;
 pub use line::{LineText, line_text};
 pub use sink::{Sink, SinkFault, StdSink};

@@ -4,3 +4,4 @@ pub mod FaultLemmas
 pub mod TraceLemmas
 pub mod WritesLemmas
 pub mod AloneLemmas
+pub mod IdleTickLemmas

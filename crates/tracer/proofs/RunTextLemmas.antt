@@ -13,7 +13,7 @@ use Rattle.osek_base.specs.Tick.{Step}
 use Rattle.osek_base.specs.Trace.{Run, run}
 use Rattle.osek_base.specs.Text.{line, text}
 use Rattle.osek_base.specs.View.{Sight, sight}
-use Rattle.kernel.specs.Run.{is_over}
+use Rattle.kernel.specs.Progress.{is_over}
 use Rattle.blocking_laws.specs.Steps.{step_at, record_at}
 use Rattle.kernel.proofs.RunLemmas.{going}
 use Rattle.blocking_laws.proofs.StepLemmas.{run_over, run_stays, steps_more, step_number}
@@ -100,7 +100,7 @@ module _ (V : System) (shown : Shown) (numbers : ℕ → Option ℕ) (S : System
   -- ---- one tick further
 
   -- the text of a tick more ends with that tick's
-  text_more : (n : ℕ) → (run S mode arrivals n).state.over ≡ false → so_far (n + 1) ≡ so_far n ++ text_in n
+  pub text_more : (n : ℕ) → (run S mode arrivals n).state.over ≡ false → so_far (n + 1) ≡ so_far n ++ text_in n
   text_more n on =
       let step : Step = step_at S mode arrivals n in
       ap (text_of V shown numbers) (steps_more S mode arrivals n on)
@@ -132,7 +132,7 @@ module _ (V : System) (shown : Shown) (numbers : ℕ → Option ℕ) (S : System
       }
 
   -- a beginning of the text up to a tick, behind what waited, is one of the whole text
-  behind_run : (a b : Option (List ℕ)) (p : List ℕ) (n ticks : ℕ) → n ≤ ticks → AppendsSome a b (p ++ so_far n) → AppendsSome a b (p ++ so_far ticks)
+  pub behind_run : (a b : Option (List ℕ)) (p : List ℕ) (n ticks : ℕ) → n ≤ ticks → AppendsSome a b (p ++ so_far n) → AppendsSome a b (p ++ so_far ticks)
   behind_run a b p n ticks h k =
       let e : n + (ticks - n) ≡ ticks = omega (arith, h) in
       let on = goes_on n (ticks - n) in

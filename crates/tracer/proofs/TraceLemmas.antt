@@ -4,7 +4,7 @@ use Rattle.std.specs.Prelude.{IfErr}
 use Rattle.osek_base.specs.declared.arrivals.Arrival.{Arrival}
 use Rattle.osek_base.specs.System.{System}
 use Rattle.osek_base.specs.Trace.{run}
-use Rattle.kernel.specs.Run.{Run}
+use Rattle.kernel.specs.Progress.{Progress}
 use Rattle.osek_base.specs.Text.{text}
 use Rattle.tracer.specs.Shown.{numbers_shown, text_shown, view_text}
 use Rattle.tracer.specs.UpperRuns.{RefusesPartition}
@@ -14,7 +14,7 @@ use Rattle.tracer.specs.declared.shown.Shown.{Shown}
 use Rattle.tracer.proofs.RunTextLemmas.{all_shown, view_shown}
 
 -- what is shown of a run that was begun, by texts of its system, in the ticks that are asked for
-pub shown_of : (i : Input) (shown : Shown) (S V : System) (r : Run) (ticks : ℕ) → V ≡ S → ticks ≡ i.ticks → IsBegun S i.irqs i.mode r
+pub shown_of : (i : Input) (shown : Shown) (S V : System) (r : Progress) (ticks : ℕ) → V ≡ S → ticks ≡ i.ticks → IsBegun S i.irqs i.mode r
     → IsShown S shown i (text_shown V shown (numbers_shown shown r.system r.mode r.arrivals) (run r.system r.mode r.arrivals ticks))
 shown_of i shown S V r ticks same asked begun =
     record {

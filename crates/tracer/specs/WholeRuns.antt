@@ -16,7 +16,7 @@ use Rattle.osek_base.specs.Text.{text}
 use Rattle.osek_base.specs.BlockingText.{blocking_text}
 use Rattle.osek_base.specs.Trace.{run}
 use Rattle.kernel.specs.declared.boot.BootFault.{BootFault}
-use Rattle.kernel.specs.Run.{Run}
+use Rattle.kernel.specs.Progress.{Progress}
 use Rattle.arrival_lists.specs.ArrivalText.{IsArrivalList, IsFirstFault}
 use Rattle.tracer.specs.Shown.{numbers_shown, text_shown}
 use Rattle.tracer.specs.declared.run_fault.RunFault.{RunFault}
@@ -48,7 +48,7 @@ pub record IsSystemOf (oil asm : List ℕ) (S : System) : Type 0 where
 -- ---- the trace
 
 -- the system is booted in the mode of that name, with the arrivals of that list
-pub record IsBegun (S : System) (irqs mode : List ℕ) (r : Run) : Type 0 where
+pub record IsBegun (S : System) (irqs mode : List ℕ) (r : Progress) : Type 0 where
   pub system : r.system ≡ S
   pub listed : IsArrivalList S.names irqs r.arrivals
   pub started : number_of mode S.names.modes ≡ Some r.mode

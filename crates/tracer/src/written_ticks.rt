@@ -1,27 +1,37 @@
 //! The ticks of a run that are written, no part of the standards.
 
-ghost use Rattle.std.specs.Prelude.{◌≡◌, ◌≤◌, ◌-◌, List, true};
+ghost use Rattle.std.specs.Prelude.{◌≡◌, ◌+◌, ◌≤◌, ◌-◌, List, OnOk, true};
 ghost use Rattle.osek_base.specs.declared.trace_event.TraceEvent.{TraceEvent};
 ghost use Rattle.osek_base.specs.Trace.{run};
 ghost use Rattle.tracer.specs.declared.shown.Shown.{Shown};
 ghost use Rattle.tracer.specs.Shown.{numbers_shown, records_shown, text_shown};
-ghost use Rattle.tracer.specs.Ticks.{MayPass, TickPasses};
-ghost use Rattle.trace_lines.specs.Sinks.{Puts};
+ghost use Rattle.tracer.specs.Ticks.{
+  IdlePasses,
+  MayPass,
+  MayPassIdle,
+  SameLines,
+  TickPasses,
+  idle_word,
+};
+ghost use Rattle.trace_lines.specs.Lines.{event_of, same_ticks_text};
+ghost use Rattle.trace_lines.specs.Sinks.{Puts, PutsBehind};
 
 use crate::shown::Shown;
 use kernel::{Blockers, Kernel};
 use osek_base::{MAX_TICKS, TickRecord};
 use ready_queues::LevelQueues;
 use trace_lines::{
-    Block, InstructionTexts, Sink, SinkFault, TickText, flush, upper_view_into, write_tick,
-    write_tick_parts,
+    Block, IdleWord, InstructionTexts, Sink, SinkFault, TickText, flush, upper_view_into,
+    write_idle_ticks, write_tick, write_tick_parts,
 };
 
-/// What the lines of a tick are made of besides its records: the texts of the instructions, and the tick's digits.
+/// What the lines of a run are made of besides its records: what is shown of it and the texts of its
+/// instructions, which stay, and the digits of the tick whose lines come next.
 #[derive(Drop)]
 struct LineTexts<'t, 's> {
     texts: &'t InstructionTexts<'s>,
     digits: TickText,
+    shown: Shown,
 }
 
 /// Room for the records of a tick, in two parts, and for the lines that wait to be written.
@@ -78,17 +88,18 @@ fn number_shown<B: Blockers>(kernel: &Kernel<'_, LevelQueues, B>, shown: Shown) 
 fn pass_whole<B: Blockers, S: Sink>(
     kernel: &mut Kernel<'_, LevelQueues, B>,
     lines: &LineTexts<'_, '_>,
-    shown: Shown,
     room: &mut Room,
     out: &mut S,
 ) -> Result<(), SinkFault>
-    requires ready { MayPass lines.now.texts.now shown B.are_counted lines.now.digits kernel.old }
-    requires all { (told : List TraceEvent) → records_shown lines.now.texts.now shown told ≡ told }
-    ensures { TickPasses S.taken S.has_failed lines.now.texts.now shown kernel.old kernel.new
-        out.old out.new room.old.text room.new.text result }
+    requires ready { MayPass lines.now.texts.now lines.now.shown B.are_counted lines.now.digits
+        kernel.old }
+    requires all { (told : List TraceEvent)
+        → records_shown lines.now.texts.now lines.now.shown told ≡ told }
+    ensures { TickPasses S.taken S.has_failed lines.now.texts.now lines.now.shown kernel.old
+        kernel.new out.old out.new room.old.text room.new.text result }
 {
     let executed = kernel.tick_parts(&mut room.some, &mut room.others);
-    let number = number_shown(kernel, shown);
+    let number = number_shown(kernel, lines.shown);
     write_tick_parts(
         lines.texts,
         &lines.digits,
@@ -106,18 +117,72 @@ fn pass_whole<B: Blockers, S: Sink>(
 fn pass_tick<B: Blockers, S: Sink>(
     kernel: &mut Kernel<'_, LevelQueues, B>,
     lines: &LineTexts<'_, '_>,
-    shown: Shown,
     room: &mut Room,
     out: &mut S,
 ) -> Result<(), SinkFault>
-    requires { MayPass lines.now.texts.now shown B.are_counted lines.now.digits kernel.old }
-    ensures { TickPasses S.taken S.has_failed lines.now.texts.now shown kernel.old kernel.new
-        out.old out.new room.old.text room.new.text result }
+    requires { MayPass lines.now.texts.now lines.now.shown B.are_counted lines.now.digits
+        kernel.old }
+    ensures { TickPasses S.taken S.has_failed lines.now.texts.now lines.now.shown kernel.old
+        kernel.new out.old out.new room.old.text room.new.text result }
+{
+    match lines.shown {
+        Shown::View(p) => pass_viewed(kernel, lines, p, room, out),
+        Shown::All | Shown::Blocking => pass_whole(kernel, lines, room, out),
+    }
+}
+
+/// What the line of a tick says in which nothing happens.
+fn idle_word(shown: Shown) -> IdleWord
+    ensures { result ≡ idle_word shown }
 {
     match shown {
-        Shown::View(p) => pass_viewed(kernel, lines, p, room, out),
-        Shown::All | Shown::Blocking => pass_whole(kernel, lines, shown, room, out),
+        Shown::View(_) => IdleWord::Other,
+        Shown::All | Shown::Blocking => IdleWord::Idle,
     }
+}
+
+/// Writes the lines of some ticks in which nothing happens by way of the block. The digits go on to the tick behind them.
+#[inline(never)]
+fn write_idle<S: Sink>(
+    lines: &mut LineTexts<'_, '_>,
+    ticks: u32,
+    text: &mut Block,
+    out: &mut S,
+) -> Result<(), SinkFault>
+    requires { lines.old.digits + ticks ≤ MAX_TICKS }
+    ensures digits { OnOk result (lines.new.digits ≡ lines.old.digits + ticks) }
+    ensures kept { SameLines lines.old.texts.now lines.new.texts.now lines.old.shown
+        lines.new.shown }
+    ensures puts { PutsBehind S.taken S.has_failed out.old out.new text.old text.new
+        (same_ticks_text lines.old.texts.now.names (event_of (idle_word lines.old.shown))
+        lines.old.digits ticks) result }
+{
+    write_idle_ticks(&mut lines.digits, ticks, idle_word(lines.shown), text, out)
+}
+
+/// Does the ticks that follow in which nothing happens, before as many as asked for are done, and writes their lines by way of
+/// the block.
+#[inline(always)]
+fn pass_idle_ticks<B: Blockers, S: Sink>(
+    kernel: &mut Kernel<'_, LevelQueues, B>,
+    lines: &mut LineTexts<'_, '_>,
+    ticks: u32,
+    text: &mut Block,
+    out: &mut S,
+) -> Result<(), SinkFault>
+    requires { MayPassIdle lines.old.digits ticks kernel.old }
+    ensures digits { OnOk result (lines.new.digits ≡ kernel.new.ticks) }
+    ensures kept { SameLines lines.old.texts.now lines.new.texts.now lines.old.shown
+        lines.new.shown }
+    ensures within { kernel.new.ticks ≤ ticks }
+    ensures passed { IdlePasses S.taken S.has_failed lines.old.texts.now lines.old.shown kernel.old
+        kernel.new out.old out.new text.old text.new result }
+{
+    let idle = kernel.pass_idle(ticks - kernel.ticks());
+    if idle == 0 {
+        return Ok(());
+    }
+    write_idle(lines, idle, text, out)
 }
 
 /// Writes the ticks of a run that has just begun, as many as asked for, or up to a shutdown.
@@ -140,6 +205,7 @@ pub(crate) fn write_ticks<B: Blockers, S: Sink>(
     let mut lines = LineTexts {
         texts,
         digits: TickText::new(),
+        shown,
     };
     let mut room = Room {
         some: TickRecord::new(),
@@ -150,8 +216,9 @@ pub(crate) fn write_ticks<B: Blockers, S: Sink>(
         if kernel.is_shut_down() {
             break;
         }
-        pass_tick(kernel, &lines, shown, &mut room, out)?;
+        pass_tick(kernel, &lines, &mut room, out)?;
         lines.digits.advance();
+        pass_idle_ticks(kernel, &mut lines, ticks, &mut room.text, out)?;
     }
     flush(&mut room.text, out)
 }

@@ -8,7 +8,7 @@ use Rattle.osek_base.specs.declared.arrivals.Arrival.{Arrival}
 use Rattle.osek_base.specs.declared.limits.TheConstants.{MAX_ARRIVALS}
 use Rattle.osek_base.specs.ArrivalList.{are_in_order, is_arrival_list}
 use Rattle.osek_base.specs.System.{System}
-use Rattle.kernel.specs.Run.{AreKnown}
+use Rattle.kernel.specs.Progress.{AreKnown}
 use Rattle.run_bounds.specs.Bounds.{KeepDistances}
 use Rattle.witnesses.specs.Apart.{are_apart}
 use Rattle.witnesses.proofs.Spacing.{both_of, once, spaced}

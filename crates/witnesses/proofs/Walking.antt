@@ -9,7 +9,7 @@ use Rattle.osek_base.specs.Trace.{arriving, run}
 use Rattle.kept_state.specs.Kept.{Kept}
 use Rattle.kept_state.specs.KeptTick.{tick_in}
 use Rattle.kernel.specs.Machine.{HasCome, IsBooted, Machine, next_tick, picture, system_of}
-use Rattle.kernel.specs.Run.{AreKnown, AreLeft}
+use Rattle.kernel.specs.Progress.{AreKnown, AreLeft}
 use Rattle.kernel.proofs.ArrivalLemmas.{all_left, arriving_known}
 use Rattle.observations.specs.declared.observation.Observation.{Observation}
 use Rattle.observations.specs.Seen.{Seen, seen_of}

@@ -10,7 +10,7 @@ use Rattle.osek_base.specs.System.{System}
 use Rattle.osek_base.specs.Trace.{run}
 use Rattle.observations.specs.declared.observation.Observation.{Observation}
 use Rattle.observed_runs.specs.Observed.{IsObserved}
-use Rattle.kernel.specs.Run.{Run, is_over, run_of}
+use Rattle.kernel.specs.Progress.{Progress, is_over, run_of}
 use Rattle.figures.specs.declared.alarm_figures.AlarmFigures.{AlarmFigures}
 use Rattle.figures.specs.declared.resource_figures.ResourceFigures.{ResourceFigures}
 use Rattle.figures.specs.declared.routine_figures.RoutineFigures.{RoutineFigures}
@@ -34,7 +34,7 @@ use Rattle.witnesses.specs.Watched.{AreWatched, bare_task_tick, number_or_none, 
 
 -- ---- tick by tick
 
-pub begun : (first : Run) (k : ℕ) (w : Watched) → first.ticks ≡ 0
+pub begun : (first : Progress) (k : ℕ) (w : Watched) → first.ticks ≡ 0
     → AreWatched (levels_of first.system) k [] w → IsWatched first first 0 k w
 begun first k w none are = record {
   same = ap (λ n. record first { ticks = n }) none;
@@ -46,10 +46,10 @@ not_over b false is = refl
 not_over true true is = absurd (true≢false is)
 not_over false true is = absurd (true≢false is)
 
-going : (first now : Run) (n : ℕ) → now ≡ record first { ticks = n } → true ≡ not (is_over now)
+going : (first now : Progress) (n : ℕ) → now ≡ record first { ticks = n } → true ≡ not (is_over now)
     → (run first.system first.mode first.arrivals n).state.over ≡ false
 going first now n same goes =
-    ap (λ (r : Run). (run_of r).state.over) (sym same)
+    ap (λ (r : Progress). (run_of r).state.over) (sym same)
     ∙ not_over (nat_le MAX_TICKS now.ticks) (run_of now).state.over goes
 
 -- what is told where blockers are counted is the number of the tick
@@ -64,7 +64,7 @@ tells S mode arrivals n o at =
     told_number o.blockers (blockers_at S mode arrivals o.tick)
     (at.blockers refl ∙ ap (λ t. blockers_at S mode arrivals t) (sym at.number))
 
-pub one_more : (first old new : Run) (S : System) (n k : ℕ) (v w : Watched) (o : Observation)
+pub one_more : (first old new : Progress) (S : System) (n k : ℕ) (v w : Watched) (o : Observation)
     → first.system ≡ S → IsWatched first old n k v → true ≡ not (is_over old)
     → new ≡ record old { ticks = old.ticks + 1 }
     → (1 ≤ new.ticks
@@ -74,11 +74,11 @@ pub one_more : (first old new : Run) (S : System) (n k : ℕ) (v w : Watched) (o
     → IsWatched first new (n + 1) k w
 one_more first old new S n k v w o of is goes step observed more =
     let same : new ≡ record first { ticks = suc n } =
-    step ∙ ap (λ (r : Run). record r { ticks = r.ticks + 1 }) is.same
+    step ∙ ap (λ (r : Progress). record r { ticks = r.ticks + 1 }) is.same
     ∙ ap (λ m. record first { ticks = m }) (add-one n) in
     let last : IsObserved true first.system first.mode first.arrivals (suc n - 1) o =
     subst
-    (λ (r : Run). 1 ≤ r.ticks → IsObserved true r.system r.mode r.arrivals (r.ticks - 1) o) same
+    (λ (r : Progress). 1 ≤ r.ticks → IsObserved true r.system r.mode r.arrivals (r.ticks - 1) o) same
     observed (omega arith) in
     let before : suc n - 1 ≡ n = omega arith in
     let at : IsObserved true first.system first.mode first.arrivals n o =
@@ -105,7 +105,7 @@ one_more first old new S n k v w o of is goes step observed more =
     })
 
 -- a run that has gone on behind some ticks goes on for one more
-pub goes_on : (first old new : Run) (n more k number : ℕ) (v w : Watched) → number ≡ k
+pub goes_on : (first old new : Progress) (n more k number : ℕ) (v w : Watched) → number ≡ k
     → IsWatched first old (n + more) k v
     → (IsWatched first old (n + more) number v → IsWatched first new (n + more + 1) number w)
     → IsWatched first new (n + (more + 1)) k w
@@ -117,7 +117,7 @@ goes_on first old new n more k number v w same is step =
     subst (λ j. IsWatched first new (n + (more + 1)) j w) same after
 
 -- one tick more tells whether a run is over
-pub told_by_one_more : (r : Run) (goes : Bool) → r.ticks < MAX_TICKS → goes ≡ not (is_over r)
+pub told_by_one_more : (r : Progress) (goes : Bool) → r.ticks < MAX_TICKS → goes ≡ not (is_over r)
     → not goes ≡ (run_of r).state.over
 told_by_one_more r goes low is =
     ap not is ∙ go (nat_le MAX_TICKS r.ticks) (run_of r).state.over refl
@@ -127,7 +127,7 @@ told_by_one_more r goes low is =
     go false true is = refl
     go true over is = let high = leb-true MAX_TICKS r.ticks is in absurd (omega (arith, low, high))
 
-pub ended : (first now : Run) (n k : ℕ) (w : Watched) (over : Bool) → IsWatched first now n k w
+pub ended : (first now : Progress) (n k : ℕ) (w : Watched) (over : Bool) → IsWatched first now n k w
     → over ≡ (run_of now).state.over
     → Watches first.system first.mode first.arrivals n k (record w { is_over = over })
 ended first now n k w over is ends = record {
@@ -146,7 +146,7 @@ ended first now n k w over is ends = record {
       failure = is.watches.are.failure;
     };
   };
-  over = ends ∙ ap (λ (r : Run). (run_of r).state.over) is.same;
+  over = ends ∙ ap (λ (r : Progress). (run_of r).state.over) is.same;
 }
 
 -- ---- what is shown
@@ -266,16 +266,16 @@ shows S mode arrivals n figure w proper small of watches = record {
 
 -- the same, of a run that was begun with this system, this mode and these arrivals
 pub begun_shows : (S : System) (mode : ℕ) (arrivals : List Arrival) (n : ℕ) (figure : Figure)
-    (first : Option Run) (r : Run) (w : Watched) (value : ℕ) → IsProper S → n < 2 ^ 32
+    (first : Option Progress) (r : Progress) (w : Watched) (value : ℕ) → IsProper S → n < 2 ^ 32
     → IsOf S figure
-    → IfSome first (λ (x : Run). (x.system ≡ S) × (x.mode ≡ mode) × (x.arrivals ≡ arrivals)
+    → IfSome first (λ (x : Progress). (x.system ≡ S) × (x.mode ≡ mode) × (x.arrivals ≡ arrivals)
     × (x.ticks ≡ 0))
     → first ≡ Some r → Watches r.system r.mode r.arrivals n (number_of figure) w
     → value ≡ shown_of w figure → Shows S mode arrivals n figure value
 begun_shows S mode arrivals n figure first r w value proper small of made is watches told =
     let same : (r.system ≡ S) × (r.mode ≡ mode) × (r.arrivals ≡ arrivals) × (r.ticks ≡ 0) =
     subst
-    (λ o. IfSome o (λ (x : Run). (x.system ≡ S) × (x.mode ≡ mode) × (x.arrivals ≡ arrivals)
+    (λ o. IfSome o (λ (x : Progress). (x.system ≡ S) × (x.mode ≡ mode) × (x.arrivals ≡ arrivals)
     × (x.ticks ≡ 0)))
     is made in
     let of_system : Watches S r.mode r.arrivals n (number_of figure) w =

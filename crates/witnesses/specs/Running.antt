@@ -3,7 +3,7 @@ use Rattle.std.specs.Prelude.{ℕ, ◌≡◌, List}
 use Rattle.osek_base.specs.declared.arrivals.Arrival.{Arrival}
 use Rattle.osek_base.specs.System.{System}
 use Rattle.osek_base.specs.Trace.{run}
-use Rattle.kernel.specs.Run.{Run}
+use Rattle.kernel.specs.Progress.{Progress}
 use Rattle.observations.specs.declared.observation.Observation.{Observation}
 use Rattle.figures.specs.FigureSums.{levels_of}
 use Rattle.run_figures.specs.RunFigures.{AreTicksOf}
@@ -43,6 +43,6 @@ pub record Watches (S : System) (mode : ℕ) (arrivals : List Arrival) (n k : �
   pub over : w.is_over ≡ (run S mode arrivals n).state.over
 
 -- a run is n ticks behind another one, and the things of a number were watched up to there
-pub record IsWatched (first now : Run) (n k : ℕ) (w : Watched) : Type 0 where
+pub record IsWatched (first now : Progress) (n k : ℕ) (w : Watched) : Type 0 where
   pub same : now ≡ record first { ticks = n }
   pub watches : WatchesTicks first.system first.mode first.arrivals n k w

@@ -5,7 +5,7 @@ use Rattle.osek_base.specs.Proper.{IsProper}
 use Rattle.osek_base.specs.System.{System}
 use Rattle.osek_base.specs.Trace.{arriving, run}
 use Rattle.kernel.specs.Machine.{Machine, next_tick, picture, system_of}
-use Rattle.kernel.specs.Run.{AreKnown, AreLeft}
+use Rattle.kernel.specs.Progress.{AreKnown, AreLeft}
 use Rattle.needed_data.specs.Need.{Need}
 use Rattle.observations.specs.declared.observation.Observation.{Observation}
 use Rattle.observations.specs.Seen.{seen_of}

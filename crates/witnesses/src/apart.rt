@@ -5,7 +5,7 @@ ghost use Rattle.std.specs.List.{list_all};
 ghost use Rattle.bound_labels.specs.Labels.{distance_of};
 ghost use Rattle.osek_base.specs.ArrivalList.{are_in_order};
 ghost use Rattle.osek_base.specs.declared.arrivals.Arrival.{Arrival};
-ghost use Rattle.kernel.specs.Run.{AreKnown};
+ghost use Rattle.kernel.specs.Progress.{AreKnown};
 ghost use Rattle.run_bounds.specs.Bounds.{KeepDistances};
 ghost use Rattle.witnesses.specs.Apart.{are_apart, comes_behind, next_tick};
 

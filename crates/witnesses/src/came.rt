@@ -1,7 +1,7 @@
 //! OSEK/VDX OS: interrupt processing, category 2. Which arrivals have come.
 
 ghost use Rattle.std.specs.Prelude.{◌≡◌, ◌≤◌, ◌+◌, map, slice_range};
-ghost use Rattle.kernel.specs.Run.{AreLeft};
+ghost use Rattle.kernel.specs.Progress.{AreLeft};
 ghost use Rattle.osek_base.specs.Trace.{arriving};
 
 use osek_base::Arrival;

@@ -5,7 +5,7 @@ ghost use Rattle.std.specs.List.{All};
 ghost use Rattle.bounds.specs.Exploring.{IsGround};
 ghost use Rattle.endless_runs.specs.Kept.{CanBeKept};
 ghost use Rattle.endless_runs.specs.Lassos.{again};
-ghost use Rattle.kernel.specs.Run.{AreKnown};
+ghost use Rattle.kernel.specs.Progress.{AreKnown};
 ghost use Rattle.run_bounds.specs.Bounds.{KeepDistances};
 ghost use Rattle.witnesses.specs.Endless.{IsEndless};
 

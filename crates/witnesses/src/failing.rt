@@ -2,7 +2,7 @@
 
 ghost use Rattle.std.specs.Prelude.{◌≡◌, IfOk, IfSome, IsTrue, Some};
 ghost use Rattle.std.specs.List.{All};
-ghost use Rattle.kernel.specs.Run.{AreKnown};
+ghost use Rattle.kernel.specs.Progress.{AreKnown};
 ghost use Rattle.run_bounds.specs.Bounds.{KeepDistances};
 ghost use Rattle.witnesses.specs.Failing.{Fails, FailsAtEnd, IsFailing};
 

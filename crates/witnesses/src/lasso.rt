@@ -2,7 +2,7 @@
 
 ghost use Rattle.std.specs.Prelude.{◌≡◌, IfOk, IsTrue};
 ghost use Rattle.endless_runs.specs.Kept.{StandsBetween};
-ghost use Rattle.kernel.specs.Run.{AreKnown};
+ghost use Rattle.kernel.specs.Progress.{AreKnown};
 ghost use Rattle.needs.specs.Table.{need_of};
 ghost use Rattle.witnesses.specs.Walks.{ComesTwice};
 

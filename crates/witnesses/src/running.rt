@@ -2,7 +2,7 @@
 
 ghost use Rattle.std.specs.Prelude.{ℕ, ◌≡◌, ◌+◌, IfOk, IfSome, IsTrue, Some};
 ghost use Rattle.figures.specs.FigureSums.{held_count};
-ghost use Rattle.kernel.specs.Run.{AreKnown, Run, run_of};
+ghost use Rattle.kernel.specs.Progress.{AreKnown, Progress, run_of};
 ghost use Rattle.osek_base.specs.Names.{number_of as number_of_name};
 ghost use Rattle.witnesses.specs.Running.{IsWatched, Watches, number_of};
 ghost use Rattle.witnesses.specs.Shown.{IsOf, Shows};
@@ -96,7 +96,7 @@ fn see_tick(
     number: usize,
     watched: &mut Watched,
 ) -> bool
-    ensures { IsTrue result → (first : Run) (n : ℕ) → first.system ≡ system.now
+    ensures { IsTrue result → (first : Progress) (n : ℕ) → first.system ≡ system.now
         → IsWatched first run.old n number watched.old
         → IsWatched first run.new (n + 1) number watched.new }
 {
@@ -155,7 +155,7 @@ fn go_on_until(
     value: u32,
     most: u32,
 ) -> Option<u32>
-    ensures { IfSome result (λ more. (first : Run) (n : ℕ) → first.system ≡ system.now
+    ensures { IfSome result (λ more. (first : Progress) (n : ℕ) → first.system ≡ system.now
         → IsWatched first run.old n (number_of figure) watched.old
         → IsWatched first run.new (n + more) (number_of figure) watched.new) }
 {

@@ -1,7 +1,7 @@
 //! Where a run may come twice to one state while a job of a task stands, of which contracts see
 //! nothing: what is found here is tried.
 
-ghost use Rattle.kernel.specs.Run.{AreKnown};
+ghost use Rattle.kernel.specs.Progress.{AreKnown};
 
 use crate::going_on::distance_of;
 use crate::walk::Walk;

@@ -1,7 +1,7 @@
 //! A run that is walked tick by tick: the key of its state, and what its last tick showed of tasks.
 
 ghost use Rattle.std.specs.Prelude.{ℕ, ◌≡◌, ◌+◌, IfOk, IsTrue, map};
-ghost use Rattle.kernel.specs.Run.{AreKnown};
+ghost use Rattle.kernel.specs.Progress.{AreKnown};
 ghost use Rattle.endless_runs.specs.Kept.{Stands};
 ghost use Rattle.needs.specs.Table.{need_of};
 ghost use Rattle.same_future.specs.Alike.{kept_after};
@@ -34,10 +34,10 @@ pub(crate) struct Walk<'s, 'a> {
 
 impl<'s, 'a> Model for Walk<'s, 'a> {
     ghost use Rattle.kernel.specs.Machine.{next_tick};
-    ghost use Rattle.kernel.specs.Run.{Run};
+    ghost use Rattle.kernel.specs.Progress.{Progress};
     ghost use Rattle.witnesses.specs.Walks.{IsWalk};
 
-    ghost Value = { Run };
+    ghost Value = { Progress };
 
     ghost view = { λ w. record {
       system = w.system.now;

@@ -2,7 +2,7 @@ use Rattle.std.proofs.Common.{ap, sym, subst, ◌∙◌, None, refl}
 use Rattle.std.specs.List.{AllByRecursion}
 use Rattle.osek_base.specs.System.{System}
 use Rattle.osek_base.specs.View.{view_records}
-use Rattle.kernel.specs.Run.{Run}
+use Rattle.kernel.specs.Progress.{Progress}
 use Rattle.trace_lines.specs.Lines.{tick_text}
 use Rattle.trace_lines.specs.Programs.{IsOfProgram}
 use Rattle.trace_lines.specs.Sinks.{PutsBehind}
@@ -13,7 +13,7 @@ use Rattle.tracer.proofs.written_ticks.pass_viewed.Goals as goal
 
 pub write_tick-requires : goal.write_tick-requires
 write_tick-requires g c =
-    let k : Run = c.args.kernel.now in
+    let k : Progress = c.args.kernel.now in
     let V = c.system.result.now in
     record {
       listed =
@@ -24,7 +24,7 @@ write_tick-requires g c =
 
 pub returns : goal.returns
 returns g c =
-    let k : Run = c.args.kernel.now in
+    let k : Progress = c.args.kernel.now in
     let T : System = c.args.lines.now.texts.now in
     let told =
     c.upper_view_into.ensures ∙ ap (λ (V : System). view_records V c.args.p c.tick_into.new.record_of_tick) c.system.ensures

@@ -4,7 +4,7 @@ use Rattle.std.specs.List.{AllByRecursion}
 use Rattle.osek_base.specs.declared.trace_event.TraceEvent.{TraceEvent}
 use Rattle.osek_base.specs.Executed.{StandsIn, idle_or_executed}
 use Rattle.osek_base.specs.System.{System}
-use Rattle.kernel.specs.Run.{Run}
+use Rattle.kernel.specs.Progress.{Progress}
 use Rattle.blocking_laws.specs.Steps.{record_at}
 use Rattle.trace_lines.specs.Lines.{tick_text}
 use Rattle.trace_lines.specs.Programs.{IsOfProgram}
@@ -17,16 +17,16 @@ use Rattle.tracer.proofs.RunTextLemmas.{same_tick_text}
 use Rattle.tracer.proofs.written_ticks.pass_whole.Goals as goal
 
 -- the number of the last tick
-number_of_last : (shown : Shown) (k new : Run) (number : Option ℕ) → new ≡ record k { ticks = k.ticks + 1 }
+number_of_last : (shown : Shown) (k new : Progress) (number : Option ℕ) → new ≡ record k { ticks = k.ticks + 1 }
     → number ≡ numbers_shown shown new.system new.mode new.arrivals (new.ticks - 1)
     → number ≡ numbers_shown shown k.system k.mode k.arrivals k.ticks
 number_of_last shown k new number next is =
     let last : k.ticks + 1 - 1 ≡ k.ticks = omega arith in
-    is ∙ ap (λ (r : Run). numbers_shown shown r.system r.mode r.arrivals (r.ticks - 1)) next
+    is ∙ ap (λ (r : Progress). numbers_shown shown r.system r.mode r.arrivals (r.ticks - 1)) next
     ∙ ap (numbers_shown shown k.system k.mode k.arrivals) last
 
 -- where all is shown, a tick's text is that of its records
-whole_text : (V : System) (shown : Shown) (k : Run) (t : ℕ) (number : Option ℕ) (told : List TraceEvent)
+whole_text : (V : System) (shown : Shown) (k : Progress) (t : ℕ) (number : Option ℕ) (told : List TraceEvent)
     → ((all : List TraceEvent) → records_shown V shown all ≡ all) → t ≡ k.ticks
     → number ≡ numbers_shown shown k.system k.mode k.arrivals k.ticks → told ≡ record_at k.system k.mode k.arrivals k.ticks
     → tick_text V.names t number told ≡ tick_text_shown V shown k.system k.mode k.arrivals k.ticks
@@ -35,7 +35,7 @@ whole_text V shown k t number told all counted number_is as_told =
     ∙ same_tick_text V.names V.names k.ticks number _ told _ refl number_is (as_told ∙ sym (all (record_at k.system k.mode k.arrivals k.ticks)))
 
 -- the records before and behind that of the instruction
-listed : (T : System) (k : Run) (before behind : List TraceEvent) (own : TraceEvent) → k.system ≡ T
+listed : (T : System) (k : Progress) (before behind : List TraceEvent) (own : TraceEvent) → k.system ≡ T
     → before ++ own ∷ behind ≡ record_at k.system k.mode k.arrivals k.ticks
     → AllByRecursion (IsOfProgram T) before × AllByRecursion (IsOfProgram T) (own ∷ behind)
 listed T k before behind own system told =
@@ -45,13 +45,13 @@ listed T k before behind own system told =
 
 pub write_tick_parts-requires-clause-before : goal.write_tick_parts-requires-clause-before
 write_tick_parts-requires-clause-before g c =
-    let k : Run = c.args.kernel.now in
+    let k : Progress = c.args.kernel.now in
     (listed c.args.lines.now.texts.now k c.tick_parts-executed.new.before c.tick_parts-executed.new.behind (idle_or_executed k.system c.tick_parts-executed.result)
     c.requires.ready.system c.tick_parts-executed.ensures.records).0
 
 pub write_tick_parts-requires-clause-behind : goal.write_tick_parts-requires-clause-behind
 write_tick_parts-requires-clause-behind g c =
-    let k : Run = c.args.kernel.now in
+    let k : Progress = c.args.kernel.now in
     (listed c.args.lines.now.texts.now k c.tick_parts-executed.new.before c.tick_parts-executed.new.behind (idle_or_executed k.system c.tick_parts-executed.result)
     c.requires.ready.system c.tick_parts-executed.ensures.records).1.1
 
@@ -61,12 +61,12 @@ write_tick_parts-requires-clause-placed g c =
 
 pub returns : goal.returns
 returns g c =
-    let k : Run = c.args.kernel.now in
+    let k : Progress = c.args.kernel.now in
     let T : System = c.args.lines.now.texts.now in
     let parts = λ (S : System). c.tick_parts-executed.new.before ++ idle_or_executed S c.tick_parts-executed.result ∷ c.tick_parts-executed.new.behind in
     let text =
-    whole_text T c.args.shown k c.args.lines.now.digits c.number_shown-number.result (parts T) c.requires.all c.requires.ready.counted
-    (number_of_last c.args.shown k c.tick_parts-executed.new.self c.number_shown-number.result c.tick_parts-executed.ensures.next c.number_shown-number.ensures)
+    whole_text T c.args.lines.now.shown k c.args.lines.now.digits c.number_shown-number.result (parts T) c.requires.all c.requires.ready.counted
+    (number_of_last c.args.lines.now.shown k c.tick_parts-executed.new.self c.number_shown-number.result c.tick_parts-executed.ensures.next c.number_shown-number.ensures)
     (ap parts (sym c.requires.ready.system) ∙ c.tick_parts-executed.ensures.records) in
     record {
       puts =

@@ -2,16 +2,18 @@ use Rattle.std.proofs.Common.{◌≡◌, ℕ, ◌+◌, ◌<◌, ◌≤◌, false
 use Rattle.std.specs.Prelude.{nat_le}
 use Rattle.osek_base.specs.System.{System}
 use Rattle.osek_base.specs.Trace.{run}
-use Rattle.kernel.specs.Run.{Run, is_over, run_of}
+use Rattle.kernel.specs.Progress.{Progress, is_over, run_of}
 use Rattle.tracer.specs.Shown.{numbers_shown, text_shown, tick_text_shown}
+use Rattle.tracer.specs.declared.shown.Shown.{Shown}
 use Rattle.trace_lines.specs.Sinks.{AppendsSome, Passes}
 use Rattle.trace_lines.proofs.SinkLemmas.{passes_none, passed_all, passed_some, stops, goes_on}
-use Rattle.tracer.proofs.RunTextLemmas.{text_begun, passes_tick, passes_part, passed_whole}
+use Rattle.tracer.proofs.RunTextLemmas.{text_begun, passes_part, passed_whole}
+use Rattle.tracer.proofs.IdleTickLemmas.{at_next, passes_next, passes_idle, some_idle}
 use Rattle.tracer.proofs.written_ticks.write_ticks.Goals as goal
 use Rattle.tracer.proofs.written_ticks.write_ticks.Goals.{else-ticks-test, then-ticks-test+then-is_shut_down}
 
 -- before its last tick a run is over exactly where it was shut down
-over_is : (r : Run) (ticks : ℕ) → r.ticks < ticks → ticks ≤ 1000000 → is_over r ≡ (run_of r).state.over
+over_is : (r : Progress) (ticks : ℕ) → r.ticks < ticks → ticks ≤ 1000000 → is_over r ≡ (run_of r).state.over
 over_is r ticks below limit =
     let few : nat_le 1000000 r.ticks ≡ false = grind (arith, below, limit) in
     ap (λ b. b || (run_of r).state.over) few
@@ -20,15 +22,15 @@ pub pass_tick-requires : goal.pass_tick-requires
 pass_tick-requires g c =
     let v = c.ticks.invariant in
     record {
-      system = ap (λ (r : Run). r.system) v.at ∙ c.requires.system ∙ sym v.kept;
+      system = ap (λ (r : Progress). r.system) v.at ∙ c.requires.system ∙ sym v.kept.texts;
       counted = v.counted;
-      blockers = c.requires.blockers;
+      blockers = λ counting. c.requires.blockers (sym v.kept.shows ∙ counting);
       going = over_is c.ticks.kernel c.args.ticks (rw (c.ticks-in-ticks.ensures) at c.ticks-test.true) c.requires.ticks ∙ sym c.is_shut_down.ensures ∙ c.if-is_shut_down.false;
     }
 
 pub ticks-init : goal.ticks-init
 ticks-init g c =
-    let k : Run = c.args.kernel.now in
+    let k : Progress = c.args.kernel.now in
     let V : System = c.args.texts.now in
     let numbers : ℕ → Option ℕ = numbers_shown c.args.shown k.system k.mode k.arrivals in
     let taken = g.S.Sink.taken c.args.out.now in
@@ -40,48 +42,84 @@ ticks-init g c =
       at = refl;
       within = omega (arith, c.requires.begun);
       counted = c.new.ensures ∙ sym c.requires.begun;
-      kept = refl;
+      kept = record { texts = refl; shows = refl };
       still = refl;
+    }
+
+pub pass_idle_ticks-requires : goal.pass_idle_ticks-requires
+pass_idle_ticks-requires g c =
+    let v = c.ticks.invariant in
+    let below : c.ticks.kernel.ticks < c.args.ticks = rw (c.ticks-in-ticks.ensures) at c.ticks-test.true in
+    let more : c.pass_tick.new.kernel.ticks ≡ c.ticks.kernel.ticks + 1 = ap (λ (r : Progress). r.ticks) c.pass_tick.ensures.next in
+    record {
+      counted = c.advance.ensures ∙ ap (λ m. m + 1) v.counted ∙ sym more;
+      before = omega (arith, more, below);
+      few = c.requires.ticks;
     }
 
 pub ticks-preserved : goal.ticks-preserved
 ticks-preserved g c =
-    let k : Run = c.args.kernel.now in
+    let k : Progress = c.args.kernel.now in
     let V : System = c.args.texts.now in
-    let numbers : ℕ → Option ℕ = numbers_shown c.args.shown k.system k.mode k.arrivals in
     let v = c.ticks.invariant in
-    let n = c.ticks.kernel.ticks in
-    let below : n < c.args.ticks = rw (c.ticks-in-ticks.ensures) at c.ticks-test.true in
-    let on = over_is c.ticks.kernel c.args.ticks below c.requires.ticks ∙ sym c.is_shut_down.ensures ∙ c.if-is_shut_down.false in
-    let going = ap is_over (sym v.at) ∙ on in
-    let text = ap (λ (S : System). tick_text_shown S c.args.shown c.ticks.kernel.system c.ticks.kernel.mode c.ticks.kernel.arrivals n) v.kept
-    ∙ ap (λ (r : Run). tick_text_shown V c.args.shown r.system r.mode r.arrivals r.ticks) v.at in
-    let more : c.pass_tick.new.kernel.ticks ≡ n + 1 = ap (λ (r : Run). r.ticks) c.pass_tick.ensures.next in
+    let r : Progress = c.ticks.kernel in
+    let after : Progress = c.pass_tick.new.kernel in
+    let below : r.ticks < c.args.ticks = rw (c.ticks-in-ticks.ensures) at c.ticks-test.true in
+    let on = over_is r c.args.ticks below c.requires.ticks ∙ sym c.is_shut_down.ensures ∙ c.if-is_shut_down.false in
+    let next = c.pass_tick.ensures.next in
+    let at = at_next V c.args.shown k.system k.mode k.arrivals r after r.ticks v.at next in
+    let idle = c.in_ok-pass_idle_ticks.ensures in
+    let more : c.pass_idle_ticks.new.kernel.ticks ≡ after.ticks + idle.passed.count = ap (λ (x : Progress). x.ticks) idle.passed.next in
     record {
       so_far =
-          subst (λ m. Passes (g.S.Sink.taken c.args.out.now) (g.S.Sink.taken c.pass_tick.new.out) [] c.pass_tick.new.room.text (text_shown V c.args.shown numbers (run k.system k.mode k.arrivals m))) (sym more)
-          (passes_tick V c.args.shown numbers k.system k.mode k.arrivals _ _ _ _ _ _ n going v.so_far
-          (subst (Passes (g.S.Sink.taken c.ticks.out) (g.S.Sink.taken c.pass_tick.new.out) c.ticks.room.text c.pass_tick.new.room.text) text c.in_ok-pass_tick.ensures.puts.written));
+          subst (λ m. Passes (g.S.Sink.taken c.args.out.now) (g.S.Sink.taken c.pass_idle_ticks.new.out) [] c.pass_idle_ticks.new.text (text_shown V c.args.shown (numbers_shown c.args.shown k.system k.mode k.arrivals) (run k.system k.mode k.arrivals m))) (sym more)
+          (passes_idle V c.args.shown k.system k.mode k.arrivals c.ticks.lines.texts.now c.ticks.lines.shown after _ _ _ _ _ _ after.ticks idle.passed.count v.kept at
+          (passes_next V c.args.shown k.system k.mode k.arrivals c.ticks.lines.texts.now c.ticks.lines.shown r after _ _ _ _ _ _ r.ticks v.kept v.at next on v.so_far
+          c.in_ok-pass_tick.ensures.puts.written)
+          idle.passed.going idle.passed.puts.written);
       at =
-          c.pass_tick.ensures.next ∙ ap (λ (r : Run). record r { ticks = r.ticks + 1 }) v.at
+          idle.passed.next ∙ ap (λ (x : Progress). record x { ticks = x.ticks + idle.passed.count }) at
           ∙ ap (λ m. record k { ticks = m }) (sym more);
-      within = omega (arith, more, below);
-      counted = c.advance.ensures ∙ ap (λ m. m + 1) v.counted ∙ sym more;
-      kept = v.kept;
-      still = c.in_ok-pass_tick.ensures.puts.still ∙ v.still;
+      within = idle.within;
+      counted = idle.digits;
+      kept = record { texts = idle.kept.texts ∙ v.kept.texts; shows = idle.kept.shows ∙ v.kept.shows };
+      still = idle.passed.puts.still ∙ c.in_ok-pass_tick.ensures.puts.still ∙ v.still;
     }
+
+pub returns-in_err-pass_idle_ticks : goal.returns-in_err-pass_idle_ticks
+returns-in_err-pass_idle_ticks g c =
+    let k : Progress = c.args.kernel.now in
+    let V : System = c.args.texts.now in
+    let v = c.ticks.invariant in
+    let r : Progress = c.ticks.kernel in
+    let after : Progress = c.pass_tick.new.kernel in
+    let below : r.ticks < c.args.ticks = rw (c.ticks-in-ticks.ensures) at c.ticks-test.true in
+    let on = over_is r c.args.ticks below c.requires.ticks ∙ sym c.is_shut_down.ensures ∙ c.if-is_shut_down.false in
+    let next = c.pass_tick.ensures.next in
+    let at = at_next V c.args.shown k.system k.mode k.arrivals r after r.ticks v.at next in
+    let idle = c.in_err-pass_idle_ticks.ensures in
+    let more : c.pass_idle_ticks.new.kernel.ticks ≡ after.ticks + idle.passed.count = ap (λ (x : Progress). x.ticks) idle.passed.next in
+    stops g.S.Sink.taken g.S.Sink.has_failed _ _ _ c.args.out.now _ c.from_residual-in_err-pass_idle_ticks.result
+    c.from_residual-in_err-pass_idle_ticks.ensures.1
+    (some_idle V c.args.shown k.system k.mode k.arrivals c.ticks.lines.texts.now c.ticks.lines.shown after _ _ _ _ _ after.ticks idle.passed.count c.args.ticks v.kept at
+    (omega (arith, more, idle.within))
+    (passes_next V c.args.shown k.system k.mode k.arrivals c.ticks.lines.texts.now c.ticks.lines.shown r after _ _ _ _ _ _ r.ticks v.kept v.at next on v.so_far
+    c.in_ok-pass_tick.ensures.puts.written)
+    idle.passed.going idle.passed.puts.beginning)
+    idle.passed.puts.failed
 
 pub returns-in_err-pass_tick : goal.returns-in_err-pass_tick
 returns-in_err-pass_tick g c =
-    let k : Run = c.args.kernel.now in
+    let k : Progress = c.args.kernel.now in
     let V : System = c.args.texts.now in
     let numbers : ℕ → Option ℕ = numbers_shown c.args.shown k.system k.mode k.arrivals in
     let v = c.ticks.invariant in
     let n = c.ticks.kernel.ticks in
     let below : n < c.args.ticks = rw (c.ticks-in-ticks.ensures) at c.ticks-test.true in
     let on = over_is c.ticks.kernel c.args.ticks below c.requires.ticks ∙ sym c.is_shut_down.ensures ∙ c.if-is_shut_down.false in
-    let text = ap (λ (S : System). tick_text_shown S c.args.shown c.ticks.kernel.system c.ticks.kernel.mode c.ticks.kernel.arrivals n) v.kept
-    ∙ ap (λ (r : Run). tick_text_shown V c.args.shown r.system r.mode r.arrivals r.ticks) v.at in
+    let text = ap (λ (how : Shown). tick_text_shown c.ticks.lines.texts.now how c.ticks.kernel.system c.ticks.kernel.mode c.ticks.kernel.arrivals n) v.kept.shows
+    ∙ ap (λ (S : System). tick_text_shown S c.args.shown c.ticks.kernel.system c.ticks.kernel.mode c.ticks.kernel.arrivals n) v.kept.texts
+    ∙ ap (λ (r : Progress). tick_text_shown V c.args.shown r.system r.mode r.arrivals r.ticks) v.at in
     stops g.S.Sink.taken g.S.Sink.has_failed _ _ _ c.args.out.now _ c.from_residual.result c.from_residual.ensures.1
     (passes_part V c.args.shown numbers k.system k.mode k.arrivals _ _ _ _ _ n c.args.ticks below (ap is_over (sym v.at) ∙ on) v.so_far
     (subst (λ t. AppendsSome (g.S.Sink.taken c.ticks.out) (g.S.Sink.taken c.pass_tick.new.out) (c.ticks.room.text ++ t)) text c.in_err-pass_tick.ensures.puts.beginning))
@@ -89,7 +127,7 @@ returns-in_err-pass_tick g c =
 
 pub returns : goal.returns
 returns g c =
-    let k : Run = c.args.kernel.now in
+    let k : Progress = c.args.kernel.now in
     let V : System = c.args.texts.now in
     let numbers : ℕ → Option ℕ = numbers_shown c.args.shown k.system k.mode k.arrivals in
     let v = c.ticks.invariant in

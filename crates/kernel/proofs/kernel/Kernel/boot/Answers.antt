@@ -3,7 +3,7 @@ use Rattle.osek_base.specs.declared.arrivals.Arrival.{Arrival}
 use Rattle.osek_base.specs.ArrivalList.{is_arrival_list}
 use Rattle.osek_base.specs.System.{System}
 use Rattle.kernel.specs.Machine.{HasCome, next_tick}
-use Rattle.kernel.specs.Run.{AreLeft}
+use Rattle.kernel.specs.Progress.{AreLeft}
 use Rattle.kernel.proofs.ArrivalLemmas.{all_left}
 use Rattle.kernel.proofs.kernel.Kernel.boot.Goals as goal
 

@@ -1,7 +1,7 @@
 use Rattle.std.proofs.Common.{◌∙◌, ap}
 use Rattle.kept_state.specs.KeptService.{holds_in}
 use Rattle.services.specs.Objects.{Objects, by_task}
-use Rattle.kernel.specs.Run.{Run, run_of}
+use Rattle.kernel.specs.Progress.{Progress, run_of}
 use Rattle.kernel.specs.Shown.{is_held_by, oldest_job}
 use Rattle.kernel.proofs.SeenLemmas.{held_seen}
 use Rattle.kernel.proofs.kernel.Kernel.holds.Goals as goal
@@ -14,4 +14,4 @@ returns g c =
     ∙ ap (λ (o : Objects). holds_in c.args.resource.now (by_task o.slots c.args.task)) c.objects.ensures
     ∙ held_seen g.B.Blockers.are_counted k.system.now v.proper k.mode k.arrivals k.machine v.come c.core.result.now c.core.ensures.system
     c.core.ensures.objects c.args.resource.now c.args.task
-    ∙ ap (λ (r : Run). is_held_by c.args.resource.now (oldest_job (run_of r).state c.args.task)) c.self.view_is
+    ∙ ap (λ (r : Progress). is_held_by c.args.resource.now (oldest_job (run_of r).state c.args.task)) c.self.view_is

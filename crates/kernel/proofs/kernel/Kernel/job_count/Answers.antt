@@ -1,6 +1,6 @@
 use Rattle.std.proofs.Common.{length, ◌∙◌, ap}
 use Rattle.osek_base.specs.State.{jobs_of}
-use Rattle.kernel.specs.Run.{Run, run_of}
+use Rattle.kernel.specs.Progress.{Progress, run_of}
 use Rattle.kernel.proofs.SeenLemmas.{count_seen}
 use Rattle.kernel.proofs.kernel.Kernel.job_count.Goals as goal
 
@@ -11,4 +11,4 @@ returns g c =
     c.job_count.ensures.value
     ∙ count_seen g.B.Blockers.are_counted k.system.now v.proper k.mode k.arrivals k.machine v.come c.core.result.now c.core.ensures.system
     c.core.ensures.objects c.args.task
-    ∙ ap (λ (r : Run). length (jobs_of c.args.task (run_of r).state.jobs)) c.self.view_is
+    ∙ ap (λ (r : Progress). length (jobs_of c.args.task (run_of r).state.jobs)) c.self.view_is

@@ -1,11 +1,11 @@
 use Rattle.std.proofs.Common.{◌-◌, ◌≤◌, sym, ◌∙◌, ap, subst}
 use Rattle.kernel.specs.declared.acted.Acted.{Acted}
-use Rattle.kernel.specs.Run.{Run}
+use Rattle.kernel.specs.Progress.{Progress}
 use Rattle.kernel.specs.Told.{due_in}
 use Rattle.kernel.proofs.kernel.Kernel.last_due.Goals as goal
 
 pub returns : goal.returns
 returns g c =
     c.last_due.ensures
-    ∙ ap (λ (a : Acted). a.due) (c.self.invariant.come.acted (subst (λ (x : Run). 1 ≤ x.ticks) (sym c.self.view_is) c.requires))
-    ∙ ap (λ (x : Run). due_in x.system x.mode x.arrivals (x.ticks - 1)) c.self.view_is
+    ∙ ap (λ (a : Acted). a.due) (c.self.invariant.come.acted (subst (λ (x : Progress). 1 ≤ x.ticks) (sym c.self.view_is) c.requires))
+    ∙ ap (λ (x : Progress). due_in x.system x.mode x.arrivals (x.ticks - 1)) c.self.view_is

@@ -8,7 +8,7 @@ use Rattle.osek_base.specs.Trace.{arriving}
 use Rattle.blocking_laws.specs.Steps.{step_at}
 use Rattle.kept_state.specs.Kept.{Kept, kept}
 use Rattle.kernel.specs.Machine.{next_tick, system_of}
-use Rattle.kernel.specs.Run.{HasRunApart, Run, is_over}
+use Rattle.kernel.specs.Progress.{HasRunApart, Progress, is_over}
 use Rattle.kernel.proofs.ArrivalLemmas.{arriving_known}
 use Rattle.kernel.proofs.LawLemmas.{lawful}
 use Rattle.kernel.proofs.RunLemmas.{going}
@@ -45,8 +45,8 @@ returns-clause-done g c =
     ∙ ap (λ (xs : List Arrival). arriving xs c.next_tick-tick.result) (sym c.list.ensures.value) ∙ c.arrived_by-end.ensures.these
     ∙ ap (λ (xs : List Arrival). slice_range (map (λ (a : Arrival). a.routine) xs) k.arrived c.arrived_by-end.result) c.list.ensures.value
     ∙ ap (λ (xs : List ℕ). slice_range xs k.arrived c.arrived_by-end.result) (sym v.routines ∙ sym c.as_slice.ensures.value) in
-    let run : ℕ → Run = λ n. record { system = k.system.now; mode = k.mode; arrivals = k.arrivals; ticks = n } in
-    subst (λ (x : Run). HasRunApart x (run (next_tick r.new.self)) r.new.before r.result r.new.behind) c.self.view_is
+    let run : ℕ → Progress = λ n. record { system = k.system.now; mode = k.mode; arrivals = k.arrivals; ticks = n } in
+    subst (λ (x : Progress). HasRunApart x (run (next_tick r.new.self)) r.new.before r.result r.new.behind) c.self.view_is
     (record {
       records =
           ap (λ (T : System). r.new.before ++ idle_or_executed T r.result ∷ r.new.behind) (sym v.come.at.system)
@@ -70,7 +70,7 @@ returns-clause-seen g c =
     ∙ ap (λ (xs : List Arrival). arriving xs c.next_tick-tick.result) (sym c.list.ensures.value) ∙ c.arrived_by-end.ensures.these
     ∙ ap (λ (xs : List Arrival). slice_range (map (λ (a : Arrival). a.routine) xs) k.arrived c.arrived_by-end.result) c.list.ensures.value
     ∙ ap (λ (xs : List ℕ). slice_range xs k.arrived c.arrived_by-end.result) (sym v.routines ∙ sym c.as_slice.ensures.value) in
-    subst (λ (x : Run). g.L.Looker.HasSeen r.new.looker x.system (kept x.system (step_at x.system x.mode x.arrivals x.ticks).executing)) c.self.view_is
+    subst (λ (x : Progress). g.L.Looker.HasSeen r.new.looker x.system (kept x.system (step_at x.system x.mode x.arrivals x.ticks).executing)) c.self.view_is
     (subst (λ (T : System). g.L.Looker.HasSeen r.new.looker T (kept k.system.now (step_at k.system.now k.mode k.arrivals (next_tick k.machine)).executing))
     v.come.at.system
     (subst (g.L.Looker.HasSeen r.new.looker (system_of k.machine))

@@ -1,5 +1,5 @@
 use Rattle.std.proofs.Common.{◌≡◌, ◌∙◌}
-use Rattle.kernel.specs.Run.{Run}
+use Rattle.kernel.specs.Progress.{Progress}
 use Rattle.observed_runs.specs.Observed.{holders_seen, tick_at}
 use Rattle.observed_runs.proofs.Seeing.{one_on}
 use Rattle.observed_runs.proofs.Staying.{holders_stay}
@@ -7,7 +7,7 @@ use Rattle.observed_runs.proofs.observed_run.ObservedRun.advance.Goals as goal
 
 pub see-requires-clause-holders : goal.see-requires-clause-holders
 see-requires-clause-holders g c =
-    let k : Run = c.self.inside.told in
+    let k : Progress = c.self.inside.told in
     one_on k c.advance.new.self
     (λ S mode arrivals n. c.see_holders.new.holders.items ≡ holders_seen S (tick_at S mode arrivals n).at) c.advance.ensures
     (c.see_holders.ensures.holders ∙ holders_stay k.system c.see_holders.ensures.proper k.mode k.arrivals k.ticks)

@@ -4,7 +4,7 @@ use Rattle.osek_base.specs.declared.limits.TheConstants.{MAX_ARRIVALS}
 use Rattle.osek_base.specs.Executed.{idle_or_executed}
 use Rattle.osek_base.specs.Lists.{below}
 use Rattle.osek_base.specs.System.{System}
-use Rattle.kernel.specs.Run.{Run, is_over, run_of}
+use Rattle.kernel.specs.Progress.{Progress, is_over, run_of}
 use Rattle.observed_runs.specs.Keeping.{IsTold}
 use Rattle.observed_runs.specs.Observed.{ending, is_pending, jobs_before, refusing}
 use Rattle.observed_runs.proofs.Seeing.{one_on, state_more}
@@ -13,22 +13,22 @@ use Rattle.observed_runs.proofs.told_run.ToldRun.advance.Goals as goal
 
 pub invariant_of-self : goal.invariant_of-self
 invariant_of-self g c =
-    let k : Run = c.self.inside.kernel in
+    let k : Progress = c.self.inside.kernel in
     let t = c.tick_seen-executed in
-    let new : Run = t.new.self in
+    let new : Progress = t.new.self in
     let e = c.of-self-inside in
     let v = c.self.invariant in
     let here = sym v.system in
     let told = executed_told k.system t.new.before t.new.behind t.result k.mode k.arrivals k.ticks t.ensures.done.records in
     record {
-      system = ap (λ (r : Run). r.system) t.ensures.done.next ∙ v.system;
-      few = subst (λ (r : Run). length r.arrivals ≤ MAX_ARRIVALS) (sym t.ensures.done.next) v.few;
+      system = ap (λ (r : Progress). r.system) t.ensures.done.next ∙ v.system;
+      few = subst (λ (r : Progress). length r.arrivals ≤ MAX_ARRIVALS) (sym t.ensures.done.next) v.few;
       told = λ later.
           one_on k new
           (λ S mode arrivals n. IsTold S mode arrivals n (run_of new).state c.note.new.self e.result t.new.at.tasks.items c.join.new.records)
           t.ensures.done.next
           (record {
-            behind = state_more k new t.ensures.done.next (subst (λ (r : Run). is_over r ≡ false) (sym c.self.view_is) c.requires);
+            behind = state_more k new t.ensures.done.next (subst (λ (r : Progress). is_over r ≡ false) (sym c.self.view_is) c.requires);
             known = record {
               jobs =
                   c.note.ensures.jobs

@@ -1,5 +1,5 @@
 use Rattle.std.proofs.Common.{◌<◌, ◌≤◌, length, sym, ◌∙◌, ap, subst}
-use Rattle.kernel.specs.Run.{Run}
+use Rattle.kernel.specs.Progress.{Progress}
 use Rattle.observed_runs.specs.Keeping.{last_tick}
 use Rattle.observed_runs.specs.Observed.{jobs_before}
 use Rattle.observed_runs.proofs.Seeing.{inside, read_at}
@@ -7,17 +7,17 @@ use Rattle.observed_runs.proofs.told_run.ToldRun.jobs_before.Goals as goal
 
 pub bounds-deref-number : goal.bounds-deref-number
 bounds-deref-number g c =
-    let r : Run = c.self.inside.kernel in
-    let told = c.self.invariant.told (subst (λ (x : Run). 1 ≤ x.ticks) (sym c.self.view_is) c.requires.ticked) in
-    let low = subst (λ (x : Run). c.args.task < length x.system.tasks) (sym c.self.view_is) c.requires.task in
+    let r : Progress = c.self.inside.kernel in
+    let told = c.self.invariant.told (subst (λ (x : Progress). 1 ≤ x.ticks) (sym c.self.view_is) c.requires.ticked) in
+    let low = subst (λ (x : Progress). c.args.task < length x.system.tasks) (sym c.self.view_is) c.requires.task in
     inside (jobs_before (last_tick r).first (last_tick r).before) (length r.system.tasks) c.deref.result.now c.self.inside.before.jobs.items c.number.result c.args.task c.deref.ensures.0
     told.known.jobs c.number.ensures.is low
 
 pub returns : goal.returns
 returns g c =
-    let r : Run = c.self.inside.kernel in
-    let told = c.self.invariant.told (subst (λ (x : Run). 1 ≤ x.ticks) (sym c.self.view_is) c.requires.ticked) in
-    let low = subst (λ (x : Run). c.args.task < length x.system.tasks) (sym c.self.view_is) c.requires.task in
+    let r : Progress = c.self.inside.kernel in
+    let told = c.self.invariant.told (subst (λ (x : Progress). 1 ≤ x.ticks) (sym c.self.view_is) c.requires.ticked) in
+    let low = subst (λ (x : Progress). c.args.task < length x.system.tasks) (sym c.self.view_is) c.requires.task in
     read_at (jobs_before (last_tick r).first (last_tick r).before) (length r.system.tasks) c.deref.result.now c.self.inside.before.jobs.items c.number.result c.args.task _ c.deref.ensures.0
     told.known.jobs c.number.ensures.is low
-    ∙ ap (λ (x : Run). jobs_before (last_tick x).first (last_tick x).before c.args.task) c.self.view_is
+    ∙ ap (λ (x : Progress). jobs_before (last_tick x).first (last_tick x).before c.args.task) c.self.view_is

@@ -1,5 +1,5 @@
 use Rattle.std.proofs.Common.{◌≤◌, sym, ◌∙◌, ap, subst}
-use Rattle.kernel.specs.Run.{Run}
+use Rattle.kernel.specs.Progress.{Progress}
 use Rattle.observed_runs.specs.Keeping.{last_tick}
 use Rattle.osek_base.specs.Service.{task_state}
 use Rattle.osek_base.specs.State.{State}
@@ -7,7 +7,7 @@ use Rattle.observed_runs.proofs.told_run.ToldRun.state_behind.Goals as goal
 
 pub returns : goal.returns
 returns g c =
-    let r : Run = c.self.inside.kernel in
-    let told = c.self.invariant.told (subst (λ (x : Run). 1 ≤ x.ticks) (sym c.self.view_is) c.requires.ticked) in
+    let r : Progress = c.self.inside.kernel in
+    let told = c.self.invariant.told (subst (λ (x : Progress). 1 ≤ x.ticks) (sym c.self.view_is) c.requires.ticked) in
     c.task_state.ensures ∙ ap (λ (s : State). task_state s c.args.task) told.behind
-    ∙ ap (λ (x : Run). task_state (last_tick x).after c.args.task) c.self.view_is
+    ∙ ap (λ (x : Progress). task_state (last_tick x).after c.args.task) c.self.view_is

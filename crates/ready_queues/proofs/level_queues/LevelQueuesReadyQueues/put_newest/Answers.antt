@@ -1,7 +1,7 @@
 use Rattle.std.proofs.Common.{◌∙◌, ℕ, List, [], ◌∷◌, ◌++◌, ap}
 use Rattle.std.proofs.lemmas.List.{length_push}
 use Rattle.ready_queues.specs.Queues.{with_newest}
-use Rattle.ready_queues.specs.Kept.{Levels, tasks_of}
+use Rattle.ready_queues.specs.Levels.{Levels, tasks_of}
 use Rattle.ready_queues.proofs.KeptLemmas.{room_seen, counted-put, tasks_at-write}
 use Rattle.ready_queues.proofs.WordLemmas.{marked-put}
 use Rattle.ready_queues.proofs.level_queues.LevelQueuesReadyQueues.put_newest.Goals as goal

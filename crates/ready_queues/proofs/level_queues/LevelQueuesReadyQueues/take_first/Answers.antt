@@ -1,6 +1,6 @@
 use Rattle.std.proofs.Common.{◌∙◌, sym, ap, arith}
 use Rattle.ready_queues.specs.Queues.{top_level, first_task, without_first}
-use Rattle.ready_queues.specs.Kept.{Levels, tasks_of, tasks_at}
+use Rattle.ready_queues.specs.Levels.{Levels, tasks_of, tasks_at}
 use Rattle.ready_queues.proofs.KeptLemmas.{low_top, at_top, counted-take, first-take, tasks_at-take}
 use Rattle.ready_queues.proofs.WordLemmas.{marked-emptied, marked-more}
 use Rattle.ready_queues.proofs.level_queues.LevelQueuesReadyQueues.take_first.Goals as goal

@@ -1,6 +1,6 @@
 use Rattle.std.proofs.Common.{◌∙◌, ap}
 use Rattle.ready_queues.specs.Queues.{top_level}
-use Rattle.ready_queues.specs.Kept.{Levels, tasks_of}
+use Rattle.ready_queues.specs.Levels.{Levels, tasks_of}
 use Rattle.ready_queues.proofs.WordLemmas.{top-highest}
 use Rattle.ready_queues.proofs.level_queues.LevelQueuesReadyQueues.top.Goals as goal
 

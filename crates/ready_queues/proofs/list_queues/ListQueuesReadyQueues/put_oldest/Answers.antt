@@ -1,6 +1,6 @@
 use Rattle.std.proofs.Common.{◌≡◌, ◌+◌, ◌∙◌, ℕ, List, ◌∷◌, length, ap, arith}
 use Rattle.ready_queues.specs.Queues.{with_oldest}
-use Rattle.ready_queues.specs.Kept.{Levels, tasks_of}
+use Rattle.ready_queues.specs.Levels.{Levels, tasks_of}
 use Rattle.ready_queues.proofs.KeptLemmas.{room_seen, counted-put, tasks_at-write}
 use Rattle.ready_queues.proofs.list_queues.ListQueuesReadyQueues.put_oldest.Goals as goal
 

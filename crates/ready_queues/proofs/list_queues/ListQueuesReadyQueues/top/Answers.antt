@@ -2,7 +2,7 @@ use Rattle.std.proofs.Common.{◌∙◌, sym, ap, length, arith}
 use Rattle.std.proofs.lemmas.Bool.{eqb-true, eqb-false}
 use Rattle.ready_queues.specs.declared.ready_queues.TheConstants.{LEVELS}
 use Rattle.ready_queues.specs.Queues.{top_level}
-use Rattle.ready_queues.specs.Kept.{Levels, tasks_of}
+use Rattle.ready_queues.specs.Levels.{Levels, tasks_of}
 use Rattle.ready_queues.proofs.Tops.{top_below-none}
 use Rattle.ready_queues.proofs.KeptLemmas.{found_top, none_from}
 use Rattle.ready_queues.proofs.list_queues.ListQueuesReadyQueues.top.Goals as goal

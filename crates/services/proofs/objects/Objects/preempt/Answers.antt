@@ -1,7 +1,7 @@
 use Rattle.std.proofs.Common.{ℕ, ◌<◌, ◌≤◌, ◌++◌, ◌∙◌, List, length, subst, sym, ap, arith}
 use Rattle.osek_base.specs.System.{System}
 use Rattle.osek_base.specs.Ceiling.{top_priority}
-use Rattle.ready_queues.specs.Moves.{first}
+use Rattle.ready_queues.specs.QueueMoves.{first}
 use Rattle.kept_state.specs.Moves.{dispatched}
 use Rattle.ready_queues.specs.LevelLists.{by_level}
 use Rattle.services.specs.Objects.{Objects, kept_in}

@@ -1,5 +1,5 @@
 use Rattle.std.proofs.Common.{◌∙◌, ap, suc}
-use Rattle.ready_queues.specs.Kept.{Levels}
+use Rattle.ready_queues.specs.Levels.{Levels}
 use Rattle.ready_queues.proofs.ListMoves.{top-highest_list}
 use Rattle.services.proofs.ready_list.ReadyList.highest.Goals as goal
 

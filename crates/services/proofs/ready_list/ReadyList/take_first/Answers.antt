@@ -1,8 +1,8 @@
 use Rattle.std.proofs.Common.{ℕ, ◌≡◌, ◌<◌, [], length, ◌∙◌, ap, sym, Some, None, List}
 use Rattle.ready_queues.specs.declared.ready_queues.TheConstants.{LEVELS}
-use Rattle.ready_queues.specs.Kept.{Levels}
+use Rattle.ready_queues.specs.Levels.{Levels}
 use Rattle.ready_queues.specs.LevelLists.{by_level}
-use Rattle.ready_queues.specs.Moves.{first}
+use Rattle.ready_queues.specs.QueueMoves.{first}
 use Rattle.ready_queues.specs.Queues.{top_level}
 use Rattle.ready_queues.proofs.ListMoves.{taken-first, list-without_first}
 use Rattle.ready_queues.proofs.Tops.{top_below-some}

@@ -8,12 +8,12 @@ abbrev pub changed_at : {X : Type 0} → (ℕ → X) → ℕ → X → ℕ → X
 changed_at f n x m = if n == m then x else f m
 
 -- a level gets a task at its end
-abbrev pub put_last : Queues → ℕ → ℕ → Queues
-put_last q l t = changed_at q l (q l ++ t ∷ [])
+abbrev pub put_newest : Queues → ℕ → ℕ → Queues
+put_newest q l t = changed_at q l (q l ++ t ∷ [])
 
 -- a level gets a task at its front
-abbrev pub put_first : Queues → ℕ → ℕ → Queues
-put_first q l t = changed_at q l (t ∷ q l)
+abbrev pub put_oldest : Queues → ℕ → ℕ → Queues
+put_oldest q l t = changed_at q l (t ∷ q l)
 
 -- the tasks behind the first
 abbrev pub rest : List ℕ → List ℕ

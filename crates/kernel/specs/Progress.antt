@@ -1,5 +1,5 @@
--- OSEK/VDX OS: system start-up. A run of a system, as far as it has come.
-use Rattle.std.specs.Prelude.{ℕ, ◌≡◌, ◌<◌, ◌≤◌, ◌+◌, ◌++◌, ◌∷◌, Bool, true, ◌||◌, nat_le, List, Option, Some, None, IfSome, Result, Err, IfOk, ◌↔◌, drop, length, map, slice_range}
+-- OSEK/VDX OS: system start-up. How far a run of a system has come.
+use Rattle.std.specs.Prelude.{ℕ, ◌≡◌, ◌<◌, ◌≤◌, ◌+◌, ◌++◌, ◌∷◌, Bool, true, false, ◌||◌, nat_le, List, [], Option, Some, None, IfSome, Result, Err, IfOk, ◌↔◌, drop, length, map, slice_range}
 use Rattle.std.specs.List.{All}
 use Rattle.osek_base.specs.declared.limits.TheConstants.{MAX_RECORDS, MAX_TICKS}
 use Rattle.osek_base.specs.declared.executed.Executed.{Executed}
@@ -12,27 +12,27 @@ use Rattle.osek_base.specs.ArrivalList.{are_in_order}
 use Rattle.osek_base.specs.Laws.{StartsSingly, Excludes, BlocksOnce, Protects}
 use Rattle.kernel.specs.declared.boot.BootFault.{BootFault}
 use Rattle.blocking_laws.specs.Steps.{record_at}
-use Rattle.osek_base.specs.Trace.{Run as RunSoFar, arriving, run}
+use Rattle.osek_base.specs.Trace.{Run, arriving, run}
 
 -- the system, the mode, all arrivals, and the ticks done
-pub record Run : Type 0 where
+pub record Progress : Type 0 where
   pub system : System
   pub mode : ℕ
   pub arrivals : List Arrival
   pub ticks : ℕ
 
 -- what has run by then
-abbrev pub run_of : Run → RunSoFar
+abbrev pub run_of : Progress → Run
 run_of r = run r.system r.mode r.arrivals r.ticks
 
 -- whether no tick follows: after ShutdownOS, or when 1,000,000 ticks are done
-abbrev pub is_over : Run → Bool
+abbrev pub is_over : Progress → Bool
 is_over r = nat_le MAX_TICKS r.ticks || (run_of r).state.over
 
 -- what holds up to every tick: of one task no job but the oldest is begun; a resource that a job may take and is refused
 -- is held by that job itself; each time that a job becomes ready, it has at most one blocker; and while a job holds a
 -- resource, its words change only by that job's own STR
-pub record IsLawful (r : Run) : Type 0 where
+pub record IsLawful (r : Progress) : Type 0 where
   pub single_start : (n : ℕ) → StartsSingly r.system r.mode r.arrivals n
   pub exclusion : (n : ℕ) → Excludes r.system r.mode r.arrivals n
   pub single_blocking : (n : ℕ) → BlocksOnce r.system r.mode r.arrivals n
@@ -54,14 +54,19 @@ pub record HaveArrived (arrivals : List Arrival) (tick first next : ℕ) : Type 
   pub left : AreLeft arrivals next (tick + 1)
   pub forward : first ≤ next
 
+-- in none of so many ticks from one on does an interrupt arrive, and those left stand in order behind them
+pub record AreFree (arrivals : List Arrival) (cursor tick n : ℕ) : Type 0 where
+  pub none : (k : ℕ) → k < n → arriving arrivals (tick + k) ≡ []
+  pub left : AreLeft arrivals cursor (tick + n)
+
 -- what a tick recorded, and where the run has come
-pub record HasRun (old new : Run) (recorded : List TraceEvent) : Type 0 where
+pub record HasRun (old new : Progress) (recorded : List TraceEvent) : Type 0 where
   pub records : recorded ≡ record_at old.system old.mode old.arrivals old.ticks
   pub next : new ≡ record old { ticks = old.ticks + 1 }
   pub lawful : IsLawful new
 
 -- the same of a tick whose records stand apart, before and behind that of what it executed
-pub record HasRunApart (old new : Run) (before : List TraceEvent) (executed : Option Executed) (behind : List TraceEvent) : Type 0 where
+pub record HasRunApart (old new : Progress) (before : List TraceEvent) (executed : Option Executed) (behind : List TraceEvent) : Type 0 where
   pub records : before ++ idle_or_executed old.system executed ∷ behind ≡ record_at old.system old.mode old.arrivals old.ticks
   pub next : new ≡ record old { ticks = old.ticks + 1 }
   pub lawful : IsLawful new
@@ -69,8 +74,15 @@ pub record HasRunApart (old new : Run) (before : List TraceEvent) (executed : Op
   pub few : length before + length behind < MAX_RECORDS
   pub proper : IsProper old.system
 
+-- so many ticks were done, in each of which nothing happened but that nobody executed
+pub record HasIdled (old new : Progress) (n : ℕ) : Type 0 where
+  pub records : (k : ℕ) → k < n → record_at old.system old.mode old.arrivals (old.ticks + k) ≡ TraceEvent.Idle ∷ []
+  pub going : (k : ℕ) → k < n → (run old.system old.mode old.arrivals (old.ticks + k)).state.over ≡ false
+  pub next : new ≡ record old { ticks = old.ticks + n }
+  pub lawful : IsLawful new
+
 -- what boot answers in the mode of a name: a run with no tick done, or that the system has no such mode, or a refused growth
-pub record Boots (S : System) (mode : Option ℕ) (list : List Arrival) (r : Result Run BootFault) : Type 0 where
+pub record Boots (S : System) (mode : Option ℕ) (list : List Arrival) (r : Result Progress BootFault) : Type 0 where
   pub booted : IfOk r (λ k. (k.system ≡ S) × (k.arrivals ≡ list) × (k.ticks ≡ 0) × (mode ≡ Some k.mode))
   pub lawful : IfOk r IsLawful
   pub unknown : (r ≡ Err BootFault.UnknownMode) ↔ (mode ≡ None)

@@ -1,0 +1,98 @@
+-- Of a run, ticks in which nothing happens.
+use Rattle.std.proofs.Common.{◌≡◌, ℕ, zero, suc, ◌+◌, ◌<◌, Bool, false, List, [], ◌∷◌, ◌++◌, sym, ◌∙◌, ap, ap₂, subst, arith}
+use Rattle.osek_base.specs.declared.arrivals.Arrival.{Arrival}
+use Rattle.osek_base.specs.declared.trace_event.TraceEvent.{TraceEvent}
+use Rattle.osek_base.specs.Proper.{IsProper}
+use Rattle.osek_base.specs.System.{System}
+use Rattle.osek_base.specs.Tick.{tick}
+use Rattle.osek_base.specs.Trace.{Run, arriving, run}
+use Rattle.blocking_laws.specs.Steps.{record_at}
+use Rattle.blocking_laws.proofs.StepLemmas.{run_tick}
+use Rattle.kept_state.specs.Kept.{Kept, kept}
+use Rattle.kept_state.specs.KeptTick.{KeptStep, tick_in}
+use Rattle.kept_state.specs.Quiet.{idle_step, later}
+use Rattle.kept_state.proofs.Ticked.{ticks}
+use Rattle.kernel.specs.Idle.{StaysIdle}
+use Rattle.kernel.specs.Machine.{HasCome, Machine, next_tick, picture}
+use Rattle.kernel.proofs.RunLemmas.{unwritten_more}
+use Rattle.kernel.proofs.TickLemmas.{further}
+
+module _ (S : System) (proper : IsProper S) (mode : ℕ) (arrivals : List Arrival) (t : ℕ) (o : Kept) (on : o.over ≡ false) where
+  -- the run so many ticks later
+  pub record IsThere (k : ℕ) : Type 0 where
+    pub same : later k o ≡ kept S (run S mode arrivals (t + k)).state
+    pub unwritten : (run S mode arrivals (t + k)).unwritten ≡ []
+
+  pub going_there : (k : ℕ) → IsThere k → (run S mode arrivals (t + k)).state.over ≡ false
+  going_there k there = sym (ap (λ (x : Kept). x.over) there.same) ∙ on
+
+  begins_there : o ≡ kept S (run S mode arrivals t).state → (run S mode arrivals t).unwritten ≡ [] → IsThere 0
+  begins_there same none =
+      let here : t ≡ t + 0 = omega arith in
+      let tick_is : o.tick + 0 ≡ o.tick = omega arith in
+      record {
+        same = ap (λ n. record o { tick = n }) tick_is ∙ same ∙ ap (λ n. kept S (run S mode arrivals n).state) here;
+        unwritten = ap (λ n. (run S mode arrivals n).unwritten) (sym here) ∙ none;
+      }
+
+  goes_there : (k : ℕ) → arriving arrivals (t + k) ≡ [] → tick_in S [] (later k o) ≡ idle_step (later k o) → IsThere k → IsThere (suc k)
+  goes_there k free idle there =
+      let more : t + k + 1 ≡ t + suc k = omega arith in
+      let tick_is : o.tick + suc k ≡ o.tick + k + 1 = omega arith in
+      let going = going_there k there in
+      record {
+        same =
+            ap (λ n. record o { tick = n }) tick_is
+            ∙ sym (ap (λ (x : KeptStep). x.after) idle)
+            ∙ ap (λ v. (tick_in S v (later k o)).after) (sym free)
+            ∙ further S proper mode arrivals (t + k) (later k o) there.same going
+            ∙ ap (λ n. kept S (run S mode arrivals n).state) more;
+        unwritten = ap (λ n. (run S mode arrivals n).unwritten) (sym more) ∙ unwritten_more S mode arrivals (t + k) going;
+      }
+
+  pub all_there : (k : ℕ) → o ≡ kept S (run S mode arrivals t).state → (run S mode arrivals t).unwritten ≡ []
+      → ((i : ℕ) → i < k → arriving arrivals (t + i) ≡ []) → ((i : ℕ) → i < k → tick_in S [] (later i o) ≡ idle_step (later i o)) → IsThere k
+  all_there zero same none free idle = begins_there same none
+  all_there (suc k) same none free idle =
+      goes_there k (free k (omega arith)) (idle k (omega arith))
+      (all_there k same none (λ i low. free i (omega (arith, low))) (λ i low. idle i (omega (arith, low))))
+
+  -- its records there
+  pub idle_there : (k : ℕ) → arriving arrivals (t + k) ≡ [] → tick_in S [] (later k o) ≡ idle_step (later k o) → IsThere k
+      → record_at S mode arrivals (t + k) ≡ TraceEvent.Idle ∷ []
+  idle_there k free idle there =
+      let r : Run = run S mode arrivals (t + k) in
+      ap₂ (λ (u : List TraceEvent) m. u ++ (tick S (arriving arrivals m) r.state).events) there.unwritten (run_tick S mode arrivals (t + k) (going_there k there))
+      ∙ ap (λ (x : KeptStep). x.events) (ticks S mode arrivals (t + k) (arriving arrivals (t + k)) proper)
+      ∙ ap₂ (λ v x. (tick_in S v x).events) free (sym there.same)
+      ∙ ap (λ (x : KeptStep). x.events) idle
+
+-- ---- a machine that stays idle
+
+module _ (counted : Bool) (S : System) (proper : IsProper S) (mode : ℕ) (arrivals : List Arrival) (m new : Machine) (n : ℕ)
+    (come : HasCome counted S mode arrivals (next_tick m) m) (idled : StaysIdle counted n m new)
+    (free : (i : ℕ) → i < n → arriving arrivals (next_tick m + i) ≡ []) where
+  -- the run has come to it
+  pub comes_to : HasCome counted S mode arrivals (next_tick new) new
+  comes_to =
+      subst (λ (T : System). HasCome counted T mode arrivals (next_tick new) new) (idled.system ∙ come.at.system)
+      (idled.goes_on mode arrivals free (subst (λ (T : System). HasCome counted T mode arrivals (next_tick m) m) (sym come.at.system) come))
+
+  abbrev o : Kept
+  o = picture m
+
+  stays : (i : ℕ) → i < n → tick_in S [] (later i o) ≡ idle_step (later i o)
+  stays i low = subst (λ (T : System). tick_in T [] (later i o) ≡ idle_step (later i o)) come.at.system (idled.idle i low)
+
+  is_there : (k : ℕ) (low : k < n) → IsThere S proper mode arrivals (next_tick m) o (idled.on (omega (arith, low))) k
+  is_there k low =
+      all_there S proper mode arrivals (next_tick m) o (idled.on (omega (arith, low))) k come.at.same
+      (sym come.at.unwritten ∙ idled.begun (omega (arith, low)))
+      (λ i less. free i (omega (arith, less, low))) (λ i less. stays i (omega (arith, less, low)))
+
+  pub idle_records : (k : ℕ) → k < n → record_at S mode arrivals (next_tick m + k) ≡ TraceEvent.Idle ∷ []
+  idle_records k low =
+      idle_there S proper mode arrivals (next_tick m) o (idled.on (omega (arith, low))) k (free k low) (stays k low) (is_there k low)
+
+  pub idle_going : (k : ℕ) → k < n → (run S mode arrivals (next_tick m + k)).state.over ≡ false
+  idle_going k low = going_there S proper mode arrivals (next_tick m) o (idled.on (omega (arith, low))) k (is_there k low)

@@ -1,0 +1,12 @@
+use Rattle.services.proofs.StandsLemmas.{stands_passed}
+use Rattle.services.proofs.os_core.Core.pass.Goals as goal
+use Rattle.std.proofs.Common.{◌≡◌, true, sym, subst}
+use Rattle.services.specs.Objects.{Objects, kept_in}
+use Rattle.services.specs.Dispatched.{is_dispatched_in}
+
+pub invariant_of-self : goal.invariant_of-self
+invariant_of-self g c =
+    record {
+      stands = stands_passed c.self.inside.objects c.pass.new.self c.pass.result c.self.invariant.stands c.pass.ensures.passed.after;
+      dispatched = λ known. subst (λ (o : Objects). is_dispatched_in o.system (kept_in o) ≡ true) (sym c.pass.ensures.passed.after) (c.self.invariant.dispatched known);
+    }

@@ -1,0 +1,58 @@
+//! OSEK/VDX OS: task management, alarms. Ticks in which nothing happens.
+
+ghost use Rattle.std.specs.Prelude.{◌≡◌, ◌<◌, ◌≤◌, ◌+◌, [], true};
+ghost use Rattle.kept_state.specs.Quiet.{IsQuiet};
+ghost use Rattle.services.specs.Objects.{kept_in};
+ghost use Rattle.services.specs.Quiet.{HasPassed, IsIdle, due_next};
+
+use crate::objects::Objects;
+use crate::os_core::Core;
+use osek_base::MAX_TICKS;
+use ready_queues::ReadyQueues;
+
+impl<'s, Q: ReadyQueues> Objects<'s, Q> {
+    /// Whether no ShutdownOS ended the run, no task runs, and no routine is active or pending.
+    #[inline(always)]
+    fn is_idle(&self) -> bool
+        ensures { result ≡ true → IsIdle self.now.system (kept_in self.now) }
+    {
+        if self.running.is_some() || self.active.is_some() || self.over {
+            return false;
+        }
+        self.pending_routine().is_none()
+    }
+
+    /// The ticks that follow pass, at most some, up to the one before the first in which an alarm is due. Answers how many
+    /// passed.
+    #[inline(always)]
+    fn pass(&mut self, most: u32) -> u32
+        requires { self.old.tick + most < MAX_TICKS }
+        ensures few { result ≤ most }
+        ensures passed { HasPassed result self.old self.new }
+        ensures last { result < most → due_next result self.old ≡ [] → ⊥ }
+    {
+        self.alarms.pass(most)
+    }
+}
+
+impl<'s, Q: ReadyQueues> Core<'s, Q> {
+    /// Whether nothing happens in a tick in which no alarm is due and no interrupt arrives: no ShutdownOS ended the run, no
+    /// task runs and none is ready, and no routine is active or pending.
+    #[inline(always)]
+    pub fn is_quiet(&self) -> bool
+        ensures { result ≡ true → IsQuiet self.now.system (kept_in self.now) }
+    {
+        self.objects.is_idle() && self.is_dispatched
+    }
+
+    /// The ticks that follow pass, at most some, up to the one before the first in which an alarm is due. Answers how many
+    /// passed.
+    pub fn pass(&mut self, most: u32) -> u32
+        requires { self.old.tick + most < MAX_TICKS }
+        ensures few { result ≤ most }
+        ensures passed { HasPassed result self.old self.new }
+        ensures last { result < most → due_next result self.old ≡ [] → ⊥ }
+    {
+        self.objects.pass(most)
+    }
+}
