@@ -33,7 +33,7 @@ use Rattle.kept_state.proofs.Tests.{caller_slot}
 use Rattle.readiness.specs.Stamps.{without_oldest}
 use Rattle.blocking_laws.specs.Steps.{step_at}
 use Rattle.blocking_laws.specs.Stamps.{Stamps, stamped, spent, stamps_in, stamps_of}
-use Rattle.blocking_laws.specs.Looks.{StampLists, stamps_at, changed_list, task_waits, looked, looked_if, preempted, spent_of, instr_in, named_in, ended_of, ended_if, execute_looked, reschedule_looked, last_looked, after_looked, AreListed}
+use Rattle.blocking_laws.specs.Restamping.{StampLists, stamps_at, changed_list, task_waits, restamped, restamped_if, preempted, spent_of, instr_in, named_in, ended_of, ended_if, execute_restamped, reschedule_restamped, last_restamped, after_restamped, AreListed}
 use Rattle.blocking_laws.proofs.StampLemmas.{Going, state_more}
 use Rattle.blocking_laws.proofs.WakeLemmas.{IsOneChange}
 use Rattle.blocking_laws.proofs.PreemptLemmas.{entering, entering_id, entering_waits, entered_are, reschedule_preempted}
@@ -41,39 +41,39 @@ use Rattle.blocking_laws.proofs.ListLemmas.{changed_any, changed_inside, changed
 use Rattle.blocking_laws.proofs.FreshStamps.{stamps_in_fresh}
 use Rattle.blocking_laws.proofs.SameJobs.{there_alike, waiting_alike}
 use Rattle.blocking_laws.proofs.SpentStamps.{spent_here, spent_at, spent_many, spent_listed, spent_new}
-use Rattle.blocking_laws.proofs.EndStamps.{IsTold, AreNew, looked_here, ended_here, executed_here}
+use Rattle.blocking_laws.proofs.EndStamps.{IsTold, AreNew, restamped_here, ended_here, executed_here}
 use Rattle.blocking_laws.proofs.ServiceStamps.{HasNone, none_of_known, still_told, executed_told, executed_none}
 use Rattle.blocking_laws.proofs.RunnerKept.{execute_running}
 
 -- ---- the lists of all tasks
 
 -- of a task that isn't there, nothing comes of no stamps
-none_looked : (u n : ℕ) (w x : Bool) → n ≡ 0 → looked u n w x [] ≡ []
-none_looked u n w x none = rw none (go w x)
+none_restamped : (u n : ℕ) (w x : Bool) → n ≡ 0 → restamped u n w x [] ≡ []
+none_restamped u n w x none = rw none (go w x)
   where
     go : (w x : Bool) → cond {A = List (Option ℕ)} (w && not x) [] [] ≡ []
     go true true = refl
     go true false = refl
     go false x = refl
 
-looked_if_at : (u : ℕ) (named : Option ℕ) (old new : Kept) (xs : StampLists) (v : ℕ)
+restamped_if_at : (u : ℕ) (named : Option ℕ) (old new : Kept) (xs : StampLists) (v : ℕ)
     → ((t : ℕ) → length xs ≤ t → (new.slots t).count ≡ 0)
-    → stamps_at (looked_if u named old new xs) v ≡ looked_here u named old new v (stamps_at xs v)
-looked_if_at u None old new xs v none = refl
-looked_if_at u (Some t) old new xs v none = go (cases_lt t (length xs))
+    → stamps_at (restamped_if u named old new xs) v ≡ restamped_here u named old new v (stamps_at xs v)
+restamped_if_at u None old new xs v none = refl
+restamped_if_at u (Some t) old new xs v none = go (cases_lt t (length xs))
   where
     look : List (Option ℕ) → List (Option ℕ)
-    look = looked u (new.slots t).count (task_waits old t) (task_waits new t)
+    look = restamped u (new.slots t).count (task_waits old t) (task_waits new t)
 
     go : (t < length xs) ⊎ (length xs ≤ t) → stamps_at (changed_list t look xs) v
         ≡ cond (t == v) (look (stamps_at xs v)) (stamps_at xs v)
     go (inl inside) = changed_inside look xs t v inside
     go (inr past) =
-        changed_any look (none_looked u (new.slots t).count (task_waits old t) (task_waits new t) (none t past)) xs t v
+        changed_any look (none_restamped u (new.slots t).count (task_waits old t) (task_waits new t) (none t past)) xs t v
 
-looked_if_many : (u : ℕ) (named : Option ℕ) (old new : Kept) (xs : StampLists) → length (looked_if u named old new xs) ≡ length xs
-looked_if_many u None old new xs = refl
-looked_if_many u (Some t) old new xs = changed_count (looked u (new.slots t).count (task_waits old t) (task_waits new t)) xs t
+restamped_if_many : (u : ℕ) (named : Option ℕ) (old new : Kept) (xs : StampLists) → length (restamped_if u named old new xs) ≡ length xs
+restamped_if_many u None old new xs = refl
+restamped_if_many u (Some t) old new xs = changed_count (restamped u (new.slots t).count (task_waits old t) (task_waits new t)) xs t
 
 ended_at : (r : Option ℕ) (gone : Bool) (xs : StampLists) (v : ℕ)
     → stamps_at (ended_of r gone xs) v ≡ ended_here r gone v (stamps_at xs v)
@@ -88,22 +88,22 @@ ended_many (Some t) false xs = refl
 
 -- behind an instruction, by who executes, the task that it names and what is kept then
 abbrev pub lists_by : ℕ → Kept → KeptCaller → Option ℕ → Kept → StampLists → StampLists
-lists_by u old d named new xs = looked_if u named old new (ended_if old new (spent_of d xs))
+lists_by u old d named new xs = restamped_if u named old new (ended_if old new (spent_of d xs))
 
 by_many : (u : ℕ) (old : Kept) (d : KeptCaller) (named : Option ℕ) (new : Kept) (xs : StampLists)
     → length (lists_by u old d named new xs) ≡ length xs
 by_many u old d named new xs =
-    looked_if_many u named old new (ended_if old new (spent_of d xs))
+    restamped_if_many u named old new (ended_if old new (spent_of d xs))
     ∙ ended_many old.running (not old.gone && new.gone) (spent_of d xs) ∙ spent_many d xs
 
 by_at : (u : ℕ) (old : Kept) (d : KeptCaller) (named : Option ℕ) (new : Kept) (xs : StampLists) (v : ℕ)
     → ((t : ℕ) → length xs ≤ t → (new.slots t).count ≡ 0)
     → stamps_at (lists_by u old d named new xs) v ≡ executed_here u named old new v (spent_here d v (stamps_at xs v))
 by_at u old d named new xs v none =
-    looked_if_at u named old new (ended_if old new (spent_of d xs)) v
+    restamped_if_at u named old new (ended_if old new (spent_of d xs)) v
     (λ t past. none t (subst (λ n. n ≤ t)
     (ended_many old.running (not old.gone && new.gone) (spent_of d xs) ∙ spent_many d xs) past))
-    ∙ ap (looked_here u named old new v)
+    ∙ ap (restamped_here u named old new v)
     (ended_at old.running (not old.gone && new.gone) (spent_of d xs) v
     ∙ ap (ended_here old.running (not old.gone && new.gone) v) (spent_at d xs v))
 
@@ -164,10 +164,10 @@ module _ (S : System) (proper : IsProper S) (e : State) (executing : IsExecuting
   unfolding execute_phase
   phase_none = caller_none (executor e) (executor_calls e)
 
-  looked_is : (xs : StampLists)
-      → execute_looked S u (kept S e) xs
+  restamped_is : (xs : StampLists)
+      → execute_restamped S u (kept S e) xs
       ≡ lists_by u (kept S e) (kept_caller (executor e)) (named_in (instr_of S (executor e))) (kept S (execute_phase S e).state) xs
-  looked_is xs =
+  restamped_is xs =
       ap (λ d. lists_by u (kept S e) d (named_in (instr_in S d (kept S e))) (execute_phase_in S (kept S e)).state xs)
       (sym (executor_kept S e))
       ∙ ap₂ (λ i k. lists_by u (kept S e) (kept_caller (executor e)) (named_in i) k xs)
@@ -175,12 +175,12 @@ module _ (S : System) (proper : IsProper S) (e : State) (executing : IsExecuting
       (sym (ap (λ (r : KeptRecorded). r.state) (execute_kept S proper e executing known)))
 
   pub executed_listed : (xs : StampLists) → AreListed S xs p e
-      → AreListed S (execute_looked S u (kept S e) xs)
+      → AreListed S (execute_restamped S u (kept S e) xs)
       (stamped e (execute_phase S e).state u (spent (calling_job (executor e)) p)) (execute_phase S e).state
   executed_listed xs are =
       subst
       (λ ys. AreListed S ys (stamped e (execute_phase S e).state u (spent (calling_job (executor e)) p)) (execute_phase S e).state)
-      (sym (looked_is xs))
+      (sym (restamped_is xs))
       (record {
         count = by_many u (kept S e) (kept_caller (executor e)) (named_in (instr_of S (executor e)))
             (kept S (execute_phase S e).state) xs ∙ are.count;
@@ -234,7 +234,7 @@ rescheduled_one S e m running n = record {
 
 module _ (S : System) (e m : State) (u : ℕ) (p : Stamps) (settled : IsSettled S m) (running : m.running ≡ e.running) where
   pub last_listed : (xs : StampLists) → AreListed S xs (stamped e m u p) m
-      → AreListed S (last_looked S u (kept S m) xs) (stamped e (last_phase S m).state u p) (last_phase S m).state
+      → AreListed S (last_restamped S u (kept S m) xs) (stamped e (last_phase S m).state u p) (last_phase S m).state
   last_listed xs are = go m.over
     where
       again : AreListed S (preempted u (kept S m) (kept S (reschedule S m).state) xs)
@@ -246,7 +246,7 @@ module _ (S : System) (e m : State) (u : ℕ) (p : Stamps) (settled : IsSettled 
           (λ n there. rescheduled_one S e m running n)
 
       go : (b : Bool)
-          → AreListed S (cond b xs (reschedule_looked S u (kept S m) xs))
+          → AreListed S (cond b xs (reschedule_restamped S u (kept S m) xs))
           (stamped e (cond b (record { events = []; state = m }) (reschedule S m)).state u p)
           (cond b (record { events = []; state = m }) (reschedule S m)).state
       go true = are
@@ -261,26 +261,26 @@ module _ (S : System) (proper : IsProper S) (e : State) (executing : IsExecuting
     (p : Stamps)
     (new : AreNew p e) where
   pub from_execution_listed : (xs : StampLists) → AreListed S xs p e
-      → AreListed S (after_looked S u (kept S e) xs)
+      → AreListed S (after_restamped S u (kept S e) xs)
       (stamped e (last_phase S (execute_phase S e).state).state u (spent (calling_job (executor e)) p))
       (last_phase S (execute_phase S e).state).state
   from_execution_listed xs are =
       subst
-      (λ (k : Kept). AreListed S (last_looked S u k (execute_looked S u (kept S e) xs))
+      (λ (k : Kept). AreListed S (last_restamped S u k (execute_restamped S u (kept S e) xs))
       (stamped e (last_phase S (execute_phase S e).state).state u (spent (calling_job (executor e)) p))
       (last_phase S (execute_phase S e).state).state)
       (ap (λ (r : KeptRecorded). r.state) (execute_kept S proper e executing (known_of S e form)))
       (last_listed S e (execute_phase S e).state u (spent (calling_job (executor e)) p)
       (settled_of S (execute_phase S e).state (execute_single S proper e executing.good.single)
       (execute_left S proper e executing).ranked)
-      (execute_running S e) (execute_looked S u (kept S e) xs) (executed_listed S proper e executing form u p new xs are))
+      (execute_running S e) (execute_restamped S u (kept S e) xs) (executed_listed S proper e executing form u p new xs are))
 
 -- ---- a tick
 
 module _ (S : System) (proper : IsProper S) (arrived : List ℕ) (s : State) (good : IsRunState S s) (form : HasForm S s)
     (u : ℕ) (p : Stamps) where
   pub tick_listed : AreNew p (tick S arrived s).executing → (xs : StampLists) → AreListed S xs p (tick S arrived s).executing
-      → AreListed S (after_looked S u (kept S (tick S arrived s).executing) xs)
+      → AreListed S (after_restamped S u (kept S (tick S arrived s).executing) xs)
       (stamped (tick S arrived s).executing (tick S arrived s).after u
       (spent (calling_job (executor (tick S arrived s).executing)) p))
       (tick S arrived s).after
@@ -291,7 +291,7 @@ module _ (S : System) (proper : IsProper S) (arrived : List ℕ) (s : State) (go
       alike_lists S (before_execution S arrived s).state
       (last_phase S (execute_phase S (before_execution S arrived s).state).state).state
       (record a { tick = a.tick + 1 }) u (spent (calling_job (executor (before_execution S arrived s).state)) p)
-      (after_looked S u (kept S (before_execution S arrived s).state) xs)
+      (after_restamped S u (kept S (before_execution S arrived s).state) xs)
       (from_execution_listed S proper (before_execution S arrived s).state (before_executing S proper arrived s good)
       (before_form S proper arrived s form) u p new xs are) refl refl
 
@@ -300,7 +300,7 @@ module _ (S : System) (proper : IsProper S) (arrived : List ℕ) (s : State) (go
 module _ (S : System) (proper : IsProper S) (mode : ℕ) (arrivals : List Arrival) (n : ℕ) (going : Going S mode arrivals n)
     (xs : StampLists)
     (are : AreListed S xs (stamps_in S mode arrivals n (stamps_of S mode arrivals n)) (step_at S mode arrivals n).executing) where
-  pub after_listed : AreListed S (after_looked S (suc n) (kept S (step_at S mode arrivals n).executing) xs)
+  pub after_listed : AreListed S (after_restamped S (suc n) (kept S (step_at S mode arrivals n).executing) xs)
       (stamps_of S mode arrivals (suc n)) (step_at S mode arrivals n).after
   after_listed =
       let s : State = (run S mode arrivals n).state in
@@ -311,9 +311,9 @@ module _ (S : System) (proper : IsProper S) (mode : ℕ) (arrivals : List Arriva
       (omega arith))
       xs are
 
-  pub run_listed : AreListed S (after_looked S (suc n) (kept S (step_at S mode arrivals n).executing) xs)
+  pub run_listed : AreListed S (after_restamped S (suc n) (kept S (step_at S mode arrivals n).executing) xs)
       (stamps_of S mode arrivals (suc n)) (run S mode arrivals (suc n)).state
   run_listed =
       subst
-      (AreListed S (after_looked S (suc n) (kept S (step_at S mode arrivals n).executing) xs) (stamps_of S mode arrivals (suc n)))
+      (AreListed S (after_restamped S (suc n) (kept S (step_at S mode arrivals n).executing) xs) (stamps_of S mode arrivals (suc n)))
       (sym (state_more S mode arrivals n going)) after_listed

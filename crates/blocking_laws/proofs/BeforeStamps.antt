@@ -23,7 +23,7 @@ use Rattle.kept_state.proofs.Settled.{reschedules}
 use Rattle.kept_state.proofs.Ticked.{settled_of}
 use Rattle.blocking_laws.specs.Steps.{step_at}
 use Rattle.blocking_laws.specs.Stamps.{Stamps, stamped, stamps_in, stamps_of}
-use Rattle.blocking_laws.specs.Looks.{StampLists, preempted, alarm_phase_looked, reschedule_looked, before_looked, AreListed}
+use Rattle.blocking_laws.specs.Restamping.{StampLists, preempted, alarm_phase_restamped, reschedule_restamped, before_restamped, AreListed}
 use Rattle.blocking_laws.proofs.StepLemmas.{run_tick}
 use Rattle.blocking_laws.proofs.StampLemmas.{Going}
 use Rattle.blocking_laws.proofs.ReadyLemmas.{found_map}
@@ -63,7 +63,7 @@ waits_after S s n = go (may_dispatch s)
 pub reschedule_listed : (S : System) (s m : State) (u : ℕ) (p : Stamps) (xs : StampLists) → IsSingle S m
     → AreRanked S m.running m.jobs
     → OnlyWakes s m → AreListed S xs (stamped s m u p) m
-    → AreListed S (reschedule_looked S u (kept S m) xs) (stamped s (reschedule S m).state u p) (reschedule S m).state
+    → AreListed S (reschedule_restamped S u (kept S m) xs) (stamped s (reschedule S m).state u p) (reschedule S m).state
 reschedule_listed S s m u p xs single ranked only are =
     subst (λ (o : Kept). AreListed S (preempted u (kept S m) o xs) (stamped s (reschedule S m).state u p)
     (reschedule S m).state)
@@ -86,25 +86,25 @@ start_running S s = refl
 pub phases_listed : (S : System) (s : State) (u : ℕ) (p : Stamps) (xs : StampLists) (arrived : List ℕ) → IsProper S
     → IsRunState S s
     → HasForm S s → AreFresh p s → AreListed S xs p s
-    → AreListed S (before_looked S u arrived (kept S s) xs) (stamped s (before_execution S arrived s).state u p)
+    → AreListed S (before_restamped S u arrived (kept S s) xs) (stamped s (before_execution S arrived s).state u p)
     (before_execution S arrived s).state
 phases_listed S s u p xs arrived proper good form fresh are =
     let acted : State = (alarm_phase S s).state in
     let flagged : State = arrival_phase arrived (alarm_phase S s).state in
-    let reached : IsReached S proper s u p fresh (alarm_phase_looked S u (kept S s) xs) (alarm_phase S s).state =
+    let reached : IsReached S proper s u p fresh (alarm_phase_restamped S u (kept S s) xs) (alarm_phase S s).state =
     alarm_phase_listed S proper s u p fresh good form xs are in
     let waked : IsRunState S (alarm_phase S s).state = alarm_phase_ordered S proper s good in
     let only : OnlyWakes s flagged =
     record { stays = reached.only.stays; waits = reached.only.waits; running = reached.only.running } in
-    let before : AreListed S (alarm_phase_looked S u (kept S s) xs) (stamped s flagged u p) flagged =
-    alike_lists S s acted flagged u p (alarm_phase_looked S u (kept S s) xs) reached.listed refl refl in
+    let before : AreListed S (alarm_phase_restamped S u (kept S s) xs) (stamped s flagged u p) flagged =
+    alike_lists S s acted flagged u p (alarm_phase_restamped S u (kept S s) xs) reached.listed refl refl in
     let after =
     reschedule_listed S s flagged u p
-    (alarm_phase_looked S u (kept S s) xs) waked.single waked.ordered.ranked only before in
+    (alarm_phase_restamped S u (kept S s) xs) waked.single waked.ordered.ranked only before in
     alike_lists S s (reschedule S flagged).state (before_execution S arrived s).state u p
-    (before_looked S u arrived (kept S s) xs)
+    (before_restamped S u arrived (kept S s) xs)
     (subst (λ (o : Kept). AreListed S
-    (reschedule_looked S u (arrival_phase_in arrived o) (alarm_phase_looked S u (kept S s) xs))
+    (reschedule_restamped S u (arrival_phase_in arrived o) (alarm_phase_restamped S u (kept S s) xs))
     (stamped s (reschedule S flagged).state u p) (reschedule S flagged).state)
     (alarm_phase_kept S proper s u p fresh good form xs are) after)
     (start_jobs S (reschedule S flagged).state) (start_running S (reschedule S flagged).state)
@@ -119,16 +119,16 @@ executing_is S arrived s = refl
 pub before_listed : (S : System) (mode : ℕ) (arrivals : List Arrival) (n : ℕ) (xs : StampLists) → IsProper S
     → Going S mode arrivals n
     → AreListed S xs (stamps_of S mode arrivals n) (run S mode arrivals n).state
-    → AreListed S (before_looked S n (arriving arrivals n) (kept S (run S mode arrivals n).state) xs)
+    → AreListed S (before_restamped S n (arriving arrivals n) (kept S (run S mode arrivals n).state) xs)
     (stamps_in S mode arrivals n (stamps_of S mode arrivals n)) (step_at S mode arrivals n).executing
 before_listed S mode arrivals n xs proper going are =
     let s : State = (run S mode arrivals n).state in
     let p : Stamps = stamps_of S mode arrivals n in
     subst
-    (λ t. AreListed S (before_looked S n (arriving arrivals n) (kept S s) xs)
+    (λ t. AreListed S (before_restamped S n (arriving arrivals n) (kept S s) xs)
     (stamped s (tick S (arriving arrivals t) s).executing n p) (tick S (arriving arrivals t) s).executing)
     (sym (run_tick S mode arrivals n going))
-    (subst (λ e. AreListed S (before_looked S n (arriving arrivals n) (kept S s) xs) (stamped s e n p) e)
+    (subst (λ e. AreListed S (before_restamped S n (arriving arrivals n) (kept S s) xs) (stamped s e n p) e)
     (executing_is S (arriving arrivals n) s)
     (phases_listed S s n p xs (arriving arrivals n) proper (run_ordered S proper mode arrivals n)
     (run_form S proper mode arrivals n)

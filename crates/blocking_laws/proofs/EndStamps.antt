@@ -19,26 +19,26 @@ use Rattle.kept_state.proofs.JobMoves.{activated_kept}
 use Rattle.kept_state.proofs.Settled.{IsSettled, Stands, given_of, stands_oldest, ends}
 use Rattle.readiness.specs.Stamps.{without_oldest}
 use Rattle.blocking_laws.specs.Stamps.{Stamps, stamped, listed}
-use Rattle.blocking_laws.specs.Looks.{task_waits, looked}
+use Rattle.blocking_laws.specs.Restamping.{task_waits, restamped}
 use Rattle.blocking_laws.proofs.ReadyLemmas.{keeps_stamp, ended_listed, but_found}
 use Rattle.blocking_laws.proofs.NewJobs.{none_found, unmade}
 use Rattle.blocking_laws.proofs.WakeLemmas.{IsOneChange, listed_twice}
-use Rattle.blocking_laws.proofs.LookedLemmas.{IsLooked, count_is, count_listed, looked_more, made_listed}
+use Rattle.blocking_laws.proofs.RestampedLemmas.{IsLooked, count_is, count_listed, restamped_more, made_listed}
 use Rattle.blocking_laws.proofs.SpentStamps.{others_apart}
 
 -- ---- what the looks make of the stamps of one task
 
-abbrev pub looked_here : ℕ → Option ℕ → Kept → Kept → ℕ → List (Option ℕ) → List (Option ℕ)
-looked_here u None old new v list = list
-looked_here u (Some t) old new v list =
-    cond (t == v) (looked u (new.slots t).count (task_waits old t) (task_waits new t) list) list
+abbrev pub restamped_here : ℕ → Option ℕ → Kept → Kept → ℕ → List (Option ℕ) → List (Option ℕ)
+restamped_here u None old new v list = list
+restamped_here u (Some t) old new v list =
+    cond (t == v) (restamped u (new.slots t).count (task_waits old t) (task_waits new t) list) list
 
 abbrev pub ended_here : Option ℕ → Bool → ℕ → List (Option ℕ) → List (Option ℕ)
 ended_here None gone v list = list
 ended_here (Some t) gone v list = cond gone (cond (t == v) (without_oldest list) list) list
 
 abbrev pub executed_here : ℕ → Option ℕ → Kept → Kept → ℕ → List (Option ℕ) → List (Option ℕ)
-executed_here u named old new v list = looked_here u named old new v (ended_here old.running (not old.gone && new.gone) v list)
+executed_here u named old new v list = restamped_here u named old new v (ended_here old.running (not old.gone && new.gone) v list)
 
 -- they are right for each task
 abbrev pub IsTold : System → ℕ → Option ℕ → State → State → Stamps → Type 0
@@ -58,11 +58,11 @@ same_told S u e m p gone same v =
     same v ∙ sym (none_ended (kept S e).running (kept S e).gone (kept S m).gone v (listed p v e.jobs) gone)
 
 -- the named task was looked at
-pub looked_told : (S : System) (u t : ℕ) (e m : State) (p : Stamps) → (kept S m).gone ≡ (kept S e).gone → IsLooked S u t e m p
+pub restamped_told : (S : System) (u t : ℕ) (e m : State) (p : Stamps) → (kept S m).gone ≡ (kept S e).gone → IsLooked S u t e m p
     → IsTold S u (Some t) e m p
-looked_told S u t e m p gone right v =
+restamped_told S u t e m p gone right v =
     right v
-    ∙ ap (looked_here u (Some t) (kept S e) (kept S m) v)
+    ∙ ap (restamped_here u (Some t) (kept S e) (kept S m) v)
     (sym (none_ended (kept S e).running (kept S e).gone (kept S m).gone v (listed p v e.jobs) gone))
 
 -- ---- ids that weren't given out
@@ -175,13 +175,13 @@ module _ (S : System) (e : State) (u : ℕ) (p : Stamps) (settled : IsSettled S 
         ≡ cond (t == v) (listed (stamped e left u p) v left.jobs ++ Some u ∷ []) (listed (stamped e left u p) v left.jobs)
     more_listed = made_listed S left chained u t (stamped e left u p) left_single refl refl still_new
 
-    more_looked : (v : ℕ) → listed (stamped left chained u (stamped e left u p)) v chained.jobs
-        ≡ looked_here u (Some t) (kept S e) (kept S chained) v (listed (stamped e left u p) v left.jobs)
-    more_looked v = more_listed v ∙ go (t == v) refl
+    more_restamped : (v : ℕ) → listed (stamped left chained u (stamped e left u p)) v chained.jobs
+        ≡ restamped_here u (Some t) (kept S e) (kept S chained) v (listed (stamped e left u p) v left.jobs)
+    more_restamped v = more_listed v ∙ go (t == v) refl
       where
         go : (b : Bool) → (t == v) ≡ b
             → cond b (listed (stamped e left u p) v left.jobs ++ Some u ∷ []) (listed (stamped e left u p) v left.jobs)
-            ≡ cond b (looked u ((kept S chained).slots t).count (task_waits (kept S e) t) (task_waits (kept S chained) t)
+            ≡ cond b (restamped u ((kept S chained).slots t).count (task_waits (kept S e) t) (task_waits (kept S chained) t)
             (listed (stamped e left u p) v left.jobs)) (listed (stamped e left u p) v left.jobs)
         go false h = refl
         go true h =
@@ -193,13 +193,13 @@ module _ (S : System) (e : State) (u : ℕ) (p : Stamps) (settled : IsSettled S 
             count_is S chained t ∙ ap (λ x. length (jobs_of x chained.jobs)) (equal t v h)
             ∙ sym (count_listed (stamped left chained u (stamped e left u p)) v chained.jobs)
             ∙ ap length more ∙ length-append (listed (stamped e left u p) v left.jobs) (Some u ∷ []) in
-            sym (looked_more u ((kept S chained).slots t).count (task_waits (kept S e) t) (task_waits (kept S chained) t)
+            sym (restamped_more u ((kept S chained).slots t).count (task_waits (kept S e) t) (task_waits (kept S chained) t)
             (listed (stamped e left u p) v left.jobs) many)
 
     pub chained_told : IsTold S u (Some t) e (with_objects_of e (activated S t (caller_ended (JobCalls j) e))) p
     chained_told v =
-        sym (listed_twice e left chained u p v one_change) ∙ more_looked v
-        ∙ ap (looked_here u (Some t) (kept S e) (kept S chained) v)
+        sym (listed_twice e left chained u p v one_change) ∙ more_restamped v
+        ∙ ap (restamped_here u (Some t) (kept S e) (kept S chained) v)
         (without_listed v
         ∙ sym (ended_is (kept S e).running (kept S e).gone (kept S chained).gone v
         (listed p v e.jobs) runs_is gone_before chained_gone))

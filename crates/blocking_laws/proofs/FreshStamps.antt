@@ -15,7 +15,7 @@ use Rattle.osek_base.specs.State.{Job, JobId, State, still, job_of, jobs_of, int
 use Rattle.osek_base.specs.Activation.{activated, released}
 use Rattle.osek_base.specs.Reschedule.{reschedule}
 use Rattle.osek_base.specs.Blocker.{is_in_state, executing_job, is_number}
-use Rattle.osek_base.specs.Service.{Caller, JobCalls, RoutineCalls, NobodyCalls, caller_ended, with_caller, is_outranked, given_up, gets, releases, waiting_for, meets, is_met, released_by, with_events, event_set, events_cleared, event_awaited, effect, first_refusal, refusals, reply_to, service, unmasked_service, controlled}
+use Rattle.osek_base.specs.Service.{Caller, JobCalls, RoutineCalls, NobodyCalls, caller_ended, with_caller, is_outranked, given_up, gets, releases, waiting_for, meets, is_met, released_by, with_events, event_set, events_cleared, event_awaited, effect, first_refusal, refusals, reply_to, service, unasked_service, controlled}
 use Rattle.osek_base.specs.Alarm.{due_alarms, alarms_advanced}
 use Rattle.osek_base.specs.Tick.{Step, alarm_acts, alarms_act, alarm_phase, arrival_phase, start_phase, before_execution, executed, caller_executes, executor, execute_phase, last_phase, action_call, at_values, tick}
 use Rattle.osek_base.specs.Trace.{boot, run, arriving}
@@ -169,9 +169,9 @@ module _ (S : System) (s : State) where
   unfolding service
   service_since c call = reply_since c call (first_refusal ((interrupts_off s, Status.SysDisabled) ∷ refusals S c s call))
 
-  pub unmasked_since : (c : Caller) (call : ServiceCall) → IsMadeSince s (unmasked_service S c s call).state
-  unfolding unmasked_service
-  unmasked_since c call = reply_since c call (first_refusal (refusals S c s call))
+  pub unasked_since : (c : Caller) (call : ServiceCall) → IsMadeSince s (unasked_service S c s call).state
+  unfolding unasked_service
+  unasked_since c call = reply_since c call (first_refusal (refusals S c s call))
 
 -- ---- a tick
 
@@ -180,7 +180,7 @@ module _ (S : System) where
   alarms_since [] s = since_itself s s refl
   alarms_since (a ∷ due) s =
       since_both s (alarm_acts S a s).state (alarms_act S due (alarm_acts S a s).state).state
-      (unmasked_since S s NobodyCalls (action_call (alarm S a).action)) (alarms_since due (alarm_acts S a s).state)
+      (unasked_since S s NobodyCalls (action_call (alarm S a).action)) (alarms_since due (alarm_acts S a s).state)
 
   alarm_phase_since : (s : State) → IsMadeSince s (alarm_phase S s).state
   unfolding alarm_phase

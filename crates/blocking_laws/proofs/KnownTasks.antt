@@ -5,7 +5,7 @@ use Rattle.osek_base.specs.System.{System, alarm}
 use Rattle.osek_base.specs.Proper.{IsProper, is_proper_action}
 use Rattle.run_laws.proofs.Known.{proper_alarm_at}
 use Rattle.run_laws.proofs.SingleTick.{true_lt}
-use Rattle.blocking_laws.specs.Looks.{acting_task}
+use Rattle.blocking_laws.specs.Restamping.{acting_task}
 use Rattle.std.proofs.lemmas.Bool.{and_parts}
 
 -- the task on which an alarm acts exists

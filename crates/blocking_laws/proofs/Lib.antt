@@ -4,7 +4,7 @@ pub mod ReadyLemmas
 pub mod NewJobs
 pub mod RunningJobs
 pub mod WakeLemmas
-pub mod LookedLemmas
+pub mod RestampedLemmas
 pub mod PreemptLemmas
 pub mod ListLemmas
 pub mod OnlyWakes

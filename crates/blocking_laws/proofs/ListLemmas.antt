@@ -11,9 +11,9 @@ use Rattle.kept_state.specs.Moves.{contender}
 use Rattle.kept_state.proofs.JobMoves.{differ}
 use Rattle.readiness.specs.Stamps.{stamp_oldest}
 use Rattle.blocking_laws.specs.Stamps.{Stamps, stamped, listed}
-use Rattle.blocking_laws.specs.Looks.{StampLists, stamps_at, changed_list, looked_at, is_task, preempted_by, preempted, AreListed}
+use Rattle.blocking_laws.specs.Restamping.{StampLists, stamps_at, changed_list, restamped_at, is_task, preempted_by, preempted, AreListed}
 use Rattle.blocking_laws.proofs.WakeLemmas.{IsOneChange, listed_twice}
-use Rattle.blocking_laws.proofs.LookedLemmas.{looked_between, IsLooked, same_listed}
+use Rattle.blocking_laws.proofs.RestampedLemmas.{restamped_between, IsLooked, same_listed}
 use Rattle.blocking_laws.proofs.PreemptLemmas.{preempted_at, IsPreempted}
 
 -- ---- one list is changed
@@ -51,13 +51,13 @@ changed_count f xs t = length-set xs t (f (stamps_at xs t))
 
 module _ (S : System) (s e : State) (u : ℕ) (p : Stamps) (xs : StampLists) (are : AreListed S xs p s) where
   -- one task is looked at
-  pub looked_lists : (t : ℕ) → t < length S.tasks → IsLooked S u t s e p
-      → AreListed S (looked_at u t (kept S s) (kept S e) xs) (stamped s e u p) e
-  looked_lists t inside looked = record {
-    count = changed_count (looked_between S u t s e) xs t ∙ are.count;
+  pub restamped_lists : (t : ℕ) → t < length S.tasks → IsLooked S u t s e p
+      → AreListed S (restamped_at u t (kept S s) (kept S e) xs) (stamped s e u p) e
+  restamped_lists t inside restamped = record {
+    count = changed_count (restamped_between S u t s e) xs t ∙ are.count;
     lists = λ v.
-        changed_inside (looked_between S u t s e) xs t v (let n = are.count in omega (arith, inside, n))
-        ∙ ap (λ list. cond (t == v) (looked_between S u t s e list) list) (are.lists v) ∙ sym (looked v);
+        changed_inside (restamped_between S u t s e) xs t v (let n = are.count in omega (arith, inside, n))
+        ∙ ap (λ list. cond (t == v) (restamped_between S u t s e list) list) (are.lists v) ∙ sym (restamped v);
   }
 
   -- the running task after a reschedule

@@ -9,13 +9,13 @@ use Rattle.osek_base.specs.System.{System}
 use Rattle.osek_base.specs.State.{Job, JobId, State, same_id, waits, job_of, jobs_of, jobs_but}
 use Rattle.osek_base.specs.Activation.{activated, new_job, released, woken}
 use Rattle.osek_base.specs.Blocker.{is_in_state, waits_in, is_job, is_waiting_job}
-use Rattle.osek_base.specs.Service.{Caller, first_refusal, refusals, reply_to, unmasked_service, is_met, released_by, with_events, with_objects_of}
+use Rattle.osek_base.specs.Service.{Caller, first_refusal, refusals, reply_to, unasked_service, is_met, released_by, with_events, with_objects_of}
 use Rattle.run_laws.proofs.Lists.{clash}
 use Rattle.run_laws.proofs.Foremost.{same_ids}
 use Rattle.run_laws.proofs.Known.{met_waits}
 use Rattle.run_laws.proofs.Single.{IsSingle}
 use Rattle.blocking_laws.proofs.WakeLemmas.{IsOneChange, other_found, own_found}
-use Rattle.blocking_laws.proofs.LookedLemmas.{only_job, found_there, released_jobs}
+use Rattle.blocking_laws.proofs.RestampedLemmas.{only_job, found_there, released_jobs}
 
 pub record OnlyWakes (s e : State) : Type 0 where
   pub stays : (n : JobId) → is_in_state s n ≡ true → is_in_state e n ≡ true
@@ -125,8 +125,8 @@ module _ (S : System) (s e : State) (t : ℕ) (single : IsSingle S s) (j : Job) 
 -- ---- services, whoever calls
 
 module _ (S : System) (s : State) (single : IsSingle S s) (c : Caller) (t : ℕ) where
-  pub activate_wakes : OnlyWakes s (unmasked_service S c s (Service.ActivateTask (Some t))).state
-  unfolding unmasked_service
+  pub activate_wakes : OnlyWakes s (unasked_service S c s (Service.ActivateTask (Some t))).state
+  unfolding unasked_service
   activate_wakes = go (first_refusal (refusals S c s (Service.ActivateTask (Some t))))
     where
       go : (o : Option Status) → OnlyWakes s (reply_to S c s (Service.ActivateTask (Some t)) o).state
@@ -149,8 +149,8 @@ module _ (S : System) (s : State) (single : IsSingle S s) (c : Caller) (t : ℕ)
               wakes_woken S s (with_objects_of s (released j.id (with_events t set s))) t single j js are waiting
               (released_jobs S (with_events t set s) single t j js are waiting) refl
 
-  pub set_event_wakes : (m : ℕ) → OnlyWakes s (unmasked_service S c s (Service.SetEvent (Some t) m)).state
-  unfolding unmasked_service
+  pub set_event_wakes : (m : ℕ) → OnlyWakes s (unasked_service S c s (Service.SetEvent (Some t) m)).state
+  unfolding unasked_service
   set_event_wakes m = go (first_refusal (refusals S c s (Service.SetEvent (Some t) m)))
     where
       go : (o : Option Status) → OnlyWakes s (reply_to S c s (Service.SetEvent (Some t) m) o).state

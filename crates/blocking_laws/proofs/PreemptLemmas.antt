@@ -18,9 +18,9 @@ use Rattle.kept_state.proofs.Parts.{filter_moved, any_moved, map_unmoved, IsOlde
 use Rattle.kept_state.proofs.Runner.{runner_oldest}
 use Rattle.readiness.specs.Stamps.{stamp_oldest}
 use Rattle.blocking_laws.specs.Stamps.{Stamps, stamped, listed}
-use Rattle.blocking_laws.specs.Looks.{is_task}
+use Rattle.blocking_laws.specs.Restamping.{is_task}
 use Rattle.blocking_laws.proofs.RunningJobs.{is_taken_out, idle_listed, left_alone, taken_out_listed}
-use Rattle.blocking_laws.proofs.LookedLemmas.{same_listed}
+use Rattle.blocking_laws.proofs.RestampedLemmas.{same_listed}
 
 -- what is made of the stamps of one task: those of the task that contended, where it runs no more
 abbrev pub preempted_at : ℕ → Option ℕ → Option ℕ → ℕ → List (Option ℕ) → List (Option ℕ)

@@ -10,9 +10,9 @@ use Rattle.run_laws.proofs.Lists.{all_any}
 use Rattle.kept_state.specs.Kept.{slot_of, is_gone, kept}
 use Rattle.kept_state.proofs.Parts.{filter_moved, any_moved}
 use Rattle.blocking_laws.specs.Stamps.{Stamps, stamped, stamp_where, listed}
-use Rattle.blocking_laws.specs.Looks.{task_waits}
+use Rattle.blocking_laws.specs.Restamping.{task_waits}
 use Rattle.blocking_laws.proofs.ReadyLemmas.{map_same, map_twice, found_map}
-use Rattle.blocking_laws.proofs.LookedLemmas.{count_is}
+use Rattle.blocking_laws.proofs.RestampedLemmas.{count_is}
 
 module _ (m n : State) (g : Job → Job) (ids : (j : Job) → (g j).id ≡ j.id) (jobs : n.jobs ≡ map g m.jobs) where
   pub jobs_alike : (v : ℕ) → jobs_of v n.jobs ≡ map g (jobs_of v m.jobs)

@@ -26,11 +26,11 @@ use Rattle.kept_state.proofs.Parts.{filter_none, any_moved, any_parts}
 use Rattle.kept_state.proofs.JobMoves.{activated_kept, one_changed, keeps_id}
 use Rattle.kept_state.proofs.Settled.{IsSettled, given_of}
 use Rattle.blocking_laws.specs.Stamps.{Stamps, listed}
-use Rattle.blocking_laws.specs.Looks.{named_by}
+use Rattle.blocking_laws.specs.Restamping.{named_by}
 use Rattle.blocking_laws.proofs.ReadyLemmas.{changed_listed}
-use Rattle.blocking_laws.proofs.LookedLemmas.{same_listed, same_looked, made_looked, event_looked}
+use Rattle.blocking_laws.proofs.RestampedLemmas.{same_listed, same_restamped, made_restamped, event_restamped}
 use Rattle.blocking_laws.proofs.SameJobs.{stamped_alike, count_alike, task_waits_alike, gone_alike}
-use Rattle.blocking_laws.proofs.EndStamps.{IsTold, AreNew, looked_here, ended_here, executed_here, same_told, looked_told, ended_told, chained_told}
+use Rattle.blocking_laws.proofs.EndStamps.{IsTold, AreNew, restamped_here, ended_here, executed_here, same_told, restamped_told, ended_told, chained_told}
 
 -- the jobs of a task that isn't there
 pub none_there : (jobs : List Job) (n t : ℕ) → AllByRecursion (λ j. j.id.task < n) jobs → n ≤ t
@@ -70,7 +70,7 @@ module _ (S : System) (e : State) (u : ℕ) (p : Stamps) where
   pub still_told : (named : Option ℕ) (m : State) → m.jobs ≡ e.jobs → m.running ≡ e.running → (kept S m).gone ≡ (kept S e).gone
       → IsTold S u named e m p
   still_told None m jobs running gone = same_told S u e m p gone (same_listed S e m u 0 p jobs running)
-  still_told (Some t) m jobs running gone = looked_told S u t e m p gone (same_looked S e m u t p jobs running)
+  still_told (Some t) m jobs running gone = restamped_told S u t e m p gone (same_restamped S e m u t p jobs running)
 
   -- a change by which no job stops waiting
   pub changed_told : (m : State) (g : Job → Job) → ((j : Job) → (g j).id ≡ j.id)
@@ -117,8 +117,8 @@ module _ (S : System) (e : State) (u : ℕ) (p : Stamps) where
 
     made_told : (t : ℕ) → IsTold S u (Some t) e (with_objects_of e (activated S t e)) p
     made_told t =
-        looked_told S u t e (with_objects_of e (activated S t e)) p (made_gone t)
-        (made_looked S e (with_objects_of e (activated S t e)) u t p settled.single refl refl (new t))
+        restamped_told S u t e (with_objects_of e (activated S t e)) p (made_gone t)
+        (made_restamped S e (with_objects_of e (activated S t e)) u t p settled.single refl refl (new t))
 
     terminated_told : (c : Caller) → IsCaller e c → IsTold S u None e (with_objects_of e (caller_ended c e)) p
     terminated_told (JobCalls j) calls = ended_told S e u p settled j calls
@@ -133,8 +133,8 @@ module _ (S : System) (e : State) (u : ℕ) (p : Stamps) where
 
     event_told : (c : Caller) (t m : ℕ) → IsTold S u (Some t) e (with_objects_of e (effect S c e (Service.SetEvent (Some t) m))) p
     event_told c t m =
-        looked_told S u t e (with_objects_of e (effect S c e (Service.SetEvent (Some t) m))) p
-        (go (jobs_of t e.jobs)) (event_looked S e u p settled.single c t (bit_or (slice_index e.masks t) m))
+        restamped_told S u t e (with_objects_of e (effect S c e (Service.SetEvent (Some t) m))) p
+        (go (jobs_of t e.jobs)) (event_restamped S e u p settled.single c t (bit_or (slice_index e.masks t) m))
       where
         set : ℕ
         set = bit_or (slice_index e.masks t) m
@@ -220,8 +220,8 @@ module _ (S : System) (e : State) (u : ℕ) (p : Stamps) where
       gone : (kept S moved).gone ≡ (kept S m).gone
       gone = gone_alike m moved g ids refl S refl
 
-      look : (o : Option ℕ) (list : List (Option ℕ)) → looked_here u o (kept S e) (kept S moved) v list
-          ≡ looked_here u o (kept S e) (kept S m) v list
+      look : (o : Option ℕ) (list : List (Option ℕ)) → restamped_here u o (kept S e) (kept S moved) v list
+          ≡ restamped_here u o (kept S e) (kept S m) v list
       look None list = refl
       look (Some t) list = rw (count_alike m moved g ids refl S t, task_waits_alike m moved g ids refl waiting S t) refl
 
@@ -229,7 +229,7 @@ module _ (S : System) (e : State) (u : ℕ) (p : Stamps) where
           ≡ executed_here u named (kept S e) (kept S m) v (listed p v e.jobs)
       seen =
           look named (ended_here (kept S e).running (not (kept S e).gone && (kept S moved).gone) v (listed p v e.jobs))
-          ∙ ap (λ b. looked_here u named (kept S e) (kept S m) v
+          ∙ ap (λ b. restamped_here u named (kept S e) (kept S m) v
           (ended_here (kept S e).running (not (kept S e).gone && b) v (listed p v e.jobs))) gone
   context_told None (RoutineCalls a) x m told v = told v
   context_told (Some t) (RoutineCalls a) x m told v = told v

@@ -16,7 +16,7 @@ use Rattle.kept_state.proofs.JobMoves.{IsFresh, IsLater, others_later, elsewhere
 use Rattle.kept_state.proofs.Settled.{IsSettled, Stands, stands_oldest}
 use Rattle.readiness.specs.Stamps.{spent_oldest}
 use Rattle.blocking_laws.specs.Stamps.{Stamps, spent, listed}
-use Rattle.blocking_laws.specs.Looks.{StampLists, stamps_at, spent_of}
+use Rattle.blocking_laws.specs.Restamping.{StampLists, stamps_at, spent_of}
 use Rattle.blocking_laws.proofs.ReadyLemmas.{map_same}
 use Rattle.blocking_laws.proofs.ListLemmas.{changed_any, changed_count}
 use Rattle.run_laws.proofs.SingleMoves.{other_way}

@@ -7,7 +7,7 @@ use Rattle.osek_base.specs.Trace.{arriving, run}
 use Rattle.kept_state.specs.Kept.{kept}
 use Rattle.blocking_laws.specs.Steps.{step_at}
 use Rattle.blocking_laws.specs.Stamps.{stamps_in, stamps_of}
-use Rattle.blocking_laws.specs.Looks.{StampLists, before_looked, after_looked, AreListed}
+use Rattle.blocking_laws.specs.Restamping.{StampLists, before_restamped, after_restamped, AreListed}
 
 -- up to the instruction of a tick
 abbrev pub ListsBefore : Type 0
@@ -15,7 +15,7 @@ ListsBefore =
     (S : System) (mode : ℕ) (arrivals : List Arrival) (n : ℕ) (xs : StampLists) → IsProper S
     → (run S mode arrivals n).state.over ≡ false
     → AreListed S xs (stamps_of S mode arrivals n) (run S mode arrivals n).state
-    → AreListed S (before_looked S n (arriving arrivals n) (kept S (run S mode arrivals n).state) xs)
+    → AreListed S (before_restamped S n (arriving arrivals n) (kept S (run S mode arrivals n).state) xs)
     (stamps_in S mode arrivals n (stamps_of S mode arrivals n)) (step_at S mode arrivals n).executing
 
 -- and from there to the next tick
@@ -24,5 +24,5 @@ ListsBehind =
     (S : System) (mode : ℕ) (arrivals : List Arrival) (n : ℕ) (xs : StampLists) → IsProper S
     → (run S mode arrivals n).state.over ≡ false
     → AreListed S xs (stamps_in S mode arrivals n (stamps_of S mode arrivals n)) (step_at S mode arrivals n).executing
-    → AreListed S (after_looked S (suc n) (kept S (step_at S mode arrivals n).executing) xs)
+    → AreListed S (after_restamped S (suc n) (kept S (step_at S mode arrivals n).executing) xs)
     (stamps_of S mode arrivals (suc n)) (run S mode arrivals (suc n)).state

@@ -1,4 +1,4 @@
 pub mod Steps
 pub mod Stamps
-pub mod Looks
+pub mod Restamping
 pub mod Laws

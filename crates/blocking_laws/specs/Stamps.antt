@@ -38,7 +38,7 @@ stamps_of S mode arrivals (suc t) =
     stamped (step_at S mode arrivals t).executing (step_at S mode arrivals t).after (suc t)
     (spent (executing_job (step_at S mode arrivals t)) (stamps_in S mode arrivals t (stamps_of S mode arrivals t)))
 
--- of each static priority, behind the last tick in which a job of it executed, 0 where there was none
+-- of each static priority, the tick after the last one in which a job of it executed, 0 where there was none
 abbrev pub levels_of : System → ℕ → List Arrival → ℕ → ℕ → ℕ
 levels_of S mode arrivals zero l = 0
 levels_of S mode arrivals (suc t) l =

@@ -1,12 +1,14 @@
 //! The line of `bounds`.
 
+use crate::fault::Fault;
 use crate::help;
-use crate::request::form;
+use crate::reading::form;
 use bound_kinds::{is_column, place_of};
 use clap::ArgMatches;
+use clap::error::ErrorKind;
 use figures::Form;
 use osek_base::MAX_TICKS;
-use std::alloc::AllocError;
+use std::alloc::Global;
 use std::fmt;
 
 /// How many states may be kept at most, and how many where nothing is said.
@@ -95,17 +97,10 @@ fn figure_wanted<'a>(matches: &ArgMatches<'a>) -> Option<Wanted<'a>> {
     }
 }
 
-/// Whether a run is wanted of a figure that no column has, and that is no place of a service.
-fn has_unknown_column(matches: &ArgMatches<'_>) -> bool {
-    match figure_wanted(matches) {
-        Some(
-            Wanted {
-                column: Some(word),
-                ..
-            },
-        ) => !is_column(word) && place_of(word).is_none(),
-        _ => false,
-    }
+/// Why a line is refused that wants a run of a figure: no column has it, and it is no place of a service.
+pub(crate) fn figure_fault(matches: &ArgMatches<'_>) -> Option<&'static str> {
+    let word = figure_wanted(matches)?.column?;
+    (!is_column(word) && place_of(word).is_none()).then_some(help::NO_FIGURE)
 }
 
 /// A distance of that text, ROUTINE=TICKS.
@@ -115,26 +110,19 @@ fn distance_of(text: &str) -> Option<Distance<'_>> {
     (1 <= ticks && ticks <= MAX_TICKS).then_some(Distance { routine, ticks })
 }
 
-/// Reads the distances of a line, where its subcommand takes distances. Where one is none, or a run
-/// of no figure is wanted, it is said why.
-pub(crate) fn read_distances<'a>(
-    subcommand: &str,
+/// The distances of a line; none where its subcommand takes none.
+pub(crate) fn distances<'a>(
+    alloc: Global,
     matches: &ArgMatches<'a>,
-    distances: &mut Vec<Distance<'a>>,
-) -> Result<Option<&'static str>, AllocError> {
-    if subcommand != "bounds" {
-        return Ok(None);
-    }
-    if has_unknown_column(matches) {
-        return Ok(Some(help::NO_FIGURE));
-    }
+) -> Result<Vec<Distance<'a>>, Fault> {
+    let mut distances = Vec::new(alloc);
     if let Some(texts) = matches.get_strs("apart") {
         for text in texts {
             match distance_of(text) {
                 Some(distance) => distances.push(distance)?,
-                None => return Ok(Some(help::NO_DISTANCE)),
+                None => return Err(Fault::Refused(ErrorKind::ValueValidation, help::NO_DISTANCE)),
             }
         }
     }
-    Ok(None)
+    Ok(distances)
 }

@@ -1,10 +1,15 @@
 //! What command lines of `osek` ask for, and their help. No part of the standards.
 #![tactic(auto)]
 
+mod argument;
 mod bounds_line;
+mod fault;
 mod help;
 mod lines;
+mod reading;
 mod request;
+mod subcommand;
 
 pub use bounds_line::{BoundsLine, Distance, Wanted};
-pub use request::{Asked, Lines, MakeLine, Question, Request, RunLine, StatsLine, View, read_line};
+pub use reading::read_line;
+pub use request::{Asked, Lines, MakeLine, Question, Request, RunLine, StatsLine, View};

@@ -20,7 +20,7 @@ use Rattle.state_keys.specs.InRange.{NeedsOwnWords}
 use Rattle.state_keys.specs.Key.{key}
 use Rattle.run_bounds.specs.Going.{GoOnAlike, HaveOneFuture, KeysTellFutures}
 use Rattle.run_bounds.specs.Nodes.{Comes}
-use Rattle.endless_runs.specs.Kept.{IsKept, Stands, StandsBetween}
+use Rattle.endless_runs.specs.Unending.{StandsSoLong, Stands, StandsBetween}
 use Rattle.endless_runs.specs.Lassos.{IsLasso, LassosAreEndless, again}
 use Rattle.endless_runs.proofs.Arriving.{first_round, second_round}
 use Rattle.endless_runs.proofs.Known.{known_in}
@@ -198,7 +198,7 @@ module _ (futures : KeysTellFutures) (S : System) (mode : ℕ) (distances : List
   rounds xs from until lasso (suc n) =
       one_round_more from n (rounds xs from until lasso n)
 
-  is_kept : (from n : ℕ) → HasRounds from n → IsKept S mode distances k n
+  is_kept : (from n : ℕ) → HasRounds from n → StandsSoLong S mode distances k n
   is_kept from n has = record {
     arrivals = again has.start has.end has.arrivals;
     from = from;

@@ -11,7 +11,7 @@ use Rattle.observed_runs.specs.Observed.{times}
 use Rattle.run_laws.proofs.Lists.{all_append, all_kept, all_map, all_weaker}
 use Rattle.same_future.specs.Shown.{arrives}
 use Rattle.bound_labels.specs.Labels.{distance_of}
-use Rattle.endless_runs.specs.Kept.{Keep}
+use Rattle.endless_runs.specs.Unending.{Keep}
 use Rattle.endless_runs.specs.Lassos.{again, later, repeated}
 use Rattle.endless_runs.proofs.Arriving.{first_round, second_round}
 

@@ -8,7 +8,7 @@ use Rattle.needed_data.specs.Need.{Need, Suffices}
 use Rattle.same_future.specs.Alike.{kept_after}
 use Rattle.state_keys.specs.InRange.{NeedsOwnWords}
 use Rattle.state_keys.specs.Key.{key}
-use Rattle.endless_runs.specs.Kept.{CanBeKept, Keep, StandsBetween}
+use Rattle.endless_runs.specs.Unending.{NeedNotEnd, Keep, StandsBetween}
 
 -- an arrival so many ticks later
 abbrev pub later : ℕ → Arrival → Arrival
@@ -40,4 +40,4 @@ abbrev pub LassosAreEndless : Type 0
 LassosAreEndless =
     (S : System) (mode : ℕ) (distances : List ℕ) (need : Need) (arrivals : List Arrival)
     (from until k : ℕ) → IsProper S → Suffices S need → NeedsOwnWords S need
-    → IsLasso S mode distances need arrivals from until k → CanBeKept S mode distances k
+    → IsLasso S mode distances need arrivals from until k → NeedNotEnd S mode distances k

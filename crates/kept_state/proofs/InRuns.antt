@@ -15,7 +15,7 @@ use Rattle.run_laws.proofs.FormedTick.{run_form}
 use Rattle.kept_state.specs.Kept.{Kept, Slot}
 use Rattle.ready_queues.specs.QueueMoves.{changed_at}
 use Rattle.kept_state.specs.Moves.{one_more, activated_in, slot_woken, released_in}
-use Rattle.kept_state.specs.KeptService.{ByNobody, refusals_in, reply_in, unmasked_in, with_mask}
+use Rattle.kept_state.specs.KeptService.{ByNobody, refusals_in, reply_in, unasked_in, with_mask}
 use Rattle.kept_state.specs.Standing.{waits_in, runner_waits, ReadyBetweenTicks, ActionKeepsReady, BeforeAlike, ServesInRuns}
 use Rattle.kept_state.proofs.Ticked.{before_kept}
 use Rattle.kept_state.proofs.Runner.{unwaiting}
@@ -76,8 +76,8 @@ module _ (S : System) (o : Kept) (unwaits : runner_waits o ≡ false) where
       (changed_woken o.slots t (slot_woken (o.slots t)) (λ h. refl)) unwaits
   set_ready t m false = unwaits
 
-  activate_ready : (t : ℕ) → runner_waits (unmasked_in S ByNobody o (Service.ActivateTask (Some t))).state ≡ false
-  unfolding unmasked_in
+  activate_ready : (t : ℕ) → runner_waits (unasked_in S ByNobody o (Service.ActivateTask (Some t))).state ≡ false
+  unfolding unasked_in
   activate_ready t = go (first_refusal (refusals_in S ByNobody o (Service.ActivateTask (Some t))))
     where
       go : (refusal : Option Status)
@@ -85,8 +85,8 @@ module _ (S : System) (o : Kept) (unwaits : runner_waits o ≡ false) where
       go None = activated_ready t
       go (Some refusal) = unwaits
 
-  set_event_ready : (t m : ℕ) → runner_waits (unmasked_in S ByNobody o (Service.SetEvent (Some t) m)).state ≡ false
-  unfolding unmasked_in
+  set_event_ready : (t m : ℕ) → runner_waits (unasked_in S ByNobody o (Service.SetEvent (Some t) m)).state ≡ false
+  unfolding unasked_in
   set_event_ready t m = go (first_refusal (refusals_in S ByNobody o (Service.SetEvent (Some t) m)))
     where
       go : (refusal : Option Status)

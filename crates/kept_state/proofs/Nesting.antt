@@ -11,7 +11,7 @@ use Rattle.osek_base.specs.State.{State, still}
 use Rattle.osek_base.specs.Alarm.{due_alarms, alarms_advanced}
 use Rattle.osek_base.specs.Activation.{activated}
 use Rattle.osek_base.specs.Reschedule.{reschedule}
-use Rattle.osek_base.specs.Service.{Caller, JobCalls, RoutineCalls, NobodyCalls, service, unmasked_service, controlled}
+use Rattle.osek_base.specs.Service.{Caller, JobCalls, RoutineCalls, NobodyCalls, service, unasked_service, controlled}
 use Rattle.osek_base.specs.Tick.{at_values, action_call, alarm_acts, alarms_act, alarm_phase, arrival_phase, start_phase, executed, caller_executes, executor, execute_phase, before_execution, last_phase, tick}
 use Rattle.osek_base.specs.Trace.{all_activated, starting_tasks, starting_alarms, boot, Run, step_added, arriving, run}
 use Rattle.kept_state.specs.Standing.{FewNested}
@@ -39,9 +39,9 @@ module _ (S : System) (n : ℕ) where
   -- ---- before and after an instruction
 
   acts_nested : (s : State) (call : ServiceCall) → IsNested n s
-      → IsNested n (unmasked_service S NobodyCalls s call).state
-  unfolding unmasked_service
-  acts_nested s call nested = same_nested n s (unmasked_service S NobodyCalls s call).state refl refl nested
+      → IsNested n (unasked_service S NobodyCalls s call).state
+  unfolding unasked_service
+  acts_nested s call nested = same_nested n s (unasked_service S NobodyCalls s call).state refl refl nested
 
   alarms_nested : (due : List ℕ) (s : State) → IsNested n s → IsNested n (alarms_act S due s).state
   alarms_nested [] s nested = nested

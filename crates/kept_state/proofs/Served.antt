@@ -11,7 +11,7 @@ use Rattle.osek_base.specs.System.{System, is_extended}
 use Rattle.osek_base.specs.Instruction.{Context}
 use Rattle.osek_base.specs.State.{Job, JobId, State, Active, same_id, jobs_of, job_of, with_job, waits, interrupts_off}
 use Rattle.osek_base.specs.Activation.{activated, released}
-use Rattle.osek_base.specs.Service.{Caller, JobCalls, RoutineCalls, NobodyCalls, with_caller, caller_ended, is_outranked, given_up, gets, releases, waiting_for, meets, is_met, released_by, with_events, event_set, events_cleared, event_awaited, effect, with_objects_of, refusals, first_refusal, reply_to, service, unmasked_service}
+use Rattle.osek_base.specs.Service.{Caller, JobCalls, RoutineCalls, NobodyCalls, with_caller, caller_ended, is_outranked, given_up, gets, releases, waiting_for, meets, is_met, released_by, with_events, event_set, events_cleared, event_awaited, effect, with_objects_of, refusals, first_refusal, reply_to, service, unasked_service}
 use Rattle.osek_base.specs.Tick.{job_moved, executor, caller_of, job_caller}
 use Rattle.run_laws.proofs.Lists.{clash, all_weaker, all_any, all_kept, all_filter, found}
 use Rattle.run_laws.proofs.Foremost.{same_ids, equal}
@@ -21,7 +21,7 @@ use Rattle.run_laws.proofs.SingleMoves.{alone}
 use Rattle.run_laws.proofs.Ranked.{IsStill, HasReady}
 use Rattle.kept_state.specs.Kept.{slot_of, runs, task_in, is_gone, kept}
 use Rattle.kept_state.specs.Moves.{activated_in, released_in, slot_changed}
-use Rattle.kept_state.specs.KeptService.{ByTask, ByNobody, kept_caller, is_outranked_in, with_caller_in, caller_ended_in, slot_given_up, slot_gets, slot_releases, slot_waiting, with_mask, event_set_in, events_cleared_in, event_awaited_in, effect_in, reply_in, service_in, unmasked_in, kept_reply, caller_by, caller_in, slot_moved, moved_in}
+use Rattle.kept_state.specs.KeptService.{ByTask, ByNobody, kept_caller, is_outranked_in, with_caller_in, caller_ended_in, slot_given_up, slot_gets, slot_releases, slot_waiting, with_mask, event_set_in, events_cleared_in, event_awaited_in, effect_in, reply_in, service_in, unasked_in, kept_reply, caller_by, caller_in, slot_moved, moved_in}
 use Rattle.kept_state.proofs.Parts.{IsOldest, oldest, found_any}
 use Rattle.kept_state.proofs.JobMoves.{IsGiven, changed_kept, activated_kept}
 use Rattle.kept_state.proofs.Releases.{released_kept}
@@ -261,10 +261,10 @@ module _ (S : System) (s : State) (settled : IsSettled S s) (known : AllByRecurs
       ∙ ap
       (λ rs. reply_in S (kept_caller c) (kept S s) call (first_refusal ((interrupts_off s, Status.SysDisabled) ∷ rs))) (refusals_kept S s settled known c calls call)
 
-  pub unmasked_kept : (c : Caller) → IsCaller s c → HasReady s.running s.jobs → (call : ServiceCall)
-      → kept_reply S (unmasked_service S c s call) ≡ unmasked_in S (kept_caller c) (kept S s) call
-  unfolding unmasked_service unmasked_in
-  unmasked_kept c calls ready call =
+  pub unasked_kept : (c : Caller) → IsCaller s c → HasReady s.running s.jobs → (call : ServiceCall)
+      → kept_reply S (unasked_service S c s call) ≡ unasked_in S (kept_caller c) (kept S s) call
+  unfolding unasked_service unasked_in
+  unasked_kept c calls ready call =
       reply_kept c calls ready call (first_refusal (refusals S c s call))
       ∙ ap (λ rs. reply_in S (kept_caller c) (kept S s) call (first_refusal rs))
       (refusals_kept S s settled known c calls call)
@@ -337,5 +337,5 @@ serves S s settled known ready call =
     ∙ ap (λ d. service_in S d (kept S s) call) (executor_kept S s)
 
 pub acts : (S : System) (s : State) → IsSettled S s → AreKnown S s → HasReady s.running s.jobs → (call : ServiceCall)
-    → kept_reply S (unmasked_service S NobodyCalls s call) ≡ unmasked_in S ByNobody (kept S s) call
-acts S s settled known ready call = unmasked_kept S s settled known NobodyCalls tt ready call
+    → kept_reply S (unasked_service S NobodyCalls s call) ≡ unasked_in S ByNobody (kept S s) call
+acts S s settled known ready call = unasked_kept S s settled known NobodyCalls tt ready call

@@ -16,14 +16,14 @@ use Rattle.osek_base.specs.Alarm.{alarms_advanced}
 use Rattle.osek_base.specs.Activation.{activated}
 use Rattle.osek_base.specs.Choice.{choice}
 use Rattle.osek_base.specs.Reschedule.{switched, with_dispatch_of, reschedule}
-use Rattle.osek_base.specs.Service.{Caller, NobodyCalls, first_refusal, refusals, reply_to, service, unmasked_service, controlled}
+use Rattle.osek_base.specs.Service.{Caller, NobodyCalls, first_refusal, refusals, reply_to, service, unasked_service, controlled}
 use Rattle.osek_base.specs.Tick.{job_moved, moved, executor, start_phase}
 use Rattle.osek_base.specs.Trace.{starting_alarms}
 use Rattle.run_laws.proofs.Lists.{clash, all_weaker}
 use Rattle.run_laws.proofs.Foremost.{same_ids}
 use Rattle.run_laws.proofs.Known.{ActivatesKnown, executor_calls}
 use Rattle.run_laws.proofs.Single.{IsFitChange, change_single}
-use Rattle.run_laws.proofs.SingleService.{runner_begun, unmasked_single, service_single}
+use Rattle.run_laws.proofs.SingleService.{runner_begun, unasked_single, service_single}
 use Rattle.run_laws.proofs.SingleTick.{start_single}
 use Rattle.run_laws.proofs.SingleMoves.{reschedule_single}
 use Rattle.run_laws.proofs.Ranked.{AreRanked, HasReady}
@@ -35,7 +35,7 @@ use Rattle.run_laws.proofs.FormedService.{change_formed, service_formed}
 use Rattle.run_laws.proofs.FormedPhases.{acts_form, advanced_form, reschedule_form, start_form}
 use Rattle.run_laws.proofs.FormedTick.{pending_service, active_service}
 use Rattle.kept_state.specs.Kept.{kept}
-use Rattle.kept_state.specs.KeptService.{ByNobody, caller_in, kept_reply, reply_in, refusals_in, service_in, unmasked_in}
+use Rattle.kept_state.specs.KeptService.{ByNobody, caller_in, kept_reply, reply_in, refusals_in, service_in, unasked_in}
 use Rattle.kept_state.specs.Standing.{IsStanding, MayServe, StillStands, StartedStands, ActivateStands, SetEventStands, ServiceStands, ControlStands, RescheduleStands, AdvanceStands, FlagStands, StartStands, JobMoveStands, RoutineMoveStands}
 use Rattle.kept_state.proofs.Settled.{IsSettled, AreKnown, activates, reschedules}
 use Rattle.kept_state.proofs.Tests.{refusals_kept}
@@ -59,8 +59,8 @@ module _ (S : System) (s : State) (standing : IsStanding S s) where
       append_ranked S s.running s.jobs (made_job S t s ∷ []) standing.ranked (made_newest S t s standing.single, tt)
 
   acted_ranked : (t : ℕ)
-      → AreRanked S (unmasked_service S NobodyCalls s (Service.ActivateTask (Some t))).state.running (unmasked_service S NobodyCalls s (Service.ActivateTask (Some t))).state.jobs
-  unfolding unmasked_service
+      → AreRanked S (unasked_service S NobodyCalls s (Service.ActivateTask (Some t))).state.running (unasked_service S NobodyCalls s (Service.ActivateTask (Some t))).state.jobs
+  unfolding unasked_service
   acted_ranked t = go (first_refusal (refusals S NobodyCalls s (Service.ActivateTask (Some t))))
     where
       go : (o : Option Status)
@@ -69,9 +69,9 @@ module _ (S : System) (s : State) (standing : IsStanding S s) where
       go (Some refusal) = standing.ranked
 
   acted_kept : (t : ℕ)
-      → kept_reply S (unmasked_service S NobodyCalls s (Service.ActivateTask (Some t)))
-      ≡ unmasked_in S ByNobody (kept S s) (Service.ActivateTask (Some t))
-  unfolding unmasked_service unmasked_in activated
+      → kept_reply S (unasked_service S NobodyCalls s (Service.ActivateTask (Some t)))
+      ≡ unasked_in S ByNobody (kept S s) (Service.ActivateTask (Some t))
+  unfolding unasked_service unasked_in activated
   acted_kept t =
       go (first_refusal (refusals S NobodyCalls s (Service.ActivateTask (Some t))))
       ∙ ap (λ rs. reply_in S ByNobody (kept S s) (Service.ActivateTask (Some t)) (first_refusal rs))
@@ -88,7 +88,7 @@ activate_stands S s t standing inside = (
   record {
     proper = standing.proper;
     single =
-        unmasked_single S s standing.single NobodyCalls (Service.ActivateTask (Some t)) standing.proper tt inside;
+        unasked_single S s standing.single NobodyCalls (Service.ActivateTask (Some t)) standing.proper tt inside;
     ranked = acted_ranked S s standing t;
     form = acts_form S standing.proper s (Service.ActivateTask (Some t)) inside standing.form;
   },
@@ -100,7 +100,7 @@ activate_stands S s t standing inside = (
 pub set_event_stands : SetEventStands
 set_event_stands S s t m standing inside unwaits =
     let ready : HasReady s.running s.jobs = ready_of S s standing.single unwaits in
-    let acted : IsRunState S (unmasked_service S NobodyCalls s (Service.SetEvent (Some t) m)).state =
+    let acted : IsRunState S (unasked_service S NobodyCalls s (Service.SetEvent (Some t) m)).state =
     action_run S standing.proper s (Action.SetEvent t m) tt
     (record { single = standing.single; ordered = record { ranked = standing.ranked; ready = ready } }) in (
       record {

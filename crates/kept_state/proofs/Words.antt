@@ -15,7 +15,7 @@ use Rattle.osek_base.specs.Tick.{routine_choice}
 use Rattle.kept_state.specs.Kept.{Kept, Slot}
 use Rattle.ready_queues.specs.QueueMoves.{highest}
 use Rattle.kept_state.specs.Moves.{KeptRecorded, activated_in, released_in, slot_changed, contender, dynamic_in, chosen, may_dispatch_in, rescheduled}
-use Rattle.kept_state.specs.KeptService.{KeptCaller, ByTask, ByRoutine, ByNobody, KeptReply, bare, with_mask, with_caller_in, caller_ended_in, slot_given_up, slot_gets, slot_releases, slot_waiting, slot_moved, events_cleared_in, event_awaited_in, is_outranked_in, refusals_in, results_in, effect_in, reply_in, unmasked_in, service_in}
+use Rattle.kept_state.specs.KeptService.{KeptCaller, ByTask, ByRoutine, ByNobody, KeptReply, bare, with_mask, with_caller_in, caller_ended_in, slot_given_up, slot_gets, slot_releases, slot_waiting, slot_moved, events_cleared_in, event_awaited_in, is_outranked_in, refusals_in, results_in, effect_in, reply_in, unasked_in, service_in}
 use Rattle.kept_state.specs.KeptTick.{controlled_in, with_context_in, routine_started_in, start_phase_in}
 
 -- the same with other words
@@ -116,9 +116,9 @@ module _ (S : System) (w : Words) where
       ap₂ (λ (found : Results) (x : Kept). record { status = Status.Ok; results = found; state = x }) (results_words o call) (effect_words d o call)
   reply_words d o call (Some refusal) = refl
 
-  pub unmasked_words : (d : KeptCaller) (o : Kept) (call : ServiceCall) → unmasked_in S d (with_words w o) call ≡ reply_with w (unmasked_in S d o call)
-  unfolding unmasked_in
-  unmasked_words d o call =
+  pub unasked_words : (d : KeptCaller) (o : Kept) (call : ServiceCall) → unasked_in S d (with_words w o) call ≡ reply_with w (unasked_in S d o call)
+  unfolding unasked_in
+  unasked_words d o call =
       ap (λ rs. reply_in S d (with_words w o) call (first_refusal rs)) (refusals_words d o call)
       ∙ reply_words d o call (first_refusal (refusals_in S d o call))
 

@@ -220,8 +220,8 @@ reply_in S d o call refusal =
       state = changed_in S d o call refusal;
     }
 
-unfoldable pub unmasked_in : System → KeptCaller → Kept → ServiceCall → KeptReply
-unmasked_in S d o call = reply_in S d o call (first_refusal (refusals_in S d o call))
+unfoldable pub unasked_in : System → KeptCaller → Kept → ServiceCall → KeptReply
+unasked_in S d o call = reply_in S d o call (first_refusal (refusals_in S d o call))
 
 unfoldable pub service_in : System → KeptCaller → Kept → ServiceCall → KeptReply
 service_in S d o call =

@@ -20,7 +20,7 @@ use Rattle.osek_base.specs.Proper.{IsProper}
 use Rattle.osek_base.specs.declared.arrivals.Arrival.{Arrival}
 use Rattle.kept_state.specs.Kept.{Kept, kept}
 use Rattle.kept_state.specs.Moves.{KeptRecorded, kept_recorded, activated_in, may_dispatch_in, rescheduled}
-use Rattle.kept_state.specs.KeptService.{KeptCaller, ByTask, ByRoutine, ByNobody, KeptReply, bare, unmasked_in, service_in, moved_in, caller_in}
+use Rattle.kept_state.specs.KeptService.{KeptCaller, ByTask, ByRoutine, ByNobody, KeptReply, bare, unasked_in, service_in, moved_in, caller_in}
 
 abbrev pub and_then_in : KeptRecorded → (Kept → KeptRecorded) → KeptRecorded
 and_then_in r f = let after = f r.state in record { events = r.events ++ after.events; state = after.state }
@@ -32,7 +32,7 @@ abbrev pub alarm_reply_in : System → ℕ → KeptReply → KeptRecorded
 alarm_reply_in S a r = record { events = error_record S (Source.Alarm a) (Instr.Service (action_call (alarm S a).action)) r.status; state = r.state }
 
 abbrev pub alarm_acts_in : System → ℕ → Kept → KeptRecorded
-alarm_acts_in S a o = alarm_reply_in S a (unmasked_in S ByNobody o (action_call (alarm S a).action))
+alarm_acts_in S a o = alarm_reply_in S a (unasked_in S ByNobody o (action_call (alarm S a).action))
 
 abbrev pub alarms_act_in : System → List ℕ → Kept → KeptRecorded
 alarms_act_in S [] o = silent_in o

@@ -15,7 +15,7 @@ use Rattle.osek_base.specs.Instruction.{Context}
 use Rattle.osek_base.specs.State.{State, JobId, Active, still, interrupts_off, with_job}
 use Rattle.osek_base.specs.Alarm.{alarms_advanced}
 use Rattle.osek_base.specs.Reschedule.{reschedule}
-use Rattle.osek_base.specs.Service.{NobodyCalls, service, unmasked_service, controlled}
+use Rattle.osek_base.specs.Service.{NobodyCalls, service, unasked_service, controlled}
 use Rattle.osek_base.specs.Tick.{executor, job_moved, moved, start_phase, before_execution}
 use Rattle.osek_base.specs.Trace.{starting_alarms, run}
 use Rattle.run_laws.proofs.Known.{ActivatesKnown}
@@ -26,7 +26,7 @@ use Rattle.ready_queues.specs.Queues.{total}
 use Rattle.kept_state.specs.Kept.{Kept, Slot, kept}
 use Rattle.ready_queues.specs.QueueMoves.{highest}
 use Rattle.kept_state.specs.Moves.{contender, dynamic_in, may_dispatch_in, rescheduled, kept_recorded}
-use Rattle.kept_state.specs.KeptService.{ByNobody, bare, caller_in, is_above, is_full_in, kept_reply, moved_in, service_in, unmasked_in}
+use Rattle.kept_state.specs.KeptService.{ByNobody, bare, caller_in, is_above, is_full_in, kept_reply, moved_in, service_in, unasked_in}
 use Rattle.kept_state.specs.KeptTick.{before_execution_in, controlled_in, start_phase_in, still_in}
 
 -- what holds of each state of a run, between the phases of a tick too
@@ -105,16 +105,16 @@ StartedStands =
 abbrev pub ActivateStands : Type 0
 ActivateStands =
     (S : System) (s : State) (t : ℕ) → IsStanding S s → t < length S.tasks
-    → IsStanding S (unmasked_service S NobodyCalls s (Service.ActivateTask (Some t))).state
-    × (kept_reply S (unmasked_service S NobodyCalls s (Service.ActivateTask (Some t)))
-    ≡ unmasked_in S ByNobody (kept S s) (Service.ActivateTask (Some t)))
+    → IsStanding S (unasked_service S NobodyCalls s (Service.ActivateTask (Some t))).state
+    × (kept_reply S (unasked_service S NobodyCalls s (Service.ActivateTask (Some t)))
+    ≡ unasked_in S ByNobody (kept S s) (Service.ActivateTask (Some t)))
 
 abbrev pub SetEventStands : Type 0
 SetEventStands =
     (S : System) (s : State) (t m : ℕ) → IsStanding S s → t < length S.tasks → runner_waits (kept S s) ≡ false
-    → IsStanding S (unmasked_service S NobodyCalls s (Service.SetEvent (Some t) m)).state
-    × (kept_reply S (unmasked_service S NobodyCalls s (Service.SetEvent (Some t) m))
-    ≡ unmasked_in S ByNobody (kept S s) (Service.SetEvent (Some t) m))
+    → IsStanding S (unasked_service S NobodyCalls s (Service.SetEvent (Some t) m)).state
+    × (kept_reply S (unasked_service S NobodyCalls s (Service.SetEvent (Some t) m))
+    ≡ unasked_in S ByNobody (kept S s) (Service.SetEvent (Some t) m))
 
 -- a service of whoever executes
 abbrev pub ServiceStands : Type 0
@@ -172,8 +172,8 @@ ReadyBetweenTicks =
 abbrev pub ActionKeepsReady : Type 0
 ActionKeepsReady =
     (S : System) (o : Kept) (t m : ℕ) → runner_waits o ≡ false
-    → (runner_waits (unmasked_in S ByNobody o (Service.ActivateTask (Some t))).state ≡ false)
-    × (runner_waits (unmasked_in S ByNobody o (Service.SetEvent (Some t) m)).state ≡ false)
+    → (runner_waits (unasked_in S ByNobody o (Service.ActivateTask (Some t))).state ≡ false)
+    × (runner_waits (unasked_in S ByNobody o (Service.SetEvent (Some t) m)).state ≡ false)
 
 -- phases 1 to 4 of a tick
 abbrev pub BeforeAlike : Type 0

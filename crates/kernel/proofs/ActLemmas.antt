@@ -16,7 +16,7 @@ use Rattle.osek_base.specs.Alarm.{due_alarms, is_due}
 use Rattle.machine.specs.Windows.{word}
 use Rattle.kept_state.specs.Kept.{Kept}
 use Rattle.kept_state.specs.Moves.{KeptRecorded}
-use Rattle.kept_state.specs.KeptService.{ByNobody, bare, unmasked_in}
+use Rattle.kept_state.specs.KeptService.{ByNobody, bare, unasked_in}
 use Rattle.kept_state.specs.KeptTick.{alarm_reply_in, alarm_acts_in, alarms_act_in, alarm_phase_in, and_then_in}
 use Rattle.kept_state.specs.Standing.{runner_waits}
 use Rattle.kept_state.proofs.InRuns.{action_keeps_ready}
@@ -30,8 +30,8 @@ use Rattle.kernel.proofs.DoesLemmas.{Step, processor_of, does_nothing, does_same
 -- an alarm acts by the service of its action
 pub acts_by : (S : System) (a : ℕ) (action : Action) (m : Processor) (o n : Objects) (words : List ℕ) (status : Status) (before after : List TraceEvent)
     → processor_of o words ≡ m → o.system ≡ S → (alarm S a).action ≡ action → n.system ≡ o.system
-    → kept_in n ≡ (unmasked_in o.system ByNobody (kept_in o) (action_call action)).state
-    → status ≡ (unmasked_in o.system ByNobody (kept_in o) (action_call action)).status
+    → kept_in n ≡ (unasked_in o.system ByNobody (kept_in o) (action_call action)).state
+    → status ≡ (unasked_in o.system ByNobody (kept_in o) (action_call action)).status
     → Adds (error_record S (Source.Alarm a) (Instr.Service (action_call action)) status) before after
     → Acts a m (processor_of n words) before after status
 acts_by S a action m o n words status before after is here by system kept answered told =
@@ -50,7 +50,7 @@ acts_by S a action m o n words status before after is here by system kept answer
 
 -- the running job doesn't wait behind an action where it didn't before
 act_ready_by : (S : System) (a : ℕ) (o : Kept) (action : Action) → runner_waits o ≡ false
-    → runner_waits (alarm_reply_in S a (unmasked_in S ByNobody o (action_call action))).state ≡ false
+    → runner_waits (alarm_reply_in S a (unasked_in S ByNobody o (action_call action))).state ≡ false
 act_ready_by S a o (Action.ActivateTask t) ready = (action_keeps_ready S o t 0 ready).0
 act_ready_by S a o (Action.SetEvent t m) ready = (action_keeps_ready S o t m ready).1
 

@@ -14,39 +14,39 @@ use Rattle.osek_base.specs.Alarm.{count, expiry, is_due, is_due_at, due_alarms, 
 use Rattle.osek_base.specs.Tick.{action_call, error_record}
 use Rattle.kept_state.specs.Kept.{Kept}
 use Rattle.kept_state.specs.Moves.{KeptRecorded}
-use Rattle.kept_state.specs.KeptService.{ByNobody, KeptReply, bare, unmasked_in}
+use Rattle.kept_state.specs.KeptService.{ByNobody, KeptReply, bare, unasked_in}
 use Rattle.kept_state.specs.KeptTick.{alarm_reply_in, alarm_acts_in, alarms_act_in, alarm_phase_in, silent_in}
 use Rattle.kept_state.proofs.Quiet.{nothing_due as none_due, nothing_advanced as none_advanced}
-use Rattle.kept_state.proofs.Words.{with_words, reply_with, unmasked_words}
+use Rattle.kept_state.proofs.Words.{with_words, reply_with, unasked_words}
 use Rattle.services.specs.Objects.{Objects, kept_of, kept_in}
 use Rattle.kernel.specs.Processor.{AreAhead}
 use Rattle.kernel.specs.Told.{acting_in}
 
 -- an alarm acts by the service of its action
 module _ (S : System) (a : ℕ) (w : Words) (o : Objects) (action : Action) (is : (alarm S a).action ≡ action) where
-  acts_by : alarm_acts_in S a (kept_of w o) ≡ alarm_reply_in S a (reply_with w (unmasked_in S ByNobody (kept_in o) (action_call action)))
+  acts_by : alarm_acts_in S a (kept_of w o) ≡ alarm_reply_in S a (reply_with w (unasked_in S ByNobody (kept_in o) (action_call action)))
   acts_by =
-      ap (λ v. alarm_reply_in S a (unmasked_in S ByNobody (kept_of w o) (action_call v))) is
-      ∙ ap (alarm_reply_in S a) (unmasked_words S w ByNobody (kept_in o) (action_call action))
+      ap (λ v. alarm_reply_in S a (unasked_in S ByNobody (kept_of w o) (action_call v))) is
+      ∙ ap (alarm_reply_in S a) (unasked_words S w ByNobody (kept_in o) (action_call action))
 
-  pub state_by : (n : Objects) → kept_in n ≡ (unmasked_in S ByNobody (kept_in o) (action_call action)).state
+  pub state_by : (n : Objects) → kept_in n ≡ (unasked_in S ByNobody (kept_in o) (action_call action)).state
       → kept_of w n ≡ (alarm_acts_in S a (kept_of w o)).state
   state_by n after = ap (with_words w) after ∙ sym (ap (λ (r : KeptRecorded). r.state) acts_by)
 
-  pub status_by : (status : Status) → status ≡ (unmasked_in S ByNobody (kept_in o) (action_call action)).status
+  pub status_by : (status : Status) → status ≡ (unasked_in S ByNobody (kept_in o) (action_call action)).status
       → status ≡ (acting_in S a (kept_of w o)).status
   status_by status answered =
-      answered ∙ sym (ap (λ (r : KeptReply). r.status) (unmasked_words S w ByNobody (kept_in o) (action_call action)))
-      ∙ sym (ap (λ v. (unmasked_in S ByNobody (kept_of w o) (action_call v)).status) is)
+      answered ∙ sym (ap (λ (r : KeptReply). r.status) (unasked_words S w ByNobody (kept_in o) (action_call action)))
+      ∙ sym (ap (λ v. (unasked_in S ByNobody (kept_of w o) (action_call v)).status) is)
 
   pub events_by : (status : Status) (earlier records : List TraceEvent)
-      → status ≡ (unmasked_in S ByNobody (kept_in o) (action_call action)).status
+      → status ≡ (unasked_in S ByNobody (kept_in o) (action_call action)).status
       → records ≡ earlier ++ error_record S (Source.Alarm a) (Instr.Service (action_call action)) status
       → records ≡ earlier ++ (alarm_acts_in S a (kept_of w o)).events
   events_by status earlier records answered told =
       told
       ∙ ap (λ s. earlier ++ error_record S (Source.Alarm a) (Instr.Service (action_call action)) s) answered
-      ∙ ap (λ v. earlier ++ error_record S (Source.Alarm a) (Instr.Service (action_call v)) (unmasked_in S ByNobody (kept_in o) (action_call action)).status) (sym is)
+      ∙ ap (λ v. earlier ++ error_record S (Source.Alarm a) (Instr.Service (action_call v)) (unasked_in S ByNobody (kept_in o) (action_call action)).status) (sym is)
       ∙ sym (ap (λ (r : KeptRecorded). earlier ++ r.events) acts_by)
 
 -- ---- the first tick

@@ -166,8 +166,10 @@ all_left list h = record {
 -- ---- the ticks before the next
 
 module _ (list : List Arrival) (cursor tick : ℕ) (left : AreLeft list cursor tick) where
-  free_from : (n : ℕ) → are_in_order (tick + n) (drop cursor list) ≡ true → AreFree list cursor tick n
-  free_from n ordered = record {
+  free_from : (most n : ℕ) → n ≤ most → are_in_order (tick + n) (drop cursor list) ≡ true
+      → AreFree list cursor tick most n
+  free_from most n few ordered = record {
+    few = few;
     none = λ k low. left.same (tick + k) (omega arith) ∙ none_before (tick + n) (tick + k) (drop cursor list) ordered (omega (arith, low));
     left = record {
       within = left.within;
@@ -189,14 +191,15 @@ module _ (list : List Arrival) (cursor tick : ℕ) (left : AreLeft list cursor t
     pub not_before : tick ≤ a.tick
     not_before = first_left.first
 
-    pub free_until : (n : ℕ) → n ≤ a.tick - tick → AreFree list cursor tick n
-    free_until n few =
+    pub free_until : (most n : ℕ) → n ≤ most → n ≤ a.tick - tick → AreFree list cursor tick most n
+    free_until most n few until =
         let first = not_before in
-        free_from n (ap (are_in_order (tick + n)) here
-        ∙ order_later tick (tick + n) a later_ones (sym (ap (are_in_order tick) here) ∙ left.ordered) (omega (arith, few, first)))
+        free_from most n few (ap (are_in_order (tick + n)) here
+        ∙ order_later tick (tick + n) a later_ones (sym (ap (are_in_order tick) here) ∙ left.ordered)
+        (omega (arith, until, first)))
 
-  pub free_at_end : (n : ℕ) → length list ≤ cursor → AreFree list cursor tick n
-  free_at_end n end = free_from n (ap (are_in_order (tick + n)) (drop_of_length-le list end))
+  pub free_at_end : (n : ℕ) → length list ≤ cursor → AreFree list cursor tick n n
+  free_at_end n end = free_from n n (omega arith) (ap (are_in_order (tick + n)) (drop_of_length-le list end))
 
 -- from an earlier tick on, the same stand in order
 order_earlier : (least earlier : ℕ) (xs : List Arrival) → are_in_order least xs ≡ true → earlier ≤ least → are_in_order earlier xs ≡ true
@@ -207,9 +210,9 @@ order_earlier least earlier (a ∷ rest) h low =
     order_later least earlier a rest h (omega (arith, first, low))
 
 -- and some of those ticks later
-pub left_behind : (list : List Arrival) (cursor tick n m : ℕ) → AreLeft list cursor tick → AreFree list cursor tick n → m ≤ n
-    → AreLeft list cursor (tick + m)
-left_behind list cursor tick n m left free few = record {
+pub left_behind : (list : List Arrival) (cursor tick most n m : ℕ) → AreLeft list cursor tick
+    → AreFree list cursor tick most n → m ≤ n → AreLeft list cursor (tick + m)
+left_behind list cursor tick most n m left free few = record {
   within = left.within;
   ordered = order_earlier (tick + n) (tick + m) (drop cursor list) free.left.ordered (omega (arith, few));
   same = λ t low. left.same t (omega (arith, low));

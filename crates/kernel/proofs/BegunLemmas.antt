@@ -14,9 +14,9 @@ use Rattle.osek_base.proofs.PlaceLemmas.{KnownPlace}
 use Rattle.run_laws.proofs.Foremost.{equal}
 use Rattle.kept_state.specs.Kept.{Kept}
 use Rattle.services.specs.Calls.{IsKnown, IsTaskOperand}
-use Rattle.blocking_laws.specs.Looks.{StampLists, acting_task, named_by, stamps_at}
+use Rattle.blocking_laws.specs.Restamping.{StampLists, acting_task, named_by, stamps_at}
 use Rattle.blocking_laws.proofs.KnownTasks.{acts_task}
-use Rattle.kernel.specs.Looking.{IsActedOn}
+use Rattle.kernel.specs.Stamping.{IsActedOn}
 use Rattle.kernel.proofs.PlaceLemmas.{service_known}
 
 -- ---- the task on which an instruction acts

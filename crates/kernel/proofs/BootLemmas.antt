@@ -16,7 +16,7 @@ use Rattle.osek_base.specs.Trace.{Run, boot, run, run_begun}
 use Rattle.kept_state.specs.Kept.{Kept, kept}
 use Rattle.blocking_laws.proofs.StepLemmas.{tick_zero}
 use Rattle.kernel.specs.declared.acted.Acted.{Acted}
-use Rattle.kernel.specs.Looking.{AreBegun}
+use Rattle.kernel.specs.Stamping.{AreBegun}
 use Rattle.kernel.specs.Machine.{HasCome, IsBooted, IsMachine, between}
 use Rattle.kernel.specs.Processor.{IsStarted, Processor, at_tick, picture}
 use Rattle.kernel.specs.Watches.{Blocking, IsFresh}

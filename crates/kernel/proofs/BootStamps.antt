@@ -15,8 +15,8 @@ use Rattle.osek_base.specs.Trace.{all_activated, boot, run, starting_alarms, sta
 use Rattle.run_laws.proofs.FormedTick.{run_form}
 use Rattle.kept_state.specs.Kept.{Kept, Slot, kept}
 use Rattle.blocking_laws.specs.Stamps.{listed, stamps_of}
-use Rattle.blocking_laws.specs.Looks.{AreListed, StampLists, stamps_at}
-use Rattle.kernel.specs.Looking.{AreBegun}
+use Rattle.blocking_laws.specs.Restamping.{AreListed, StampLists, stamps_at}
+use Rattle.kernel.specs.Stamping.{AreBegun}
 use Rattle.kernel.specs.Machine.{AreLast}
 use Rattle.blocking_laws.proofs.AfterStamps.{rescheduled_waits}
 use Rattle.blocking_laws.proofs.OnlyWakes.{wakes_made}

@@ -17,11 +17,11 @@ use Rattle.kept_state.specs.KeptService.{KeptCaller, ByTask, ByRoutine, ByNobody
 use Rattle.kept_state.specs.KeptTick.{controlled_in, execute_phase_in, executed_in, with_context_in}
 use Rattle.kept_state.specs.Moves.{KeptRecorded, slot_changed}
 use Rattle.services.specs.Calls.{Executes, caller_as, context_in}
-use Rattle.blocking_laws.specs.Looks.{StampLists, ended_if, ended_of, instr_in, looked_if, named_by, named_in, stamps_at}
+use Rattle.blocking_laws.specs.Restamping.{StampLists, ended_if, ended_of, instr_in, restamped_if, named_by, named_in, stamps_at}
 use Rattle.kernel.specs.declared.next.Next.{Next}
 use Rattle.kernel.specs.declared.stamping.Stand.{Stand}
 use Rattle.kernel.specs.Does.{Does}
-use Rattle.kernel.specs.Looking.{AreCounted, executed_looked, stand, stood_between}
+use Rattle.kernel.specs.Stamping.{AreCounted, executed_restamped, stand, stood_between}
 use Rattle.kernel.specs.Processor.{IsNext, Processor, picture, system_of}
 use Rattle.kernel.specs.Watches.{Blocking, Watched, Watches, executing}
 use Rattle.kernel.proofs.BegunLemmas.{named_known}
@@ -73,12 +73,12 @@ module _ (p : Processor) (next_is : Next) (n : IsNext p next_is) where
       ∙ ap (λ j. executed_in S next_is.owner (caller_as next_is.owner) x j k) (n.instruction ∙ is)
 
   stay : (i : Instr) (u : ℕ) (xs : StampLists) → instr_of next_is.packed ≡ i → named_by i ≡ None
-      → (executed_in S next_is.owner (caller_as next_is.owner) x i k).state.gone ≡ k.gone → xs ≡ executed_looked S u k xs
+      → (executed_in S next_is.owner (caller_as next_is.owner) x i k).state.gone ≡ k.gone → xs ≡ executed_restamped S u k xs
   stay i u xs is none gone =
       let new : Kept = (execute_phase_in S k).state in
       let same : new.gone ≡ k.gone = ap (λ (r : KeptRecorded). r.state.gone) (done i is) ∙ gone in
       unended k.running k.gone new.gone xs same
-      ∙ ap (λ t. looked_if u t k new (ended_if k new xs)) (sym (ap named_in (instr_next p next_is n ∙ ap (λ j. Some j) is) ∙ none))
+      ∙ ap (λ t. restamped_if u t k new (ended_if k new xs)) (sym (ap named_in (instr_next p next_is n ∙ ap (λ j. Some j) is) ∙ none))
 
   plain_gone : (i : PlainInstr) → (executed_in S next_is.owner (caller_as next_is.owner) x (Instr.Plain i) k).state.gone ≡ k.gone
   plain_gone i =
@@ -88,14 +88,14 @@ module _ (p : Processor) (next_is : Next) (n : IsNext p next_is) where
   control_gone : (c : Control ℕ) → (executed_in S next_is.owner (caller_as next_is.owner) x (Instr.Control c) k).state.gone ≡ k.gone
   control_gone c = moved_gone (caller_as next_is.owner) (next x) (controlled_in c k)
 
-  pub plain_stay : (u : ℕ) (xs : StampLists) → is_plain (instr_of next_is.packed) ≡ true → xs ≡ executed_looked S u k xs
+  pub plain_stay : (u : ℕ) (xs : StampLists) → is_plain (instr_of next_is.packed) ≡ true → xs ≡ executed_restamped S u k xs
   plain_stay u xs h = stay (Instr.Plain (plain_of (instr_of next_is.packed))) u xs (plain_is (instr_of next_is.packed) h) refl (plain_gone (plain_of (instr_of next_is.packed)))
 
-  pub control_stay : (u : ℕ) (xs : StampLists) → is_control (instr_of next_is.packed) ≡ true → xs ≡ executed_looked S u k xs
+  pub control_stay : (u : ℕ) (xs : StampLists) → is_control (instr_of next_is.packed) ≡ true → xs ≡ executed_restamped S u k xs
   control_stay u xs h = stay (Instr.Control (control_of (instr_of next_is.packed))) u xs (control_is (instr_of next_is.packed) h) refl (control_gone (control_of (instr_of next_is.packed)))
 
 stay_watched : (counted : Bool) (u : ℕ) (old : Watched) (new : Processor) (first second : List TraceEvent)
-    → old.blocking.stamps ≡ executed_looked (system_of old.processor) u (picture old.processor) old.blocking.stamps
+    → old.blocking.stamps ≡ executed_restamped (system_of old.processor) u (picture old.processor) old.blocking.stamps
     → Does execute_phase_in old.processor new first second → Watches counted executing u old (watched_of new old.blocking) first second
 stay_watched counted u old new first second stay does = record { does = does; stamps = λ on. stay; told = refl }
 
@@ -128,13 +128,13 @@ idle_watched counted u w behind nobody none =
       stamps = λ on.
           let new : Kept = (execute_phase_in S k).state in
           unended k.running k.gone new.gone w.blocking.stamps (ap (λ (r : KeptRecorded). r.state.gone) idle)
-          ∙ ap (λ d. looked_if u (named_in (instr_in S d k)) k new (ended_if k new w.blocking.stamps)) (sym nobody);
+          ∙ ap (λ d. restamped_if u (named_in (instr_in S d k)) k new (ended_if k new w.blocking.stamps)) (sym nobody);
       told = refl;
     }
 
 -- ---- services
 
-stood : (k new : Kept) (t : Option ℕ) (u : ℕ) (xs : StampLists) → stood_between u (stand k t) (stand new t) xs ≡ looked_if u t k new (ended_if k new xs)
+stood : (k new : Kept) (t : Option ℕ) (u : ℕ) (xs : StampLists) → stood_between u (stand k t) (stand new t) xs ≡ restamped_if u t k new (ended_if k new xs)
 stood k new None u xs = refl
 stood k new (Some t) u xs = refl
 
@@ -159,16 +159,16 @@ pub served : (counted : Bool) (u : ℕ) (old : Watched) (new : Processor) (b : B
     → Does execute_phase_in old.processor new first second
     → (counted ≡ true → b.stamps ≡ stood_between u before after old.blocking.stamps) → b.told ≡ old.blocking.told
     → Watches counted executing u old (watched_of new b) first second
-served counted u old new b next service named before after first second n is named_is before_is after_is does looks told = record {
+served counted u old new b next service named before after first second n is named_is before_is after_is does restamps told = record {
   does = does;
   stamps = λ on.
       let S : System = system_of old.processor in
       let k : Kept = picture old.processor in
       let xs = old.blocking.stamps in
       let last : Kept = (execute_phase_in S k).state in
-      looks on
+      restamps on
       ∙ ap₂ (λ (v w : Stand). stood_between u v w xs) before_is (after_is ∙ ap (λ o. stand o named) does.kept)
       ∙ stood k last named u xs
-      ∙ ap (λ t. looked_if u t k last (ended_if k last xs)) (named_is ∙ sym (ap named_in (instr_next old.processor next n ∙ ap (λ i. Some i) is)));
+      ∙ ap (λ t. restamped_if u t k last (ended_if k last xs)) (named_is ∙ sym (ap named_in (instr_next old.processor next n ∙ ap (λ i. Some i) is)));
   told = told;
 }

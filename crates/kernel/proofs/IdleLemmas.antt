@@ -13,17 +13,18 @@ use Rattle.kept_state.specs.KeptTick.{arrival_phase_in, before_execution_in, exe
 use Rattle.kept_state.specs.Moves.{KeptRecorded, contender_of, rescheduled}
 use Rattle.kept_state.specs.Quiet.{IsQuiet, idle_step, later}
 use Rattle.kept_state.proofs.Quiet.{alarm_phase_silent, before_silent, last_silent, nobody_executes, quiet_later, quiet_ticks}
-use Rattle.blocking_laws.specs.Looks.{StampLists, alarm_phase_looked, alarms_looked, before_looked, ended_of, instr_in, last_looked, looked_if, named_in, preempted_by, reschedule_looked, spent_of}
+use Rattle.blocking_laws.specs.Restamping.{StampLists, alarm_phase_restamped, alarms_restamped, before_restamped, ended_of, instr_in, last_restamped, restamped_if, named_in, preempted_by, reschedule_restamped, spent_of}
+use Rattle.services.specs.Objects.{Objects, kept_in}
 use Rattle.kernel.specs.declared.acted.Acted.{Acted}
 use Rattle.kernel.specs.Does.{advanced_in}
 use Rattle.kernel.specs.Idle.{Passes, PassesOn, StaysIdle, rested}
-use Rattle.kernel.specs.Looking.{executed_looked, noted, number_for}
-use Rattle.kernel.specs.Machine.{IsMachine, Machine, between}
+use Rattle.kernel.specs.Stamping.{executed_restamped, noted, number_for}
+use Rattle.kernel.specs.Machine.{IsCore, IsMachine, Machine, between, next_tick, picture as picture_in, system_of as system_in}
 use Rattle.kernel.specs.Processor.{Processor, at_tick, picture, system_of}
 use Rattle.kernel.specs.Told.{acted_in, refused_of_in}
 use Rattle.kernel.specs.Watches.{Watched, Watches, Begins, early, executing, last, watched_at}
 use Rattle.kernel.proofs.DoesLemmas.{does_nothing}
-use Rattle.kernel.proofs.QuietLemmas.{quiet_at_tick}
+use Rattle.kernel.proofs.QuietLemmas.{quiet_by_core}
 use Rattle.kernel.proofs.TickLemmas.{IsTicked, Phases, may_start, ticked}
 
 -- no alarm acted
@@ -36,25 +37,25 @@ module _ (S : System) (o : Kept) (quiet : IsQuiet S o) where
   nobody : caller_in o ≡ ByNobody
   nobody = ap₂ (λ (a : Option Active) r. caller_by (is_some a) r o.gone) quiet.no_routine quiet.nobody_runs
 
-  unpreempted : (u : ℕ) (xs : StampLists) → reschedule_looked S u o xs ≡ xs
+  unpreempted : (u : ℕ) (xs : StampLists) → reschedule_restamped S u o xs ≡ xs
   unpreempted u xs = ap (λ r. preempted_by u (contender_of r o.gone o.slots) (rescheduled S o).state.running xs) quiet.nobody_runs
 
-  last_unlooked : (u : ℕ) (xs : StampLists) → last_looked S u o xs ≡ xs
-  last_unlooked u xs = ap (λ over. cond over xs (reschedule_looked S u o xs)) quiet.on ∙ unpreempted u xs
+  last_unstamped : (u : ℕ) (xs : StampLists) → last_restamped S u o xs ≡ xs
+  last_unstamped u xs = ap (λ over. cond over xs (reschedule_restamped S u o xs)) quiet.on ∙ unpreempted u xs
 
-  unended : (u : ℕ) (xs : StampLists) → executed_looked S u o xs ≡ xs
+  unended : (u : ℕ) (xs : StampLists) → executed_restamped S u o xs ≡ xs
   unended u xs =
-      ap₂ (λ d r. looked_if u (named_in (instr_in S d o)) o (execute_phase_in S o).state (ended_of r (ended (execute_phase_in S o).state) xs)) nobody quiet.nobody_runs
+      ap₂ (λ d r. restamped_if u (named_in (instr_in S d o)) o (execute_phase_in S o).state (ended_of r (ended (execute_phase_in S o).state) xs)) nobody quiet.nobody_runs
     where
       ended : Kept → Bool
       ended new = not o.gone && new.gone
 
   module _ (size : length o.alarms ≡ length S.alarms) (none : due_alarms S (bare o) ≡ []) where
-    before_unlooked : (u : ℕ) (xs : StampLists) → before_looked S u [] o xs ≡ xs
-    before_unlooked u xs =
-        ap (λ (r : KeptRecorded). reschedule_looked S u (arrival_phase_in [] r.state) (alarm_phase_looked S u o xs)) (alarm_phase_silent S o size none)
-        ∙ unpreempted u (alarm_phase_looked S u o xs)
-        ∙ ap (λ due. alarms_looked S u due (record o { alarms = alarms_advanced S (bare o) }) xs) none
+    before_unstamped : (u : ℕ) (xs : StampLists) → before_restamped S u [] o xs ≡ xs
+    before_unstamped u xs =
+        ap (λ (r : KeptRecorded). reschedule_restamped S u (arrival_phase_in [] r.state) (alarm_phase_restamped S u o xs)) (alarm_phase_silent S o size none)
+        ∙ unpreempted u (alarm_phase_restamped S u o xs)
+        ∙ ap (λ due. alarms_restamped S u due (record o { alarms = alarms_advanced S (bare o) }) xs) none
 
     unacted : none_acted ≡ acted_in S o
     unacted = sym (ap (λ due. both due (refused_of_in S due (advanced_in S o))) none)
@@ -84,7 +85,7 @@ module _ (counted : Bool) (n : ℕ) (w : Watched) (opening : List TraceEvent) (a
   one : Watches counted (early []) n (watched_at w n) (watched_at w n) opening opening
   one = record {
     does = does_nothing (λ S. before_execution_in S []) (at_tick w.processor n) opening (before_silent S o quiet size none);
-    stamps = λ counting. sym (before_unlooked S o quiet size none n w.blocking.stamps);
+    stamps = λ counting. sym (before_unstamped S o quiet size none n w.blocking.stamps);
     told = refl;
   }
 
@@ -115,7 +116,7 @@ module _ (counted : Bool) (n : ℕ) (w : Watched) (opening : List TraceEvent) (a
   four : Watches counted last (n + 1) (watched_at (idled w) n) (watched_at (idled w) n) [] []
   four = record {
     does = does_nothing last_phase_in (at_tick w.processor n) [] (last_silent S o quiet);
-    stamps = λ counting. sym (last_unlooked S o quiet (n + 1) w.blocking.stamps);
+    stamps = λ counting. sym (last_unstamped S o quiet (n + 1) w.blocking.stamps);
     told = refl;
   }
 
@@ -183,33 +184,35 @@ all_idle S o k quiet size none i less = quiet_ticks S (later i o) (quiet_later S
 
 -- ---- what the machine does
 
-pub record IsPassed (counted : Bool) (clock idle : ℕ) (old new : Machine) : Type 0 where
+pub record IsPassed (counted : Bool) (clock most idle : ℕ) (old new : Machine) : Type 0 where
   pub keeps : IsMachine counted clock new
-  pub idled : StaysIdle counted idle old new
+  pub idled : StaysIdle counted most idle old new
 
 module _ (counted : Bool) (n : ℕ) (w : Watched) (opening : List TraceEvent) (acted : Acted)
     (h : IsMachine counted w.processor.objects.tick (between w n opening acted)) (begun : 1 ≤ n)
-    (quiet : IsQuiet (system_of w.processor) (picture w.processor)) (v : Watched) (now : Acted) (now_is : now ≡ none_acted) where
-  here : IsQuiet (system_of w.processor) (picture (at_tick w.processor n))
-  here = quiet_at_tick w.processor n quiet
-
-  same_machine : (idle : ℕ) → 0 < idle → Passes idle w v → between v (n + idle) opening now ≡ between (idled w) (n + idle) [] none_acted
+    (quiet : IsQuiet (system_of w.processor) (picture (at_tick w.processor n)))
+    (v : Watched) (now : Acted) (now_is : now ≡ none_acted) (most : ℕ) (room : n + most ≤ MAX_TICKS) where
+  same_machine : (idle : ℕ) → 0 < idle → Passes most idle w v
+      → between v (n + idle) opening now ≡ between (idled w) (n + idle) [] none_acted
   same_machine idle some passes =
       λ i. between (record { processor = passes.passed.after i; blocking = passes.rested some i }) (n + idle) (h.none_later begun i) (now_is i)
 
-  none_is_due : (idle : ℕ) → Passes idle w v
+  none_is_due : (idle : ℕ) → Passes most idle w v
       → (i : ℕ) → i < idle → due_alarms (system_of w.processor) (bare (later i (picture (at_tick w.processor n)))) ≡ []
   none_is_due idle passes i low =
       let clock : w.processor.objects.tick ≡ n - 1 = h.before in
       let tick_is : n + i ≡ w.processor.objects.tick + (i + 1) = omega (arith, clock, begun) in
       ap (λ t. due_alarms (system_of w.processor) (bare (picture (at_tick w.processor t)))) tick_is ∙ passes.passed.none i low
 
-  pub passed_idle : (idle : ℕ) → 0 < idle → n + idle ≤ MAX_TICKS → Passes idle w v
-      → IsPassed counted v.processor.objects.tick idle (between w n opening acted) (between v (n + idle) opening now)
-  passed_idle zero some low passes = absurd (omega (arith, some))
-  passed_idle (suc k) some low passes =
+  passed_idle : (idle : ℕ) → 0 < idle → Passes most idle w v
+      → IsPassed counted v.processor.objects.tick most idle
+      (between w n opening acted) (between v (n + idle) opening now)
+  passed_idle zero some passes = absurd (omega (arith, some))
+  passed_idle (suc k) some passes =
+      let few = passes.few in
+      let low : n + suc k ≤ MAX_TICKS = omega (arith, few, room) in
       let none = none_is_due (suc k) passes in
-      let there = reached counted n w opening acted h here k low none in
+      let there = reached counted n w opening acted h quiet k low none in
       let clock : w.processor.objects.tick ≡ n - 1 = h.before in
       let advanced : v.processor.objects.tick ≡ w.processor.objects.tick + suc k = ap (λ (x : Processor). x.objects.tick) passes.passed.after in
       let clock_is : n + k ≡ v.processor.objects.tick = omega (arith, clock, advanced, begun) in
@@ -219,11 +222,12 @@ module _ (counted : Bool) (n : ℕ) (w : Watched) (opening : List TraceEvent) (a
         keeps =
             subst (IsMachine counted v.processor.objects.tick) (sym same)
             (subst (λ c. IsMachine counted c (between (idled w) (n + suc k) [] none_acted)) clock_is there.keeps);
-        idled = subst (StaysIdle counted (suc k) (between w n opening acted)) (sym same)
+        idled = subst (StaysIdle counted most (suc k) (between w n opening acted)) (sym same)
             (record {
+              few = few;
               system = refl;
               after = refl;
-              idle = all_idle (system_of w.processor) (picture (at_tick w.processor n)) (suc k) here size none;
+              idle = all_idle (system_of w.processor) (picture (at_tick w.processor n)) (suc k) quiet size none;
               on = λ later. quiet.on;
               begun = λ later. h.none_later begun;
               next = refl;
@@ -231,3 +235,16 @@ module _ (counted : Bool) (n : ℕ) (w : Watched) (opening : List TraceEvent) (a
               of_run = there.keeps.of_run;
             });
       }
+
+-- the same of a machine that is seen, by its core of the services
+pub machine_idles : (counted : Bool) (n : ℕ) (w : Watched) (opening : List TraceEvent) (acted : Acted)
+    (v : Watched) (now : Acted) (most idle : ℕ) (m : Machine) (o : Objects) → between w n opening acted ≡ m
+    → IsMachine counted w.processor.objects.tick (between w n opening acted) → 1 ≤ n
+    → IsCore m o → IsQuiet o.system (kept_in o) → now ≡ none_acted
+    → next_tick m + most ≤ MAX_TICKS → 0 < idle → Passes most idle w v
+    → IsPassed counted v.processor.objects.tick most idle m (between v (n + idle) opening now)
+machine_idles counted n w opening acted v now most idle m o is h begun core quiet now_is room some passes =
+    subst (λ x. IsPassed counted v.processor.objects.tick most idle x (between v (n + idle) opening now)) is
+    (passed_idle counted n w opening acted h begun
+    (subst (λ x. IsQuiet (system_in x) (picture_in x)) (sym is) (quiet_by_core m o core quiet)) v now now_is
+    most (subst (λ x. next_tick x + most ≤ MAX_TICKS) (sym is) room) idle some passes)

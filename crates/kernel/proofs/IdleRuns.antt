@@ -1,5 +1,5 @@
--- Of a run, ticks in which nothing happens.
-use Rattle.std.proofs.Common.{◌≡◌, ℕ, zero, suc, ◌+◌, ◌<◌, Bool, false, List, [], ◌∷◌, ◌++◌, sym, ◌∙◌, ap, ap₂, subst, arith}
+-- Of a run, ticks in which nothing happens, and a kernel that passes them.
+use Rattle.std.proofs.Common.{◌≡◌, ℕ, zero, suc, ◌+◌, ◌-◌, ◌<◌, Bool, false, List, [], ◌∷◌, ◌++◌, sym, ◌∙◌, ap, ap₂, subst, arith}
 use Rattle.osek_base.specs.declared.arrivals.Arrival.{Arrival}
 use Rattle.osek_base.specs.declared.trace_event.TraceEvent.{TraceEvent}
 use Rattle.osek_base.specs.Proper.{IsProper}
@@ -13,7 +13,11 @@ use Rattle.kept_state.specs.KeptTick.{KeptStep, tick_in}
 use Rattle.kept_state.specs.Quiet.{idle_step, later}
 use Rattle.kept_state.proofs.Ticked.{ticks}
 use Rattle.kernel.specs.Idle.{StaysIdle}
+use Rattle.kernel.specs.Keeping.{IsKernel}
 use Rattle.kernel.specs.Machine.{HasCome, Machine, next_tick, picture}
+use Rattle.kernel.specs.Progress.{AreFree, AreLeft, HasIdled, Progress}
+use Rattle.kernel.proofs.ArrivalLemmas.{left_behind, none_between}
+use Rattle.kernel.proofs.LawLemmas.{lawful}
 use Rattle.kernel.proofs.RunLemmas.{unwritten_more}
 use Rattle.kernel.proofs.TickLemmas.{further}
 
@@ -69,11 +73,12 @@ module _ (S : System) (proper : IsProper S) (mode : ℕ) (arrivals : List Arriva
 
 -- ---- a machine that stays idle
 
-module _ (counted : Bool) (S : System) (proper : IsProper S) (mode : ℕ) (arrivals : List Arrival) (m new : Machine) (n : ℕ)
-    (come : HasCome counted S mode arrivals (next_tick m) m) (idled : StaysIdle counted n m new)
+module _ (counted : Bool) (S : System) (proper : IsProper S) (mode : ℕ) (arrivals : List Arrival)
+    (m new : Machine) (most n : ℕ) (come : HasCome counted S mode arrivals (next_tick m) m)
+    (idled : StaysIdle counted most n m new)
     (free : (i : ℕ) → i < n → arriving arrivals (next_tick m + i) ≡ []) where
   -- the run has come to it
-  pub comes_to : HasCome counted S mode arrivals (next_tick new) new
+  comes_to : HasCome counted S mode arrivals (next_tick new) new
   comes_to =
       subst (λ (T : System). HasCome counted T mode arrivals (next_tick new) new) (idled.system ∙ come.at.system)
       (idled.goes_on mode arrivals free (subst (λ (T : System). HasCome counted T mode arrivals (next_tick m) m) (sym come.at.system) come))
@@ -90,9 +95,57 @@ module _ (counted : Bool) (S : System) (proper : IsProper S) (mode : ℕ) (arriv
       (sym come.at.unwritten ∙ idled.begun (omega (arith, low)))
       (λ i less. free i (omega (arith, less, low))) (λ i less. stays i (omega (arith, less, low)))
 
-  pub idle_records : (k : ℕ) → k < n → record_at S mode arrivals (next_tick m + k) ≡ TraceEvent.Idle ∷ []
+  idle_records : (k : ℕ) → k < n → record_at S mode arrivals (next_tick m + k) ≡ TraceEvent.Idle ∷ []
   idle_records k low =
       idle_there S proper mode arrivals (next_tick m) o (idled.on (omega (arith, low))) k (free k low) (stays k low) (is_there k low)
 
-  pub idle_going : (k : ℕ) → k < n → (run S mode arrivals (next_tick m + k)).state.over ≡ false
+  idle_going : (k : ℕ) → k < n → (run S mode arrivals (next_tick m + k)).state.over ≡ false
   idle_going k low = going_there S proper mode arrivals (next_tick m) o (idled.on (omega (arith, low))) k (is_there k low)
+
+-- ---- and a kernel with it
+
+abbrev pub progress : System → ℕ → List Arrival → Machine → Progress
+progress S mode arrivals m = record { system = S; mode = mode; arrivals = arrivals; ticks = next_tick m }
+
+-- the kernel keeps the run behind them, and has idled
+pub record KernelIdles (counted : Bool) (S : System) (mode : ℕ) (arrivals : List Arrival) (lent : List ℕ)
+    (cursor most n : ℕ) (old : Progress) (new : Machine) : Type 0 where
+  pub keeps : IsKernel counted S mode arrivals lent cursor cursor new
+  pub idled : HasIdled most old (progress S mode arrivals new) n
+
+pub kernel_idles : (counted : Bool) (S : System) (mode : ℕ) (arrivals list : List Arrival) (lent : List ℕ)
+    (earlier cursor tick most free n : ℕ) (old : Progress) (m new : Machine) → progress S mode arrivals m ≡ old
+    → IsKernel counted S mode arrivals lent earlier cursor m → list ≡ arrivals → tick ≡ next_tick m
+    → AreFree list cursor tick most free → StaysIdle counted free n m new → 0 < n
+    → KernelIdles counted S mode arrivals lent cursor most n old new
+kernel_idles counted S mode arrivals list lent earlier cursor tick most free n old m new is v list_is tick_is freed idles
+    some =
+    let few = idles.few in
+    let left = subst (λ t. AreFree arrivals cursor t most free) tick_is
+    (subst (λ xs. AreFree xs cursor tick most free) list_is freed) in
+    let fewer = left.few in
+    let none : (i : ℕ) → i < n → arriving arrivals (next_tick m + i) ≡ [] =
+    λ i low. left.none i (omega (arith, few, low)) in
+    let next = idles.next in
+    let last_is : next_tick new - 1 ≡ next_tick m + (n - 1) = omega (arith, next, some) in
+    record {
+      keeps = record {
+        proper = v.proper;
+        known = v.known;
+        routines = v.routines;
+        left =
+            subst (AreLeft arrivals cursor) (sym next)
+            (left_behind arrivals cursor (next_tick m) most free n v.left left few);
+        last = λ begun.
+            ap (arriving arrivals) last_is ∙ none (n - 1) (omega (arith, some)) ∙ sym (none_between lent cursor);
+        forward = omega arith;
+        come = comes_to counted S v.proper mode arrivals m new free n v.come idles none;
+      };
+      idled = subst (λ r. HasIdled most r (progress S mode arrivals new) n) is (record {
+        few = omega (arith, few, fewer);
+        records = idle_records counted S v.proper mode arrivals m new free n v.come idles none;
+        going = idle_going counted S v.proper mode arrivals m new free n v.come idles none;
+        next = ap (λ t. record (progress S mode arrivals m) { ticks = t }) next;
+        lawful = lawful (progress S mode arrivals new) v.proper;
+      });
+    }

@@ -23,8 +23,8 @@ use Rattle.kept_state.proofs.Ticked.{settled_of}
 use Rattle.readiness.specs.Stamps.{spent_oldest}
 use Rattle.blocking_laws.specs.Steps.{step_at}
 use Rattle.blocking_laws.specs.Stamps.{Stamps, blockers_by, levels_of, stamps_in, stamps_of}
-use Rattle.blocking_laws.specs.Looks.{AreListed, StampLists, after_looked, before_looked, last_looked, spent_of, stamps_at}
-use Rattle.kernel.specs.Looking.{AreCounted, executed_looked, noted, number_for}
+use Rattle.blocking_laws.specs.Restamping.{AreListed, StampLists, after_restamped, before_restamped, last_restamped, spent_of, stamps_at}
+use Rattle.kernel.specs.Stamping.{AreCounted, executed_restamped, noted, number_for}
 use Rattle.kernel.specs.Machine.{AreLast}
 use Rattle.blocking_laws.proofs.AfterStamps.{run_listed}
 use Rattle.blocking_laws.proofs.BeforeStamps.{before_listed}
@@ -85,14 +85,14 @@ module _ (S : System) (proper : IsProper S) (mode : ℕ) (arrivals : List Arriva
       ∙ ap (λ t. (tick S (arriving arrivals t) (run S mode arrivals n).state).executing) (sym (run_tick S mode arrivals n going))
 
   -- phases 1 to 4
-  pub begun_listed : (xs zs : StampLists) → zs ≡ before_looked S n (arriving arrivals n) k xs
+  pub begun_listed : (xs zs : StampLists) → zs ≡ before_restamped S n (arriving arrivals n) k xs
       → AreListed S xs (stamps_of S mode arrivals n) (run S mode arrivals n).state
       → AreListed S zs (stamps_in S mode arrivals n (stamps_of S mode arrivals n)) e
-  begun_listed xs zs looked are =
-      let all : zs ≡ before_looked S n (arriving arrivals n) (kept S (run S mode arrivals n).state) xs =
-      looked ∙ ap (λ (k : Kept). before_looked S n (arriving arrivals n) k xs) same in
+  begun_listed xs zs restamped are =
+      let all : zs ≡ before_restamped S n (arriving arrivals n) (kept S (run S mode arrivals n).state) xs =
+      restamped ∙ ap (λ (k : Kept). before_restamped S n (arriving arrivals n) k xs) same in
       subst (λ vs. AreListed S vs (stamps_in S mode arrivals n (stamps_of S mode arrivals n)) e) (sym all)
-      (subst (λ s. AreListed S (before_looked S n (arriving arrivals n) (kept S (run S mode arrivals n).state) xs) (stamps_in S mode arrivals n (stamps_of S mode arrivals n)) s) (sym step_is)
+      (subst (λ s. AreListed S (before_restamped S n (arriving arrivals n) (kept S (run S mode arrivals n).state) xs) (stamps_in S mode arrivals n (stamps_of S mode arrivals n)) s) (sym step_is)
       (before_listed S mode arrivals n xs proper going are))
 
   module _ (b : Kept) (before : b ≡ (before_execution_in S (arriving arrivals n) k).state)
@@ -136,13 +136,13 @@ module _ (S : System) (proper : IsProper S) (mode : ℕ) (arrivals : List Arriva
 
     -- phases 5 and 6
     pub after_told : (ex : Kept) (ts us vs : StampLists) → ex ≡ (execute_phase_in S b).state
-        → ts ≡ spent_of (caller_in b) zs → us ≡ executed_looked S (n + 1) b ts → vs ≡ last_looked S (n + 1) ex us
+        → ts ≡ spent_of (caller_in b) zs → us ≡ executed_restamped S (n + 1) b ts → vs ≡ last_restamped S (n + 1) ex us
         → AreListed S vs (stamps_of S mode arrivals (n + 1)) (run S mode arrivals (n + 1)).state
     after_told ex ts us vs executed first second third =
-        let all : vs ≡ after_looked S (suc n) (kept S (step_at S mode arrivals n).executing) zs =
+        let all : vs ≡ after_restamped S (suc n) (kept S (step_at S mode arrivals n).executing) zs =
         third
-        ∙ ap₂ (λ (o : Kept) (ys : StampLists). last_looked S (n + 1) o ys) executed (second ∙ ap (executed_looked S (n + 1) b) first)
-        ∙ ap₂ (λ u o. after_looked S u o zs) (add-one n) (kept_is ∙ ap (kept S) step_is) in
+        ∙ ap₂ (λ (o : Kept) (ys : StampLists). last_restamped S (n + 1) o ys) executed (second ∙ ap (executed_restamped S (n + 1) b) first)
+        ∙ ap₂ (λ u o. after_restamped S u o zs) (add-one n) (kept_is ∙ ap (kept S) step_is) in
         subst (λ t. AreListed S vs (stamps_of S mode arrivals t) (run S mode arrivals t).state) (sym (add-one n))
         (subst (λ ys. AreListed S ys (stamps_of S mode arrivals (suc n)) (run S mode arrivals (suc n)).state) (sym all)
         (run_listed S proper mode arrivals n going zs

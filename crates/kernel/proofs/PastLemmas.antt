@@ -13,7 +13,7 @@ use Rattle.std.proofs.Math.Numerals.{add-one}
 use Rattle.kept_state.specs.Kept.{kept}
 use Rattle.blocking_laws.specs.Steps.{next_step, step_at}
 use Rattle.blocking_laws.specs.Stamps.{Stamps, levels_of, spent, stamped, stamps_of}
-use Rattle.blocking_laws.specs.Looks.{AreListed}
+use Rattle.blocking_laws.specs.Restamping.{AreListed}
 use Rattle.blocking_laws.proofs.StepLemmas.{run_more, run_over, tick_zero}
 use Rattle.kernel.specs.Machine.{IsAt, Machine}
 

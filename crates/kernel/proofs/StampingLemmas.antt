@@ -11,11 +11,11 @@ use Rattle.osek_base.specs.Tick.{action_call}
 use Rattle.run_laws.proofs.Foremost.{equal}
 use Rattle.kept_state.specs.Kept.{Kept}
 use Rattle.kept_state.specs.Moves.{activated_in, released_in}
-use Rattle.kept_state.specs.KeptService.{ByNobody, refusals_in, reply_in, unmasked_in, with_mask}
+use Rattle.kept_state.specs.KeptService.{ByNobody, refusals_in, reply_in, unasked_in, with_mask}
 use Rattle.kept_state.specs.KeptTick.{alarm_acts_in}
 use Rattle.readiness.specs.Stamps.{stamp_oldest}
-use Rattle.blocking_laws.specs.Looks.{StampLists, acting_task, alarm_looked, changed_list, looked, looked_at, stamps_at, task_waits}
-use Rattle.kernel.specs.Looking.{AreCounted, acts_on}
+use Rattle.blocking_laws.specs.Restamping.{StampLists, acting_task, alarm_restamped, changed_list, restamped, restamped_at, stamps_at, task_waits}
+use Rattle.kernel.specs.Stamping.{AreCounted, acts_on}
 
 -- ---- the number of a task's jobs, and of its stamps
 
@@ -39,8 +39,8 @@ module _ (S : System) (o : Kept) where
   set_one t m true = record { more = false; own = rw (self_eq t) refl; others = λ v other. rw other refl }
   set_one t m false = record { more = false; own = refl; others = λ v other. refl }
 
-  acts_one : (action : Action) → GetsOne (acting_task action) o (unmasked_in S ByNobody o (action_call action)).state
-  unfolding unmasked_in
+  acts_one : (action : Action) → GetsOne (acting_task action) o (unasked_in S ByNobody o (action_call action)).state
+  unfolding unasked_in
   acts_one (Action.ActivateTask t) = go (first_refusal (refusals_in S ByNobody o (Service.ActivateTask (Some t))))
     where
       go : (r : Option Status) → GetsOne t o (reply_in S ByNobody o (Service.ActivateTask (Some t)) r).state
@@ -58,12 +58,12 @@ stamp_length u [] = refl
 stamp_length u (None ∷ later) = refl
 stamp_length u (Some v ∷ later) = refl
 
-looked_length : (u count : ℕ) (waited waits more : Bool) (list : List (Option ℕ)) → count ≡ cond more (length list + 1) (length list)
-    → length (looked u count waited waits list) ≡ count
-looked_length u count waited waits true list is =
+restamped_length : (u count : ℕ) (waited waits more : Bool) (list : List (Option ℕ)) → count ≡ cond more (length list + 1) (length list)
+    → length (restamped u count waited waits list) ≡ count
+restamped_length u count waited waits true list is =
     let higher : nat_lt (length list) count ≡ true = grind (arith, is) in
     rw higher (length-append list (Some u ∷ []) ∙ sym is)
-looked_length u count waited waits false list is =
+restamped_length u count waited waits false list is =
     let same : nat_lt (length list) count ≡ false = grind (arith, is) in
     rw same (go (waited && not waits))
   where
@@ -79,21 +79,21 @@ module _ (t : ℕ) (f : List (Option ℕ) → List (Option ℕ)) (xs : StampList
   pub at_other : (v : ℕ) → (t == v) ≡ false → stamps_at (changed_list t f xs) v ≡ stamps_at xs v
   at_other v other = get_or-set_other xs t v (f (stamps_at xs t)) [] (λ same. absurd (grind (arith, other, same)))
 
-looked_counted : (u t : ℕ) (o n : Kept) (xs : StampLists) → GetsOne t o n → AreCounted xs o → t < length xs
-    → AreCounted (looked_at u t o n xs) n
-looked_counted u t o n xs one counted inside v = go (t == v) refl
+restamped_counted : (u t : ℕ) (o n : Kept) (xs : StampLists) → GetsOne t o n → AreCounted xs o → t < length xs
+    → AreCounted (restamped_at u t o n xs) n
+restamped_counted u t o n xs one counted inside v = go (t == v) refl
   where
-    go : (b : Bool) → (t == v) ≡ b → length (stamps_at (looked_at u t o n xs) v) ≡ (n.slots v).count
+    go : (b : Bool) → (t == v) ≡ b → length (stamps_at (restamped_at u t o n xs) v) ≡ (n.slots v).count
     go true e =
-        subst (λ w. length (stamps_at (looked_at u t o n xs) w) ≡ (n.slots w).count) (equal t v e)
-        (ap (λ (ys : List (Option ℕ)). length ys) (at_changed t (looked u (n.slots t).count (task_waits o t) (task_waits n t)) xs inside)
-        ∙ looked_length u (n.slots t).count (task_waits o t) (task_waits n t) one.more (stamps_at xs t)
+        subst (λ w. length (stamps_at (restamped_at u t o n xs) w) ≡ (n.slots w).count) (equal t v e)
+        (ap (λ (ys : List (Option ℕ)). length ys) (at_changed t (restamped u (n.slots t).count (task_waits o t) (task_waits n t)) xs inside)
+        ∙ restamped_length u (n.slots t).count (task_waits o t) (task_waits n t) one.more (stamps_at xs t)
         (one.own ∙ ap (λ k. cond one.more (k + 1) k) (sym (counted t))))
-    go false e = ap (λ (ys : List (Option ℕ)). length ys) (at_other t (looked u (n.slots t).count (task_waits o t) (task_waits n t)) xs v e) ∙ counted v ∙ sym (one.others v e)
+    go false e = ap (λ (ys : List (Option ℕ)). length ys) (at_other t (restamped u (n.slots t).count (task_waits o t) (task_waits n t)) xs v e) ∙ counted v ∙ sym (one.others v e)
 
 -- each task has as many stamps as jobs after an alarm's action too
 pub acted_counted : (S : System) (u a : ℕ) (o n : Kept) (xs : StampLists) → AreCounted xs o → acts_on S a < length xs
-    → n ≡ (alarm_acts_in S a o).state → AreCounted (alarm_looked S u a o xs) n
+    → n ≡ (alarm_acts_in S a o).state → AreCounted (alarm_restamped S u a o xs) n
 acted_counted S u a o n xs counted inside is =
-    subst (AreCounted (alarm_looked S u a o xs)) (sym is)
-    (looked_counted u (acts_on S a) o (alarm_acts_in S a o).state xs (acts_one S o (alarm S a).action) counted inside)
+    subst (AreCounted (alarm_restamped S u a o xs)) (sym is)
+    (restamped_counted u (acts_on S a) o (alarm_acts_in S a o).state xs (acts_one S o (alarm S a).action) counted inside)

@@ -22,7 +22,7 @@ use Rattle.osek_base.proofs.PlaceLemmas.{all_at, and_split}
 use Rattle.kept_state.specs.Kept.{Kept, Slot}
 use Rattle.ready_queues.specs.QueueMoves.{changed_at}
 use Rattle.kept_state.specs.Moves.{activated_in, rescheduled}
-use Rattle.kept_state.specs.KeptService.{ByNobody, is_full_in, unmasked_in}
+use Rattle.kept_state.specs.KeptService.{ByNobody, is_full_in, unasked_in}
 use Rattle.kept_state.specs.KeptTick.{all_activated_in, begun_in, boot_in}
 use Rattle.kernel.specs.Processor.{AreAhead}
 
@@ -90,8 +90,8 @@ some_activation S t h low =
 
 -- ActivateTask of a task without a job
 serves : (S : System) (t : ℕ) (o : Kept) → IsProper S → t < length S.tasks → (o.slots t).count ≡ 0
-    → (unmasked_in S ByNobody o (Service.ActivateTask (Some t))).state ≡ activated_in S t o
-unfolding unmasked_in
+    → (unasked_in S ByNobody o (Service.ActivateTask (Some t))).state ≡ activated_in S t o
+unfolding unasked_in
 serves S t o proper low none =
     let some : 1 ≤ activation_of S t = some_activation S t proper low in
     let fits : is_full_in S o t ≡ false = grind (arith, some, none) in
@@ -125,7 +125,7 @@ others o n t slot higher = let other : (n == t) ≡ false = grind (arith, higher
 -- one task more, that starts, or that doesn't
 pub starting_more : (S : System) (mode n : ℕ) (o after : Kept) → AreStarting S mode n o → IsProper S → n < length S.tasks
     → starts_in S mode n ≡ true
-    → after ≡ (unmasked_in S ByNobody o (Service.ActivateTask (Some n))).state
+    → after ≡ (unasked_in S ByNobody o (Service.ActivateTask (Some n))).state
     → AreStarting S mode (n + 1) after
 starting_more S mode n o after h proper low starts served =
     let one : after ≡ activated_in S n o = served ∙ serves S n o proper low (h.none n (omega arith)) in

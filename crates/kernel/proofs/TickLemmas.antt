@@ -20,11 +20,11 @@ use Rattle.kept_state.specs.Standing.{MayServe, runner_waits}
 use Rattle.kept_state.proofs.InRuns.{before_alike, ready_between_ticks, serves_in_runs}
 use Rattle.kept_state.proofs.Nesting.{few_nested}
 use Rattle.kept_state.proofs.Ticked.{ticks}
-use Rattle.blocking_laws.specs.Looks.{before_looked, last_looked}
+use Rattle.blocking_laws.specs.Restamping.{before_restamped, last_restamped}
 use Rattle.run_laws.specs.Arrived.{AreArrivals, with_arrived}
 use Rattle.run_laws.proofs.Arriving.{earlier, present, takes_any_arrivals}
 use Rattle.std.specs.List.{AllByRecursion}
-use Rattle.kernel.specs.Looking.{AreCounted, Told, executed_looked, noted, number_for, number_told as number_of}
+use Rattle.kernel.specs.Stamping.{AreCounted, Told, executed_restamped, noted, number_for, number_told as number_of}
 use Rattle.kernel.specs.declared.acted.Acted.{Acted}
 use Rattle.kernel.specs.Told.{acted_at, acted_in}
 use Rattle.kernel.proofs.ToldLemmas.{acted_told}
@@ -185,7 +185,7 @@ module _ (counted : Bool) (w : Watched) (n : ℕ) (opening : List TraceEvent) (a
     each_counted : counted ≡ true → AreCounted bg.blocking.stamps (picture bg.processor)
     each_counted counting =
         let k = picture (at_tick w.processor n) in
-        let told = one.stamps counting ∙ ap (λ v. before_looked here n v k w.blocking.stamps) (sym arrive_these) in
+        let told = one.stamps counting ∙ ap (λ v. before_restamped here n v k w.blocking.stamps) (sym arrive_these) in
         let are = begun_listed here h.of_run.proper h.of_run.mode with_these n k at_these.same going_these w.blocking.stamps st.blocking.stamps told (at_these.stamped counting) in
         subst (AreCounted bg.blocking.stamps) (sym (ap picture two.processor))
         (counted_spent here h.of_run.proper h.of_run.mode with_these n k at_these.same going_these (picture st.processor)
@@ -267,10 +267,10 @@ module _ (counted : Bool) (arrived : List ℕ) (n : ℕ) (w st bg ex la : Watche
     comes rest now none now_is =
         let before : picture st.processor ≡ (before_execution_in S (arriving arrivals n) k).state =
         sym (ap picture phases.two.processor) ∙ bg_is ∙ ap (λ v. (before_execution_in S v k).state) (sym arrive) in
-        let looked = λ (counting : counted ≡ true).
-        phases.one.stamps counting ∙ ap₂ (λ T v. before_looked T n v k w.blocking.stamps) here_is (sym arrive) in
+        let restamped = λ (counting : counted ≡ true).
+        phases.one.stamps counting ∙ ap₂ (λ T v. before_restamped T n v k w.blocking.stamps) here_is (sym arrive) in
         let are = λ (counting : counted ≡ true).
-        begun_listed S proper mode arrivals n k at.same going w.blocking.stamps st.blocking.stamps (looked counting) (at.stamped counting) in
+        begun_listed S proper mode arrivals n k at.same going w.blocking.stamps st.blocking.stamps (restamped counting) (at.stamped counting) in
         let system_st : system_of st.processor ≡ S = phases.one.does.system ∙ here_is in
         let last_is = phases.four.told ∙ phases.three.told in
         record {
@@ -283,8 +283,8 @@ module _ (counted : Bool) (arrived : List ℕ) (n : ℕ) (w st bg ex la : Watche
                 after_told S proper mode arrivals n k at.same going (picture st.processor) before st.blocking.stamps (are counting)
                 (picture ex.processor) bg.blocking.stamps ex.blocking.stamps la.blocking.stamps
                 (ex_is ∙ ap (λ p. (execute_phase_in S (picture p)).state) phases.two.processor) ((phases.two.blocking.spent counting).stamps)
-                (phases.three.stamps counting ∙ ap₂ (λ T p. executed_looked T (n + 1) (picture p) bg.blocking.stamps) system_bg phases.two.processor)
-                (phases.four.stamps counting ∙ ap (λ T. last_looked T (n + 1) (picture ex.processor) ex.blocking.stamps) system_ex);
+                (phases.three.stamps counting ∙ ap₂ (λ T p. executed_restamped T (n + 1) (picture p) bg.blocking.stamps) system_bg phases.two.processor)
+                (phases.four.stamps counting ∙ ap (λ T. last_restamped T (n + 1) (picture ex.processor) ex.blocking.stamps) system_ex);
             levels = λ counting.
                 levels_told S proper mode arrivals n k at.same going (picture st.processor) before st.blocking.stamps (are counting)
                 w.blocking.told.last la.blocking.told.last (at.levels counting)

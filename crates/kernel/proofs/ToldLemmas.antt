@@ -9,7 +9,7 @@ use Rattle.osek_base.specs.declared.trace_event.TraceEvent.{TraceEvent}
 use Rattle.osek_base.specs.Alarm.{alarms_advanced, due_alarms, is_due}
 use Rattle.osek_base.specs.Lists.{below}
 use Rattle.osek_base.specs.Proper.{IsProper}
-use Rattle.osek_base.specs.Service.{NobodyCalls, unmasked_service}
+use Rattle.osek_base.specs.Service.{NobodyCalls, unasked_service}
 use Rattle.osek_base.specs.State.{State, jobs_of}
 use Rattle.osek_base.specs.System.{System, alarm}
 use Rattle.osek_base.specs.Tick.{action_call, before_execution}
@@ -90,8 +90,8 @@ module _ (S : System) (proper : IsProper S) where
       let known = alarm_known S a proper all.0 in
       ap (λ (r : KeptReply). if_refused a r.status ++ refused_of_in S due r.state)
       (sym (acts S s (settled_of S s good.single good.ordered.ranked) (known_of S s form) good.ordered.ready call))
-      ∙ ap (λ v. if_refused a (unmasked_service S NobodyCalls s call).status ++ v)
-      (refused_kept due all.1 (unmasked_service S NobodyCalls s call).state (action_run S proper s (alarm S a).action known good)
+      ∙ ap (λ v. if_refused a (unasked_service S NobodyCalls s call).status ++ v)
+      (refused_kept due all.1 (unasked_service S NobodyCalls s call).state (action_run S proper s (alarm S a).action known good)
       (acts_form S proper s call known form))
 
   module _ (mode : ℕ) (arrivals : List Arrival) (n : ℕ) where

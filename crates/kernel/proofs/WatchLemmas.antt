@@ -8,10 +8,10 @@ use Rattle.osek_base.specs.Alarm.{due_alarms}
 use Rattle.kept_state.specs.KeptService.{bare}
 use Rattle.kept_state.specs.Standing.{runner_waits}
 use Rattle.kept_state.specs.KeptTick.{alarm_acts_in, alarms_act_in}
-use Rattle.blocking_laws.specs.Looks.{StampLists, alarm_looked, alarm_phase_looked, alarms_looked}
+use Rattle.blocking_laws.specs.Restamping.{StampLists, alarm_restamped, alarm_phase_restamped, alarms_restamped}
 use Rattle.kernel.specs.declared.stamping.Look.{Look}
 use Rattle.kernel.specs.Does.{Becomes, Does, advanced_in}
-use Rattle.kernel.specs.Looking.{AreCounted, acts_on, looked_between, seen}
+use Rattle.kernel.specs.Stamping.{AreCounted, acts_on, restamped_between, seen}
 use Rattle.kernel.specs.Processor.{IsBefore, Processor, at_tick, clocked, picture, system_of}
 use Rattle.kernel.specs.Watches.{Blocking, MayAct, Watched, Watches, acting, all_acting, phase_of_alarms, watched_at}
 use Rattle.kernel.proofs.ActLemmas.{act_ready, acting_more, clocked_is, phase_acts, phase_first}
@@ -25,13 +25,13 @@ watched_of p b = record { processor = p; blocking = b }
 pub acts_watched : (counted : Bool) (a task tick : ℕ) (old : Watched) (new : Processor) (before after : Look) (b : Blocking) (first second : List TraceEvent)
     → Does (λ S. alarm_acts_in S a) old.processor new first second
     → task ≡ acts_on (system_of old.processor) a → before ≡ seen (picture old.processor) task → after ≡ seen (picture new) task
-    → (counted ≡ true → b.stamps ≡ looked_between tick before after old.blocking.stamps) → b.told ≡ old.blocking.told
+    → (counted ≡ true → b.stamps ≡ restamped_between tick before after old.blocking.stamps) → b.told ≡ old.blocking.told
     → Watches counted (acting a) tick old (watched_of new b) first second
-acts_watched counted a task tick old new before after b first second does task_is before_is after_is looks told = record {
+acts_watched counted a task tick old new before after b first second does task_is before_is after_is restamps told = record {
   does = does;
   stamps = λ on.
-      looks on
-      ∙ ap₂ (λ x n. looked_between tick x n old.blocking.stamps) (before_is ∙ ap (seen (picture old.processor)) task_is)
+      restamps on
+      ∙ ap₂ (λ x n. restamped_between tick x n old.blocking.stamps) (before_is ∙ ap (seen (picture old.processor)) task_is)
       (after_is ∙ ap₂ (λ k t. seen k t) does.kept task_is);
   told = told;
 }
@@ -47,10 +47,10 @@ may_act_more counted a tick old new first second w inside may = record {
 }
 
 -- one more at the end
-looked_more : (S : System) (u : ℕ) (xs : List ℕ) (a : ℕ) (o : Kept) (ys : StampLists)
-    → alarm_looked S u a (alarms_act_in S xs o).state (alarms_looked S u xs o ys) ≡ alarms_looked S u (xs ++ a ∷ []) o ys
-looked_more S u [] a o ys = refl
-looked_more S u (x ∷ xs) a o ys = looked_more S u xs a (alarm_acts_in S x o).state (alarm_looked S u x o ys)
+restamped_more : (S : System) (u : ℕ) (xs : List ℕ) (a : ℕ) (o : Kept) (ys : StampLists)
+    → alarm_restamped S u a (alarms_act_in S xs o).state (alarms_restamped S u xs o ys) ≡ alarms_restamped S u (xs ++ a ∷ []) o ys
+restamped_more S u [] a o ys = refl
+restamped_more S u (x ∷ xs) a o ys = restamped_more S u xs a (alarm_acts_in S x o).state (alarm_restamped S u x o ys)
 
 pub watched_more : (counted : Bool) (due : List ℕ) (i tick : ℕ) (a b c : Watched) (first second : List TraceEvent)
     → Watches counted (all_acting (take i due)) tick a b [] first → i < length due
@@ -61,10 +61,10 @@ watched_more counted due i tick a b c first second some low one = record {
   stamps = λ on.
       let S : System = system_of a.processor in
       one.stamps on
-      ∙ ap₂ (λ T xs. alarm_looked T tick (get_or due i 0) (picture b.processor) xs) some.does.system (some.stamps on)
-      ∙ ap (λ k. alarm_looked S tick (get_or due i 0) k (alarms_looked S tick (take i due) (picture a.processor) a.blocking.stamps)) some.does.kept
-      ∙ looked_more S tick (take i due) (get_or due i 0) (picture a.processor) a.blocking.stamps
-      ∙ ap (λ v. alarms_looked S tick v (picture a.processor) a.blocking.stamps) (sym (take_more due i 0 low));
+      ∙ ap₂ (λ T xs. alarm_restamped T tick (get_or due i 0) (picture b.processor) xs) some.does.system (some.stamps on)
+      ∙ ap (λ k. alarm_restamped S tick (get_or due i 0) k (alarms_restamped S tick (take i due) (picture a.processor) a.blocking.stamps)) some.does.kept
+      ∙ restamped_more S tick (take i due) (get_or due i 0) (picture a.processor) a.blocking.stamps
+      ∙ ap (λ v. alarms_restamped S tick v (picture a.processor) a.blocking.stamps) (sym (take_more due i 0 low));
   told = one.told ∙ some.told;
 }
 
@@ -80,9 +80,9 @@ phase_watched counted w advanced new tick due before after h later none due_is b
       (phase_acts w.processor advanced new.processor tick due after h later due_is becomes acted.does);
   stamps = λ on.
       acted.stamps on
-      ∙ ap₂ (λ S (o : Kept). alarms_looked S tick due o w.blocking.stamps) becomes.system becomes.kept
-      ∙ ap (λ v. alarms_looked (system_of w.processor) tick v (advanced_in (system_of w.processor) (picture (clocked w.processor))) w.blocking.stamps) due_is
-      ∙ sym (ap (λ (m : Processor). alarm_phase_looked (system_of m) tick (picture m) w.blocking.stamps) (clocked_is w.processor tick h later));
+      ∙ ap₂ (λ S (o : Kept). alarms_restamped S tick due o w.blocking.stamps) becomes.system becomes.kept
+      ∙ ap (λ v. alarms_restamped (system_of w.processor) tick v (advanced_in (system_of w.processor) (picture (clocked w.processor))) w.blocking.stamps) due_is
+      ∙ sym (ap (λ (m : Processor). alarm_phase_restamped (system_of m) tick (picture m) w.blocking.stamps) (clocked_is w.processor tick h later));
   told = acted.told;
 }
 
@@ -93,7 +93,7 @@ first_watched counted w tick records h first =
     record {
       does = phase_first w.processor tick records h first;
       stamps = λ on.
-          sym (ap (λ v. alarms_looked (system_of w.processor) tick v (advanced_in (system_of w.processor) (picture (at_tick w.processor tick))) w.blocking.stamps)
+          sym (ap (λ v. alarms_restamped (system_of w.processor) tick v (advanced_in (system_of w.processor) (picture (at_tick w.processor tick))) w.blocking.stamps)
           (nothing_due (system_of w.processor) (bare (picture (at_tick w.processor tick))) zero_is h.alarms (h.ahead zero_is)));
       told = refl;
     }

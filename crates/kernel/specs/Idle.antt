@@ -1,5 +1,5 @@
 -- OSEK/VDX OS: task management; alarms. Ticks in which nothing happens but that nobody executes, done at once.
-use Rattle.std.specs.Prelude.{ℕ, ◌≡◌, ◌<◌, ◌+◌, Bool, false, List, [], None}
+use Rattle.std.specs.Prelude.{ℕ, ◌≡◌, ◌<◌, ◌≤◌, ◌+◌, Bool, false, List, [], None}
 use Rattle.osek_base.specs.declared.arrivals.Arrival.{Arrival}
 use Rattle.osek_base.specs.Alarm.{due_alarms}
 use Rattle.osek_base.specs.Trace.{arriving}
@@ -19,8 +19,9 @@ pub record HasPassed (n : ℕ) (old new : Processor) : Type 0 where
 abbrev pub rested : Blocking → Blocking
 rested b = record b { told = record b.told { begun = record b.told.begun { stamp = None } } }
 
--- so many ticks passed, in which nobody executed
-pub record Passes (n : ℕ) (old new : Watched) : Type 0 where
+-- so many ticks passed, at most some, in which nobody executed
+pub record Passes (most n : ℕ) (old new : Watched) : Type 0 where
+  pub few : n ≤ most
   pub passed : HasPassed n old.processor new.processor
   pub rested : 0 < n → new.blocking ≡ rested old.blocking
   pub same : n ≡ 0 → new.blocking ≡ old.blocking
@@ -31,9 +32,10 @@ PassesOn counted n old new =
     (mode : ℕ) (arrivals : List Arrival) → ((k : ℕ) → k < n → arriving arrivals (next_tick old + k) ≡ [])
     → IsRun counted mode arrivals old → IsRun counted mode arrivals new
 
--- so many ticks in which no interrupt arrives: in each nobody executes, and it leaves all as it was but for the tick. The
--- first tick is none of them
-pub record StaysIdle (counted : Bool) (n : ℕ) (old new : Machine) : Type 0 where
+-- so many ticks, at most some, in which no interrupt arrives: in each nobody executes, and it leaves all as it was but
+-- for the tick. The first tick is none of them
+pub record StaysIdle (counted : Bool) (most n : ℕ) (old new : Machine) : Type 0 where
+  pub few : n ≤ most
   pub system : system_of new ≡ system_of old
   pub after : picture new ≡ later n (picture old)
   pub idle : (k : ℕ) → k < n → tick_in (system_of old) [] (later k (picture old)) ≡ idle_step (later k (picture old))

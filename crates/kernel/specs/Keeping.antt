@@ -8,7 +8,7 @@ use Rattle.osek_base.specs.Trace.{arriving}
 use Rattle.kernel.specs.Machine.{HasCome, Machine, next_tick}
 use Rattle.kernel.specs.Progress.{AreKnown, AreLeft}
 
-pub record IsKept (counted : Bool) (S : System) (mode : ℕ) (arrivals : List Arrival) (lent : List ℕ) (earlier cursor : ℕ) (m : Machine) : Type 0 where
+pub record IsKernel (counted : Bool) (S : System) (mode : ℕ) (arrivals : List Arrival) (lent : List ℕ) (earlier cursor : ℕ) (m : Machine) : Type 0 where
   pub proper : IsProper S
   pub known : AreKnown S arrivals
   pub routines : lent ≡ map (λ a. a.routine) arrivals

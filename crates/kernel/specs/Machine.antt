@@ -14,10 +14,10 @@ use Rattle.run_laws.specs.Arrived.{AreArrivals}
 use Rattle.kept_state.specs.Kept.{Kept, kept}
 use Rattle.kept_state.specs.KeptTick.{tick_in}
 use Rattle.blocking_laws.specs.Stamps.{levels_of, stamps_of}
-use Rattle.blocking_laws.specs.Looks.{AreListed}
+use Rattle.blocking_laws.specs.Restamping.{AreListed}
 use Rattle.kernel.specs.Processor.{Processor, at_tick, picture as picture_of, system_of as system_in}
 use Rattle.kernel.specs.declared.acted.Acted.{Acted}
-use Rattle.kernel.specs.Looking.{number_told}
+use Rattle.kernel.specs.Stamping.{number_told}
 use Rattle.kernel.specs.Told.{acted_at, acted_in}
 use Rattle.services.specs.Objects.{Objects, kept_of}
 use Rattle.kernel.specs.Watches.{Blocking, Watched}
@@ -46,7 +46,7 @@ pub record IsNextTick (m : Machine) (n : ℕ) : Type 0 where
   pub value : n ≡ next_tick m
   pub limit : n ≤ MAX_TICKS
 
--- of each level, the number behind the last tick in which a job of it executed
+-- of each level, the tick after the last one in which a job of it executed
 pub record AreLast (S : System) (mode : ℕ) (arrivals : List Arrival) (ticks : ℕ) (last : List ℕ) : Type 0 where
   pub count : length last ≡ MAX_TASK_PRIORITY + 1
   pub each : (l : ℕ) → l ≤ MAX_TASK_PRIORITY → slice_index_or last l 0 ≡ levels_of S mode arrivals ticks l

@@ -54,8 +54,9 @@ pub record HaveArrived (arrivals : List Arrival) (tick first next : ℕ) : Type 
   pub left : AreLeft arrivals next (tick + 1)
   pub forward : first ≤ next
 
--- in none of so many ticks from one on does an interrupt arrive, and those left stand in order behind them
-pub record AreFree (arrivals : List Arrival) (cursor tick n : ℕ) : Type 0 where
+-- in none of so many ticks from one on, at most some, does an interrupt arrive; those left stand in order behind them
+pub record AreFree (arrivals : List Arrival) (cursor tick most n : ℕ) : Type 0 where
+  pub few : n ≤ most
   pub none : (k : ℕ) → k < n → arriving arrivals (tick + k) ≡ []
   pub left : AreLeft arrivals cursor (tick + n)
 
@@ -74,8 +75,9 @@ pub record HasRunApart (old new : Progress) (before : List TraceEvent) (executed
   pub few : length before + length behind < MAX_RECORDS
   pub proper : IsProper old.system
 
--- so many ticks were done, in each of which nothing happened but that nobody executed
-pub record HasIdled (old new : Progress) (n : ℕ) : Type 0 where
+-- so many ticks were done, at most some, in each of which nothing happened but that nobody executed
+pub record HasIdled (most : ℕ) (old new : Progress) (n : ℕ) : Type 0 where
+  pub few : n ≤ most
   pub records : (k : ℕ) → k < n → record_at old.system old.mode old.arrivals (old.ticks + k) ≡ TraceEvent.Idle ∷ []
   pub going : (k : ℕ) → k < n → (run old.system old.mode old.arrivals (old.ticks + k)).state.over ≡ false
   pub next : new ≡ record old { ticks = old.ticks + n }

@@ -9,12 +9,12 @@ use Rattle.osek_base.specs.System.{System, alarm}
 use Rattle.osek_base.specs.State.{State, jobs_of}
 use Rattle.osek_base.specs.Alarm.{alarms_advanced, due_alarms}
 use Rattle.osek_base.specs.Priority.{dynamic_priority}
-use Rattle.osek_base.specs.Service.{NobodyCalls, Reply, task_state, unmasked_service}
+use Rattle.osek_base.specs.Service.{NobodyCalls, Reply, task_state, unasked_service}
 use Rattle.osek_base.specs.Tick.{action_call}
 use Rattle.osek_base.specs.Trace.{run}
 use Rattle.kept_state.specs.Kept.{Kept}
 use Rattle.kept_state.specs.KeptTick.{alarm_acts_in}
-use Rattle.kept_state.specs.KeptService.{ByNobody, KeptReply, bare, task_state_in, unmasked_in}
+use Rattle.kept_state.specs.KeptService.{ByNobody, KeptReply, bare, task_state_in, unasked_in}
 use Rattle.services.specs.Seen.{priority_in}
 use Rattle.kernel.specs.declared.acted.Acted.{Acted}
 use Rattle.kernel.specs.declared.task_at.TaskAt.{TaskAt}
@@ -44,7 +44,7 @@ if_refused a _ = a ∷ []
 abbrev pub refused_of : System → List ℕ → State → List ℕ
 refused_of S [] s = []
 refused_of S (a ∷ rest) s =
-    let r : Reply = unmasked_service S NobodyCalls s (action_call (alarm S a).action) in
+    let r : Reply = unasked_service S NobodyCalls s (action_call (alarm S a).action) in
     if_refused a r.status ++ refused_of S rest r.state
 
 -- those of the alarms that are due in a tick of a run
@@ -64,7 +64,7 @@ task_at_in S o t = record { state = task_state_in o t; priority = priority_in S 
 
 -- what an alarm's action answers
 abbrev pub acting_in : System → ℕ → Kept → KeptReply
-acting_in S a o = unmasked_in S ByNobody o (action_call (alarm S a).action)
+acting_in S a o = unasked_in S ByNobody o (action_call (alarm S a).action)
 
 -- an alarm acts, by at most one record, and its action has that status
 pub record Acts (a : ℕ) (old new : Processor) (before after : List TraceEvent) (answer : Status) : Type 0 where

@@ -1,6 +1,7 @@
 -- A system within a tick whose jobs' stamps are followed, and what a step does to both. No part of the standards.
 use Rattle.std.specs.Prelude.{ℕ, ◌≡◌, ◌<◌, ◌≤◌, ◌+◌, ◌∷◌, Bool, true, false, List, [], Option, IfSome, length, replicate}
 use Rattle.osek_base.specs.declared.executed.Executed.{Executed}
+use Rattle.osek_base.specs.declared.ids.Owner.{Owner}
 use Rattle.osek_base.specs.declared.limits.TheConstants.{MAX_ALARMS, MAX_RECORDS, MAX_TASK_PRIORITY}
 use Rattle.osek_base.specs.declared.status.Status.{Status}
 use Rattle.osek_base.specs.Executed.{StandsIn, idle_or_executed}
@@ -11,14 +12,14 @@ use Rattle.kept_state.specs.KeptService.{caller_in}
 use Rattle.kept_state.specs.KeptTick.{alarm_acts_in, alarm_phase_in, alarms_act_in, before_execution_in, execute_phase_in, last_phase_in}
 use Rattle.kept_state.specs.Moves.{KeptRecorded, rescheduled}
 use Rattle.kept_state.specs.Standing.{runner_waits}
-use Rattle.blocking_laws.specs.Looks.{StampLists, alarm_looked, alarm_phase_looked, alarms_looked, before_looked, last_looked, reschedule_looked}
-use Rattle.kernel.specs.Processor.{IsBefore, IsNext, MayExecute, Processor, at_tick, picture, system_of}
+use Rattle.blocking_laws.specs.Restamping.{StampLists, alarm_restamped, alarm_phase_restamped, alarms_restamped, before_restamped, last_restamped, reschedule_restamped}
+use Rattle.kernel.specs.Processor.{IsBefore, IsNext, MayExecute, MayFetch, Processor, at_tick, picture, system_of}
 use Rattle.kernel.specs.declared.acted.Acted.{Acted}
 use Rattle.kernel.specs.declared.next.Next.{Next}
 use Rattle.kernel.specs.Told.{acted_in, acting_in, refused_of_in}
 use Rattle.std.specs.List.{AllByRecursion}
 use Rattle.kernel.specs.Does.{Does}
-use Rattle.kernel.specs.Looking.{AreBegun, AreCounted, IsSpent, Told, executed_looked}
+use Rattle.kernel.specs.Stamping.{AreBegun, AreCounted, IsSpent, Told, executed_restamped}
 
 -- of each task by number the stamps of its jobs, and what tells how many blockers the job had that executed last
 pub record Blocking : Type 0 where
@@ -33,12 +34,12 @@ pub record Watched : Type 0 where
 -- a step: what it records and leaves of a picture, and of the stamps, by the tick
 pub record Step : Type 0 where
   pub does : System → Kept → KeptRecorded
-  pub looks : System → ℕ → Kept → StampLists → StampLists
+  pub restamps : System → ℕ → Kept → StampLists → StampLists
 
 -- it is done to the system, and to the stamps where they are counted
 pub record Watches (counted : Bool) (step : Step) (tick : ℕ) (old new : Watched) (before after : List TraceEvent) : Type 0 where
   pub does : Does step.does old.processor new.processor before after
-  pub stamps : counted ≡ true → new.blocking.stamps ≡ step.looks (system_of old.processor) tick (picture old.processor) old.blocking.stamps
+  pub stamps : counted ≡ true → new.blocking.stamps ≡ step.restamps (system_of old.processor) tick (picture old.processor) old.blocking.stamps
   pub told : new.blocking.told ≡ old.blocking.told
 
 -- an alarm may act: the running job doesn't wait, and where stamps are counted each job has one
@@ -74,25 +75,25 @@ pub record IsFresh (counted : Bool) (p : Processor) (b : Blocking) : Type 0 wher
 -- ---- the steps
 
 abbrev pub acting : ℕ → Step
-acting a = record { does = λ S. alarm_acts_in S a; looks = λ S u. alarm_looked S u a }
+acting a = record { does = λ S. alarm_acts_in S a; restamps = λ S u. alarm_restamped S u a }
 
 abbrev pub all_acting : List ℕ → Step
-all_acting due = record { does = λ S. alarms_act_in S due; looks = λ S u. alarms_looked S u due }
+all_acting due = record { does = λ S. alarms_act_in S due; restamps = λ S u. alarms_restamped S u due }
 
 abbrev pub rescheduling : Step
-rescheduling = record { does = rescheduled; looks = reschedule_looked }
+rescheduling = record { does = rescheduled; restamps = reschedule_restamped }
 
 abbrev pub phase_of_alarms : Step
-phase_of_alarms = record { does = alarm_phase_in; looks = alarm_phase_looked }
+phase_of_alarms = record { does = alarm_phase_in; restamps = alarm_phase_restamped }
 
 abbrev pub early : List ℕ → Step
-early arrived = record { does = λ S. before_execution_in S arrived; looks = λ S u. before_looked S u arrived }
+early arrived = record { does = λ S. before_execution_in S arrived; restamps = λ S u. before_restamped S u arrived }
 
 abbrev pub executing : Step
-executing = record { does = execute_phase_in; looks = executed_looked }
+executing = record { does = execute_phase_in; restamps = executed_restamped }
 
 abbrev pub last : Step
-last = record { does = last_phase_in; looks = last_looked }
+last = record { does = last_phase_in; restamps = last_restamped }
 
 -- the same at another tick
 abbrev pub watched_at : Watched → ℕ → Watched
@@ -159,3 +160,16 @@ pub record Executes (counted : Bool) (tick : ℕ) (old new : Watched) (executed 
   pub does : Watches counted executing tick old new [] (idle_or_executed (system_of old.processor) executed ∷ behind)
   pub there : IfSome executed (StandsIn (system_of old.processor))
   pub few : length behind ≤ 1
+
+-- that one executes, in a system that is ready for it
+pub record MayFinish (counted : Bool) (w : Watched) (who : Owner) (behind : List TraceEvent) : Type 0 where
+  pub fetch : MayFetch w.processor who
+  pub ready : IsReady counted w behind
+
+-- what is executed, and the reschedule behind it, which leaves all records
+pub record Finishes (counted : Bool) (tick : ℕ) (old new : Watched) (executed : Option Executed) (behind : List TraceEvent) : Type 0 where
+  pub between : Watched
+  pub first : List TraceEvent
+  pub executes : Executes counted tick old between executed first
+  pub reschedules : Watches counted last tick between new first behind
+  pub few : length behind ≤ 3

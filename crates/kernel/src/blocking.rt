@@ -1,16 +1,16 @@
 //! Since which tick each job is ready, and how many blockers it had, in a kernel that counts blockers. No part of the standards.
 
 ghost use Rattle.std.specs.Prelude.{◌≡◌, ◌<◌, true, IfSome, length};
-ghost use Rattle.blocking_laws.specs.Looks.{preempted_by};
+ghost use Rattle.blocking_laws.specs.Restamping.{ended_of, preempted_by};
 ghost use Rattle.kernel.specs.Idle.{rested};
-ghost use Rattle.kernel.specs.Looking.{IsNumber, MayBegin, MayFollow, MayLook, looked_between, number_told, stood_between};
+ghost use Rattle.kernel.specs.Stamping.{IsNumber, MayBegin, MayFollow, MayLook, restamped_between, number_told, stood_between};
 ghost use Rattle.kernel.specs.Processor.{system_of};
 ghost use Rattle.kernel.specs.Watches.{Follows, IsFresh, Spends};
 
-use crate::begun::{Begun, begin, number_since};
+use crate::begun::Begun;
 use crate::blockers::Blockers;
 use crate::processor::Processor;
-use crate::stamping::{Look, Stand, executed_since, looked_at, preempted};
+use crate::stamping::{Look, Stand, is_that, without_ended};
 use osek_base::{MAX_TASK_PRIORITY, TaskId};
 use readiness::{JobStamps, LastTicks};
 use ready_queues::ReadyQueues;
@@ -68,26 +68,42 @@ impl<B: Blockers> Blocking<B> {
         self.begun = other.begun;
     }
 
-    /// How many blockers the job had that executed last, where it did so for the first time since it became ready.
+    /// How many blockers the job had that executed last, where it did so for the first time since it became ready: 1 where a
+    /// job of a lower level has executed since, else 0. It is never 2, since each time that a job becomes ready it has at most
+    /// one blocker.
     pub fn number(&self) -> Option<u32>
         ensures { IsNumber B.are_counted (number_told self.now.told) result }
     {
-        if B::are_counted() {
-            number_since(&self.last, &self.begun)
-        } else {
-            None
+        if !B::are_counted() {
+            return None;
+        }
+        match &self.begun.stamp {
+            None => None,
+            Some(since) => {
+                if self.last.is_lower_since(self.begun.level, *since) {
+                    Some(1)
+                } else {
+                    Some(0)
+                }
+            }
         }
     }
 
-    /// A task is looked at behind something that it was looked at before.
+    /// A task is looked at behind something that it was looked at before: where it has a job more, the new one is ready; where
+    /// its oldest job waited and doesn't any more, that one is.
     #[inline(always)]
-    pub fn looked_at(&mut self, before: &Look, after: &Look, tick: u32)
+    pub fn restamp(&mut self, before: &Look, after: &Look, tick: u32)
         requires { B.are_counted ≡ true → MayLook before.now after.now self.old.stamps }
-        ensures { Follows B.are_counted (looked_between tick before.now after.now) self.old
+        ensures { Follows B.are_counted (restamped_between tick before.now after.now) self.old
             self.new }
     {
-        if B::are_counted() {
-            looked_at(&mut self.stamps, before, after, tick);
+        if !B::are_counted() {
+            return;
+        }
+        if before.count < after.count {
+            self.stamps.add(before.task, tick);
+        } else if before.waits && !after.waits {
+            self.stamps.stamp(before.task, tick);
         }
     }
 
@@ -97,8 +113,13 @@ impl<B: Blockers> Blocking<B> {
         requires { B.are_counted ≡ true → IfSome runner (λ t. t < length self.old.stamps) }
         ensures { Follows B.are_counted (preempted_by tick runner running.now) self.old self.new }
     {
-        if B::are_counted() {
-            preempted(&mut self.stamps, runner, running, tick);
+        if !B::are_counted() {
+            return;
+        }
+        if let Some(task) = runner {
+            if !is_that(running, task) {
+                self.stamps.stamp(task, tick);
+            }
         }
     }
 
@@ -110,8 +131,27 @@ impl<B: Blockers> Blocking<B> {
         ensures { Follows B.are_counted (stood_between tick before.now after.now) self.old
             self.new }
     {
-        if B::are_counted() {
-            executed_since(&mut self.stamps, before, after, tick);
+        let has_ended = !before.gone && after.gone;
+        self.ended(&before.running, has_ended);
+        if let (Some(earlier), Some(later)) = (&before.named, &after.named) {
+            let stood = without_ended(earlier, &before.running, has_ended);
+            self.restamp(&stood, later, tick);
+        }
+    }
+
+    /// The job of the running task has ended, or not.
+    #[inline(always)]
+    fn ended(&mut self, running: &Option<TaskId>, has_ended: bool)
+        requires { B.are_counted ≡ true → IfSome running.now (λ t. t < length self.old.stamps) }
+        ensures { Follows B.are_counted (ended_of running.now has_ended) self.old self.new }
+    {
+        if !B::are_counted() {
+            return;
+        }
+        if let Some(task) = running {
+            if has_ended {
+                self.stamps.end(*task);
+            }
         }
     }
 
@@ -130,14 +170,17 @@ impl<B: Blockers> Blocking<B> {
             → MayBegin (length (system_of processor.now).tasks) tick self.old.stamps }
         ensures { Spends B.are_counted processor.now tick self.old self.new }
     {
-        if B::are_counted() {
-            begin(
-                processor,
-                &mut self.stamps,
-                &mut self.last,
-                &mut self.begun,
-                tick,
-            );
+        if !B::are_counted() {
+            return;
+        }
+        match processor.executing_task() {
+            None => self.begun.stamp = None,
+            Some(task) => {
+                let level = processor.level_of(task);
+                self.begun.level = level;
+                self.begun.stamp = self.stamps.take(task);
+                self.last.note(level, tick);
+            }
         }
     }
 }

@@ -3,9 +3,8 @@
 ghost use Rattle.std.specs.Prelude.{◌≡◌, [], IfOk, length};
 ghost use Rattle.osek_base.specs.Proper.{IsProper};
 ghost use Rattle.osek_base.specs.Reschedule.{hooked};
-ghost use Rattle.services.specs.Objects.{kept_in};
 ghost use Rattle.kernel.specs.Does.{Adds};
-ghost use Rattle.kernel.specs.Looking.{AreBegun, HasJobs, MayAddJobs};
+ghost use Rattle.kernel.specs.Stamping.{AreBegun, HasJobs, MayAddJobs};
 ghost use Rattle.kernel.specs.Processor.{IsStarted, IsStarting, picture, system_of};
 
 use crate::processor::Processor;
@@ -66,7 +65,13 @@ impl<'s, Q: ReadyQueues> Processor<'s, Q> {
     pub fn begun_stamps(&self) -> JobStamps
         ensures { AreBegun (length (system_of self.now).tasks) (picture self.now) result }
     {
-        begun_stamps(&self.core, self.system)
+        let count = self.task_count();
+        let mut stamps = JobStamps::new(count);
+        for number in 0..count {
+            let task = TaskId::new(number as u8);
+            add_jobs(&mut stamps, task, self.look(task).count);
+        }
+        stamps
     }
 }
 
@@ -88,20 +93,6 @@ fn started<'s, Q: ReadyQueues>(
         }
     }
     Ok(core)
-}
-
-/// The stamps of the jobs with which a system begins: all of them are ready from tick 0 on.
-fn begun_stamps<Q: ReadyQueues>(core: &Core<'_, Q>, system: &System) -> JobStamps
-    requires { core.now.system ≡ system.now }
-    ensures { AreBegun (length system.now.tasks) (kept_in core.now) result }
-{
-    let count = system.task_count();
-    let mut stamps = JobStamps::new(count);
-    for number in 0..count {
-        let task = TaskId::new(number as u8);
-        add_jobs(&mut stamps, task, core.job_count(task));
-    }
-    stamps
 }
 
 /// So many jobs of a task that has none are ready from tick 0 on.

@@ -7,7 +7,7 @@ ghost use Rattle.osek_base.specs.declared.instr.Instr.{Instr};
 ghost use Rattle.osek_base.specs.Tick.{shutdown_record};
 ghost use Rattle.machine.specs.Packed.{instr_of, is_control, is_plain};
 ghost use Rattle.kept_state.specs.KeptTick.{execute_phase_in};
-ghost use Rattle.blocking_laws.specs.Looks.{named_by};
+ghost use Rattle.blocking_laws.specs.Restamping.{named_by};
 ghost use Rattle.kernel.specs.Processor.{ComesTo, IsNext, MayFetch};
 ghost use Rattle.kernel.specs.Does.{Adds, Does, DoesWithin};
 ghost use Rattle.kernel.specs.Controls.{control_context, ends_routine};

@@ -1,16 +1,17 @@
-//! OSEK/VDX OS: system services; the modelled processor. The fifth phase of a tick: one instruction of who executes.
+//! OSEK/VDX OS: system services; the modelled processor. The last two phases of a tick: one instruction of who executes, and a
+//! reschedule.
 
-ghost use Rattle.std.specs.Prelude.{◌<◌, ◌∷◌, []};
+ghost use Rattle.std.specs.Prelude.{◌<◌, ◌∷◌, [], Some};
 ghost use Rattle.osek_base.specs.declared.trace_event.TraceEvent.{TraceEvent};
 ghost use Rattle.machine.specs.Packed.{instr_of};
 ghost use Rattle.kernel.specs.Controls.{IsCall};
-ghost use Rattle.kernel.specs.Watches.{Begins, Executes, IsReady, MayRun, WatchesWithin, executing};
+ghost use Rattle.kernel.specs.Watches.{Begins, Finishes, IsReady, MayFinish, MayRun, WatchesWithin, executing};
 
 use crate::blockers::Blockers;
 use crate::execute_phase::acting_task;
 use crate::next::Next;
 use crate::watched::Watched;
-use osek_base::{Executed, MAX_TICKS, Outcome, TickRecord};
+use osek_base::{Executed, MAX_TICKS, Outcome, Owner, TickRecord};
 use ready_queues::ReadyQueues;
 
 impl<'s, Q: ReadyQueues, B: Blockers> Watched<'s, Q, B> {
@@ -23,26 +24,50 @@ impl<'s, Q: ReadyQueues, B: Blockers> Watched<'s, Q, B> {
         self.blocking.begin(&self.processor, tick);
     }
 
-    /// Who executes, the active routine or else the running task, executes one instruction; where there is neither, nobody
-    /// does. `behind` gets the records behind that of the instruction.
+    /// The last two phases: who executes, the active routine or else the running task, executes one instruction, and the task
+    /// that is to run becomes the running one. Where there is neither, nobody executes. `behind` gets the records behind that
+    /// of the instruction.
     #[inline(always)]
-    pub fn execute_phase(&mut self, tick: u32, behind: &mut TickRecord) -> Option<Executed>
+    pub fn late_phases(&mut self, tick: u32, behind: &mut TickRecord) -> Option<Executed>
         requires { IsReady B.are_counted self.old behind.old }
-        ensures { Executes B.are_counted tick self.old self.new result behind.new }
+        ensures { Finishes B.are_counted tick self.old self.new result behind.new }
     {
         match self.processor.executor() {
-            None => None,
-            Some(owner) => {
-                let next = self.processor.next_of(&owner);
-                let owner = next.owner;
-                let place = next.place;
-                let outcome = self.execute(next, tick, behind);
-                Some(Executed {
-                    owner,
-                    place,
-                    outcome,
-                })
+            None => {
+                self.last_phase(tick, behind);
+                None
             }
+            Some(who) => Some(match who {
+                Owner::Task(_) => self.finish(who, tick, behind),
+                Owner::Routine(_) => self.finish_apart(who, tick, behind),
+            }),
+        }
+    }
+
+    /// As `finish`, in a call of its own.
+    #[inline(never)]
+    fn finish_apart(&mut self, who: Owner, tick: u32, behind: &mut TickRecord) -> Executed
+        requires { MayFinish B.are_counted self.old who behind.old }
+        ensures { Finishes B.are_counted tick self.old self.new (Some result) behind.new }
+    {
+        self.finish(who, tick, behind)
+    }
+
+    /// The last two phases, where somebody executes.
+    #[inline(always)]
+    fn finish(&mut self, who: Owner, tick: u32, behind: &mut TickRecord) -> Executed
+        requires { MayFinish B.are_counted self.old who behind.old }
+        ensures { Finishes B.are_counted tick self.old self.new (Some result) behind.new }
+    {
+        let next = self.processor.next_of(&who);
+        let owner = next.owner;
+        let place = next.place;
+        let outcome = self.execute(next, tick, behind);
+        self.last_phase(tick, behind);
+        Executed {
+            owner,
+            place,
+            outcome,
         }
     }
 

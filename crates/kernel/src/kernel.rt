@@ -6,7 +6,7 @@ ghost use Rattle.osek_base.specs.Names.{number_of};
 ghost use Rattle.ready_queues.specs.LevelLists.{level_lists, by_level};
 ghost use Rattle.osek_base.specs.State.{shared_window};
 ghost use Rattle.kept_state.specs.Kept.{kept};
-ghost use Rattle.kernel.specs.Looking.{IsNumber};
+ghost use Rattle.kernel.specs.Stamping.{IsNumber};
 ghost use Rattle.kernel.specs.Machine.{IsSharedWord};
 ghost use Rattle.kernel.specs.Progress.{AreFree, AreKnown, AreLeft, Boots, HasIdled, HasRun, HasRunApart, HaveArrived, is_over, run_of};
 ghost use Rattle.blocking_laws.specs.Steps.{step_at};
@@ -43,7 +43,7 @@ pub struct Kernel<'s, Q: ReadyQueues, B: Blockers = Counted> {
 }
 
 impl<'s, Q: ReadyQueues, B: Blockers> Model for Kernel<'s, Q, B> {
-    ghost use Rattle.kernel.specs.Keeping.{IsKept};
+    ghost use Rattle.kernel.specs.Keeping.{IsKernel};
     ghost use Rattle.kernel.specs.Machine.{next_tick};
     ghost use Rattle.kernel.specs.Progress.{Progress};
 
@@ -56,7 +56,7 @@ impl<'s, Q: ReadyQueues, B: Blockers> Model for Kernel<'s, Q, B> {
       ticks = next_tick k.machine;
     } };
 
-    ghost invariant = { λ k. IsKept B.are_counted k.system.now k.mode k.arrivals k.routines.items
+    ghost invariant = { λ k. IsKernel B.are_counted k.system.now k.mode k.arrivals k.routines.items
         k.earlier k.arrived k.machine };
 }
 
@@ -165,10 +165,9 @@ impl<'s, Q: ReadyQueues, B: Blockers> Kernel<'s, Q, B> {
     #[inline(always)]
     pub fn pass_idle(&mut self, most: u32) -> u32
         requires { self.old.ticks + most ≤ MAX_TICKS }
-        ensures few { result ≤ most }
-        ensures idled { HasIdled self.old self.new result }
+        ensures { HasIdled most self.old self.new result }
     {
-        if self.machine.is_quiet() {
+        if self.machine.core().is_quiet() {
             self.pass_quiet(most)
         } else {
             0
@@ -180,8 +179,7 @@ impl<'s, Q: ReadyQueues, B: Blockers> Kernel<'s, Q, B> {
     #[inline(never)]
     fn pass_quiet(&mut self, most: u32) -> u32
         requires { self.old.ticks + most ≤ MAX_TICKS }
-        ensures few { result ≤ most }
-        ensures idled { HasIdled self.old self.new result }
+        ensures { HasIdled most self.old self.new result }
     {
         let tick = self.machine.next_tick();
         let free = ticks_before(self.arrivals.list(), self.arrived, tick, most);
@@ -267,10 +265,9 @@ impl<'s, Q: ReadyQueues, B: Blockers> Kernel<'s, Q, B> {
         let tick = self.machine.next_tick();
         let end = arrived_by(self.arrivals.list(), self.arrived, tick);
         let arrived = &self.routines.as_slice()[self.arrived..end];
-        let executed = self.machine.tick_with(arrived, looker, before, behind);
         self.earlier = self.arrived;
         self.arrived = end;
-        executed
+        self.machine.tick_with(arrived, looker, before, behind)
     }
 }
 
@@ -290,8 +287,7 @@ fn arrived_by(list: &[Arrival], arrived: usize, tick: u32) -> usize
 /// How many of the ticks from one on, at most some, come before the next arrival, where so many have arrived.
 fn ticks_before(list: &[Arrival], arrived: usize, tick: u32, most: u32) -> u32
     requires { AreLeft list.now arrived tick }
-    ensures few { result ≤ most }
-    ensures free { AreFree list.now arrived tick result }
+    ensures { AreFree list.now arrived tick most result }
 {
     if arrived < list.len() {
         cmp::min(list[arrived].tick - tick, most)

@@ -5,7 +5,7 @@ ghost use Rattle.kept_state.specs.KeptService.{ByNobody, caller_in};
 ghost use Rattle.kept_state.specs.KeptTick.{silent_in};
 ghost use Rattle.kept_state.specs.Moves.{rescheduled};
 ghost use Rattle.services.specs.Calls.{calling_task};
-ghost use Rattle.kernel.specs.Looking.{IsActedOn, IsLevel, IsLook, IsStand, IsTask, IsTaskCount};
+ghost use Rattle.kernel.specs.Stamping.{IsActedOn, IsLevel, IsLook, IsStand, IsTask, IsTaskCount};
 ghost use Rattle.kernel.specs.Processor.{MayFetch, picture, system_of};
 ghost use Rattle.kernel.specs.Told.{task_at_in};
 

@@ -36,32 +36,15 @@ impl<'s, Q: ReadyQueues> Model for Processor<'s, Q> {
 }
 
 impl<'s, Q: ReadyQueues> Processor<'s, Q> {
-    /// Whether nothing happens in a tick in which no alarm is due and no interrupt arrives.
-    #[inline(always)]
-    pub fn is_quiet(&self) -> bool
-        ensures { result ≡ true → IsQuiet (system_of self.now) (picture self.now) }
-    {
-        self.core.is_quiet()
-    }
-
-    /// The ticks that follow pass, at most some, up to the one before the first in which an alarm is due. Answers how many
-    /// passed.
-    #[inline(always)]
-    pub fn pass(&mut self, most: u32) -> u32
-        requires { self.old.objects.tick + most < MAX_TICKS }
-        ensures few { result ≤ most }
-        ensures passed { HasPassed result self.old self.new }
-    {
-        self.core.pass(most)
-    }
-
     /// Interrupts arrive: they set pending flags.
     #[inline(always)]
     pub fn arrival_phase(&mut self, arrived: &[IsrId])
         requires { All (λ i. i < length (system_of self.old).routines) arrived.now }
         ensures { Becomes (λ _S. arrival_phase_in arrived.now) self.old self.new }
     {
-        arrive(&mut self.core, arrived);
+        for index in 0..arrived.len() {
+            self.core.arrive(arrived[index]);
+        }
     }
 
     /// The task that is to run becomes the running one. Answers the task that ran, if its job stood and didn't wait.
@@ -79,16 +62,5 @@ impl<'s, Q: ReadyQueues> Processor<'s, Q> {
         ensures { Becomes start_phase_in self.old self.new }
     {
         self.core.start_routine();
-    }
-}
-
-/// The interrupts of some routines arrive.
-#[inline(always)]
-fn arrive<Q: ReadyQueues>(core: &mut Core<'_, Q>, arrived: &[IsrId])
-    requires { All (λ i. i < length core.old.system.routines) arrived.now }
-    ensures { core.new ≡ record core.old { pending = flagged arrived.now core.old.pending } }
-{
-    for index in 0..arrived.len() {
-        core.arrive(arrived[index]);
     }
 }

@@ -8,7 +8,7 @@ ghost use Rattle.osek_base.specs.Priority.{dynamic_priority};
 ghost use Rattle.osek_base.specs.Service.{task_state};
 ghost use Rattle.kept_state.specs.Kept.{task_in};
 ghost use Rattle.services.specs.Seen.{counts_left, routine_of};
-ghost use Rattle.kernel.specs.Looking.{IsTask};
+ghost use Rattle.kernel.specs.Stamping.{IsTask};
 ghost use Rattle.kernel.specs.Progress.{run_of};
 ghost use Rattle.kernel.specs.Shown.{at_last_tick, awaited_by, holder, is_held_by, oldest_job};
 

@@ -1,15 +1,14 @@
 //! OSEK/VDX OS: system start-up; application modes. A booted system that does tick by tick, each with the interrupts that arrive
 //! in it.
 
-ghost use Rattle.std.specs.Prelude.{◌≡◌, ◌<◌, ◌≤◌, ◌+◌, [], true, IfOk, map, slice_index, length};
+ghost use Rattle.std.specs.Prelude.{◌≡◌, ◌<◌, ◌≤◌, ◌+◌, [], IfOk, map, slice_index, length};
 ghost use Rattle.osek_base.specs.Lists.{below};
 ghost use Rattle.osek_base.specs.State.{shared_window};
 ghost use Rattle.kept_state.specs.KeptTick.{before_execution_in};
-ghost use Rattle.kept_state.specs.Quiet.{IsQuiet};
 ghost use Rattle.ready_queues.specs.LevelLists.{level_lists, by_level};
 ghost use Rattle.kernel.specs.Does.{PutsFirst};
 ghost use Rattle.kernel.specs.Idle.{StaysIdle};
-ghost use Rattle.kernel.specs.Looking.{IsNumber, number_told};
+ghost use Rattle.kernel.specs.Stamping.{IsNumber, number_told};
 ghost use Rattle.kernel.specs.Machine.{HasTicked, IsBooted, IsCore, IsNextTick, IsSharedWord, MayTick, ShowsObjects, next_tick, picture, system_of};
 ghost use Rattle.kernel.specs.Told.{task_at_in};
 
@@ -154,22 +153,14 @@ impl<'s, Q: ReadyQueues, B: Blockers> Machine<'s, Q, B> {
         &self.watched.processor.core
     }
 
-    /// Whether nothing happens in the next tick, if no alarm is due and no interrupt arrives. It may be false at any time.
-    #[inline(always)]
-    pub(crate) fn is_quiet(&self) -> bool
-        ensures { result ≡ true → IsQuiet (system_of self.now) (picture self.now) }
-    {
-        self.watched.is_quiet()
-    }
-
     /// The ticks that follow, at most some, are done at once as long as nothing happens in them: no interrupt arrives, no alarm
     /// is due, and nobody executes. Answers how many were done. The first tick is none of these.
     pub fn pass_idle(&mut self, most: u32) -> u32
         requires { next_tick self.old + most ≤ MAX_TICKS }
-        ensures few { result ≤ most }
-        ensures idled { StaysIdle B.are_counted result self.old self.new }
+        ensures { StaysIdle B.are_counted most result self.old self.new }
     {
-        if self.ticks == 0 || !self.watched.is_quiet() {
+        let is_quiet = self.core().is_quiet();
+        if self.ticks == 0 || !is_quiet {
             return 0;
         }
         let idle = self.watched.pass(most);
@@ -240,9 +231,7 @@ impl<'s, Q: ReadyQueues, B: Blockers> Machine<'s, Q, B> {
         self.watched.show(looker);
         self.watched.begin(self.ticks);
         self.ticks += 1;
-        let executed = self.watched.execute_phase(self.ticks, behind);
-        self.watched.last_phase(self.ticks, behind);
-        executed
+        self.watched.late_phases(self.ticks, behind)
     }
 }
 

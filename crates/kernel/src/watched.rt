@@ -3,7 +3,6 @@
 
 ghost use Rattle.std.specs.Prelude.{◌≡◌, ◌<◌, ◌≤◌, ◌+◌, true, length};
 ghost use Rattle.std.specs.List.{All};
-ghost use Rattle.kept_state.specs.Quiet.{IsQuiet};
 ghost use Rattle.kernel.specs.Does.{Adds};
 ghost use Rattle.kernel.specs.Idle.{Passes};
 ghost use Rattle.kernel.specs.Processor.{picture, system_of};
@@ -62,23 +61,13 @@ impl<'s, Q: ReadyQueues, B: Blockers> Watched<'s, Q, B> {
         self.processor.start_phase();
     }
 
-    /// Whether nothing happens in a tick in which no alarm is due and no interrupt arrives.
-    #[inline(always)]
-    pub fn is_quiet(&self) -> bool
-        ensures { result ≡ true
-            → IsQuiet (system_of self.now.processor) (picture self.now.processor) }
-    {
-        self.processor.is_quiet()
-    }
-
     /// The ticks that follow pass, at most some, up to the one before the first in which an alarm is due; nobody executes in
     /// them. Answers how many passed.
     pub fn pass(&mut self, most: u32) -> u32
         requires { self.old.processor.objects.tick + most < MAX_TICKS }
-        ensures few { result ≤ most }
-        ensures passes { Passes result self.old self.new }
+        ensures { Passes most result self.old self.new }
     {
-        let passed = self.processor.pass(most);
+        let passed = self.processor.core.pass(most);
         if 0 < passed {
             self.blocking.rest();
         }
@@ -140,7 +129,7 @@ impl<'s, Q: ReadyQueues, B: Blockers> Watched<'s, Q, B> {
         let before = self.processor.look(task);
         let status = self.processor.alarm_acts(alarm, records);
         self.blocking
-            .looked_at(&before, &self.processor.look(task), tick);
+            .restamp(&before, &self.processor.look(task), tick);
         status
     }
 

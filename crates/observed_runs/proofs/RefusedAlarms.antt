@@ -5,7 +5,7 @@ use Rattle.osek_base.specs.declared.arrivals.Arrival.{Arrival}
 use Rattle.osek_base.specs.declared.status.Status.{Status}
 use Rattle.osek_base.specs.Alarm.{alarms_advanced, due_alarms, is_due}
 use Rattle.osek_base.specs.Lists.{below}
-use Rattle.osek_base.specs.Service.{NobodyCalls, Reply, unmasked_service}
+use Rattle.osek_base.specs.Service.{NobodyCalls, Reply, unasked_service}
 use Rattle.osek_base.specs.State.{State}
 use Rattle.osek_base.specs.System.{System, alarm}
 use Rattle.osek_base.specs.Tick.{action_call}
@@ -25,7 +25,7 @@ module _ (S : System) where
   known_of : (due : List ℕ) (s : State) → AllByRecursion Exists due → AllByRecursion Exists (refused_of S due s)
   known_of [] s all = tt
   known_of (a ∷ due) s all =
-      let r : Reply = unmasked_service S NobodyCalls s (action_call (alarm S a).action) in
+      let r : Reply = unasked_service S NobodyCalls s (action_call (alarm S a).action) in
       all_append Exists (if_refused a r.status) (refused_of S due r.state) (one_known a r.status all.0)
       (known_of due r.state all.1)
 

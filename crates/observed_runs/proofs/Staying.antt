@@ -25,7 +25,7 @@ use Rattle.osek_base.specs.Trace.{arriving, run}
 use Rattle.run_laws.proofs.Foremost.{equal}
 use Rattle.ready_queues.specs.QueueMoves.{changed_at, first, highest, put_oldest}
 use Rattle.kept_state.specs.Kept.{Kept, Slot, kept, slot_of}
-use Rattle.kept_state.specs.KeptService.{ByNobody, bare, holds_in, refusals_in, reply_in, unmasked_in, with_mask}
+use Rattle.kept_state.specs.KeptService.{ByNobody, bare, holds_in, refusals_in, reply_in, unasked_in, with_mask}
 use Rattle.kept_state.specs.KeptTick.{alarm_acts_in, alarm_phase_in, alarms_act_in, arrival_phase_in, before_execution_in, routine_started_in, start_phase_in}
 use Rattle.kept_state.specs.Moves.{KeptRecorded, chosen, contender, dispatched, dynamic_in, may_dispatch_in, one_more, released_in, rescheduled, slot_entered, slot_woken, stays}
 use Rattle.kept_state.proofs.InRuns.{before_alike}
@@ -94,8 +94,8 @@ changed_same slots t a same u = go (t == u) refl
     go false e = refl
 
 module _ (S : System) (o : Kept) where
-  activate_same : (t : ℕ) → HoldSame o (unmasked_in S ByNobody o (Service.ActivateTask (Some t))).state
-  unfolding unmasked_in
+  activate_same : (t : ℕ) → HoldSame o (unasked_in S ByNobody o (Service.ActivateTask (Some t))).state
+  unfolding unasked_in
   activate_same t = go (first_refusal (refusals_in S ByNobody o (Service.ActivateTask (Some t))))
     where
       go : (refusal : Option Status) → HoldSame o (reply_in S ByNobody o (Service.ActivateTask (Some t)) refusal).state
@@ -106,8 +106,8 @@ module _ (S : System) (o : Kept) where
   set_same t m true = changed_same o.slots t (slot_woken (o.slots t)) refl
   set_same t m false = λ u. refl
 
-  set_event_same : (t m : ℕ) → HoldSame o (unmasked_in S ByNobody o (Service.SetEvent (Some t) m)).state
-  unfolding unmasked_in
+  set_event_same : (t m : ℕ) → HoldSame o (unasked_in S ByNobody o (Service.SetEvent (Some t) m)).state
+  unfolding unasked_in
   set_event_same t m = go (first_refusal (refusals_in S ByNobody o (Service.SetEvent (Some t) m)))
     where
       go : (refusal : Option Status) → HoldSame o (reply_in S ByNobody o (Service.SetEvent (Some t) m) refusal).state
@@ -116,7 +116,7 @@ module _ (S : System) (o : Kept) where
           (is_met (bit_or (slice_index o.masks t) m) (o.slots t).waits_for)
       go (Some refusal) = λ u. refl
 
-  action_same : (act : Action) → HoldSame o (unmasked_in S ByNobody o (action_call act)).state
+  action_same : (act : Action) → HoldSame o (unasked_in S ByNobody o (action_call act)).state
   action_same (Action.ActivateTask t) = activate_same t
   action_same (Action.SetEvent t m) = set_event_same t m
 

@@ -46,5 +46,5 @@ pub record IsTelling (r : Progress) (S : System) (before : Before) (e : Executio
   pub told : 1 ≤ r.ticks → IsTold r.system r.mode r.arrivals (r.ticks - 1) (run_of r).state before e tasks records
 
 -- and what is seen of it
-abbrev pub IsKept : Bool → Progress → Observation → Type 0
-IsKept counted r o = 1 ≤ r.ticks → IsObserved counted r.system r.mode r.arrivals (r.ticks - 1) o
+abbrev pub IsObservedRun : Bool → Progress → Observation → Type 0
+IsObservedRun counted r o = 1 ≤ r.ticks → IsObserved counted r.system r.mode r.arrivals (r.ticks - 1) o

@@ -27,13 +27,13 @@ pub struct ObservedRun<'s, B: Blockers> {
 
 impl<'s, B: Blockers> Model for ObservedRun<'s, B> {
     ghost use Rattle.kernel.specs.Progress.{Progress};
-    ghost use Rattle.observed_runs.specs.Keeping.{IsKept};
+    ghost use Rattle.observed_runs.specs.Keeping.{IsObservedRun};
 
     ghost Value = { Progress };
 
     ghost view = { λ r. r.told };
 
-    ghost invariant = { λ r. IsKept B.are_counted r.told r.seen };
+    ghost invariant = { λ r. IsObservedRun B.are_counted r.told r.seen };
 }
 
 impl<'s, B: Blockers> ToldRun<'s, B> {

@@ -6,7 +6,7 @@ use Rattle.osek_base.specs.System.{System}
 use Rattle.osek_base.specs.Instruction.{Context}
 use Rattle.osek_base.specs.State.{State}
 use Rattle.osek_base.specs.Reschedule.{reschedule}
-use Rattle.osek_base.specs.Service.{Caller, JobCalls, RoutineCalls, NobodyCalls, service, unmasked_service, controlled}
+use Rattle.osek_base.specs.Service.{Caller, JobCalls, RoutineCalls, NobodyCalls, service, unasked_service, controlled}
 use Rattle.osek_base.specs.Alarm.{due_alarms, alarms_advanced}
 use Rattle.osek_base.specs.Tick.{alarms_act, alarm_acts, alarm_phase, start_phase, execute_phase, caller_executes, executor, executed, tick, before_execution, from_execution}
 
@@ -20,7 +20,7 @@ unfolding reschedule
 tick_reschedule S s = refl
 
 tick_alarms_act : (S : System) (due : List ℕ) (s : State) → (alarms_act S due s).state.tick ≡ s.tick
-unfolding unmasked_service
+unfolding unasked_service
 tick_alarms_act S [] s = refl
 tick_alarms_act S (a ∷ due) s = tick_alarms_act S due (alarm_acts S a s).state
 

@@ -31,4 +31,4 @@ pub mod GoodState
 pub mod Classes
 pub mod Proper
 pub mod Laws
-pub mod Kept
+pub mod KeptCeilings

@@ -302,8 +302,8 @@ reply_to S c s call refusal =
     }
 
 -- a service called by an alarm, or at boot: interrupts being off is no refusal
-unfoldable pub unmasked_service : System → Caller → State → ServiceCall → Reply
-unmasked_service S c s call = reply_to S c s call (first_refusal (refusals S c s call))
+unfoldable pub unasked_service : System → Caller → State → ServiceCall → Reply
+unasked_service S c s call = reply_to S c s call (first_refusal (refusals S c s call))
 
 -- a service called by a job or a routine: interrupts being off is the first refusal
 unfoldable pub service : System → Caller → State → ServiceCall → Reply

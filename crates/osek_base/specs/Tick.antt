@@ -9,7 +9,7 @@ use Rattle.osek_base.specs.Instruction.{Context, Done, value, next, with_value, 
 use Rattle.osek_base.specs.State.{Job, JobId, Active, State, fresh_context, may_dispatch, job_of, with_job, words_after}
 use Rattle.osek_base.specs.Reschedule.{Recorded, hooked, reschedule}
 use Rattle.osek_base.specs.Alarm.{due_alarms, alarms_advanced}
-use Rattle.osek_base.specs.Service.{Caller, JobCalls, RoutineCalls, NobodyCalls, Reply, unmasked_service, service, controlled}
+use Rattle.osek_base.specs.Service.{Caller, JobCalls, RoutineCalls, NobodyCalls, Reply, unasked_service, service, controlled}
 
 -- one thing after another
 abbrev pub and_then : Recorded → (State → Recorded) → Recorded
@@ -39,7 +39,7 @@ alarm_reply S a r =
 
 -- one alarm acts
 abbrev pub alarm_acts : System → ℕ → State → Recorded
-alarm_acts S a s = alarm_reply S a (unmasked_service S NobodyCalls s (action_call (alarm S a).action))
+alarm_acts S a s = alarm_reply S a (unasked_service S NobodyCalls s (action_call (alarm S a).action))
 
 -- alarms act in turn
 abbrev pub alarms_act : System → List ℕ → State → Recorded

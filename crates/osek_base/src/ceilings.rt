@@ -6,7 +6,7 @@ ghost use Rattle.osek_base.specs.Lists.{greatest};
 ghost use Rattle.osek_base.specs.System.{lists};
 ghost use Rattle.osek_base.specs.Ceiling.{top_priority, declared_ceiling, internal_ceiling};
 ghost use Rattle.osek_base.specs.declared.limits.TheConstants.{MAX_TASKS, MAX_RESOURCES};
-ghost use Rattle.osek_base.specs.Kept.{HasCeilings, HasInternal, AreCeilings};
+ghost use Rattle.osek_base.specs.KeptCeilings.{HasCeilings, HasInternal, AreCeilings};
 
 use crate::ids::{ResourceNumber, TaskId};
 use crate::limits::{MAX_RESOURCES, MAX_TASKS};

@@ -38,7 +38,7 @@ pub struct System {
 impl Model for System {
     ghost use Rattle.osek_base.specs.System.{System as Configured};
     ghost use Rattle.osek_base.specs.Proper.{IsProper};
-    ghost use Rattle.osek_base.specs.Kept.{AreCeilings};
+    ghost use Rattle.osek_base.specs.KeptCeilings.{AreCeilings};
 
     ghost Value = { Configured };
 

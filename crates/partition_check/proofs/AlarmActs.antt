@@ -8,7 +8,7 @@ use Rattle.osek_base.specs.Lists.{below}
 use Rattle.osek_base.specs.System.{System, alarm}
 use Rattle.osek_base.specs.State.{State}
 use Rattle.osek_base.specs.Alarm.{is_due, due_alarms, alarms_advanced}
-use Rattle.osek_base.specs.Service.{NobodyCalls, unmasked_service}
+use Rattle.osek_base.specs.Service.{NobodyCalls, unasked_service}
 use Rattle.osek_base.specs.Reschedule.{Recorded}
 use Rattle.osek_base.specs.Tick.{action_call, error_record, alarm_acts, alarms_act, alarm_phase}
 use Rattle.osek_base.specs.Upper.{is_upper_alarm, action_task}
@@ -32,7 +32,7 @@ all_below n = each_below (λ a. a < n) n (λ a h. h)
 -- what the action of an alarm does, recorded under its number
 abbrev pub acts_by : System → ℕ → Action → State → Recorded
 acts_by A a act t =
-    let r = unmasked_service A NobodyCalls t (action_call act) in
+    let r = unasked_service A NobodyCalls t (action_call act) in
     record { events = error_record A (Source.Alarm a) (Instr.Service (action_call act)) r.status; state = r.state }
 
 -- two phases that do the same above, and keep the layers
@@ -49,14 +49,14 @@ module _ (S : System) (p : ℕ) (both : IsCounterpart S p) (low : IsLow S p)
   acts_upper a s layered inside high =
       let act : Action = (alarm S a).action in
       let there : action_task act < length S.tasks = known a inside in
-      let same : IsSameReply S p (unmasked_service S NobodyCalls s (action_call act)) (unmasked_service (upper_core S p) NobodyCalls (up S p s) (action_call act)) =
+      let same : IsSameReply S p (unasked_service S NobodyCalls s (action_call act)) (unasked_service (upper_core S p) NobodyCalls (up S p s) (action_call act)) =
       action_up S p both low s layered act there high in
       subst (λ x. AreAlike S p (alarm_acts S a s) (acts_by (upper_core S p) (rank (is_upper_alarm S p) a) x (up S p s))) (sym (both.actions a inside high))
       (record {
         state = sym same.state;
         lines =
             subst (λ status. SameLines S p (alarm_acts S a s).events (error_record (upper_core S p) (Source.Alarm (rank (is_upper_alarm S p) a)) (Instr.Service (action_call act)) status)) (sym same.status)
-            (error_records S p both a act (unmasked_service S NobodyCalls s (action_call act)).status inside high refl there high);
+            (error_records S p both a act (unasked_service S NobodyCalls s (action_call act)).status inside high refl there high);
         layered = action_layered S p s act there layered;
       })
 
@@ -67,7 +67,7 @@ module _ (S : System) (p : ℕ) (both : IsCounterpart S p) (low : IsLow S p)
       let act : Action = (alarm S a).action in
       record {
         state = action_unseen S p both s act (known a inside) unseen;
-        lines = error_hidden S p both a (Instr.Service (action_call act)) (unmasked_service S NobodyCalls s (action_call act)).status unseen;
+        lines = error_hidden S p both a (Instr.Service (action_call act)) (unasked_service S NobodyCalls s (action_call act)).status unseen;
         layered = action_layered S p s act (known a inside) layered;
       }
 

@@ -12,7 +12,7 @@ use Rattle.osek_base.specs.System.{System, is_extended}
 use Rattle.osek_base.specs.State.{Job, JobId, State, Expiry, same_id, jobs_of, jobs_but, with_job}
 use Rattle.osek_base.specs.Activation.{activated, new_job, released, ended, woken}
 use Rattle.osek_base.specs.Alarm.{with_alarm}
-use Rattle.osek_base.specs.Service.{Caller, JobCalls, RoutineCalls, NobodyCalls, with_caller, caller_ended, is_outranked, given_up, gets, releases, waiting_for, meets, is_met, released_by, with_events, events_cleared, event_awaited, word_stored, effect, changed, reply_to, service, unmasked_service}
+use Rattle.osek_base.specs.Service.{Caller, JobCalls, RoutineCalls, NobodyCalls, with_caller, caller_ended, is_outranked, given_up, gets, releases, waiting_for, meets, is_met, released_by, with_events, events_cleared, event_awaited, word_stored, effect, changed, reply_to, service, unasked_service}
 use Rattle.osek_base.specs.Upper.{service_names}
 use Rattle.osek_base.specs.Separable.{names_upper, names_scheduler}
 use Rattle.partition_check.proofs.UpperState.{is_upper_id, is_upper_job}
@@ -245,10 +245,10 @@ module _ (S : System) (p : ℕ) where
   unfolding service
   any_service_layered s c call known may layered = reply_layered s c call _ known may layered
 
-  pub any_unmasked_layered : (s : State) (c : Caller) (call : ServiceCall) → IsKnownObject S (service_names call) → MayGet S p c call
-      → IsLayered S p s → IsLayered S p (unmasked_service S c s call).state
-  unfolding unmasked_service
-  any_unmasked_layered s c call known may layered = reply_layered s c call _ known may layered
+  pub any_unasked_layered : (s : State) (c : Caller) (call : ServiceCall) → IsKnownObject S (service_names call) → MayGet S p c call
+      → IsLayered S p s → IsLayered S p (unasked_service S c s call).state
+  unfolding unasked_service
+  any_unasked_layered s c call known may layered = reply_layered s c call _ known may layered
 
 -- ---- by an upper caller, and by a lower one
 

@@ -12,7 +12,7 @@ use Rattle.osek_base.specs.System.{System, is_extended}
 use Rattle.osek_base.specs.State.{Job, JobId, State, Expiry, jobs_of, shared_window}
 use Rattle.osek_base.specs.Activation.{activated, released, ended}
 use Rattle.osek_base.specs.Alarm.{expiry, with_alarm}
-use Rattle.osek_base.specs.Service.{Caller, JobCalls, RoutineCalls, NobodyCalls, with_caller, is_outranked, given_up, gets, releases, waiting_for, meets, is_met, released_by, with_events, event_set, word_stored, effect, changed, reply_to, service, unmasked_service}
+use Rattle.osek_base.specs.Service.{Caller, JobCalls, RoutineCalls, NobodyCalls, with_caller, is_outranked, given_up, gets, releases, waiting_for, meets, is_met, released_by, with_events, event_set, word_stored, effect, changed, reply_to, service, unasked_service}
 use Rattle.osek_base.specs.Upper.{is_upper_task, is_upper_alarm}
 use Rattle.osek_base.specs.Agree.{is_upper_declared, upper_resources, upper_alarms}
 use Rattle.partition_check.proofs.UpperState.{up, up_jobs, is_upper_id, is_upper_job, upper_count}
@@ -22,7 +22,7 @@ use Rattle.partition_check.proofs.PriorityUp.{later_tasks}
 use Rattle.partition_check.proofs.JobsUp.{new_unseen, jobs_but_unseen, with_job_unseen, released_jobs_unseen}
 use Rattle.partition_check.proofs.AlarmsUp.{alarms_unseen}
 use Rattle.partition_check.proofs.SharedUp.{shared_unseen}
-use Rattle.partition_check.proofs.LayersKept.{any_unmasked_layered}
+use Rattle.partition_check.proofs.LayersKept.{any_unasked_layered}
 
 -- what a service may change looks the same from above
 pub record IsUnseen (S : System) (p : ℕ) (s e : State) : Type 0 where
@@ -131,9 +131,9 @@ module _ (S : System) (p : ℕ) where
   unfolding service
   service_by_effect s c call unseen = reply_unseen s c call _ (unless_refused s c call _ unseen)
 
-  unmasked_by_effect : (s : State) (c : Caller) (call : ServiceCall) → IsUnseen S p s (effect S c s call) → up S p (unmasked_service S c s call).state ≡ up S p s
-  unfolding unmasked_service
-  unmasked_by_effect s c call unseen = reply_unseen s c call _ (unless_refused s c call _ unseen)
+  unasked_by_effect : (s : State) (c : Caller) (call : ServiceCall) → IsUnseen S p s (effect S c s call) → up S p (unasked_service S c s call).state ≡ up S p s
+  unfolding unasked_service
+  unasked_by_effect s c call unseen = reply_unseen s c call _ (unless_refused s c call _ unseen)
 
 module _ (S : System) (p : ℕ) (both : IsCounterpart S p) where
   -- ---- a lower job's call
@@ -190,20 +190,20 @@ module _ (S : System) (p : ℕ) (both : IsCounterpart S p) where
   -- ---- an alarm's action on a lower task
 
   pub activation_unseen : (s : State) (t : ℕ) → t < length S.tasks → is_upper_task S p t ≡ false
-      → up S p (unmasked_service S NobodyCalls s (Service.ActivateTask (Some t))).state ≡ up S p s
+      → up S p (unasked_service S NobodyCalls s (Service.ActivateTask (Some t))).state ≡ up S p s
   activation_unseen s t inside low =
-      unmasked_by_effect S p s NobodyCalls (Service.ActivateTask (Some t)) (activated_unseen S p t s (later_tasks S p both t inside low) low)
+      unasked_by_effect S p s NobodyCalls (Service.ActivateTask (Some t)) (activated_unseen S p t s (later_tasks S p both t inside low) low)
 
   pub event_unseen : (s : State) (t m : ℕ) → t < length S.tasks → is_upper_task S p t ≡ false
-      → up S p (unmasked_service S NobodyCalls s (Service.SetEvent (Some t) m)).state ≡ up S p s
+      → up S p (unasked_service S NobodyCalls s (Service.SetEvent (Some t) m)).state ≡ up S p s
   event_unseen s t m inside low =
-      unmasked_by_effect S p s NobodyCalls (Service.SetEvent (Some t) m) (event_set_unseen S p t m s (later_tasks S p both t inside low) low)
+      unasked_by_effect S p s NobodyCalls (Service.SetEvent (Some t) m) (event_set_unseen S p t m s (later_tasks S p both t inside low) low)
 
 -- an alarm's action keeps the layers, whatever its task
 pub activation_layered : (S : System) (p : ℕ) (s : State) (t : ℕ) → t < length S.tasks → IsLayered S p s
-    → IsLayered S p (unmasked_service S NobodyCalls s (Service.ActivateTask (Some t))).state
-activation_layered S p s t inside layered = any_unmasked_layered S p s NobodyCalls (Service.ActivateTask (Some t)) inside tt layered
+    → IsLayered S p (unasked_service S NobodyCalls s (Service.ActivateTask (Some t))).state
+activation_layered S p s t inside layered = any_unasked_layered S p s NobodyCalls (Service.ActivateTask (Some t)) inside tt layered
 
 pub event_layered : (S : System) (p : ℕ) (s : State) (t m : ℕ) → t < length S.tasks → IsLayered S p s
-    → IsLayered S p (unmasked_service S NobodyCalls s (Service.SetEvent (Some t) m)).state
-event_layered S p s t m inside layered = any_unmasked_layered S p s NobodyCalls (Service.SetEvent (Some t) m) inside tt layered
+    → IsLayered S p (unasked_service S NobodyCalls s (Service.SetEvent (Some t) m)).state
+event_layered S p s t m inside layered = any_unasked_layered S p s NobodyCalls (Service.SetEvent (Some t) m) inside tt layered

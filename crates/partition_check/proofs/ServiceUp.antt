@@ -5,7 +5,7 @@ use Rattle.osek_base.specs.Types.{ServiceCall}
 use Rattle.osek_base.specs.declared.status.Status.{Status}
 use Rattle.osek_base.specs.System.{System}
 use Rattle.osek_base.specs.State.{State, interrupts_off}
-use Rattle.osek_base.specs.Service.{Caller, answer, with_objects_of, first_refusal, refusals, reply_to, service, unmasked_service}
+use Rattle.osek_base.specs.Service.{Caller, answer, with_objects_of, first_refusal, refusals, reply_to, service, unasked_service}
 use Rattle.osek_base.specs.Agree.{renumbered_service, upper_core}
 use Rattle.partition_check.proofs.UpperState.{up}
 use Rattle.partition_check.proofs.Shared.{IsCounterpart, IsLow, IsLayered, IsUpperCaller, IsUpperCall, IsSameReply, up_caller}
@@ -36,10 +36,10 @@ module _ (S : System) (p : ℕ) (both : IsCounterpart S p) (below : IsLow S p) (
       (first_refusal ((interrupts_off s, Status.SysDisabled) ∷ refusals (upper_core S p) (up_caller S p c) (up S p s) (renumbered_service S p call)))
       (ap (λ rows. first_refusal ((interrupts_off s, Status.SysDisabled) ∷ rows)) (refusals_up S p both s c call layered upper named))
 
-  pub unmasked_up : IsSameReply S p (unmasked_service S c s call)
-      (unmasked_service (upper_core S p) (up_caller S p c) (up S p s) (renumbered_service S p call))
-  unfolding unmasked_service
-  unmasked_up =
+  pub unasked_up : IsSameReply S p (unasked_service S c s call)
+      (unasked_service (upper_core S p) (up_caller S p c) (up S p s) (renumbered_service S p call))
+  unfolding unasked_service
+  unasked_up =
       reply_up (first_refusal (refusals S c s call))
       (first_refusal (refusals (upper_core S p) (up_caller S p c) (up S p s) (renumbered_service S p call)))
       (ap first_refusal (refusals_up S p both s c call layered upper named))

@@ -8,10 +8,10 @@ use std::marker::Model;
 
 const LEVELS: usize = MAX_TASK_PRIORITY as usize + 1;
 
-/// For each static priority the number behind the last tick in which a job of it executed, 0 where none has.
+/// For each static priority the tick after the last one in which a job of it executed, 0 where none has.
 #[derive(Drop)]
 pub struct LastTicks {
-    behind: [u32; LEVELS],
+    after: [u32; LEVELS],
 }
 
 impl Model for LastTicks {
@@ -19,7 +19,7 @@ impl Model for LastTicks {
 
     ghost Value = { List ℕ };
 
-    ghost view = { λ l. l.behind };
+    ghost view = { λ l. l.after };
 }
 
 impl LastTicks {
@@ -27,16 +27,14 @@ impl LastTicks {
     pub fn new() -> Self
         ensures { result ≡ replicate LEVELS 0 }
     {
-        LastTicks {
-            behind: [0; LEVELS],
-        }
+        LastTicks { after: [0; LEVELS] }
     }
 
     /// The last tick of each level becomes that of others.
     pub fn copy_from(&mut self, other: &LastTicks)
         ensures { self.new ≡ other.now }
     {
-        self.behind.copy_from_slice(&other.behind);
+        self.after.copy_from_slice(&other.after);
     }
 
     /// A job of a level executes in a tick.
@@ -46,16 +44,16 @@ impl LastTicks {
         requires tick { tick < MAX_TICKS }
         ensures { self.new ≡ slice_set self.old level (tick + 1) }
     {
-        self.behind[level as usize] = tick + 1;
+        self.after[level as usize] = tick + 1;
     }
 
     /// Whether a job of a level below has executed in a tick or since.
     pub fn is_lower_since(&self, level: u8, tick: u32) -> bool
         requires { level ≤ MAX_TASK_PRIORITY }
-        ensures { result ≡ list_any (λ behind. nat_lt tick behind) (take level self.now) }
+        ensures { result ≡ list_any (λ after. nat_lt tick after) (take level self.now) }
     {
-        self.behind[..level as usize]
+        self.after[..level as usize]
             .iter()
-            .any(|behind| tick < *behind)
+            .any(|after| tick < *after)
     }
 }

@@ -11,7 +11,7 @@ use Rattle.osek_base.specs.State.{Job, State, may_dispatch}
 use Rattle.osek_base.specs.Alarm.{is_due, due_alarms, alarms_advanced}
 use Rattle.osek_base.specs.Choice.{choice}
 use Rattle.osek_base.specs.Reschedule.{entered, jobs_entered, switched, with_dispatch_of, reschedule}
-use Rattle.osek_base.specs.Service.{Caller, NobodyCalls, unmasked_service}
+use Rattle.osek_base.specs.Service.{Caller, NobodyCalls, unasked_service}
 use Rattle.osek_base.specs.Tick.{action_call, alarm_acts, alarms_act, alarm_phase, flagged, arrival_phase, routine_choice, routine_started, with_start_of, start_phase, before_execution}
 use Rattle.osek_base.specs.Proper.{IsProper}
 use Rattle.osek_base.proofs.PlaceLemmas.{some_program}
@@ -19,22 +19,22 @@ use Rattle.run_laws.proofs.Lists.{all_kept, found}
 use Rattle.run_laws.proofs.Known.{ActivatesKnown, all_below}
 use Rattle.run_laws.proofs.SingleTick.{alarm_known}
 use Rattle.run_laws.proofs.Formed.{IsPlacedJob, HasActive, IsLimited, HasForm}
-use Rattle.run_laws.proofs.FormedService.{change_formed, unmasked_formed}
+use Rattle.run_laws.proofs.FormedService.{change_formed, unasked_formed}
 
-pending_unmasked : (S : System) (s : State) (c : Caller) (call : ServiceCall) → (unmasked_service S c s call).state.pending ≡ s.pending
-unfolding unmasked_service
-pending_unmasked S s c call = refl
+pending_unasked : (S : System) (s : State) (c : Caller) (call : ServiceCall) → (unasked_service S c s call).state.pending ≡ s.pending
+unfolding unasked_service
+pending_unasked S s c call = refl
 
-active_unmasked : (S : System) (s : State) (c : Caller) (call : ServiceCall) → (unmasked_service S c s call).state.active ≡ s.active
-unfolding unmasked_service
-active_unmasked S s c call = refl
+active_unasked : (S : System) (s : State) (c : Caller) (call : ServiceCall) → (unasked_service S c s call).state.active ≡ s.active
+unfolding unasked_service
+active_unasked S s c call = refl
 
 module _ (S : System) (proper : IsProper S) where
-  pub acts_form : (s : State) (call : ServiceCall) → ActivatesKnown S call → HasForm S s → HasForm S (unmasked_service S NobodyCalls s call).state
+  pub acts_form : (s : State) (call : ServiceCall) → ActivatesKnown S call → HasForm S s → HasForm S (unasked_service S NobodyCalls s call).state
   acts_form s call known form = record {
-    formed = unmasked_formed S proper s NobodyCalls call tt known form.formed;
-    pending = ap length (pending_unmasked S s NobodyCalls call) ∙ form.pending;
-    active = subst (HasActive S) (sym (active_unmasked S s NobodyCalls call)) form.active;
+    formed = unasked_formed S proper s NobodyCalls call tt known form.formed;
+    pending = ap length (pending_unasked S s NobodyCalls call) ∙ form.pending;
+    active = subst (HasActive S) (sym (active_unasked S s NobodyCalls call)) form.active;
   }
 
   alarms_form : (due : List ℕ) → AllByRecursion (λ a. a < length S.alarms) due → (s : State) → HasForm S s → HasForm S (alarms_act S due s).state

@@ -11,7 +11,7 @@ use Rattle.osek_base.specs.System.{System, activation_of, is_extended}
 use Rattle.osek_base.specs.State.{Job, JobId, State, Expiry, interrupts_off, same_id, jobs_of, jobs_but, with_job}
 use Rattle.osek_base.specs.Alarm.{with_alarm}
 use Rattle.osek_base.specs.Activation.{is_full, activated, new_job, released, woken}
-use Rattle.osek_base.specs.Service.{Caller, JobCalls, RoutineCalls, NobodyCalls, is_own_task, first_refusal, refusals, with_caller, caller_ended, is_outranked, given_up, gets, releases, waiting_for, meets, is_met, released_by, with_events, events_cleared, event_awaited, effect, reply_to, service, unmasked_service}
+use Rattle.osek_base.specs.Service.{Caller, JobCalls, RoutineCalls, NobodyCalls, is_own_task, first_refusal, refusals, with_caller, caller_ended, is_outranked, given_up, gets, releases, waiting_for, meets, is_met, released_by, with_events, events_cleared, event_awaited, effect, reply_to, service, unasked_service}
 use Rattle.osek_base.specs.Proper.{IsProper}
 use Rattle.osek_base.proofs.PlaceLemmas.{some_program}
 use Rattle.run_laws.proofs.Lists.{cond_both, clash, all_kept, all_append, all_map, found}
@@ -211,6 +211,6 @@ module _ (S : System) (proper : IsProper S) where
       reply_formed s c call (first_refusal ((interrupts_off s, Status.SysDisabled) ∷ refusals S c s call)) calls known
       (λ e. (passed (interrupts_off s) Status.SysDisabled (refusals S c s call) e).1) formed
 
-  pub unmasked_formed : (s : State) (c : Caller) (call : ServiceCall) → IsCaller s c → ActivatesKnown S call → IsFormed S s → IsFormed S (unmasked_service S c s call).state
-  unfolding unmasked_service
-  unmasked_formed s c call calls known formed = reply_formed s c call (first_refusal (refusals S c s call)) calls known (λ e. e) formed
+  pub unasked_formed : (s : State) (c : Caller) (call : ServiceCall) → IsCaller s c → ActivatesKnown S call → IsFormed S s → IsFormed S (unasked_service S c s call).state
+  unfolding unasked_service
+  unasked_formed s c call calls known formed = reply_formed s c call (first_refusal (refusals S c s call)) calls known (λ e. e) formed

@@ -15,7 +15,7 @@ use Rattle.osek_base.specs.Activation.{activated, released}
 use Rattle.osek_base.specs.Service.{Caller, JobCalls, RoutineCalls, NobodyCalls, holds, holds_any, got_last, caller_holds}
 use Rattle.osek_base.specs.Service.{first_refusal, refusals, with_caller, caller_ended, is_outranked, given_up, gets, releases}
 use Rattle.osek_base.specs.Service.{waiting_for, meets, is_met, may_take, released_by, with_events, events_cleared}
-use Rattle.osek_base.specs.Service.{event_awaited, word_stored, effect, answer, reply_to, service, unmasked_service}
+use Rattle.osek_base.specs.Service.{event_awaited, word_stored, effect, answer, reply_to, service, unasked_service}
 use Rattle.osek_base.specs.Blocker.{calling_job, is_number}
 use Rattle.osek_base.specs.Laws.{is_release, is_store}
 use Rattle.run_laws.proofs.Lists.{cond_both, clash, all_any, all_weaker, all_map, any_none}
@@ -159,9 +159,9 @@ module _ (S : System) (s : State) (r : ℕ) (n : JobId) (holder : IsHolder (ResI
       reply_holder c call (first_refusal ((interrupts_off s, Status.SysDisabled) ∷ refusals S c s call)) sole
       (λ e. (passed (interrupts_off s) Status.SysDisabled (refusals S c s call) e).1) (λ e. free (ap answer e))
 
-  pub unmasked_holder : (call : ServiceCall) → HasHolder (unmasked_service S NobodyCalls s call).state
-  unfolding unmasked_service
-  unmasked_holder call =
+  pub unasked_holder : (call : ServiceCall) → HasHolder (unasked_service S NobodyCalls s call).state
+  unfolding unasked_service
+  unasked_holder call =
       reply_holder NobodyCalls call (first_refusal (refusals S NobodyCalls s call)) tt (λ e. e) (λ e number. clash (sym number))
 
 -- ---- the words stay
@@ -265,9 +265,9 @@ module _ (S : System) (s : State) (r : ℕ) where
       reply_window c call (first_refusal ((interrupts_off s, Status.SysDisabled) ∷ refusals S c s call))
       (λ e. (passed (interrupts_off s) Status.SysDisabled (refusals S c s call) e).1) (λ e. free (ap answer e))
 
-  pub unmasked_window : (call : ServiceCall) → HasWindow (unmasked_service S NobodyCalls s call).state
-  unfolding unmasked_service
-  unmasked_window call =
+  pub unasked_window : (call : ServiceCall) → HasWindow (unasked_service S NobodyCalls s call).state
+  unfolding unasked_service
+  unasked_window call =
       reply_window NobodyCalls call (first_refusal (refusals S NobodyCalls s call)) (λ e. e) (λ e has. clash (sym has))
 
 -- ---- a job comes to hold it

@@ -37,7 +37,7 @@ use Rattle.run_laws.proofs.SingleTick.{alarm_phase_single, start_single}
 use Rattle.run_laws.proofs.Records.{is_executed, NoneExecuted, none_error, none_shutdown, none_before, none_last}
 use Rattle.run_laws.proofs.Holding.{IsHolder, plain_holder, with_context_holder, IsSoleCaller, sole_caller}
 use Rattle.run_laws.proofs.Holding.{holding_caller}
-use Rattle.run_laws.proofs.HoldingService.{service_holder, unmasked_holder, service_window, unmasked_window, service_got}
+use Rattle.run_laws.proofs.HoldingService.{service_holder, unasked_holder, service_window, unasked_window, service_got}
 use Rattle.std.proofs.lemmas.Bool.{and_parts, and_from, or_left}
 
 -- ---- what records tell
@@ -215,7 +215,7 @@ module _ (S : System) (r : ℕ) (n : JobId) where
   alarms_held : (due : List ℕ) (s : State) → IsHeld s → IsHeld (alarms_act S due s).state
   alarms_held [] s holder = holder
   alarms_held (a ∷ due) s holder =
-      alarms_held due (alarm_acts S a s).state (unmasked_holder S s r n holder (action_call (alarm S a).action))
+      alarms_held due (alarm_acts S a s).state (unasked_holder S s r n holder (action_call (alarm S a).action))
 
   alarm_phase_held : (s : State) → IsHeld s → IsHeld (alarm_phase S s).state
   unfolding alarm_phase
@@ -254,7 +254,7 @@ module _ (S : System) (r : ℕ) (n : JobId) where
   alarms_window : (due : List ℕ) (s : State) → shared_window (alarms_act S due s).state.shared r ≡ shared_window s.shared r
   alarms_window [] s = refl
   alarms_window (a ∷ due) s =
-      alarms_window due (alarm_acts S a s).state ∙ unmasked_window S s r (action_call (alarm S a).action)
+      alarms_window due (alarm_acts S a s).state ∙ unasked_window S s r (action_call (alarm S a).action)
 
   alarm_phase_window : (s : State) → shared_window (alarm_phase S s).state.shared r ≡ shared_window s.shared r
   unfolding alarm_phase

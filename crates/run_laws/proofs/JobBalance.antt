@@ -22,7 +22,7 @@ use Rattle.osek_base.specs.Choice.{choice}
 use Rattle.osek_base.specs.Activation.{activated}
 use Rattle.osek_base.specs.Alarm.{due_alarms, alarms_advanced}
 use Rattle.osek_base.specs.Reschedule.{Recorded, hooked, entered, left_record, entered_record, switch_records, switched, with_dispatch_of, reschedule}
-use Rattle.osek_base.specs.Service.{Caller, JobCalls, RoutineCalls, NobodyCalls, Reply, first_refusal, refusals, with_events, reply_to, service, unmasked_service, answer, controlled}
+use Rattle.osek_base.specs.Service.{Caller, JobCalls, RoutineCalls, NobodyCalls, Reply, first_refusal, refusals, with_events, reply_to, service, unasked_service, answer, controlled}
 use Rattle.osek_base.specs.Tick.{action_call, error_record, alarm_acts, alarms_act, alarm_phase, arrival_phase, start_phase, at_values, job_moved, with_context, answered, shutdown_record, executed, caller_executes, executor, execute_phase, before_execution, last_phase, tick}
 use Rattle.osek_base.specs.Trace.{all_activated, starting_tasks, starting_alarms, boot, arriving, run}
 use Rattle.osek_base.specs.Proper.{IsProper}
@@ -248,8 +248,8 @@ module _ (S : System) (t : ℕ) where
       released_by_even S t (bit_or (slice_index s.masks u) m) (jobs_of u s.jobs) (with_events u (bit_or (slice_index s.masks u) m) s)
   action_even s (Action.SetEvent u m) (Some e) inside = stays S t s.made s.jobs
 
-  acts_even : (s : State) (action : Action) → t < length s.made → BalancesTo S t s (unmasked_service S NobodyCalls s (action_call action)).state 0
-  unfolding unmasked_service
+  acts_even : (s : State) (action : Action) → t < length s.made → BalancesTo S t s (unasked_service S NobodyCalls s (action_call action)).state 0
+  unfolding unasked_service
   acts_even s action inside = action_even s action (first_refusal (refusals S NobodyCalls s (action_call action))) inside
 
   alarms_even : (due : List ℕ) (s : State) → t < length s.made → IsQuiet s (alarms_act S due s)
@@ -260,7 +260,7 @@ module _ (S : System) (t : ℕ) where
       alarms_even due (alarm_acts S a s).state (subst (λ n. t < n) (sym one.size) inside) in (
         then_more S t s.made s.jobs (alarm_acts S a s).state.made (alarm_acts S a s).state.jobs _ _ 0 one more.0,
         both_end_none (alarm_acts S a s).events (alarms_act S due (alarm_acts S a s).state).events
-            (error_ends_none (Source.Alarm a) (Instr.Service (action_call (alarm S a).action)) (unmasked_service S NobodyCalls s (action_call (alarm S a).action)).status)
+            (error_ends_none (Source.Alarm a) (Instr.Service (action_call (alarm S a).action)) (unasked_service S NobodyCalls s (action_call (alarm S a).action)).status)
             more.1,
       )
 

@@ -14,7 +14,7 @@ use Rattle.osek_base.specs.Ceiling.{ceiling, internal_ceiling}
 use Rattle.osek_base.specs.State.{Job, JobId, State, Active, may_dispatch, interrupts_off, same_id, waits, jobs_of, jobs_but, with_job}
 use Rattle.osek_base.specs.Priority.{static_priority, dynamic_priority}
 use Rattle.osek_base.specs.Activation.{activated, released}
-use Rattle.osek_base.specs.Service.{Caller, JobCalls, RoutineCalls, NobodyCalls, holds_any, first_refusal, refusals, with_caller, caller_ended, is_outranked, given_up, gets, releases, waiting_for, meets, is_met, released_by, with_events, event_set, events_cleared, event_awaited, effect, reply_to, service, unmasked_service}
+use Rattle.osek_base.specs.Service.{Caller, JobCalls, RoutineCalls, NobodyCalls, holds_any, first_refusal, refusals, with_caller, caller_ended, is_outranked, given_up, gets, releases, waiting_for, meets, is_met, released_by, with_events, event_set, events_cleared, event_awaited, effect, reply_to, service, unasked_service}
 use Rattle.osek_base.specs.Tick.{action_call}
 use Rattle.run_laws.proofs.Lists.{cond_case, Pairs, EitherWay, clash, all_kept, found, pairs_weaker, either_way}
 use Rattle.run_laws.proofs.Foremost.{AreApart, only}
@@ -270,8 +270,8 @@ module _ (S : System) (s : State) (single : IsSingle S s) (ordered : IsOrdered S
       (λ e. (let both = passed (interrupts_off s) Status.SysDisabled (refusals S c s call) e in (may_call c dispatching calls both.0, both.1)))
 
   -- what the action of an alarm leaves
-  pub action_ordered : (act : Action) → IsOrdered S s.running (unmasked_service S NobodyCalls s (action_call act)).state.jobs
-  unfolding unmasked_service
+  pub action_ordered : (act : Action) → IsOrdered S s.running (unasked_service S NobodyCalls s (action_call act)).state.jobs
+  unfolding unasked_service
   action_ordered (Action.ActivateTask t) = go (first_refusal (refusals S NobodyCalls s (Service.ActivateTask (Some t))))
     where
       go : (o : Option Status) → IsOrdered S s.running (reply_to S NobodyCalls s (Service.ActivateTask (Some t)) o).state.jobs

@@ -16,14 +16,14 @@ use Rattle.osek_base.specs.State.{Job, State, Active, words_after, may_dispatch,
 use Rattle.osek_base.specs.Alarm.{is_due, due_alarms, alarms_advanced}
 use Rattle.osek_base.specs.Activation.{activated}
 use Rattle.osek_base.specs.Reschedule.{reschedule}
-use Rattle.osek_base.specs.Service.{Caller, JobCalls, RoutineCalls, NobodyCalls, service, unmasked_service, controlled}
+use Rattle.osek_base.specs.Service.{Caller, JobCalls, RoutineCalls, NobodyCalls, service, unasked_service, controlled}
 use Rattle.osek_base.specs.Tick.{at_values, action_call, alarm_acts, alarms_act, alarm_phase, arrival_phase, routine_choice, routine_started, with_start_of, start_phase, job_moved, moved as active_moved_by, with_context, answered, executed, caller_executes, executor, execute_phase, before_execution, last_phase, tick}
 use Rattle.osek_base.specs.Trace.{boot, all_activated, starting_tasks, run}
 use Rattle.osek_base.specs.Proper.{IsProper}
 use Rattle.run_laws.proofs.Lists.{clash, all_kept}
 use Rattle.run_laws.proofs.Known.{IsCaller, ActivatesKnown, executor_calls, all_below}
 use Rattle.run_laws.proofs.Single.{IsSingle}
-use Rattle.run_laws.proofs.SingleService.{unmasked_single}
+use Rattle.run_laws.proofs.SingleService.{unasked_single}
 use Rattle.run_laws.proofs.SingleTick.{alarm_known, start_single, execute_single, activated_running, begun, started_keep, first_single, begun_single, every_run}
 use Rattle.run_laws.proofs.SingleMoves.{reschedule_single}
 use Rattle.run_laws.proofs.Ranked.{AreRanked, HasReady, HasDispatched}
@@ -38,7 +38,7 @@ pub record IsRunState (S : System) (s : State) : Type 0 where
 -- ---- what stays
 
 over_alarms_act : (S : System) (due : List ℕ) (s : State) → (alarms_act S due s).state.over ≡ s.over
-unfolding unmasked_service
+unfolding unasked_service
 over_alarms_act S [] s = refl
 over_alarms_act S (a ∷ due) s = over_alarms_act S due (alarm_acts S a s).state
 
@@ -73,14 +73,14 @@ may_start S s h = go (may_dispatch s) refl h
 module _ (S : System) (proper : IsProper S) where
   -- ---- phases 1 to 4
 
-  running_unmasked : (s : State) (call : ServiceCall) → (unmasked_service S NobodyCalls s call).state.running ≡ s.running
-  unfolding unmasked_service
-  running_unmasked s call = refl
+  running_unasked : (s : State) (call : ServiceCall) → (unasked_service S NobodyCalls s call).state.running ≡ s.running
+  unfolding unasked_service
+  running_unasked s call = refl
 
-  pub action_run : (s : State) (act : Action) → ActivatesKnown S (action_call act) → IsRunState S s → IsRunState S (unmasked_service S NobodyCalls s (action_call act)).state
+  pub action_run : (s : State) (act : Action) → ActivatesKnown S (action_call act) → IsRunState S s → IsRunState S (unasked_service S NobodyCalls s (action_call act)).state
   action_run s act known good = record {
-    single = unmasked_single S s good.single NobodyCalls (action_call act) proper tt known;
-    ordered = subst (λ o. IsOrdered S o (unmasked_service S NobodyCalls s (action_call act)).state.jobs) (sym (running_unmasked s (action_call act)))
+    single = unasked_single S s good.single NobodyCalls (action_call act) proper tt known;
+    ordered = subst (λ o. IsOrdered S o (unasked_service S NobodyCalls s (action_call act)).state.jobs) (sym (running_unasked s (action_call act)))
         (action_ordered S s good.single good.ordered act);
   }
 

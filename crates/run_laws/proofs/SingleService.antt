@@ -10,7 +10,7 @@ use Rattle.osek_base.specs.Lists.{without_last}
 use Rattle.osek_base.specs.System.{System, is_extended}
 use Rattle.osek_base.specs.State.{Job, JobId, State, interrupts_off, same_id, jobs_of, jobs_but}
 use Rattle.osek_base.specs.Activation.{is_full, activated, released}
-use Rattle.osek_base.specs.Service.{Caller, JobCalls, RoutineCalls, NobodyCalls, is_own_task, is_basic_caller, first_refusal, refusals, with_caller, caller_ended, is_outranked, given_up, gets, releases, waiting_for, meets, is_met, released_by, with_events, event_set, events_cleared, event_awaited, effect, reply_to, service, unmasked_service}
+use Rattle.osek_base.specs.Service.{Caller, JobCalls, RoutineCalls, NobodyCalls, is_own_task, is_basic_caller, first_refusal, refusals, with_caller, caller_ended, is_outranked, given_up, gets, releases, waiting_for, meets, is_met, released_by, with_events, event_set, events_cleared, event_awaited, effect, reply_to, service, unasked_service}
 use Rattle.osek_base.specs.Proper.{IsProper}
 use Rattle.run_laws.proofs.Lists.{cond_case, clash, all_weaker, all_any, all_kept, all_filter, found}
 use Rattle.run_laws.proofs.Foremost.{equal, same_ids, same_self}
@@ -201,7 +201,7 @@ module _ (S : System) (s : State) (single : IsSingle S s) where
       changed_single c call (first_refusal ((interrupts_off s, Status.SysDisabled) ∷ refusals S c s call)) proper calls known
       (λ e. (passed (interrupts_off s) Status.SysDisabled (refusals S c s call) e).1)
 
-  pub unmasked_single : (c : Caller) (call : ServiceCall) → IsProper S → IsCaller s c → ActivatesKnown S call → IsSingle S (unmasked_service S c s call).state
-  unfolding unmasked_service
-  unmasked_single c call proper calls known =
+  pub unasked_single : (c : Caller) (call : ServiceCall) → IsProper S → IsCaller s c → ActivatesKnown S call → IsSingle S (unasked_service S c s call).state
+  unfolding unasked_service
+  unasked_single c call proper calls known =
       changed_single c call (first_refusal (refusals S c s call)) proper calls known (λ e. e)

@@ -31,7 +31,7 @@ use Rattle.run_laws.proofs.Foremost.{equal}
 use Rattle.run_laws.proofs.Known.{IsCaller, ActivatesKnown, executor_calls, proper_alarm_at, all_below}
 use Rattle.run_laws.proofs.Single.{IsSoundPair, AreSingle, IsSingle, IsFitChange, change_single, activated_single}
 use Rattle.run_laws.proofs.SingleMoves.{reschedule_single}
-use Rattle.run_laws.proofs.SingleService.{runner_begun, service_single, unmasked_single}
+use Rattle.run_laws.proofs.SingleService.{runner_begun, service_single, unasked_single}
 
 pub true_lt : (a b : ℕ) → nat_lt a b ≡ true → a < b
 true_lt a b h = grind (arith, h)
@@ -100,7 +100,7 @@ module _ (S : System) (proper : IsProper S) where
   alarms_single [] all s single = single
   alarms_single (a ∷ due) all s single =
       alarms_single due all.1 (alarm_acts S a s).state
-      (unmasked_single S s single NobodyCalls (action_call (alarm S a).action) proper tt (alarm_known S a proper all.0))
+      (unasked_single S s single NobodyCalls (action_call (alarm S a).action) proper tt (alarm_known S a proper all.0))
 
   pub alarm_phase_single : (s : State) → IsSingle S s → IsSingle S (alarm_phase S s).state
   unfolding alarm_phase

@@ -13,7 +13,7 @@ use Rattle.osek_base.specs.Choice.{choice}
 use Rattle.osek_base.specs.Activation.{activated, released}
 use Rattle.osek_base.specs.Reschedule.{entered, id_of, jobs_entered, switched, with_dispatch_of, reschedule}
 use Rattle.osek_base.specs.GoodState.{is_raised}
-use Rattle.osek_base.specs.Service.{Caller, JobCalls, RoutineCalls, NobodyCalls, first_refusal, refusals, with_caller, caller_ended, is_outranked, given_up, gets, releases, waiting_for, meets, is_met, released_by, with_events, event_set, events_cleared, event_awaited, effect, reply_to, service, unmasked_service}
+use Rattle.osek_base.specs.Service.{Caller, JobCalls, RoutineCalls, NobodyCalls, first_refusal, refusals, with_caller, caller_ended, is_outranked, given_up, gets, releases, waiting_for, meets, is_met, released_by, with_events, event_set, events_cleared, event_awaited, effect, reply_to, service, unasked_service}
 use Rattle.run_laws.proofs.Lists.{cond_case, some_inside, none_some, Pairs, EitherWay, clash, all_weaker, all_both, all_kept, all_append, all_map, found, pairs_weaker, either_way}
 use Rattle.run_laws.proofs.Foremost.{AreApart, same_ids, same_self, only, static_le}
 use Rattle.run_laws.proofs.Known.{met_waits, IsCaller}
@@ -276,9 +276,9 @@ module _ (S : System) (w : Option Watch) where
     unfolding service
     service_watched c call calls other = reply_watched c call (first_refusal ((interrupts_off s, Status.SysDisabled) ∷ refusals S c s call)) calls other
 
-    pub unmasked_watched : (call : ServiceCall) → IsOther w NobodyCalls → IsWatched S w (unmasked_service S NobodyCalls s call).state.running (unmasked_service S NobodyCalls s call).state.jobs
-    unfolding unmasked_service
-    unmasked_watched call other = reply_watched NobodyCalls call (first_refusal (refusals S NobodyCalls s call)) tt other
+    pub unasked_watched : (call : ServiceCall) → IsOther w NobodyCalls → IsWatched S w (unasked_service S NobodyCalls s call).state.running (unasked_service S NobodyCalls s call).state.jobs
+    unfolding unasked_service
+    unasked_watched call other = reply_watched NobodyCalls call (first_refusal (refusals S NobodyCalls s call)) tt other
 
   -- ---- a reschedule
 

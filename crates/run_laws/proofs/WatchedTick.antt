@@ -27,7 +27,7 @@ use Rattle.run_laws.proofs.SingleTick.{alarm_known, execute_single, activated_ru
 use Rattle.run_laws.proofs.Single.{IsSingle}
 use Rattle.run_laws.proofs.Ranked.{AreRanked, IsRankedPair, raised_ready}
 use Rattle.run_laws.proofs.RankedTick.{IsRunState, IsExecuting, action_run, before_executing, execute_left, tick_ordered, first_ordered, begun_ordered, alarm_phase_ordered}
-use Rattle.run_laws.proofs.Watched.{Watch, HasReadyJob, IsBeneath, IsSeen, IsWatched, IsOther, change_watched, activated_watched, service_watched, unmasked_watched, reschedule_watched}
+use Rattle.run_laws.proofs.Watched.{Watch, HasReadyJob, IsBeneath, IsSeen, IsWatched, IsOther, change_watched, activated_watched, service_watched, unasked_watched, reschedule_watched}
 
 module _ (S : System) (proper : IsProper S) (w : Option Watch) where
   abbrev pub IsWatchedState : State → Type 0
@@ -46,7 +46,7 @@ module _ (S : System) (proper : IsProper S) (w : Option Watch) where
   alarms_watched [] all s good watched = watched
   alarms_watched (a ∷ due) all s good watched =
       alarms_watched due all.1 (alarm_acts S a s).state (action_run S proper s (alarm S a).action (alarm_known S a proper all.0) good)
-      (unmasked_watched S w s good.single good.ordered watched (action_call (alarm S a).action) other_nobody)
+      (unasked_watched S w s good.single good.ordered watched (action_call (alarm S a).action) other_nobody)
 
   alarm_phase_watched : (s : State) → IsRunState S s → IsWatchedState s → IsWatchedState (alarm_phase S s).state
   unfolding alarm_phase

@@ -8,7 +8,7 @@ use Rattle.osek_base.specs.declared.instr.Operation.{Operation}
 use Rattle.osek_base.specs.declared.instr.Plain.{Plain}
 use Rattle.osek_base.specs.Reschedule.{reschedule}
 use Rattle.osek_base.specs.Activation.{activated, released}
-use Rattle.osek_base.specs.Service.{service, unmasked_service}
+use Rattle.osek_base.specs.Service.{service, unasked_service}
 use Rattle.osek_base.specs.State.{State, Job, still}
 use Rattle.osek_base.specs.System.{instruction_at}
 use Rattle.osek_base.specs.Tick.{alarm_phase, start_phase, execute_phase, tick}
@@ -19,7 +19,7 @@ use Rattle.run_laws.proofs.RunSteps.{state_more}
 use Rattle.ready_queues.specs.QueueMoves.{highest}
 use Rattle.kept_state.specs.Kept.{kept, slot_of}
 use Rattle.kept_state.specs.Moves.{rescheduled}
-use Rattle.kept_state.specs.KeptService.{unmasked_in, service_in}
+use Rattle.kept_state.specs.KeptService.{unasked_in, service_in}
 use Rattle.kept_state.specs.KeptTick.{alarm_phase_in, start_phase_in, execute_phase_in, tick_in, boot_in}
 use Rattle.needed_data.specs.Need.{HaveAsked, Respects, Suffices}
 use Rattle.needed_data.specs.Same.{cleaned, cleaned_slot, cleaned_slots}
@@ -92,15 +92,15 @@ with_none : (path : Path) → (on path).state.over ≡ false → IsAllowedIn cou
 with_none path going = record { going = going; may = λ i low is. absurd (omega (arith, low)) }
 
 going_0 : (on []).state.over ≡ false
-unfolding tick_in boot_in rescheduled highest alarm_phase_in start_phase_in execute_phase_in service_in unmasked_in
+unfolding tick_in boot_in rescheduled highest alarm_phase_in start_phase_in execute_phase_in service_in unasked_in
 going_0 = refl
 
 going_a : (on (none ∷ [])).state.over ≡ false
-unfolding tick_in boot_in rescheduled highest alarm_phase_in start_phase_in execute_phase_in service_in unmasked_in
+unfolding tick_in boot_in rescheduled highest alarm_phase_in start_phase_in execute_phase_in service_in unasked_in
 going_a = refl
 
 going_b : (on (none ∷ none ∷ [])).state.over ≡ false
-unfolding tick_in boot_in rescheduled highest alarm_phase_in start_phase_in execute_phase_in service_in unmasked_in
+unfolding tick_in boot_in rescheduled highest alarm_phase_in start_phase_in execute_phase_in service_in unasked_in
 going_b = refl
 
 allowed_a : Allowed (none ∷ [])
@@ -163,11 +163,11 @@ RunWorks path n now =
     (run counting 0 (arrivals_on counting path) (length path)).state ≡ work_at 1 n now
 
 works_a : RunWorks (none ∷ []) 0 1
-unfolding work_at reschedule activated released service unmasked_service alarm_phase start_phase execute_phase tick boot run
+unfolding work_at reschedule activated released service unasked_service alarm_phase start_phase execute_phase tick boot run
 works_a = refl
 
 works_c : RunWorks (none ∷ none ∷ none ∷ []) 1 3
-unfolding work_at reschedule activated released service unmasked_service alarm_phase start_phase execute_phase tick boot run
+unfolding work_at reschedule activated released service unasked_service alarm_phase start_phase execute_phase tick boot run
 works_c = refl
 
 -- the state of a path on which A counts
@@ -252,17 +252,17 @@ GoesOn a =
     → is_shut_down (shown_from counting (is_in_set mask) a.state) ≡ false
 
 on_0 : GoesOn (on [])
-unfolding tick_in boot_in rescheduled highest alarm_phase_in start_phase_in execute_phase_in service_in unmasked_in
+unfolding tick_in boot_in rescheduled highest alarm_phase_in start_phase_in execute_phase_in service_in unasked_in
 on_0 zero low = refl
 on_0 (suc m) low = absurd (omega (arith, low))
 
 on_a : GoesOn (on (none ∷ []))
-unfolding tick_in boot_in rescheduled highest alarm_phase_in start_phase_in execute_phase_in service_in unmasked_in
+unfolding tick_in boot_in rescheduled highest alarm_phase_in start_phase_in execute_phase_in service_in unasked_in
 on_a zero low = refl
 on_a (suc m) low = absurd (omega (arith, low))
 
 on_b : GoesOn (on (none ∷ none ∷ []))
-unfolding tick_in boot_in rescheduled highest alarm_phase_in start_phase_in execute_phase_in service_in unmasked_in
+unfolding tick_in boot_in rescheduled highest alarm_phase_in start_phase_in execute_phase_in service_in unasked_in
 on_b zero low = refl
 on_b (suc m) low = absurd (omega (arith, low))
 

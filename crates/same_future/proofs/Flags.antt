@@ -15,7 +15,7 @@ use Rattle.osek_base.specs.Activation.{activated}
 use Rattle.osek_base.specs.State.{State, still, may_dispatch}
 use Rattle.osek_base.specs.Trace.{boot, run, all_activated, starting_tasks, starting_alarms}
 use Rattle.osek_base.specs.Reschedule.{reschedule}
-use Rattle.osek_base.specs.Service.{Caller, JobCalls, RoutineCalls, NobodyCalls, service, unmasked_service, controlled}
+use Rattle.osek_base.specs.Service.{Caller, JobCalls, RoutineCalls, NobodyCalls, service, unasked_service, controlled}
 use Rattle.osek_base.specs.Alarm.{due_alarms, alarms_advanced}
 use Rattle.osek_base.specs.Tick.{alarms_act, alarm_acts, alarm_phase, arrival_phase, flagged, is_pending, routine_choice, routine_started, start_phase, execute_phase, caller_executes, executor, executed, tick, from_execution}
 use Rattle.same_future.proofs.Arrivals.{flagged_length, flag_at}
@@ -25,7 +25,7 @@ unfolding reschedule
 pending_reschedule S s = refl
 
 pending_alarms_act : (S : System) (due : List ℕ) (s : State) → (alarms_act S due s).state.pending ≡ s.pending
-unfolding unmasked_service
+unfolding unasked_service
 pending_alarms_act S [] s = refl
 pending_alarms_act S (a ∷ due) s = pending_alarms_act S due (alarm_acts S a s).state
 

@@ -3,7 +3,7 @@ use Rattle.std.proofs.Common.{ℕ, zero, suc, ◌≡◌, ◌<◌, false, [], ◌
 use Rattle.std.specs.Prelude.{Some, IfSome}
 use Rattle.ready_queues.specs.QueueMoves.{highest}
 use Rattle.kept_state.specs.Moves.{rescheduled}
-use Rattle.kept_state.specs.KeptService.{unmasked_in, service_in}
+use Rattle.kept_state.specs.KeptService.{unasked_in, service_in}
 use Rattle.kept_state.specs.KeptTick.{alarm_phase_in, start_phase_in, execute_phase_in, tick_in, boot_in}
 use Rattle.needed_data.specs.Laws.{all_needed}
 use Rattle.needed_data.proofs.Sufficient.{all_suffices}
@@ -31,37 +31,37 @@ IsShort path =
     → IfSome (ending_age_from interrupted Jobs 0 (is_in_set mask) (on path)) (IsAtMost 3)
 
 short_0 : IsShort ([])
-unfolding tick_in boot_in rescheduled highest alarm_phase_in start_phase_in execute_phase_in service_in unmasked_in
+unfolding tick_in boot_in rescheduled highest alarm_phase_in start_phase_in execute_phase_in service_in unasked_in
 short_0 zero low may = tt
 short_0 (suc zero) low may = tt
 short_0 (suc (suc m)) low may = absurd (omega (arith, low))
 
 short_a : IsShort (none ∷ [])
-unfolding tick_in boot_in rescheduled highest alarm_phase_in start_phase_in execute_phase_in service_in unmasked_in
+unfolding tick_in boot_in rescheduled highest alarm_phase_in start_phase_in execute_phase_in service_in unasked_in
 short_a zero low may = omega arith
 short_a (suc zero) low may = tt
 short_a (suc (suc m)) low may = absurd (omega (arith, low))
 
 short_b : IsShort (one ∷ [])
-unfolding tick_in boot_in rescheduled highest alarm_phase_in start_phase_in execute_phase_in service_in unmasked_in
+unfolding tick_in boot_in rescheduled highest alarm_phase_in start_phase_in execute_phase_in service_in unasked_in
 short_b zero low may = tt
 short_b (suc zero) low may = let waits : 2 ≡ 0 = may 0 (omega arith) refl in absurd (omega (arith, waits))
 short_b (suc (suc m)) low may = absurd (omega (arith, low))
 
 short_c : IsShort (one ∷ none ∷ [])
-unfolding tick_in boot_in rescheduled highest alarm_phase_in start_phase_in execute_phase_in service_in unmasked_in
+unfolding tick_in boot_in rescheduled highest alarm_phase_in start_phase_in execute_phase_in service_in unasked_in
 short_c zero low may = omega arith
 short_c (suc zero) low may = let waits : 2 ≡ 0 = may 0 (omega arith) refl in absurd (omega (arith, waits))
 short_c (suc (suc m)) low may = absurd (omega (arith, low))
 
 short_d : IsShort (none ∷ one ∷ [])
-unfolding tick_in boot_in rescheduled highest alarm_phase_in start_phase_in execute_phase_in service_in unmasked_in
+unfolding tick_in boot_in rescheduled highest alarm_phase_in start_phase_in execute_phase_in service_in unasked_in
 short_d zero low may = omega arith
 short_d (suc zero) low may = let waits : 1 ≡ 0 = may 0 (omega arith) refl in absurd (omega (arith, waits))
 short_d (suc (suc m)) low may = absurd (omega (arith, low))
 
 short_e : IsShort (none ∷ none ∷ [])
-unfolding tick_in boot_in rescheduled highest alarm_phase_in start_phase_in execute_phase_in service_in unmasked_in
+unfolding tick_in boot_in rescheduled highest alarm_phase_in start_phase_in execute_phase_in service_in unasked_in
 short_e zero low may = tt
 short_e (suc zero) low may = tt
 short_e (suc (suc m)) low may = absurd (omega (arith, low))
@@ -73,7 +73,7 @@ none_longer a mask there going low may =
     short_0 short_a short_b short_c short_d short_e a there mask low may
 
 attains : ending_age_from interrupted Jobs 0 none (on (none ∷ one ∷ [])) ≡ Some (Ticks 3)
-unfolding tick_in boot_in rescheduled highest alarm_phase_in start_phase_in execute_phase_in service_in unmasked_in
+unfolding tick_in boot_in rescheduled highest alarm_phase_in start_phase_in execute_phase_in service_in unasked_in
 attains = refl
 
 -- ---- no interrupt is lost
@@ -84,37 +84,37 @@ IsKeeping path =
     → is_lost 0 (shown_from interrupted (is_in_set mask) (on path).state) ≡ false
 
 keeping_0 : IsKeeping ([])
-unfolding tick_in boot_in rescheduled highest alarm_phase_in start_phase_in execute_phase_in service_in unmasked_in
+unfolding tick_in boot_in rescheduled highest alarm_phase_in start_phase_in execute_phase_in service_in unasked_in
 keeping_0 zero low may = refl
 keeping_0 (suc zero) low may = refl
 keeping_0 (suc (suc m)) low may = absurd (omega (arith, low))
 
 keeping_a : IsKeeping (none ∷ [])
-unfolding tick_in boot_in rescheduled highest alarm_phase_in start_phase_in execute_phase_in service_in unmasked_in
+unfolding tick_in boot_in rescheduled highest alarm_phase_in start_phase_in execute_phase_in service_in unasked_in
 keeping_a zero low may = refl
 keeping_a (suc zero) low may = refl
 keeping_a (suc (suc m)) low may = absurd (omega (arith, low))
 
 keeping_b : IsKeeping (one ∷ [])
-unfolding tick_in boot_in rescheduled highest alarm_phase_in start_phase_in execute_phase_in service_in unmasked_in
+unfolding tick_in boot_in rescheduled highest alarm_phase_in start_phase_in execute_phase_in service_in unasked_in
 keeping_b zero low may = refl
 keeping_b (suc zero) low may = let waits : 2 ≡ 0 = may 0 (omega arith) refl in absurd (omega (arith, waits))
 keeping_b (suc (suc m)) low may = absurd (omega (arith, low))
 
 keeping_c : IsKeeping (one ∷ none ∷ [])
-unfolding tick_in boot_in rescheduled highest alarm_phase_in start_phase_in execute_phase_in service_in unmasked_in
+unfolding tick_in boot_in rescheduled highest alarm_phase_in start_phase_in execute_phase_in service_in unasked_in
 keeping_c zero low may = refl
 keeping_c (suc zero) low may = let waits : 2 ≡ 0 = may 0 (omega arith) refl in absurd (omega (arith, waits))
 keeping_c (suc (suc m)) low may = absurd (omega (arith, low))
 
 keeping_d : IsKeeping (none ∷ one ∷ [])
-unfolding tick_in boot_in rescheduled highest alarm_phase_in start_phase_in execute_phase_in service_in unmasked_in
+unfolding tick_in boot_in rescheduled highest alarm_phase_in start_phase_in execute_phase_in service_in unasked_in
 keeping_d zero low may = refl
 keeping_d (suc zero) low may = let waits : 1 ≡ 0 = may 0 (omega arith) refl in absurd (omega (arith, waits))
 keeping_d (suc (suc m)) low may = absurd (omega (arith, low))
 
 keeping_e : IsKeeping (none ∷ none ∷ [])
-unfolding tick_in boot_in rescheduled highest alarm_phase_in start_phase_in execute_phase_in service_in unmasked_in
+unfolding tick_in boot_in rescheduled highest alarm_phase_in start_phase_in execute_phase_in service_in unasked_in
 keeping_e zero low may = refl
 keeping_e (suc zero) low may = refl
 keeping_e (suc (suc m)) low may = absurd (omega (arith, low))

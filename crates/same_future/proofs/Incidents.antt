@@ -13,7 +13,7 @@ use Rattle.kept_state.specs.Kept.{Kept}
 use Rattle.kept_state.specs.KeptService.{ByNobody, KeptReply, bare}
 use Rattle.needed_data.specs.Need.{Need}
 use Rattle.needed_data.specs.Same.{cleaned, cleaned_words, cleaned_shared, blanked}
-use Rattle.needed_data.proofs.Steps.{mapped_reply, unmasked_clean, action_leaves}
+use Rattle.needed_data.proofs.Steps.{mapped_reply, unasked_clean, action_leaves}
 use Rattle.needed_data.proofs.Executed.{cleaning, fresh_clean}
 use Rattle.same_future.specs.Alike.{untimed}
 use Rattle.same_future.specs.AlikeIn.{AreAlikeIn}
@@ -47,7 +47,7 @@ module _ (S : System) (need : Need) where
       → acting S a (cleaned need (untimed o))
       ≡ record (acting S a o) { state = cleaned need (untimed (acting S a o).state) }
   acting_plain a o =
-      unmasked_clean S (cleaning need) (cleaned_words need) (cleaned_shared need.shared)
+      unasked_clean S (cleaning need) (cleaned_words need) (cleaned_shared need.shared)
       (fresh_clean need) ByNobody (untimed o)
       (action_call (alarm S a).action)
       (action_leaves S (cleaning need) (cleaned_words need) (cleaned_shared need.shared)

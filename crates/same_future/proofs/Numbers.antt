@@ -25,7 +25,7 @@ use Rattle.run_laws.proofs.FormedTick.{run_form}
 use Rattle.run_laws.specs.Jobs.{made_by, ended_by}
 use Rattle.same_future.specs.Numbers.{AreNumbered, JobsAreNumbered}
 use Rattle.run_laws.proofs.RunSteps.{run_suc, one_more-going, stays_over}
-use Rattle.same_future.proofs.Order.{InOrder, with_one, activates, unmasked_order, execute_order}
+use Rattle.same_future.proofs.Order.{InOrder, with_one, activates, unasked_order, execute_order}
 
 module _ (S : System) (t : ℕ) where
   module _ (proper : IsProper S) (low : t < length S.tasks) where
@@ -38,7 +38,7 @@ module _ (S : System) (t : ℕ) where
         let known : ActivatesKnown S (action_call (alarm S a).action) = alarm_known S a proper all.0 in
         alarms_order due all.1 (alarm_acts S a s).state (action_run S proper s (alarm S a).action known good)
         (acts_form S proper s (action_call (alarm S a).action) known form)
-        (unmasked_order S t proper low s good.single (form.formed.limited t) order NobodyCalls (action_call (alarm S a).action) tt)
+        (unasked_order S t proper low s good.single (form.formed.limited t) order NobodyCalls (action_call (alarm S a).action) tt)
 
     alarm_phase_order : (s : State) → IsRunState S s → HasForm S s → InOrder S t s → InOrder S t (alarm_phase S s).state
     unfolding alarm_phase

@@ -14,7 +14,7 @@ use Rattle.osek_base.specs.Alarm.{due_alarms, alarms_advanced}
 use Rattle.osek_base.specs.Tick.{action_call}
 use Rattle.osek_base.specs.Proper.{IsProper}
 use Rattle.kept_state.specs.Kept.{Kept}
-use Rattle.kept_state.specs.KeptService.{ByNobody, KeptReply, bare, unmasked_in}
+use Rattle.kept_state.specs.KeptService.{ByNobody, KeptReply, bare, unasked_in}
 use Rattle.needed_data.specs.Need.{Need}
 use Rattle.same_future.specs.Shown.{Shown}
 use Rattle.same_future.specs.Spans.{is_pending_in}
@@ -64,7 +64,7 @@ if_refused a _ = a ∷ []
 
 -- what an alarm's action answers, and of alarms that act in turn those whose action is refused
 abbrev pub acting : System → ℕ → Kept → KeptReply
-acting S a o = unmasked_in S ByNobody o (action_call (alarm S a).action)
+acting S a o = unasked_in S ByNobody o (action_call (alarm S a).action)
 
 abbrev pub refused_in_turn : System → List ℕ → Kept → List ℕ
 refused_in_turn S [] o = []

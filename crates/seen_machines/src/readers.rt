@@ -22,7 +22,7 @@ fn system_of<'s, Q: ReadyQueues>(objects: &Objects<'s, Q>) -> &'s System
     objects.system
 }
 
-/// The control block of a task.
+/// The slot of a task.
 #[inline(always)]
 fn slot<'o, Q: ReadyQueues>(objects: &'o Objects<'_, Q>, task: TaskId) -> &'o Slot
     requires { task < length objects.now.system.tasks }

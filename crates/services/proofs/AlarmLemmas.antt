@@ -7,21 +7,21 @@ use Rattle.osek_base.specs.declared.status.Status.{Status}
 use Rattle.osek_base.specs.State.{State}
 use Rattle.osek_base.specs.Service.{NobodyCalls, changed}
 use Rattle.alarms.specs.Alarms.{AlarmTable, HavePassed, IsTableOf, after_call, refusal, state_of, status_of}
-use Rattle.kept_state.specs.KeptService.{caller_in, changed_in, unmasked_in}
+use Rattle.kept_state.specs.KeptService.{caller_in, changed_in, unasked_in}
 use Rattle.services.specs.Objects.{Objects, kept_in}
-use Rattle.services.specs.Calls.{unmasked}
+use Rattle.services.specs.Calls.{unasked}
 use Rattle.services.specs.Quiet.{HasPassed}
 
 abbrev pub table : List Counter → Objects → AlarmTable
 table counters o = record { expiries = o.alarms; counters = counters; tick = o.tick }
 
-pub cancelled_status : (cs : List Counter) (o : Objects) (a : ℕ) → status_of o.system (table cs o) (Service.CancelAlarm (Some a)) ≡ (unmasked o (Service.CancelAlarm (Some a))).status
-unfolding unmasked_in
+pub cancelled_status : (cs : List Counter) (o : Objects) (a : ℕ) → status_of o.system (table cs o) (Service.CancelAlarm (Some a)) ≡ (unasked o (Service.CancelAlarm (Some a))).status
+unfolding unasked_in
 cancelled_status cs o a = refl
 
 pub cancelled_kept : (cs : List Counter) (o : Objects) (a : ℕ) (t : AlarmTable) → t ≡ after_call o.system (table cs o) (Service.CancelAlarm (Some a))
-    → kept_in (record o { alarms = t.expiries; tick = t.tick }) ≡ (unmasked o (Service.CancelAlarm (Some a))).state
-unfolding unmasked_in
+    → kept_in (record o { alarms = t.expiries; tick = t.tick }) ≡ (unasked o (Service.CancelAlarm (Some a))).state
+unfolding unasked_in
 cancelled_kept cs o a t e =
     ap (λ (u : AlarmTable). kept_in (record o { alarms = u.expiries; tick = u.tick })) e
     ∙ go (refusal o.system (table cs o) (Service.CancelAlarm (Some a)))
@@ -34,8 +34,8 @@ cancelled_kept cs o a t e =
 
 pub set_kept : (cs : List Counter) (o : Objects) (a x y : ℕ) (t : AlarmTable)
     → t ≡ after_call o.system (table cs o) (Service.SetRelAlarm (Some a) x y)
-    → kept_in (record o { alarms = t.expiries; tick = t.tick }) ≡ (unmasked o (Service.SetRelAlarm (Some a) x y)).state
-unfolding unmasked_in
+    → kept_in (record o { alarms = t.expiries; tick = t.tick }) ≡ (unasked o (Service.SetRelAlarm (Some a) x y)).state
+unfolding unasked_in
 set_kept cs o a x y t e =
     ap (λ (u : AlarmTable). kept_in (record o { alarms = u.expiries; tick = u.tick })) e
     ∙ go (refusal o.system (table cs o) (Service.SetRelAlarm (Some a) x y))
@@ -51,8 +51,8 @@ set_kept cs o a x y t e =
 
 pub set_abs_kept : (cs : List Counter) (o : Objects) (a x y : ℕ) (t : AlarmTable)
     → t ≡ after_call o.system (table cs o) (Service.SetAbsAlarm (Some a) x y)
-    → kept_in (record o { alarms = t.expiries; tick = t.tick }) ≡ (unmasked o (Service.SetAbsAlarm (Some a) x y)).state
-unfolding unmasked_in
+    → kept_in (record o { alarms = t.expiries; tick = t.tick }) ≡ (unasked o (Service.SetAbsAlarm (Some a) x y)).state
+unfolding unasked_in
 set_abs_kept cs o a x y t e =
     ap (λ (u : AlarmTable). kept_in (record o { alarms = u.expiries; tick = u.tick })) e
     ∙ go (refusal o.system (table cs o) (Service.SetAbsAlarm (Some a) x y))

@@ -6,14 +6,14 @@ use Rattle.osek_base.specs.declared.instr.Control.{Control}
 use Rattle.osek_base.specs.Types.{ServiceCall}
 use Rattle.osek_base.specs.declared.status.Status.{Status}
 use Rattle.osek_base.specs.State.{State}
-use Rattle.osek_base.specs.Service.{NobodyCalls, service, unmasked_service}
+use Rattle.osek_base.specs.Service.{NobodyCalls, service, unasked_service}
 use Rattle.osek_base.specs.Tick.{executor}
 use Rattle.kept_state.specs.Kept.{kept}
-use Rattle.kept_state.specs.KeptService.{ByNobody, KeptReply, caller_in, kept_reply, unmasked_in, service_in}
+use Rattle.kept_state.specs.KeptService.{ByNobody, KeptReply, caller_in, kept_reply, unasked_in, service_in}
 use Rattle.kept_state.specs.KeptTick.{controlled_in}
 use Rattle.kept_state.specs.Standing.{MayServe, runner_waits}
 use Rattle.kept_state.proofs.Standing.{activate_stands, set_event_stands, service_stands}
-use Rattle.kept_state.proofs.Words.{reply_with, unmasked_words, service_words}
+use Rattle.kept_state.proofs.Words.{reply_with, unasked_words, service_words}
 use Rattle.services.specs.declared.calls.Answer.{Answer}
 use Rattle.services.specs.Objects.{Objects, StandsFor, kept_in}
 use Rattle.services.specs.Calls.{IsKnown}
@@ -23,35 +23,35 @@ use Rattle.services.proofs.StandsLemmas.{activates, serves_for, stands_for_activ
 
 module _ (o n : Objects) (system : n.system ≡ o.system) where
   -- what nobody calls is answered as it is over what is kept
-  unmasked_reply : (s : State) (call : ServiceCall) → StandsFor o s
-      → kept_reply o.system (unmasked_service o.system NobodyCalls s call) ≡ unmasked_in o.system ByNobody (kept o.system s) call
-      → kept_reply o.system (unmasked_service o.system NobodyCalls s call)
-      ≡ reply_with s.words (unmasked_in o.system ByNobody (kept_in o) call)
-  unmasked_reply s call stands law =
-      law ∙ ap (λ k. unmasked_in o.system ByNobody k call) (sym stands.same)
-      ∙ unmasked_words o.system s.words ByNobody (kept_in o) call
+  unasked_reply : (s : State) (call : ServiceCall) → StandsFor o s
+      → kept_reply o.system (unasked_service o.system NobodyCalls s call) ≡ unasked_in o.system ByNobody (kept o.system s) call
+      → kept_reply o.system (unasked_service o.system NobodyCalls s call)
+      ≡ reply_with s.words (unasked_in o.system ByNobody (kept_in o) call)
+  unasked_reply s call stands law =
+      law ∙ ap (λ k. unasked_in o.system ByNobody k call) (sym stands.same)
+      ∙ unasked_words o.system s.words ByNobody (kept_in o) call
 
   pub activated_as_defined : (t : ℕ) (answer : Status) → t < length o.system.tasks
-      → answer ≡ (unmasked_in o.system ByNobody (kept_in o) (Service.ActivateTask (Some t))).status
-      → kept_in n ≡ (unmasked_in o.system ByNobody (kept_in o) (Service.ActivateTask (Some t))).state
+      → answer ≡ (unasked_in o.system ByNobody (kept_in o) (Service.ActivateTask (Some t))).status
+      → kept_in n ≡ (unasked_in o.system ByNobody (kept_in o) (Service.ActivateTask (Some t))).state
       → ActsAsDefined o n (Service.ActivateTask (Some t)) answer
   unfolding ActsAsDefined
   activated_as_defined t answer inside told new = λ s stands.
       let law = activate_stands o.system s t stands.standing inside in
-      let reply = unmasked_reply s (Service.ActivateTask (Some t)) stands law.1 in
+      let reply = unasked_reply s (Service.ActivateTask (Some t)) stands law.1 in
       record {
         answered = told ∙ ap (λ (r : KeptReply). r.status) (sym reply);
         stands = stands_for_activated o n system s t stands inside new;
       }
 
   pub set_as_defined : (t m : ℕ) (answer : Status) → t < length o.system.tasks → runner_waits (kept_in o) ≡ false
-      → answer ≡ (unmasked_in o.system ByNobody (kept_in o) (Service.SetEvent (Some t) m)).status
-      → kept_in n ≡ (unmasked_in o.system ByNobody (kept_in o) (Service.SetEvent (Some t) m)).state
+      → answer ≡ (unasked_in o.system ByNobody (kept_in o) (Service.SetEvent (Some t) m)).status
+      → kept_in n ≡ (unasked_in o.system ByNobody (kept_in o) (Service.SetEvent (Some t) m)).state
       → ActsAsDefined o n (Service.SetEvent (Some t) m) answer
   unfolding ActsAsDefined
   set_as_defined t m answer inside ready told new = λ s stands.
       let law = set_event_stands o.system s t m stands.standing inside (ap runner_waits (sym stands.same) ∙ ready) in
-      let reply = unmasked_reply s (Service.SetEvent (Some t) m) stands law.1 in
+      let reply = unasked_reply s (Service.SetEvent (Some t) m) stands law.1 in
       record {
         answered = told ∙ ap (λ (r : KeptReply). r.status) (sym reply);
         stands = stands_for_set o n system s t m stands inside ready new;

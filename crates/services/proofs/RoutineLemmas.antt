@@ -65,6 +65,14 @@ module _ (test : ℕ → Bool) (rank : ℕ → ℕ) where
       → found ≡ foremost test rank numbers
   best_all numbers found greatest b = b.found_is ∙ sym (foremost-best test rank numbers)
 
+  -- none passes
+  pub foremost_nowhere : ((i : ℕ) → test i ≡ false) → (numbers : List ℕ) → foremost test rank numbers ≡ None
+  foremost_nowhere fails numbers = foremost-best test rank numbers ∙ go numbers
+    where
+      go : (xs : List ℕ) → best test rank xs ≡ None
+      go [] = refl
+      go (x ∷ xs) = ap (λ t. better rank t x (best test rank xs)) (fails x) ∙ go xs
+
 -- ---- numbers below a limit
 
 length-below : (n : ℕ) → length (below n) ≡ n

@@ -12,7 +12,7 @@ use Rattle.osek_base.specs.Proper.{IsProper}
 use Rattle.osek_base.specs.Instruction.{Context}
 use Rattle.osek_base.specs.State.{State, JobId, Active, Words, still, with_job}
 use Rattle.osek_base.specs.Alarm.{alarms_advanced}
-use Rattle.osek_base.specs.Service.{NobodyCalls, service, unmasked_service, controlled}
+use Rattle.osek_base.specs.Service.{NobodyCalls, service, unasked_service, controlled}
 use Rattle.osek_base.specs.Reschedule.{reschedule}
 use Rattle.osek_base.specs.Tick.{executor, job_moved, moved, start_phase}
 use Rattle.osek_base.specs.Trace.{starting_alarms}
@@ -20,12 +20,12 @@ use Rattle.run_laws.proofs.Known.{ActivatesKnown}
 use Rattle.run_laws.proofs.Formed.{IsPlaced}
 use Rattle.kept_state.specs.Kept.{Kept, kept, task_in}
 use Rattle.kept_state.specs.Moves.{slot_changed, KeptRecorded, contender, rescheduled}
-use Rattle.kept_state.specs.KeptService.{slot_moved, ByTask, ByRoutine, ByNobody, KeptReply, bare, caller_in, unmasked_in, service_in, moved_in}
+use Rattle.kept_state.specs.KeptService.{slot_moved, ByTask, ByRoutine, ByNobody, KeptReply, bare, caller_in, unasked_in, service_in, moved_in}
 use Rattle.kept_state.specs.KeptTick.{still_in, start_phase_in, controlled_in, with_context_in}
 use Rattle.kept_state.specs.Standing.{IsStanding, Fits, MayServe, IsRunnerPlaced, runner_waits, is_overtaken_by}
 use Rattle.kept_state.proofs.Fitting.{fits_where_standing}
 use Rattle.kept_state.proofs.Standing.{alarms_stand, still_stands, started_stands, activate_stands, set_event_stands, service_stands, control_stands, reschedule_stands, advance_stands, flag_stands, start_stands, job_move_stands, routine_move_stands}
-use Rattle.kept_state.proofs.Words.{with_words, unmasked_words, service_words, control_words, context_words, start_phase_words, rescheduled_words}
+use Rattle.kept_state.proofs.Words.{with_words, unasked_words, service_words, control_words, context_words, start_phase_words, rescheduled_words}
 use Rattle.services.specs.Objects.{Objects, StandsFor, Stands, AreFit, by_task, kept_in, kept_of}
 use Rattle.services.specs.Dispatched.{IsCore}
 use Rattle.services.proofs.BoundLemmas.{activation_few}
@@ -128,31 +128,31 @@ activates S call known = tt
 
 module _ (o n : Objects) (system : n.system ≡ o.system) where
   pub stands_for_activated : (s : State) (t : ℕ) → StandsFor o s → t < length o.system.tasks
-      → kept_in n ≡ (unmasked_in o.system ByNobody (kept_in o) (Service.ActivateTask (Some t))).state
-      → StandsFor n (unmasked_service o.system NobodyCalls s (Service.ActivateTask (Some t))).state
+      → kept_in n ≡ (unasked_in o.system ByNobody (kept_in o) (Service.ActivateTask (Some t))).state
+      → StandsFor n (unasked_service o.system NobodyCalls s (Service.ActivateTask (Some t))).state
   stands_for_activated s t stands inside new =
       let law = activate_stands o.system s t stands.standing inside in
-      stands_for o n s (unmasked_service o.system NobodyCalls s (Service.ActivateTask (Some t))).state
-      (λ k. (unmasked_in o.system ByNobody k (Service.ActivateTask (Some t))).state) stands system
-      (λ w k. ap (λ (r : KeptReply). r.state) (unmasked_words o.system w ByNobody k (Service.ActivateTask (Some t)))) new
+      stands_for o n s (unasked_service o.system NobodyCalls s (Service.ActivateTask (Some t))).state
+      (λ k. (unasked_in o.system ByNobody k (Service.ActivateTask (Some t))).state) stands system
+      (λ w k. ap (λ (r : KeptReply). r.state) (unasked_words o.system w ByNobody k (Service.ActivateTask (Some t)))) new
       (law.0, ap (λ (r : KeptReply). r.state) law.1)
 
   pub stands_activated : (t : ℕ) → Stands o → t < length o.system.tasks
-      → kept_in n ≡ (unmasked_in o.system ByNobody (kept_in o) (Service.ActivateTask (Some t))).state → Stands n
+      → kept_in n ≡ (unasked_in o.system ByNobody (kept_in o) (Service.ActivateTask (Some t))).state → Stands n
   stands_activated t (s, stands) inside new = (_, stands_for_activated s t stands inside new)
 
   pub stands_for_set : (s : State) (t m : ℕ) → StandsFor o s → t < length o.system.tasks → runner_waits (kept_in o) ≡ false
-      → kept_in n ≡ (unmasked_in o.system ByNobody (kept_in o) (Service.SetEvent (Some t) m)).state
-      → StandsFor n (unmasked_service o.system NobodyCalls s (Service.SetEvent (Some t) m)).state
+      → kept_in n ≡ (unasked_in o.system ByNobody (kept_in o) (Service.SetEvent (Some t) m)).state
+      → StandsFor n (unasked_service o.system NobodyCalls s (Service.SetEvent (Some t) m)).state
   stands_for_set s t m stands inside ready new =
       let law = set_event_stands o.system s t m stands.standing inside (ap runner_waits (sym stands.same) ∙ ready) in
-      stands_for o n s (unmasked_service o.system NobodyCalls s (Service.SetEvent (Some t) m)).state
-      (λ k. (unmasked_in o.system ByNobody k (Service.SetEvent (Some t) m)).state) stands system
-      (λ w k. ap (λ (r : KeptReply). r.state) (unmasked_words o.system w ByNobody k (Service.SetEvent (Some t) m))) new
+      stands_for o n s (unasked_service o.system NobodyCalls s (Service.SetEvent (Some t) m)).state
+      (λ k. (unasked_in o.system ByNobody k (Service.SetEvent (Some t) m)).state) stands system
+      (λ w k. ap (λ (r : KeptReply). r.state) (unasked_words o.system w ByNobody k (Service.SetEvent (Some t) m))) new
       (law.0, ap (λ (r : KeptReply). r.state) law.1)
 
   pub stands_set : (t m : ℕ) → Stands o → t < length o.system.tasks → runner_waits (kept_in o) ≡ false
-      → kept_in n ≡ (unmasked_in o.system ByNobody (kept_in o) (Service.SetEvent (Some t) m)).state → Stands n
+      → kept_in n ≡ (unasked_in o.system ByNobody (kept_in o) (Service.SetEvent (Some t) m)).state → Stands n
   stands_set t m (s, stands) inside ready new = (_, stands_for_set s t m stands inside ready new)
 
   pub stands_rescheduled : Stands o → kept_in n ≡ (rescheduled o.system (kept_in o)).state → Stands n

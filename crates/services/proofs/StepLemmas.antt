@@ -8,10 +8,10 @@ use Rattle.osek_base.specs.Types.{ServiceCall}
 use Rattle.osek_base.specs.System.{System}
 use Rattle.osek_base.specs.Service.{first_refusal}
 use Rattle.kept_state.specs.Kept.{Kept}
-use Rattle.kept_state.specs.KeptService.{caller_in, refusals_in, results_in, results_told_in, unmasked_in}
+use Rattle.kept_state.specs.KeptService.{caller_in, refusals_in, results_in, results_told_in, unasked_in}
 use Rattle.services.specs.declared.calls.Answer.{Answer}
 use Rattle.services.specs.Objects.{Objects, kept_in}
-use Rattle.services.specs.Calls.{unmasked}
+use Rattle.services.specs.Calls.{unasked}
 use Rattle.services.specs.Steps.{Acts, Replies}
 
 -- with a status alone
@@ -24,13 +24,13 @@ none_told S o call None is = is
 none_told S o call (Some refusal) is = refl
 
 tells_nothing : (o : Objects) (call : ServiceCall) → results_in o.system (kept_in o) call ≡ Results.Nothing
-    → (unmasked o call).results ≡ Results.Nothing
-unfolding unmasked_in
+    → (unasked o call).results ≡ Results.Nothing
+unfolding unasked_in
 tells_nothing o call is =
     none_told o.system (kept_in o) call (first_refusal (refusals_in o.system (caller_in (kept_in o)) (kept_in o) call)) is
 
 replied : (call : ServiceCall) (o n : Objects) (s : Status) (a : Answer) → Acts call o n s → a ≡ plain s
-    → (unmasked o call).results ≡ Results.Nothing → Replies call o n a
+    → (unasked o call).results ≡ Results.Nothing → Replies call o n a
 replied call o n s a acts is none = record {
   system = acts.system;
   status = ap (λ (x : Answer). x.status) is ∙ ap (λ x. Some x) (acts.status (caller_in (kept_in o)));

@@ -5,9 +5,9 @@ use Rattle.osek_base.specs.Types.{ServiceCall}
 use Rattle.osek_base.specs.declared.instr.Control.{Control}
 use Rattle.osek_base.specs.declared.status.Status.{Status}
 use Rattle.osek_base.specs.State.{State}
-use Rattle.osek_base.specs.Service.{NobodyCalls, service, unmasked_service, controlled}
+use Rattle.osek_base.specs.Service.{NobodyCalls, service, unasked_service, controlled}
 use Rattle.osek_base.specs.Tick.{executor}
-use Rattle.kept_state.specs.KeptService.{ByNobody, unmasked_in}
+use Rattle.kept_state.specs.KeptService.{ByNobody, unasked_in}
 use Rattle.kept_state.specs.KeptTick.{controlled_in}
 use Rattle.services.specs.declared.calls.Answer.{Answer}
 use Rattle.services.specs.Calls.{IsSameCaller, served_in}
@@ -49,8 +49,8 @@ pub record IsControlled (control : Control ℕ) (old new : Objects) : Type 0 whe
 
 -- in that state, it is answered so, and the objects stand for the state after it
 pub record ActsFrom (s : State) (o n : Objects) (call : ServiceCall) (status : Status) : Type 0 where
-  pub answered : status ≡ (unmasked_service o.system NobodyCalls s call).status
-  pub stands : StandsFor n (unmasked_service o.system NobodyCalls s call).state
+  pub answered : status ≡ (unasked_service o.system NobodyCalls s call).status
+  pub stands : StandsFor n (unasked_service o.system NobodyCalls s call).state
 
 unfoldable pub ActsAsDefined : Objects → Objects → ServiceCall → Status → Type 0
 ActsAsDefined o n call status = (s : State) → StandsFor o s → ActsFrom s o n call status
@@ -58,6 +58,6 @@ ActsAsDefined o n call status = (s : State) → StandsFor o s → ActsFrom s o n
 -- it is answered as defined, over what is kept and in every state that the objects stand for
 pub record HasActed (call : ServiceCall) (old new : Objects) (answered : Status) : Type 0 where
   pub system : new.system ≡ old.system
-  pub status : answered ≡ (unmasked_in old.system ByNobody (kept_in old) call).status
-  pub kept : kept_in new ≡ (unmasked_in old.system ByNobody (kept_in old) call).state
+  pub status : answered ≡ (unasked_in old.system ByNobody (kept_in old) call).status
+  pub kept : kept_in new ≡ (unasked_in old.system ByNobody (kept_in old) call).state
   pub defined : ActsAsDefined old new call answered

@@ -8,7 +8,7 @@ use Rattle.osek_base.specs.System.{System}
 use Rattle.osek_base.specs.Instruction.{Context}
 use Rattle.osek_base.specs.State.{Active, fresh_context}
 use Rattle.kept_state.specs.Kept.{Kept}
-use Rattle.kept_state.specs.KeptService.{KeptCaller, ByTask, ByRoutine, KeptReply, caller_in, service_in, unmasked_in}
+use Rattle.kept_state.specs.KeptService.{KeptCaller, ByTask, ByRoutine, KeptReply, caller_in, service_in, unasked_in}
 use Rattle.services.specs.Objects.{Objects, kept_in}
 
 -- an operand names a task or an alarm of the system, or is INVALID
@@ -55,8 +55,8 @@ abbrev pub served_in : System → Kept → ServiceCall → KeptReply
 served_in S o call = service_in S (caller_in o) o call
 
 -- what a service answers the caller, interrupts being off aside, and what is kept after it
-abbrev pub unmasked : Objects → ServiceCall → KeptReply
-unmasked o call = unmasked_in o.system (caller_in (kept_in o)) (kept_in o) call
+abbrev pub unasked : Objects → ServiceCall → KeptReply
+unasked o call = unasked_in o.system (caller_in (kept_in o)) (kept_in o) call
 
 -- ---- who executes
 

@@ -7,4 +7,5 @@ pub mod Dispatched
 pub mod Seen
 pub mod CompactQueues
 pub mod Quiet
+pub mod Pending
 pub mod Lending

@@ -1,4 +1,4 @@
--- OSEK/VDX OS: system services. What services read and change of a running system, with queues and control blocks by
+-- OSEK/VDX OS: system services. What services read and change of a running system, with queues and slots by
 -- number: all that is kept of a state but the words of tasks and routines.
 use Rattle.std.specs.Prelude.{ℕ, ◌≡◌, ◌<◌, Bool, List, Option, IfSome, slice_index_or, length}
 use Rattle.osek_base.specs.System.{System, activation_of}
@@ -69,10 +69,10 @@ pub record HasBounds (S : System) : Type 0 where
   pub activation : (t : ℕ) → t < length S.tasks → activation_of S t < 255
 
 -- the lists have the lengths of the system's, the alarms are the system's, and the running task is one of its tasks
-pub record IsSized (S : System) (blocks : List Slot) (events : List ℕ) (flags : List Bool) (windows : List (List ℕ))
+pub record IsSized (S : System) (listed : List Slot) (events : List ℕ) (flags : List Bool) (windows : List (List ℕ))
     (table : AlarmTable) (places : ℕ) (runner : Option ℕ) : Type 0 where
   pub bounds : HasBounds S
-  pub slots : length blocks ≡ length S.tasks
+  pub slots : length listed ≡ length S.tasks
   pub masks : length events ≡ length S.tasks
   pub pending : length flags ≡ length S.routines
   pub shared : length windows ≡ length S.resources

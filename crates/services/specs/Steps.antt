@@ -9,11 +9,11 @@ use Rattle.ready_queues.specs.Levels.{Levels}
 use Rattle.ready_queues.specs.LevelLists.{by_level}
 use Rattle.ready_queues.specs.Queues.{Queues}
 use Rattle.kept_state.specs.Kept.{Kept}
-use Rattle.kept_state.specs.KeptService.{KeptCaller, bare, unmasked_in}
+use Rattle.kept_state.specs.KeptService.{KeptCaller, bare, unasked_in}
 use Rattle.kept_state.specs.Moves.{KeptRecorded}
 use Rattle.services.specs.declared.calls.Answer.{Answer}
 use Rattle.services.specs.Objects.{Objects, kept_in}
-use Rattle.services.specs.Calls.{served_in, unmasked}
+use Rattle.services.specs.Calls.{served_in, unasked}
 
 -- the ready tasks of each level become what the step leaves of them, with as much room
 pub record ReadyBecomes (f : Queues → Queues) (old new : Levels) : Type 0 where
@@ -48,15 +48,15 @@ pub record Advances (old new : Objects) (expired : List ℕ) : Type 0 where
 -- a service is answered as its row of the service table says, by whoever executes, interrupts being off aside
 pub record Serves (call : ServiceCall) (old new : Objects) (answered : Status) : Type 0 where
   pub system : new.system ≡ old.system
-  pub status : answered ≡ (unmasked old call).status
-  pub kept : kept_in new ≡ (unmasked old call).state
+  pub status : answered ≡ (unasked old call).status
+  pub kept : kept_in new ≡ (unasked old call).state
 
 -- with its results
 pub record Replies (call : ServiceCall) (old new : Objects) (answer : Answer) : Type 0 where
   pub system : new.system ≡ old.system
-  pub status : answer.status ≡ Some (unmasked old call).status
-  pub results : answer.results ≡ (unmasked old call).results
-  pub kept : kept_in new ≡ (unmasked old call).state
+  pub status : answer.status ≡ Some (unasked old call).status
+  pub results : answer.results ≡ (unasked old call).results
+  pub kept : kept_in new ≡ (unasked old call).state
 
 -- and refused while interrupts are off
 pub record Answers (call : ServiceCall) (old new : Objects) (answer : Answer) : Type 0 where
@@ -67,11 +67,11 @@ pub record Answers (call : ServiceCall) (old new : Objects) (answer : Answer) : 
 
 -- what a service that changes nothing answers, interrupts being off aside
 pub record Tells (call : ServiceCall) (o : Objects) (answer : Answer) : Type 0 where
-  pub status : answer.status ≡ Some (unmasked o call).status
-  pub results : answer.results ≡ (unmasked o call).results
+  pub status : answer.status ≡ Some (unasked o call).status
+  pub results : answer.results ≡ (unasked o call).results
 
 -- a service that nobody need call, as an alarm's action
 pub record Acts (call : ServiceCall) (old new : Objects) (answered : Status) : Type 0 where
   pub system : new.system ≡ old.system
-  pub status : (d : KeptCaller) → answered ≡ (unmasked_in old.system d (kept_in old) call).status
-  pub kept : (d : KeptCaller) → kept_in new ≡ (unmasked_in old.system d (kept_in old) call).state
+  pub status : (d : KeptCaller) → answered ≡ (unasked_in old.system d (kept_in old) call).status
+  pub kept : (d : KeptCaller) → kept_in new ≡ (unasked_in old.system d (kept_in old) call).state

@@ -70,7 +70,7 @@ impl Answer {
 impl<'s, Q: ReadyQueues> Objects<'s, Q> {
     /// A service of a program with a status, by who executes, with the values of its registers. It is refused with 32 while
     /// interrupts are off.
-    #[tactic(auto, unfolding(kept_state::specs::KeptService::service_in, kept_state::specs::KeptService::unmasked_in))]
+    #[tactic(auto, unfolding(kept_state::specs::KeptService::service_in, kept_state::specs::KeptService::unasked_in))]
     #[inline(always)]
     pub fn serve_program(&mut self, owner: Owner, service: &Service<Register>) -> Answer
         requires fit { AreFit self.old }
@@ -88,7 +88,7 @@ impl<'s, Q: ReadyQueues> Objects<'s, Q> {
     }
 
     /// A service with a status, interrupts being off aside.
-    #[tactic(auto, unfolding(kept_state::specs::KeptService::unmasked_in))]
+    #[tactic(auto, unfolding(kept_state::specs::KeptService::unasked_in))]
     #[inline(always)]
     fn serve(&mut self, service: &Service<u32>) -> Answer
         requires fit { AreFit self.old }
@@ -139,7 +139,7 @@ impl<'s, Q: ReadyQueues> Objects<'s, Q> {
     }
 
     /// A service on alarms.
-    #[tactic(auto, unfolding(kept_state::specs::KeptService::unmasked_in))]
+    #[tactic(auto, unfolding(kept_state::specs::KeptService::unasked_in))]
     #[inline(always)]
     fn serve_alarm(&mut self, service: &Service<u32>) -> Answer
         requires known { IsKnown self.old.system service.now }

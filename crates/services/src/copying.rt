@@ -20,7 +20,7 @@ impl<'s, Q: CopyQueues> Objects<'s, Q> {
         self.running = other.running;
         self.gone = other.gone;
         self.active = copied(&other.active);
-        self.pending.copy_from_slice(&other.pending);
+        self.pending.copy_from(&other.pending);
         self.disabled = other.disabled;
         self.suspended_all = other.suspended_all;
         self.suspended_os = other.suspended_os;

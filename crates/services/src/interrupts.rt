@@ -1,9 +1,7 @@
 //! OSEK/VDX OS: interrupt processing. Pending and active routines, and the services that turn interrupts off and on.
 
-ghost use Rattle.std.specs.Prelude.{◌≡◌, ◌<◌, ◌+◌, ◌^◌, IfSome, Some, true, false, slice_index_or, slice_set, length};
+ghost use Rattle.std.specs.Prelude.{◌≡◌, ◌<◌, ◌+◌, ◌^◌, IfSome, Some, true, slice_set, length};
 ghost use Rattle.std.specs.Borrow.{sem};
-ghost use Rattle.osek_base.specs.Lists.{below, foremost};
-ghost use Rattle.osek_base.specs.System.{routine};
 ghost use Rattle.osek_base.specs.State.{interrupts_off};
 ghost use Rattle.osek_base.specs.Tick.{routine_choice};
 ghost use Rattle.kept_state.specs.KeptService.{bare};
@@ -14,7 +12,7 @@ ghost use Rattle.services.specs.Steps.{Becomes};
 
 use crate::objects::Objects;
 use machine::Cpu;
-use osek_base::{Control, IsrId, System};
+use osek_base::{Control, IsrId};
 use ready_queues::ReadyQueues;
 use std::marker::Model;
 
@@ -117,7 +115,7 @@ impl<'s, Q: ReadyQueues> Objects<'s, Q> {
         requires { routine < length self.old.system.routines }
         ensures { self.new ≡ record self.old { pending = slice_set self.old.pending routine true } }
     {
-        self.pending[routine.number() as usize] = true;
+        self.pending.set(routine);
     }
 
     /// Where no routine is active and interrupts are on, the pending routine of greatest PRIORITY starts, of equals the
@@ -140,7 +138,7 @@ impl<'s, Q: ReadyQueues> Objects<'s, Q> {
         ensures choice { result ≡ routine_choice self.now.system (bare (kept_in self.now)) }
         ensures known { IfSome result (λ i. i < length self.now.system.routines) }
     {
-        best_pending(self.system, &self.pending)
+        self.pending.foremost(self.system)
     }
 
     /// A routine is active with registers and place 0, and its flag is cleared.
@@ -153,36 +151,6 @@ impl<'s, Q: ReadyQueues> Objects<'s, Q> {
             routine,
             cpu: Cpu::new(),
         });
-        self.pending[routine.number() as usize] = false;
+        self.pending.clear(routine);
     }
-}
-
-/// Among the routines whose flags are set the first declared with the greatest priority.
-#[inline(always)]
-fn best_pending(system: &System, flags: &[bool]) -> Option<IsrId>
-    requires { length flags.now ≡ length system.now.routines }
-    ensures choice { result
-        ≡ foremost (λ i. slice_index_or flags.now i false) (λ i. (routine system.now i).priority)
-        (below (length system.now.routines)) }
-    ensures known { IfSome result (λ i. i < length system.now.routines) }
-{
-    let mut best = None;
-    let mut greatest = 0;
-    for number in (0..system.routine_count()).rev() {
-        let routine = IsrId::new(number as u8);
-        let priority = system.routine_priority(routine);
-        if is_set(flags, routine) && greatest <= priority {
-            best = Some(routine);
-            greatest = priority;
-        }
-    }
-    best
-}
-
-/// Whether a routine's flag is set.
-fn is_set(flags: &[bool], routine: IsrId) -> bool
-    requires { routine < length flags.now }
-    ensures { result ≡ slice_index_or flags.now routine false }
-{
-    flags[routine.number() as usize]
 }

@@ -14,6 +14,7 @@ mod event_services;
 mod interrupts;
 mod objects;
 mod os_core;
+mod pending;
 mod quiet;
 mod readers;
 mod ready_entry;

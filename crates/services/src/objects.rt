@@ -11,6 +11,7 @@ ghost use Rattle.kept_state.specs.Standing.{room_for};
 ghost use Rattle.services.specs.Objects.{by_task, kept_in};
 
 use crate::interrupts::Active;
+use crate::pending::Pending;
 use crate::ready_list::ReadyList;
 use crate::shared_window::SharedWindow;
 use crate::slot::Slot;
@@ -30,7 +31,7 @@ pub struct Objects<'s, Q: ReadyQueues> {
     pub running: Option<TaskId>,
     pub gone: bool,
     pub active: Option<Active>,
-    pub pending: Vec<bool>,
+    pub pending: Pending,
     pub disabled: bool,
     pub suspended_all: u32,
     pub suspended_os: u32,
@@ -53,7 +54,7 @@ impl<'s, Q: ReadyQueues> Model for Objects<'s, Q> {
       running = c.running;
       gone = c.gone;
       active = c.active;
-      pending = c.pending.items;
+      pending = c.pending;
       disabled = c.disabled;
       suspended_all = c.suspended_all;
       suspended_os = c.suspended_os;
@@ -64,7 +65,7 @@ impl<'s, Q: ReadyQueues> Model for Objects<'s, Q> {
       over = c.over;
     } };
 
-    ghost invariant = { λ c. IsSized c.system.now c.slots.items c.masks.items c.pending.items
+    ghost invariant = { λ c. IsSized c.system.now c.slots.items c.masks.items c.pending
         c.shared.items c.alarms c.ready.room c.running };
 }
 
@@ -80,8 +81,8 @@ fn room_for(system: &System) -> usize
     room
 }
 
-/// A control block for each task.
-fn blocks(alloc: Global, count: usize) -> Result<Vec<Slot>, AllocError>
+/// A slot for each task.
+fn slots_of(alloc: Global, count: usize) -> Result<Vec<Slot>, AllocError>
     ensures { IfOk result (λ slots. slots.items ≡ replicate count (unbegun 0)) }
 {
     let mut slots = Vec::with_capacity(alloc, count)?;
@@ -115,11 +116,11 @@ impl<'s, Q: ReadyQueues> Objects<'s, Q> {
         Ok(Objects {
             system,
             ready: ReadyList::with_room(alloc, room_for(system))?,
-            slots: blocks(alloc, tasks)?,
+            slots: slots_of(alloc, tasks)?,
             running: None,
             gone: false,
             active: None,
-            pending: vec![in alloc; false; routines]?,
+            pending: Pending::new(alloc, routines)?,
             disabled: false,
             suspended_all: 0,
             suspended_os: 0,

@@ -45,7 +45,7 @@ impl<'s, Q: ReadyQueues> Objects<'s, Q> {
         requires { routine < length self.now.system.routines }
         ensures { result ≡ slice_index_or self.now.pending routine false }
     {
-        self.pending[routine.number() as usize]
+        self.pending.is_set(routine)
     }
 
     /// The routine that is active, with its registers and its place.

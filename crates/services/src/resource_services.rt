@@ -16,7 +16,7 @@ use ready_queues::ReadyQueues;
 impl<'s, Q: ReadyQueues> Objects<'s, Q> {
     /// The caller holds a resource. E_OS_ACCESS in a routine, where the caller's task doesn't list it, or where a job holds
     /// it. RES_SCHEDULER needn't be listed.
-    #[tactic(auto, unfolding(kept_state::specs::KeptService::unmasked_in))]
+    #[tactic(auto, unfolding(kept_state::specs::KeptService::unasked_in))]
     pub fn get_resource(&mut self, resource: &ResId) -> Status
         ensures { Serves (Service.GetResource (Some resource.now)) self.old self.new result }
     {
@@ -35,7 +35,7 @@ impl<'s, Q: ReadyQueues> Objects<'s, Q> {
 
     /// The caller releases a resource. E_OS_ACCESS in a routine, or where the resource's ceiling is below the caller's static
     /// priority; E_OS_NOFUNC where it isn't the last that the caller got and still holds.
-    #[tactic(auto, unfolding(kept_state::specs::KeptService::unmasked_in))]
+    #[tactic(auto, unfolding(kept_state::specs::KeptService::unasked_in))]
     pub fn release_resource(&mut self, resource: &ResId) -> Status
         ensures { Serves (Service.ReleaseResource (Some resource.now)) self.old self.new result }
     {

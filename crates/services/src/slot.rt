@@ -1,4 +1,4 @@
-//! OSEK/VDX OS: task management, task state model. The control block of a task.
+//! OSEK/VDX OS: task management, task state model. The slot of a task.
 
 ghost use Rattle.osek_base.specs.declared.limits.TheConstants.{MAX_RESOURCES};
 ghost use Rattle.std.specs.Prelude.{if◌then◌else◌, ◌≡◌, ◌<◌, ◌≤◌, ◌+◌, ◌-◌, IsFalse, is_some, length};

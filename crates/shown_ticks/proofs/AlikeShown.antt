@@ -11,7 +11,7 @@ use Rattle.osek_base.specs.State.{Expiry}
 use Rattle.osek_base.specs.System.{System, alarm}
 use Rattle.osek_base.specs.Tick.{action_call}
 use Rattle.kept_state.specs.Kept.{Kept}
-use Rattle.kept_state.specs.KeptService.{ByNobody, bare, task_state_in, unmasked_in}
+use Rattle.kept_state.specs.KeptService.{ByNobody, bare, task_state_in, unasked_in}
 use Rattle.kept_state.specs.Moves.{KeptRecorded}
 use Rattle.services.specs.Seen.{routine_of}
 use Rattle.kernel.specs.Does.{advanced_in}
@@ -30,9 +30,9 @@ use Rattle.shown_ticks.specs.ShownAlike.{AreShownAlike, AlikeShow}
 
 module _ (S : System) (u : ℕ) (bs : List (Option Expiry)) where
   answer_untimed : (act : Action) (o : Kept)
-      → (unmasked_in S ByNobody (retimed u bs o) (action_call act)).status
-      ≡ (unmasked_in S ByNobody o (action_call act)).status
-  unfolding unmasked_in
+      → (unasked_in S ByNobody (retimed u bs o) (action_call act)).status
+      ≡ (unasked_in S ByNobody o (action_call act)).status
+  unfolding unasked_in
   answer_untimed (Action.ActivateTask t) o = refl
   answer_untimed (Action.SetEvent t m) o = refl
 

@@ -22,7 +22,7 @@ use Rattle.kernel.specs.Told.{acted_in, acting_in, if_refused, refused_of_in, ta
 use Rattle.needed_data.specs.Need.{Need, Suffices}
 use Rattle.needed_data.specs.Same.{AreStepsOfSame, HasAllowedIndices, HaveSameNeeded, blanked, blanked_outcome, cleaned, cleaned_routine, cleaned_shared, cleaned_words}
 use Rattle.needed_data.proofs.Executed.{cleaning, fresh_clean}
-use Rattle.needed_data.proofs.Steps.{before_clean, leaves_shared, unmasked_clean}
+use Rattle.needed_data.proofs.Steps.{before_clean, leaves_shared, unasked_clean}
 use Rattle.needed_data.proofs.Ticks.{ticks_keep_same}
 use Rattle.observed_runs.specs.Observed.{activates, activations_by, answered, ending, executed_in, failure_by, failure_of, instruction, is_accepted, is_among, is_by, is_end, is_limit, is_number, is_waiting, lost_of, one_if, owner_of, refusing, state_seen, status_of, task_of, times}
 use Rattle.shown_ticks.specs.Shown.{KeptTicked, ticked_in, jobs_before_in, task_seen_in, routine_seen_in, holders_seen_in, alarm_seen_in}
@@ -98,7 +98,7 @@ module _ (S : System) (need : Need) where
   refused_cleaned (a ∷ due) o =
       let call = action_call (alarm S a).action in
       let same =
-      unmasked_clean S (cleaning need) (cleaned_words need) (cleaned_shared need.shared)
+      unasked_clean S (cleaning need) (cleaned_words need) (cleaned_shared need.shared)
       (fresh_clean need) ByNobody o call
       (action_leaves (alarm S a).action) in
       ap (λ (r : KeptReply). if_refused a r.status ++ refused_of_in S due r.state) same

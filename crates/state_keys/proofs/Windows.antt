@@ -17,7 +17,7 @@ use Rattle.osek_base.specs.Activation.{activated, released}
 use Rattle.osek_base.specs.Alarm.{due_alarms, alarms_advanced}
 use Rattle.osek_base.specs.Instruction.{Context}
 use Rattle.osek_base.specs.Reschedule.{reschedule}
-use Rattle.osek_base.specs.Service.{Caller, JobCalls, RoutineCalls, NobodyCalls, first_refusal, refusals, effect, with_caller, caller_ended, given_up, gets, releases, is_outranked, is_met, meets, released_by, with_events, events_cleared, event_awaited, waiting_for, reply_to, service, unmasked_service, controlled}
+use Rattle.osek_base.specs.Service.{Caller, JobCalls, RoutineCalls, NobodyCalls, first_refusal, refusals, effect, with_caller, caller_ended, given_up, gets, releases, is_outranked, is_met, meets, released_by, with_events, events_cleared, event_awaited, waiting_for, reply_to, service, unasked_service, controlled}
 use Rattle.osek_base.specs.State.{Job, State, interrupts_off, jobs_of, no_shared, still, shared_window, with_shared}
 use Rattle.osek_base.specs.System.{System, alarm, instruction_at}
 use Rattle.osek_base.specs.Tick.{action_call, alarm_acts, alarms_act, alarm_phase, arrival_phase, start_phase, at_values, executed, caller_executes, executor, execute_phase, last_phase, tick}
@@ -127,8 +127,8 @@ module _ (S : System) where
       (first_refusal ((interrupts_off s, Status.SysDisabled) ∷ refusals S c s call))
 
   of_action : (s : State) → HasWindows s → (call : ServiceCall)
-      → HasWindows (unmasked_service S NobodyCalls s call).state
-  unfolding unmasked_service
+      → HasWindows (unasked_service S NobodyCalls s call).state
+  unfolding unasked_service
   of_action s h call = of_reply s h NobodyCalls call (first_refusal (refusals S NobodyCalls s call))
 
   -- ---- phases

@@ -93,15 +93,6 @@ pub fn write_tick<S: Sink>(
     write_records(texts, tick, number, records.entries(), text, out)
 }
 
-/// Appends the line of a tick in which nobody executed, and its end.
-#[inline(never)]
-fn push_idle(texts: &InstructionTexts<'_>, tick: &TickText, number: Option<u32>, text: &mut Block)
-    requires room { length text.old + RECORD_SIZE ≤ BLOCK_SIZE }
-    ensures { text.new ≡ text.old ++ record_text texts.now.names tick.now number TraceEvent.Idle }
-{
-    push_record(texts, tick, number, &TraceEvent::Idle, text);
-}
-
 /// Appends the line of an instruction that was executed, the number of blockers where there is one, and the line's end.
 #[inline(always)]
 fn push_executed_record(
@@ -128,20 +119,63 @@ fn write_executed<S: Sink>(
     texts: &InstructionTexts<'_>,
     tick: &TickText,
     number: Option<u32>,
-    executed: &Option<Executed>,
+    executed: &Executed,
     text: &mut Block,
     out: &mut S,
 ) -> Result<(), SinkFault>
-    requires placed { IfSome executed.now (StandsIn texts.now) }
+    requires placed { StandsIn texts.now executed.now }
     ensures { PutsBehind S.taken S.has_failed out.old out.new text.old text.new
-        (record_text texts.now.names tick.now number (idle_or_executed texts.now executed.now)) result }
+        (record_text texts.now.names tick.now number (executed_record texts.now executed.now)) result }
 {
     make_room(text, out)?;
-    match executed {
-        None => push_idle(texts, tick, number, text),
-        Some(executed) => push_executed_record(texts, tick, number, executed, text),
-    }
+    push_executed_record(texts, tick, number, executed, text);
     Ok(())
+}
+
+/// Writes the lines of a tick in which somebody executed by way of the block.
+#[inline(always)]
+fn write_executed_parts<S: Sink>(
+    texts: &InstructionTexts<'_>,
+    tick: &TickText,
+    number: Option<u32>,
+    before: &TickRecord,
+    executed: &Executed,
+    behind: &TickRecord,
+    text: &mut Block,
+    out: &mut S,
+) -> Result<(), SinkFault>
+    requires before { AllByRecursion (IsOfProgram texts.now) before.now }
+    requires placed { StandsIn texts.now executed.now }
+    requires behind { AllByRecursion (IsOfProgram texts.now) behind.now }
+    ensures { PutsBehind S.taken S.has_failed out.old out.new text.old text.new
+        (tick_text texts.now.names tick.now number
+        (before.now ++ executed_record texts.now executed.now ∷ behind.now)) result }
+{
+    write_tick(texts, tick, number, before, text, out)?;
+    write_executed(texts, tick, number, executed, text, out)?;
+    write_tick(texts, tick, number, behind, text, out)
+}
+
+/// Writes the lines of a tick in which nobody executed by way of the block.
+#[inline(never)]
+fn write_idle_parts<S: Sink>(
+    texts: &InstructionTexts<'_>,
+    tick: &TickText,
+    number: Option<u32>,
+    before: &TickRecord,
+    behind: &TickRecord,
+    text: &mut Block,
+    out: &mut S,
+) -> Result<(), SinkFault>
+    requires before { AllByRecursion (IsOfProgram texts.now) before.now }
+    requires behind { AllByRecursion (IsOfProgram texts.now) behind.now }
+    ensures { PutsBehind S.taken S.has_failed out.old out.new text.old text.new
+        (tick_text texts.now.names tick.now number
+        (before.now ++ TraceEvent.Idle ∷ behind.now)) result }
+{
+    write_tick(texts, tick, number, before, text, out)?;
+    write_record(texts, tick, number, &TraceEvent::Idle, text, out)?;
+    write_tick(texts, tick, number, behind, text, out)
 }
 
 /// Writes the lines of a tick by way of the block: those before that of its instruction, which most ticks don't have, this one,
@@ -164,7 +198,10 @@ pub fn write_tick_parts<S: Sink>(
         (tick_text texts.now.names tick.now number
         (before.now ++ idle_or_executed texts.now executed.now ∷ behind.now)) result }
 {
-    write_tick(texts, tick, number, before, text, out)?;
-    write_executed(texts, tick, number, executed, text, out)?;
-    write_tick(texts, tick, number, behind, text, out)
+    match executed {
+        None => write_idle_parts(texts, tick, number, before, behind, text, out),
+        Some(executed) => {
+            write_executed_parts(texts, tick, number, before, executed, behind, text, out)
+        }
+    }
 }

@@ -9,7 +9,7 @@ use Rattle.osek_base.specs.Lists.{below}
 use Rattle.osek_base.specs.System.{System, alarm}
 use Rattle.osek_base.specs.State.{State}
 use Rattle.osek_base.specs.Alarm.{is_due, due_alarms, alarms_advanced}
-use Rattle.osek_base.specs.Service.{NobodyCalls, unmasked_service}
+use Rattle.osek_base.specs.Service.{NobodyCalls, unasked_service}
 use Rattle.osek_base.specs.Tick.{action_call, alarm_acts}
 use Rattle.osek_base.specs.Trace.{run}
 use Rattle.osek_base.specs.Upper.{is_upper_alarm}
@@ -55,12 +55,12 @@ module _ (S : System) (p : ℕ) (both : IsCounterpart S p) (low : IsLow S p)
       ≡ act = both.actions a inside high in
       same_answer (rank (is_upper_alarm S p) a) act
       (alarm (upper_core S p) (rank (is_upper_alarm S p) a)).action
-      (unmasked_service S NobodyCalls s (action_call act)).status
-      (unmasked_service (upper_core S p) NobodyCalls (up S p s)
+      (unasked_service S NobodyCalls s (action_call act)).status
+      (unasked_service (upper_core S p) NobodyCalls (up S p s)
       (action_call (alarm (upper_core S p) (rank (is_upper_alarm S p) a)).action)).status
       (sym action)
       (sym same.status ∙ ap
-      (λ x. (unmasked_service (upper_core S p) NobodyCalls (up S p s) (action_call x)).status)
+      (λ x. (unasked_service (upper_core S p) NobodyCalls (up S p s) (action_call x)).status)
       (sym action))
 
   answers_up : (due : List ℕ) → AllByRecursion (λ a. a < length S.alarms) due → (s : State)

@@ -19,7 +19,7 @@ use Rattle.osek_base.specs.State.{Job, JobId, Active, State, may_dispatch, same_
 use Rattle.osek_base.specs.Choice.{choice}
 use Rattle.osek_base.specs.Alarm.{due_alarms, alarms_advanced}
 use Rattle.osek_base.specs.Reschedule.{Recorded, hooked, left_record, entered_record, switch_records, switched, with_dispatch_of, reschedule}
-use Rattle.osek_base.specs.Service.{Caller, JobCalls, RoutineCalls, NobodyCalls, Reply, service, unmasked_service}
+use Rattle.osek_base.specs.Service.{Caller, JobCalls, RoutineCalls, NobodyCalls, Reply, service, unasked_service}
 use Rattle.osek_base.specs.Tick.{action_call, error_record, alarm_acts, alarms_act, alarm_phase, arrival_phase, at_values, shutdown_record, executed, caller_executes, caller_of, running_caller, job_caller, execute_phase, before_execution, last_phase, tick}
 use Rattle.osek_base.specs.Trace.{arriving, run}
 use Rattle.osek_base.specs.Upper.{is_upper_owner}
@@ -139,7 +139,7 @@ module _ {X : Type 0} (f : TraceEvent → Option X) (only : IsOfExecutions f) (S
   alarms_none (a ∷ due) s =
       none_both (alarm_acts S a s).events (alarms_act S due (alarm_acts S a s).state).events
       (error_none (Source.Alarm a) (Instr.Service (action_call (alarm S a).action))
-      (unmasked_service S NobodyCalls s (action_call (alarm S a).action)).status)
+      (unasked_service S NobodyCalls s (action_call (alarm S a).action)).status)
       (alarms_none due (alarm_acts S a s).state)
 
   alarm_none : (s : State) → told (alarm_phase S s).events ≡ []

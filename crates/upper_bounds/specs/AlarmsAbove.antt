@@ -7,7 +7,7 @@ use Rattle.osek_base.specs.declared.task.Action.{Action}
 use Rattle.osek_base.specs.System.{System, alarm}
 use Rattle.osek_base.specs.State.{State}
 use Rattle.osek_base.specs.Alarm.{due_alarms, alarms_advanced}
-use Rattle.osek_base.specs.Service.{NobodyCalls, unmasked_service}
+use Rattle.osek_base.specs.Service.{NobodyCalls, unasked_service}
 use Rattle.osek_base.specs.Tick.{action_call, alarm_acts}
 use Rattle.osek_base.specs.Trace.{run}
 use Rattle.osek_base.specs.Upper.{is_upper_alarm}
@@ -25,7 +25,7 @@ answer_to S number a s =
     record {
       number = number;
       action = (alarm S a).action;
-      status = (unmasked_service S NobodyCalls s (action_call (alarm S a).action)).status;
+      status = (unasked_service S NobodyCalls s (action_call (alarm S a).action)).status;
     }
 
 -- of alarms that act in turn the upper ones, by their numbers among these

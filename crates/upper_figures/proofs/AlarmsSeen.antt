@@ -6,7 +6,7 @@ use Rattle.std.specs.List.{filter, list_any}
 use Rattle.osek_base.specs.declared.status.Status.{Status}
 use Rattle.osek_base.specs.declared.task.Action.{Action}
 use Rattle.osek_base.specs.Agree.{rank}
-use Rattle.osek_base.specs.Service.{NobodyCalls, unmasked_service}
+use Rattle.osek_base.specs.Service.{NobodyCalls, unasked_service}
 use Rattle.osek_base.specs.State.{State}
 use Rattle.osek_base.specs.System.{System, alarm}
 use Rattle.osek_base.specs.Tick.{action_call, alarm_acts}
@@ -50,7 +50,7 @@ module _ (S : System) (p : ℕ) where
   upper a = is_upper_alarm S p a
 
   abbrev status : ℕ → State → Status
-  status a s = (unmasked_service S NobodyCalls s (action_call (alarm S a).action)).status
+  status a s = (unasked_service S NobodyCalls s (action_call (alarm S a).action)).status
 
   -- ---- one alarm
 

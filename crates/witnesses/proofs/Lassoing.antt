@@ -7,7 +7,7 @@ use Rattle.needs.specs.declared.table.Needs.{Needs}
 use Rattle.needs.specs.Table.{need_of}
 use Rattle.bounds.specs.Exploring.{IsGround}
 use Rattle.run_bounds.specs.Bounds.{KeepDistances}
-use Rattle.endless_runs.specs.Kept.{Keep}
+use Rattle.endless_runs.specs.Unending.{Keep}
 use Rattle.endless_runs.specs.Lassos.{LassosAreEndless, again}
 use Rattle.witnesses.specs.declared.endless.Endless.{Endless}
 use Rattle.witnesses.specs.Endless.{IsEndless}

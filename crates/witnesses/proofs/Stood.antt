@@ -7,7 +7,7 @@ use Rattle.kernel.specs.Progress.{Progress}
 use Rattle.needed_data.specs.Need.{Need}
 use Rattle.same_future.specs.Alike.{kept_after}
 use Rattle.state_keys.specs.Key.{key}
-use Rattle.endless_runs.specs.Kept.{Stands, StandsBetween}
+use Rattle.endless_runs.specs.Unending.{Stands, StandsBetween}
 use Rattle.witnesses.specs.Walks.{ComesTwice}
 
 -- a walk is some ticks behind another one, and in each of them a job of a task stood

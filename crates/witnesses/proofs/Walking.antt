@@ -19,7 +19,7 @@ use Rattle.same_future.specs.Alike.{kept_after}
 use Rattle.same_future.proofs.Futures.{kept_more}
 use Rattle.shown_ticks.specs.Seen.{seen_in}
 use Rattle.bound_labels.specs.Ticks.{task_tick}
-use Rattle.endless_runs.specs.Kept.{Stands}
+use Rattle.endless_runs.specs.Unending.{Stands}
 use Rattle.witnesses.specs.Walks.{IsShown, IsStanding, IsWalk}
 
 -- ---- before the first tick

@@ -4,7 +4,7 @@ use Rattle.std.specs.List.{AllByRecursion}
 use Rattle.osek_base.specs.declared.arrivals.Arrival.{Arrival}
 use Rattle.osek_base.specs.System.{System}
 use Rattle.run_bounds.specs.Bounds.{KeepDistances}
-use Rattle.endless_runs.specs.Kept.{CanBeKept, StandsBetween}
+use Rattle.endless_runs.specs.Unending.{NeedNotEnd, StandsBetween}
 use Rattle.endless_runs.specs.Lassos.{again}
 use Rattle.witnesses.specs.declared.endless.Endless.{Endless}
 
@@ -13,7 +13,7 @@ use Rattle.witnesses.specs.declared.endless.Endless.{Endless}
 -- task stands in each tick from an earlier one on
 pub record IsEndless (S : System) (mode : ℕ) (distances : List ℕ) (k : ℕ)
     (e : Endless) : Type 0 where
-  pub ever : CanBeKept S mode distances k
+  pub ever : NeedNotEnd S mode distances k
   pub less : e.from < e.until
   pub before : AllByRecursion (λ (a : Arrival). a.tick < e.until) e.arrivals
   pub keep : KeepDistances S distances e.arrivals

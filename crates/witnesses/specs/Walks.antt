@@ -15,7 +15,7 @@ use Rattle.figures.specs.StateSums.{leaves}
 use Rattle.same_future.specs.Alike.{kept_after}
 use Rattle.shown_ticks.specs.Seen.{seen_in}
 use Rattle.state_keys.specs.Key.{key}
-use Rattle.endless_runs.specs.Kept.{StandsBetween}
+use Rattle.endless_runs.specs.Unending.{StandsBetween}
 
 -- a job stands ready or runs, and the oldest neither ends nor begins to wait
 pub record IsStanding (t : TaskTick) : Type 0 where

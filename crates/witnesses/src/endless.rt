@@ -3,7 +3,7 @@
 ghost use Rattle.std.specs.Prelude.{◌≤◌, IfOk, IfSome, IsTrue};
 ghost use Rattle.std.specs.List.{All};
 ghost use Rattle.bounds.specs.Exploring.{IsGround};
-ghost use Rattle.endless_runs.specs.Kept.{CanBeKept};
+ghost use Rattle.endless_runs.specs.Unending.{NeedNotEnd};
 ghost use Rattle.endless_runs.specs.Lassos.{again};
 ghost use Rattle.kernel.specs.Progress.{AreKnown};
 ghost use Rattle.run_bounds.specs.Bounds.{KeepDistances};
@@ -213,7 +213,7 @@ fn is_endless(
     found: &Bounds,
     task: usize,
 ) -> Result<bool, AllocError>
-    ensures { IfOk result (λ endless. IsTrue endless → CanBeKept system.now mode distances.now task) }
+    ensures { IfOk result (λ endless. IsTrue endless → NeedNotEnd system.now mode distances.now task) }
 {
     if Figure::Response(task).told(&found.peaks) < found.cap {
         return Ok(false);
@@ -234,7 +234,7 @@ pub fn endless_tasks(
     distances: &[u32],
     found: &Bounds,
 ) -> Result<Vec<usize>, AllocError>
-    ensures { IfOk result (λ tasks. All (CanBeKept system.now mode distances.now) tasks.items) }
+    ensures { IfOk result (λ tasks. All (NeedNotEnd system.now mode distances.now) tasks.items) }
 {
     let mut tasks = Vec::new(alloc);
     for task in 0..system.task_count() {

@@ -1,7 +1,7 @@
 //! Whether a run comes twice to one state while a job of a task stands, tried by walking it.
 
 ghost use Rattle.std.specs.Prelude.{◌≡◌, IfOk, IsTrue};
-ghost use Rattle.endless_runs.specs.Kept.{StandsBetween};
+ghost use Rattle.endless_runs.specs.Unending.{StandsBetween};
 ghost use Rattle.kernel.specs.Progress.{AreKnown};
 ghost use Rattle.needs.specs.Table.{need_of};
 ghost use Rattle.witnesses.specs.Walks.{ComesTwice};

@@ -2,7 +2,7 @@
 
 ghost use Rattle.std.specs.Prelude.{ℕ, ◌≡◌, ◌+◌, IfOk, IsTrue, map};
 ghost use Rattle.kernel.specs.Progress.{AreKnown};
-ghost use Rattle.endless_runs.specs.Kept.{Stands};
+ghost use Rattle.endless_runs.specs.Unending.{Stands};
 ghost use Rattle.needs.specs.Table.{need_of};
 ghost use Rattle.same_future.specs.Alike.{kept_after};
 ghost use Rattle.state_keys.specs.Key.{key};

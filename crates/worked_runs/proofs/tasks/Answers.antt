@@ -3,14 +3,14 @@ use Rattle.std.proofs.Common.{refl}
 use Rattle.std.specs.Fmt.{digits}
 use Rattle.osek_base.specs.Reschedule.{reschedule}
 use Rattle.osek_base.specs.Activation.{activated, released}
-use Rattle.osek_base.specs.Service.{service, unmasked_service}
+use Rattle.osek_base.specs.Service.{service, unasked_service}
 use Rattle.osek_base.specs.Tick.{alarm_phase, start_phase, execute_phase, tick}
 use Rattle.osek_base.specs.Trace.{boot, run}
 use Rattle.worked_runs.proofs.Computed.{worked}
 use Rattle.worked_runs.proofs.tasks.Goals as goal
 
 pub returns : goal.returns
-unfolding digits reschedule activated released service unmasked_service alarm_phase start_phase execute_phase tick boot run
+unfolding digits reschedule activated released service unasked_service alarm_phase start_phase execute_phase tick boot run
 returns c =
     record {
       run_one_task = worked refl refl;

@@ -1,5 +1,5 @@
 use Rattle.std.proofs.Common.{ℕ, ◌≡◌, ◌==◌, false, Some, length, replicate}
-use Rattle.blocking_laws.specs.Looks.{stamps_at}
+use Rattle.blocking_laws.specs.Restamping.{stamps_at}
 use Rattle.kernel.proofs.boot.add_jobs.Given as goal
 
 -- the jobs so far stand in the task's list, and the other lists are as they were

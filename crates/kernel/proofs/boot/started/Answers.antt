@@ -4,7 +4,7 @@ use Rattle.std.specs.List.{filter}
 use Rattle.osek_base.specs.declared.instr.Service.{Service}
 use Rattle.osek_base.specs.Lists.{below}
 use Rattle.osek_base.specs.System.{starts_in}
-use Rattle.kept_state.specs.KeptService.{ByNobody, unmasked_in}
+use Rattle.kept_state.specs.KeptService.{ByNobody, unasked_in}
 use Rattle.osek_base.specs.Trace.{starting_alarms}
 use Rattle.kept_state.specs.Kept.{Kept}
 use Rattle.kept_state.specs.KeptTick.{all_activated_in, begun_in, still_in}
@@ -46,8 +46,8 @@ loop-number-preserved g c =
             system = w.activate-status.ensures.system ∙ v.system;
             starting = starting_more S c.args.mode n (kept_in o) (kept_in a) v.starting c.requires
                 (omega (arith, c.loop-number-test.true, c.task_count-number-end.ensures.value)) (says ∙ w.if-starts_in.true)
-                (w.activate-status.ensures.kept ∙ ap (λ t. (unmasked_in o.system ByNobody (kept_in o) (Service.ActivateTask (Some t))).state) c.new-task.ensures
-                ∙ ap (λ T. (unmasked_in T ByNobody (kept_in o) (Service.ActivateTask (Some n))).state) v.system);
+                (w.activate-status.ensures.kept ∙ ap (λ t. (unasked_in o.system ByNobody (kept_in o) (Service.ActivateTask (Some t))).state) c.new-task.ensures
+                ∙ ap (λ T. (unasked_in T ByNobody (kept_in o) (Service.ActivateTask (Some n))).state) v.system);
           }))
       | else-starts_in w ↦
           subst (λ (x : Objects). record {

@@ -25,8 +25,8 @@ returns-then-idle-eq0-clause-passed g c =
         still = refl;
         failed = tt;
       };
-      going = c.pass_idle-idle.ensures.idled.going;
-      next = c.pass_idle-idle.ensures.idled.next;
+      going = c.pass_idle-idle.ensures.going;
+      next = c.pass_idle-idle.ensures.next;
     }
 
 pub returns-clause-passed : goal.returns-clause-passed
@@ -40,8 +40,8 @@ returns-clause-passed g c =
       puts =
           subst (λ text. PutsBehind g.S.Sink.taken g.S.Sink.has_failed c.args.out.now w.new.out c.args.text.now w.new.text text w.result)
           (ap (λ t. same_ticks_text V.names (event_of (idle_word c.args.lines.now.shown)) t n) c.requires.counted
-          ∙ idle_ticks V r.system r.mode r.arrivals c.args.lines.now.shown r.ticks n c.pass_idle-idle.ensures.idled.records)
+          ∙ idle_ticks V r.system r.mode r.arrivals c.args.lines.now.shown r.ticks n c.pass_idle-idle.ensures.records)
           w.ensures.puts;
-      going = c.pass_idle-idle.ensures.idled.going;
-      next = c.pass_idle-idle.ensures.idled.next;
+      going = c.pass_idle-idle.ensures.going;
+      next = c.pass_idle-idle.ensures.next;
     }

@@ -1,13 +1,13 @@
 use Rattle.std.proofs.Common.{subst, sym}
 use Rattle.std.specs.List.{All}
 use Rattle.std.proofs.lemmas.List.Elements.{All-push}
-use Rattle.endless_runs.specs.Kept.{CanBeKept}
+use Rattle.endless_runs.specs.Unending.{NeedNotEnd}
 use Rattle.witnesses.proofs.endless.endless_tasks.Goals as goal
 use Rattle.witnesses.proofs.endless.endless_tasks.Goals.{then-branch+in_ok-push, else-branch}
 
 pub loop-task-preserved : goal.loop-task-preserved
 loop-task-preserved c =
-    let holds = CanBeKept c.args.system.now c.args.mode c.args.distances.now in
+    let holds = NeedNotEnd c.args.system.now c.args.mode c.args.distances.now in
     elim c.if-branch.branch [
       | then-branch+in_ok-push w ↦
           rw w.tasks-is

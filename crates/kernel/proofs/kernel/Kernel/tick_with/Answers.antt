@@ -15,8 +15,8 @@ use Rattle.kernel.proofs.RunLemmas.{going}
 use Rattle.kernel.proofs.TickLemmas.{executing_told, record_told}
 use Rattle.kernel.proofs.kernel.Kernel.tick_with.Goals as goal
 
-pub tick_with-executed-requires : goal.tick_with-executed-requires
-tick_with-executed-requires g c =
+pub tick_with-requires : goal.tick_with-requires
+tick_with-requires g c =
     let k = c.self.inside in
     let v = c.self.invariant in
     let m = system_of k.machine in
@@ -38,7 +38,7 @@ pub returns-clause-done : goal.returns-clause-done
 returns-clause-done g c =
     let k = c.self.inside in
     let v = c.self.invariant in
-    let r = c.tick_with-executed in
+    let r = c.tick_with in
     let done = r.ensures.done in
     let lent : arriving k.arrivals (next_tick k.machine) ≡ slice_range c.as_slice.result.now k.arrived c.arrived_by-end.result =
     ap (arriving k.arrivals) (sym c.next_tick-tick.ensures.value)
@@ -64,7 +64,7 @@ pub returns-clause-seen : goal.returns-clause-seen
 returns-clause-seen g c =
     let k = c.self.inside in
     let v = c.self.invariant in
-    let r = c.tick_with-executed in
+    let r = c.tick_with in
     let lent : arriving k.arrivals (next_tick k.machine) ≡ slice_range c.as_slice.result.now k.arrived c.arrived_by-end.result =
     ap (arriving k.arrivals) (sym c.next_tick-tick.ensures.value)
     ∙ ap (λ (xs : List Arrival). arriving xs c.next_tick-tick.result) (sym c.list.ensures.value) ∙ c.arrived_by-end.ensures.these

@@ -23,8 +23,8 @@ early_phases-requires-clause-may g c =
     may_start g.B.Blockers.are_counted k.watched k.ticks k.opening k.acted c.self.invariant (subst Follows (sym c.self.view_is) c.requires.limit)
     c.put_first.new.records c.put_first.ensures.value
 
-pub execute_phase-executed-requires : goal.execute_phase-executed-requires
-execute_phase-executed-requires g c =
+pub late_phases-requires : goal.late_phases-requires
+late_phases-requires g c =
     let k = c.self.inside in
     record {
       begun =
@@ -37,42 +37,44 @@ execute_phase-executed-requires g c =
 pub invariant_of-self : goal.invariant_of-self
 invariant_of-self g c =
     let k = c.self.inside in
-    let r = c.execute_phase-executed in
-    (ticked g.B.Blockers.are_counted c.args.arrived.now k.ticks k.watched c.early_phases.new.self c.begin.new.self r.new.self c.last_phase.new.self
-    k.opening c.put_first.new.opening c.put_first.new.records c.early_phases.new.before r.new.behind c.last_phase.new.records
-    k.acted c.early_phases.new.acted (idle_or_executed (system_in c.begin.new.self.processor) r.result) c.self.invariant (subst Follows (sym c.self.view_is) c.requires.limit)
+    let f = c.late_phases in
+    let r = f.ensures in
+    (ticked g.B.Blockers.are_counted c.args.arrived.now k.ticks k.watched c.early_phases.new.self c.begin.new.self r.between f.new.self
+    k.opening c.put_first.new.opening c.put_first.new.records c.early_phases.new.before r.first f.new.behind
+    k.acted c.early_phases.new.acted (idle_or_executed (system_in c.begin.new.self.processor) f.result) c.self.invariant (subst Follows (sym c.self.view_is) c.requires.limit)
     (subst IsOn (sym c.self.view_is) c.requires.on)
     (recursion_from_All (λ i. i < length (system_in k.watched.processor).routines) c.args.arrived.now
     (subst (λ (x : Machine). All (λ i. i < length (system_of x).routines) c.args.arrived.now) (sym c.self.view_is) c.requires.known))
     c.put_first.ensures.value c.put_first.ensures.after c.early_phases.ensures.acted
-    (record { one = c.early_phases.ensures.does; two = c.begin.ensures; three = r.ensures.does; four = c.last_phase.ensures.does })).keeps
+    (record { one = c.early_phases.ensures.does; two = c.begin.ensures; three = r.executes.does; four = r.reschedules })).keeps
 
 pub returns-clause-done : goal.returns-clause-done
 returns-clause-done g c =
     let k = c.self.inside in
-    let r = c.execute_phase-executed in
+    let f = c.late_phases in
+    let r = f.ensures in
     let counted = g.B.Blockers.are_counted in
-    let all = ticked g.B.Blockers.are_counted c.args.arrived.now k.ticks k.watched c.early_phases.new.self c.begin.new.self r.new.self c.last_phase.new.self
-    k.opening c.put_first.new.opening c.put_first.new.records c.early_phases.new.before r.new.behind c.last_phase.new.records
-    k.acted c.early_phases.new.acted (idle_or_executed (system_in c.begin.new.self.processor) r.result) c.self.invariant (subst Follows (sym c.self.view_is) c.requires.limit)
+    let all = ticked g.B.Blockers.are_counted c.args.arrived.now k.ticks k.watched c.early_phases.new.self c.begin.new.self r.between f.new.self
+    k.opening c.put_first.new.opening c.put_first.new.records c.early_phases.new.before r.first f.new.behind
+    k.acted c.early_phases.new.acted (idle_or_executed (system_in c.begin.new.self.processor) f.result) c.self.invariant (subst Follows (sym c.self.view_is) c.requires.limit)
     (subst IsOn (sym c.self.view_is) c.requires.on)
     (recursion_from_All (λ i. i < length (system_in k.watched.processor).routines) c.args.arrived.now
     (subst (λ (x : Machine). All (λ i. i < length (system_of x).routines) c.args.arrived.now) (sym c.self.view_is) c.requires.known))
     c.put_first.ensures.value c.put_first.ensures.after c.early_phases.ensures.acted
-    (record { one = c.early_phases.ensures.does; two = c.begin.ensures; three = r.ensures.does; four = c.last_phase.ensures.does }) in
+    (record { one = c.early_phases.ensures.does; two = c.begin.ensures; three = r.executes.does; four = r.reschedules }) in
     let system : system_in c.begin.new.self.processor ≡ system_in k.watched.processor =
     ap system_in c.begin.ensures.processor ∙ c.early_phases.ensures.does.does.system in
-    let new = between c.last_phase.new.self (k.ticks + 1) c.put_first.new.opening c.early_phases.new.acted in
-    let behind = c.last_phase.new.records in
-    subst (λ (x : Machine). HasTicked counted c.args.arrived.now x new c.early_phases.new.before r.result behind) c.self.view_is
+    let new = between f.new.self (k.ticks + 1) c.put_first.new.opening c.early_phases.new.acted in
+    let behind = f.new.behind in
+    subst (λ (x : Machine). HasTicked counted c.args.arrived.now x new c.early_phases.new.before f.result behind) c.self.view_is
     (record {
       ticks =
-          subst (λ T. Ticks c.args.arrived.now (between k.watched k.ticks k.opening k.acted) new (c.early_phases.new.before ++ idle_or_executed T r.result ∷ behind))
+          subst (λ T. Ticks c.args.arrived.now (between k.watched k.ticks k.opening k.acted) new (c.early_phases.new.before ++ idle_or_executed T f.result ∷ behind))
           system all.ticks;
       goes_on = all.goes_on;
       was_of_run = c.self.invariant.of_run;
       of_run = all.keeps.of_run;
-      there = subst (λ T. IfSome r.result (StandsIn T)) system r.ensures.there;
-      few = omega (arith, c.early_phases.ensures.few, r.ensures.few, c.last_phase.ensures.few);
+      there = subst (λ T. IfSome f.result (StandsIn T)) system r.executes.there;
+      few = omega (arith, c.early_phases.ensures.few, r.few);
       acted = c.early_phases.ensures.acted;
     })

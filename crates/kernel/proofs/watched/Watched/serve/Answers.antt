@@ -3,7 +3,7 @@ use Rattle.std.specs.Prelude.{IfSome}
 use Rattle.osek_base.specs.declared.instr.Instr.{Instr}
 use Rattle.osek_base.specs.declared.trace_event.TraceEvent.{TraceEvent}
 use Rattle.machine.specs.Packed.{instr_of}
-use Rattle.blocking_laws.specs.Looks.{stamps_at}
+use Rattle.blocking_laws.specs.Restamping.{stamps_at}
 use Rattle.kernel.specs.declared.stamping.Stand.{Stand}
 use Rattle.kernel.specs.Processor.{IsNext, picture, system_of}
 use Rattle.kernel.specs.Watches.{HasBegun, Watched, WatchesWithin, executing}

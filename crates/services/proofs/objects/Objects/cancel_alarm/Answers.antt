@@ -2,7 +2,7 @@ use Rattle.std.proofs.Common.{◌≡◌, ◌∙◌, Some, ap, subst}
 use Rattle.osek_base.specs.declared.instr.Service.{Service}
 use Rattle.alarms.specs.Alarms.{after_call}
 use Rattle.services.specs.Objects.{Objects, kept_in}
-use Rattle.services.specs.Calls.{unmasked}
+use Rattle.services.specs.Calls.{unasked}
 use Rattle.services.proofs.AlarmLemmas.{table, cancelled_status, cancelled_kept}
 use Rattle.services.proofs.objects.Objects.cancel_alarm.Goals as goal
 
@@ -10,7 +10,7 @@ pub returns : goal.returns
 returns g c = record {
   system = ap (λ (k : Objects). k.system) c.self.view_is;
   status =
-      subst (λ (k : Objects). c.cancel.result ≡ (unmasked k (Service.CancelAlarm (Some c.args.alarm))).status) c.self.view_is
+      subst (λ (k : Objects). c.cancel.result ≡ (unasked k (Service.CancelAlarm (Some c.args.alarm))).status) c.self.view_is
       (c.cancel.ensures.status c.self.inside.system.now ∙ cancelled_status c.self.inside.alarms.counters (record {
         system = c.self.inside.system.now;
         room = c.self.inside.ready.room;
@@ -19,7 +19,7 @@ returns g c = record {
         running = c.self.inside.running;
         gone = c.self.inside.gone;
         active = c.self.inside.active;
-        pending = c.self.inside.pending.items;
+        pending = c.self.inside.pending;
         disabled = c.self.inside.disabled;
         suspended_all = c.self.inside.suspended_all;
         suspended_os = c.self.inside.suspended_os;

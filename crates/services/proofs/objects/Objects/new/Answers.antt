@@ -9,9 +9,9 @@ use Rattle.services.proofs.objects.Objects.new.Goals as goal
 
 pub invariant_of-result : goal.invariant_of-result
 invariant_of-result g c =
-    let made : c.in_ok-blocks.field-0.items ≡ replicate c.task_count-tasks.result (unbegun 0) = c.in_ok-blocks.ensures in
-    let flags : c.in_ok-vec.field-0.items ≡ replicate (length c.args.system.now.routines) false = search rules in
-    let events : c.in_ok-vec-2.field-0.items ≡ replicate (length c.args.system.now.tasks) 0 = search rules in
+    let made : c.in_ok-slots_of.field-0.items ≡ replicate c.task_count-tasks.result (unbegun 0) = c.in_ok-slots_of.ensures in
+    let flags : c.in_ok-new.field-0 ≡ replicate (length c.args.system.now.routines) false = search rules in
+    let events : c.in_ok-vec.field-0.items ≡ replicate (length c.args.system.now.tasks) 0 = search rules in
     let windows : c.in_ok-windows.field-0.items ≡ replicate c.resource_count.result no_shared = c.in_ok-windows.ensures in
     record {
       bounds = bounds_of c.args.system.now c.task_count-tasks.ensures.proper;
@@ -27,14 +27,14 @@ invariant_of-result g c =
 pub returns-clause-kept : goal.returns-clause-kept
 returns-clause-kept g c =
     let S = c.args.system.now in
-    let made : c.in_ok-blocks.field-0.items ≡ replicate c.task_count-tasks.result (unbegun 0) = c.in_ok-blocks.ensures in
+    let made : c.in_ok-slots_of.field-0.items ≡ replicate c.task_count-tasks.result (unbegun 0) = c.in_ok-slots_of.ensures in
     let none = ap by_task made ∙ no_slots c.task_count-tasks.result in
-    let flags : c.in_ok-vec.field-0.items ≡ replicate (length S.routines) false = search rules in
-    let events : c.in_ok-vec-2.field-0.items ≡ replicate (length S.tasks) 0 = search rules in
+    let flags : c.in_ok-new.field-0 ≡ replicate (length S.routines) false = search rules in
+    let events : c.in_ok-vec.field-0.items ≡ replicate (length S.tasks) 0 = search rules in
     let windows : c.in_ok-windows.field-0.items ≡ replicate (length S.resources) no_shared =
     c.in_ok-windows.ensures ∙ ap (λ n. replicate n no_shared) c.resource_count.ensures.value in
-    let off : c.new.result.expiries ≡ replicate (length S.alarms) None = search rules in
-    let start : c.new.result.tick ≡ 0 = search rules in
+    let off : c.new-2.result.expiries ≡ replicate (length S.alarms) None = search rules in
+    let start : c.new-2.result.tick ≡ 0 = search rules in
     λ i. record {
       queues = c.in_ok-with_room.ensures.empty i;
       slots = none i;

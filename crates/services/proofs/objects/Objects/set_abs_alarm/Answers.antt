@@ -2,12 +2,12 @@ use Rattle.std.proofs.Common.{rules, ◌≡◌, ◌∙◌, Some, ap, subst}
 use Rattle.osek_base.specs.declared.instr.Service.{Service}
 use Rattle.alarms.specs.Alarms.{after_call}
 use Rattle.services.specs.Objects.{Objects, kept_in}
-use Rattle.kept_state.specs.KeptService.{unmasked_in}
+use Rattle.kept_state.specs.KeptService.{unasked_in}
 use Rattle.services.proofs.AlarmLemmas.{table, set_abs_kept}
 use Rattle.services.proofs.objects.Objects.set_abs_alarm.Goals as goal
 
 pub returns : goal.returns
-unfolding unmasked_in
+unfolding unasked_in
 returns g c = record {
   system = ap (λ (k : Objects). k.system) c.self.view_is;
   status = search rules;

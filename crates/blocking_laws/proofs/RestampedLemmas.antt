@@ -9,7 +9,7 @@ use Rattle.osek_base.specs.declared.instr.Service.{Service}
 use Rattle.osek_base.specs.System.{System, is_extended}
 use Rattle.osek_base.specs.State.{Job, State, same_id, waits, job_of, jobs_of, jobs_but}
 use Rattle.osek_base.specs.Activation.{activated, released, woken}
-use Rattle.osek_base.specs.Service.{Caller, first_refusal, refusals, reply_to, unmasked_service, is_met, released_by, with_events, with_objects_of}
+use Rattle.osek_base.specs.Service.{Caller, first_refusal, refusals, reply_to, unasked_service, is_met, released_by, with_events, with_objects_of}
 use Rattle.run_laws.proofs.Lists.{Pairs, clash, all_any, all_filter, all_kept, pairs_kept}
 use Rattle.run_laws.proofs.Foremost.{equal, self_equal, same_self}
 use Rattle.run_laws.proofs.Known.{met_waits}
@@ -19,7 +19,7 @@ use Rattle.kept_state.proofs.Parts.{filter_same, filter_twice, map_unmoved}
 use Rattle.kept_state.proofs.JobMoves.{but_of}
 use Rattle.readiness.specs.Stamps.{stamp_oldest}
 use Rattle.blocking_laws.specs.Stamps.{Stamps, stamped, listed}
-use Rattle.blocking_laws.specs.Looks.{task_waits, looked}
+use Rattle.blocking_laws.specs.Restamping.{task_waits, restamped}
 use Rattle.blocking_laws.proofs.ReadyLemmas.{changed_listed}
 use Rattle.blocking_laws.proofs.NewJobs.{activated_listed}
 use Rattle.blocking_laws.proofs.WakeLemmas.{released_listed}
@@ -37,9 +37,9 @@ pub count_listed : (p : Stamps) (t : ℕ) (jobs : List Job) → length (listed p
 count_listed p t jobs = length-map (jobs_of t jobs) (λ j. p j.id)
 
 -- nothing changed; a job more; a job released
-looked_none : (u n : ℕ) (w x : Bool) (list : List (Option ℕ)) → n ≡ length list → (w ≡ true → x ≡ true)
-    → looked u n w x list ≡ list
-looked_none u n w x list many waiting =
+restamped_none : (u n : ℕ) (w x : Bool) (list : List (Option ℕ)) → n ≡ length list → (w ≡ true → x ≡ true)
+    → restamped u n w x list ≡ list
+restamped_none u n w x list many waiting =
     let less : nat_lt (length list) n ≡ false = grind (arith, many) in
     rw less (go w x waiting)
   where
@@ -48,28 +48,28 @@ looked_none u n w x list many waiting =
     go true true h = refl
     go true false h = clash (sym (h refl))
 
-pub looked_more : (u n : ℕ) (w x : Bool) (list : List (Option ℕ)) → n ≡ length list + 1 → looked u n w x list
+pub restamped_more : (u n : ℕ) (w x : Bool) (list : List (Option ℕ)) → n ≡ length list + 1 → restamped u n w x list
     ≡ list ++ Some u ∷ []
-looked_more u n w x list many =
+restamped_more u n w x list many =
     let less : nat_lt (length list) n ≡ true = grind (arith, many) in
     rw less refl
 
-looked_woken : (u n : ℕ) (w x : Bool) (list : List (Option ℕ)) → n ≡ length list → w ≡ true → x ≡ false
-    → looked u n w x list ≡ stamp_oldest u list
-looked_woken u n w x list many was is =
+restamped_woken : (u n : ℕ) (w x : Bool) (list : List (Option ℕ)) → n ≡ length list → w ≡ true → x ≡ false
+    → restamped u n w x list ≡ stamp_oldest u list
+restamped_woken u n w x list many was is =
     let less : nat_lt (length list) n ≡ false = grind (arith, many) in
     rw (less, was, is) refl
 
 -- what is made of the stamps of a task that is looked at in two states
-abbrev pub looked_between : System → ℕ → ℕ → State → State → List (Option ℕ) → List (Option ℕ)
-looked_between S u t s e list =
-    looked u ((kept S e).slots t).count (task_waits (kept S s) t) (task_waits (kept S e) t) list
+abbrev pub restamped_between : System → ℕ → ℕ → State → State → List (Option ℕ) → List (Option ℕ)
+restamped_between S u t s e list =
+    restamped u ((kept S e).slots t).count (task_waits (kept S s) t) (task_waits (kept S e) t) list
 
 -- it is right for that task, and nothing changed of the others
 abbrev pub IsLooked : System → ℕ → ℕ → State → State → Stamps → Type 0
 IsLooked S u t s e p =
     (v : ℕ) → listed (stamped s e u p) v e.jobs
-    ≡ cond (t == v) (looked_between S u t s e (listed p v s.jobs)) (listed p v s.jobs)
+    ≡ cond (t == v) (restamped_between S u t s e (listed p v s.jobs)) (listed p v s.jobs)
 
 -- ---- jobs stay as they are
 
@@ -80,17 +80,17 @@ module _ (S : System) (s e : State) (u t : ℕ) (p : Stamps) (jobs : e.jobs ≡ 
       changed_listed s e u p (λ j. j) (λ j. refl) (λ j h. h)
       (jobs ∙ sym (map_unmoved (λ j. j) s.jobs (all_any (λ j. j ≡ j) s.jobs (λ j. refl)))) running
 
-  pub same_looked : IsLooked S u t s e p
-  same_looked v = same_listed v ∙ go (t == v) refl
+  pub same_restamped : IsLooked S u t s e p
+  same_restamped v = same_listed v ∙ go (t == v) refl
     where
       go : (b : Bool) → (t == v) ≡ b → listed p v s.jobs
-          ≡ cond b (looked_between S u t s e (listed p v s.jobs)) (listed p v s.jobs)
+          ≡ cond b (restamped_between S u t s e (listed p v s.jobs)) (listed p v s.jobs)
       go false h = refl
       go true h =
           let many : ((kept S e).slots t).count ≡ length (listed p v s.jobs) =
           count_is S e t ∙ ap (λ js. length (jobs_of t js)) jobs ∙ ap (λ x. length (jobs_of x s.jobs)) (equal t v h)
           ∙ sym (count_listed p v s.jobs) in
-          sym (looked_none u ((kept S e).slots t).count (task_waits (kept S s) t) (task_waits (kept S e) t)
+          sym (restamped_none u ((kept S e).slots t).count (task_waits (kept S s) t) (task_waits (kept S e) t)
           (listed p v s.jobs) many
           (λ w. ap (λ js. is_some (slot_of (jobs_of t js)).waits_for) jobs ∙ w))
 
@@ -110,12 +110,12 @@ module _ (S : System) (s e : State) (u t : ℕ) (p : Stamps) (single : IsSingle 
       (running ∙ sym (made_running S t s))
       ∙ activated_listed S s u t p single none v
 
-  pub made_looked : IsLooked S u t s e p
-  made_looked v = made_listed v ∙ go (t == v) refl
+  pub made_restamped : IsLooked S u t s e p
+  made_restamped v = made_listed v ∙ go (t == v) refl
     where
       go : (b : Bool) → (t == v) ≡ b
           → cond b (listed p v s.jobs ++ Some u ∷ []) (listed p v s.jobs)
-          ≡ cond b (looked_between S u t s e (listed p v s.jobs)) (listed p v s.jobs)
+          ≡ cond b (restamped_between S u t s e (listed p v s.jobs)) (listed p v s.jobs)
       go false h = refl
       go true h =
           let more : listed (stamped s e u p) v e.jobs ≡ listed p v s.jobs ++ Some u ∷ [] =
@@ -124,7 +124,7 @@ module _ (S : System) (s e : State) (u t : ℕ) (p : Stamps) (single : IsSingle 
           count_is S e t ∙ ap (λ x. length (jobs_of x e.jobs)) (equal t v h)
           ∙ sym (count_listed (stamped s e u p) v e.jobs)
           ∙ ap length more ∙ length-append (listed p v s.jobs) (Some u ∷ []) in
-          sym (looked_more u ((kept S e).slots t).count (task_waits (kept S s) t) (task_waits (kept S e) t)
+          sym (restamped_more u ((kept S e).slots t).count (task_waits (kept S s) t) (task_waits (kept S e) t)
           (listed p v s.jobs) many)
 
 -- ---- a job is released
@@ -208,14 +208,14 @@ module _ (S : System) (s e : State) (u t : ℕ) (p : Stamps) (single : IsSingle 
       ∙ ap (λ ks. ks ++ jobs_of j.id.task (woken j ∷ [])) (but_of S j.id s.jobs j.id.task ∙ left)
       ∙ rw (self_equal j.id.task) refl
 
-  own_looked : IsLooked S u j.id.task s e p
-  own_looked v =
+  own_restamped : IsLooked S u j.id.task s e p
+  own_restamped v =
       released_listed S s e u p j.id j refl waiting (found_there S s single t j js are waiting)
       (only_job S s single t j js are waiting) jobs running v ∙ go (j.id.task == v) refl
     where
       go : (b : Bool) → (j.id.task == v) ≡ b
           → cond b (stamp_oldest u (listed p v s.jobs)) (listed p v s.jobs)
-          ≡ cond b (looked_between S u j.id.task s e (listed p v s.jobs)) (listed p v s.jobs)
+          ≡ cond b (restamped_between S u j.id.task s e (listed p v s.jobs)) (listed p v s.jobs)
       go false h = refl
       go true h =
           let alone : jobs_of j.id.task s.jobs ≡ j ∷ [] = only_job S s single t j js are waiting in
@@ -223,51 +223,51 @@ module _ (S : System) (s e : State) (u t : ℕ) (p : Stamps) (single : IsSingle 
           count_listed p v s.jobs ∙ ap (λ x. length (jobs_of x s.jobs)) (sym (equal j.id.task v h)) ∙ ap length alone in
           let many : ((kept S e).slots j.id.task).count ≡ length (listed p v s.jobs) =
           ap (λ ks. (slot_of ks).count) woken_jobs ∙ sym was in
-          sym (looked_woken u ((kept S e).slots j.id.task).count (task_waits (kept S s) j.id.task)
+          sym (restamped_woken u ((kept S e).slots j.id.task).count (task_waits (kept S s) j.id.task)
           (task_waits (kept S e) j.id.task)
           (listed p v s.jobs) many (ap (λ ks. is_some (slot_of ks).waits_for) alone ∙ waiting)
           (ap (λ ks. is_some (slot_of ks).waits_for) woken_jobs))
 
-  pub woken_looked : IsLooked S u t s e p
-  woken_looked = subst (λ x. IsLooked S u x s e p) (first_task S s single t j js are waiting) own_looked
+  pub woken_restamped : IsLooked S u t s e p
+  woken_restamped = subst (λ x. IsLooked S u x s e p) (first_task S s single t j js are waiting) own_restamped
 
 -- ---- services, whoever calls
 
 module _ (S : System) (s : State) (u : ℕ) (p : Stamps) (single : IsSingle S s) (c : Caller) (t : ℕ) where
-  pub activate_looked : p (record { task = t; serial = slice_index s.made t }) ≡ None
-      → IsLooked S u t s (unmasked_service S c s (Service.ActivateTask (Some t))).state p
-  unfolding unmasked_service
-  activate_looked none = go (first_refusal (refusals S c s (Service.ActivateTask (Some t))))
+  pub activate_restamped : p (record { task = t; serial = slice_index s.made t }) ≡ None
+      → IsLooked S u t s (unasked_service S c s (Service.ActivateTask (Some t))).state p
+  unfolding unasked_service
+  activate_restamped none = go (first_refusal (refusals S c s (Service.ActivateTask (Some t))))
     where
       go : (o : Option Status) → IsLooked S u t s (reply_to S c s (Service.ActivateTask (Some t)) o).state p
       go None =
-          made_looked S s (reply_to S c s (Service.ActivateTask (Some t)) None).state u t p single refl refl none
-      go (Some refusal) = same_looked S s
+          made_restamped S s (reply_to S c s (Service.ActivateTask (Some t)) None).state u t p single refl refl none
+      go (Some refusal) = same_restamped S s
           (reply_to S c s (Service.ActivateTask (Some t)) (Some refusal)).state u t p refl refl
 
-  pub event_looked : (set : ℕ) → IsLooked S u t s
+  pub event_restamped : (set : ℕ) → IsLooked S u t s
       (with_objects_of s (released_by set (jobs_of t s.jobs) (with_events t set s))) p
-  event_looked set = go (jobs_of t s.jobs) refl
+  event_restamped set = go (jobs_of t s.jobs) refl
     where
       go : (js : List Job) → jobs_of t s.jobs ≡ js → IsLooked S u t s
           (with_objects_of s (released_by set js (with_events t set s))) p
-      go [] are = same_looked S s (with_objects_of s (with_events t set s)) u t p refl refl
+      go [] are = same_restamped S s (with_objects_of s (with_events t set s)) u t p refl refl
       go (j ∷ js) are = pick (is_met set j.waits_for) refl
         where
           pick : (b : Bool) → is_met set j.waits_for ≡ b
               → IsLooked S u t s (with_objects_of s
               (cond b (released j.id (with_events t set s)) (with_events t set s))) p
-          pick false met = same_looked S s (with_objects_of s (with_events t set s)) u t p refl refl
+          pick false met = same_restamped S s (with_objects_of s (with_events t set s)) u t p refl refl
           pick true met =
               let waiting : waits j ≡ true = met_waits set j.waits_for met in
-              woken_looked S s (with_objects_of s (released j.id (with_events t set s))) u t p single j js are waiting
+              woken_restamped S s (with_objects_of s (released j.id (with_events t set s))) u t p single j js are waiting
               (released_jobs S (with_events t set s) single t j js are waiting) refl
 
-  pub set_event_looked : (m : ℕ) → IsLooked S u t s (unmasked_service S c s (Service.SetEvent (Some t) m)).state p
-  unfolding unmasked_service
-  set_event_looked m = go (first_refusal (refusals S c s (Service.SetEvent (Some t) m)))
+  pub set_event_restamped : (m : ℕ) → IsLooked S u t s (unasked_service S c s (Service.SetEvent (Some t) m)).state p
+  unfolding unasked_service
+  set_event_restamped m = go (first_refusal (refusals S c s (Service.SetEvent (Some t) m)))
     where
       go : (o : Option Status) → IsLooked S u t s (reply_to S c s (Service.SetEvent (Some t) m) o).state p
-      go None = event_looked (bit_or (slice_index s.masks t) m)
-      go (Some refusal) = same_looked S s
+      go None = event_restamped (bit_or (slice_index s.masks t) m)
+      go (Some refusal) = same_restamped S s
           (reply_to S c s (Service.SetEvent (Some t) m) (Some refusal)).state u t p refl refl

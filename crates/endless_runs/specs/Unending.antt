@@ -40,12 +40,12 @@ StandsBetween S mode arrivals from until k =
 
 -- in some run whose interrupts keep the distances, from some tick on, one job of the task stands
 -- for so many ticks and doesn't end
-pub record IsKept (S : System) (mode : ℕ) (distances : List ℕ) (k count : ℕ) : Type 0 where
+pub record StandsSoLong (S : System) (mode : ℕ) (distances : List ℕ) (k count : ℕ) : Type 0 where
   pub arrivals : List Arrival
   pub from : ℕ
   pub keep : Keep S distances arrivals
   pub stands : StandsBetween S mode arrivals from (from + count) k
 
 -- for as many ticks as one likes
-abbrev pub CanBeKept : System → ℕ → List ℕ → ℕ → Type 0
-CanBeKept S mode distances k = (count : ℕ) → IsKept S mode distances k count
+abbrev pub NeedNotEnd : System → ℕ → List ℕ → ℕ → Type 0
+NeedNotEnd S mode distances k = (count : ℕ) → StandsSoLong S mode distances k count

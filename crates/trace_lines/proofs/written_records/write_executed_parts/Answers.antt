@@ -1,14 +1,14 @@
 use Rattle.std.proofs.Common.{◌∙◌}
-use Rattle.osek_base.specs.Executed.{idle_or_executed}
+use Rattle.osek_base.specs.Executed.{executed_record}
 use Rattle.trace_lines.proofs.SinkLemmas.{stops, goes_on}
 use Rattle.trace_lines.proofs.TickTexts.{passed, stopped_before, stopped_behind, stopped_there}
-use Rattle.trace_lines.proofs.written_records.write_tick_parts.Goals as goal
+use Rattle.trace_lines.proofs.written_records.write_executed_parts.Goals as goal
 
 pub returns-in_err-write_tick : goal.returns-in_err-write_tick
 returns-in_err-write_tick g c =
     let S = c.args.texts.now in
     stops g.S.Sink.taken g.S.Sink.has_failed _ _ _ c.args.out.now _ c.from_residual.result c.from_residual.ensures.1
-    (stopped_before S.names c.args.tick.now c.args.number c.args.before.now (idle_or_executed S c.args.executed.now) c.args.behind.now _ _ _ c.in_err-write_tick.ensures.beginning)
+    (stopped_before S.names c.args.tick.now c.args.number c.args.before.now (executed_record S c.args.executed.now) c.args.behind.now _ _ _ c.in_err-write_tick.ensures.beginning)
     c.in_err-write_tick.ensures.failed
 
 pub returns-in_err-write_executed : goal.returns-in_err-write_executed
@@ -16,14 +16,14 @@ returns-in_err-write_executed g c =
     let S = c.args.texts.now in
     stops g.S.Sink.taken g.S.Sink.has_failed _ _ _ c.args.out.now _ c.from_residual-in_err-write_executed.result
     c.from_residual-in_err-write_executed.ensures.1
-    (stopped_there S.names c.args.tick.now c.args.number c.args.before.now (idle_or_executed S c.args.executed.now) c.args.behind.now _ _ _ _ _
+    (stopped_there S.names c.args.tick.now c.args.number c.args.before.now (executed_record S c.args.executed.now) c.args.behind.now _ _ _ _ _
     c.in_ok-write_tick.ensures.written c.in_err-write_executed.ensures.beginning)
     c.in_err-write_executed.ensures.failed
 
 pub returns : goal.returns
 returns g c =
     let S = c.args.texts.now in
-    let own = idle_or_executed S c.args.executed.now in
+    let own = executed_record S c.args.executed.now in
     goes_on g.S.Sink.taken g.S.Sink.has_failed _ _ _ _ c.args.out.now _ _ c.write_tick-2.result
     (c.in_ok-write_executed.ensures.still ∙ c.in_ok-write_tick.ensures.still)
     (passed S.names c.args.tick.now c.args.number c.args.before.now own c.args.behind.now _ _ _ _ _ _ _ _

@@ -12,7 +12,7 @@ use Rattle.readiness.specs.Stamps.{stamp_of_oldest}
 use Rattle.kernel.specs.declared.begun.Begun.{Begun}
 use Rattle.kernel.specs.declared.stamping.Look.{Look}
 use Rattle.kernel.specs.declared.stamping.Stand.{Stand}
-use Rattle.blocking_laws.specs.Looks.{StampLists, acting_task, changed_list, ended_if, ended_of, instr_in, is_task, looked, looked_if, named_in, spent_of, stamps_at, task_waits}
+use Rattle.blocking_laws.specs.Restamping.{StampLists, acting_task, changed_list, ended_if, ended_of, instr_in, is_task, restamped, restamped_if, named_in, spent_of, stamps_at, task_waits}
 
 -- how a task stands
 abbrev pub seen : Kept → ℕ → Look
@@ -27,13 +27,13 @@ abbrev pub stand : Kept → Option ℕ → Stand
 stand o named = record { named = seen_if o named; running = o.running; gone = o.gone }
 
 -- a task that was looked at before something is looked at after it
-abbrev pub looked_between : ℕ → Look → Look → StampLists → StampLists
-looked_between u before after xs = changed_list before.task (looked u after.count before.waits after.waits) xs
+abbrev pub restamped_between : ℕ → Look → Look → StampLists → StampLists
+restamped_between u before after xs = changed_list before.task (restamped u after.count before.waits after.waits) xs
 
-abbrev pub looked_between_if : ℕ → Option Look → Option Look → StampLists → StampLists
-looked_between_if u None after xs = xs
-looked_between_if u (Some before) None xs = xs
-looked_between_if u (Some before) (Some after) xs = looked_between u before after xs
+abbrev pub restamped_between_if : ℕ → Option Look → Option Look → StampLists → StampLists
+restamped_between_if u None after xs = xs
+restamped_between_if u (Some before) None xs = xs
+restamped_between_if u (Some before) (Some after) xs = restamped_between u before after xs
 
 -- without the job of the running task, where that has ended
 abbrev pub ended_since : Look → Option ℕ → Bool → Look
@@ -43,7 +43,7 @@ ended_since before running has_ended =
 -- behind an instruction the job of the task that ran may have ended, and the task on which it acts is looked at again
 abbrev pub stood_between : ℕ → Stand → Stand → StampLists → StampLists
 stood_between u before after xs =
-    looked_between_if u before.named after.named (ended_of before.running (not before.gone && after.gone) xs)
+    restamped_between_if u before.named after.named (ended_of before.running (not before.gone && after.gone) xs)
 
 -- the task on which an alarm acts
 abbrev pub acts_on : System → ℕ → ℕ
@@ -83,11 +83,6 @@ pub record IsTask (n : ℕ) (meant task : Option ℕ) : Type 0 where
   pub value : task ≡ meant
   pub known : IfSome task (λ t. t < n)
 
--- the stamps become what a look makes of them, of as many tasks
-pub record AreStamped (look : StampLists → StampLists) (old new : StampLists) : Type 0 where
-  pub value : new ≡ look old
-  pub sized : length new ≡ length old
-
 -- how many tasks there are, which are no more than there may be
 pub record IsTaskCount (S : System) (n : ℕ) : Type 0 where
   pub value : n ≡ length S.tasks
@@ -120,14 +115,14 @@ pub record HasJobs (t count : ℕ) (old new : StampLists) : Type 0 where
   pub sized : length new ≡ length old
 
 -- an instruction is executed by a job that has no stamp any more
-abbrev pub executed_looked : System → ℕ → Kept → StampLists → StampLists
-executed_looked S u o xs =
+abbrev pub executed_restamped : System → ℕ → Kept → StampLists → StampLists
+executed_restamped S u o xs =
     let new = (execute_phase_in S o).state in
-    looked_if u (named_in (instr_in S (caller_in o) o)) o new (ended_if o new xs)
+    restamped_if u (named_in (instr_in S (caller_in o) o)) o new (ended_if o new xs)
 
 -- ---- the number of blockers of who executes
 
--- of each level the number behind the last tick in which a job of it executed; and the level and the stamp of who executed
+-- of each level the tick after the last one in which a job of it executed; and the level and the stamp of who executed
 -- last
 pub record Told : Type 0 where
   pub last : List ℕ

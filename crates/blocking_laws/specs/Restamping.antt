@@ -32,16 +32,16 @@ abbrev pub task_waits : Kept → ℕ → Bool
 task_waits o t = is_some (o.slots t).waits_for
 
 -- a task that now has so many jobs got one more, or its job was released, or neither
-abbrev pub looked : ℕ → ℕ → Bool → Bool → List (Option ℕ) → List (Option ℕ)
-looked u count waited waits list =
+abbrev pub restamped : ℕ → ℕ → Bool → Bool → List (Option ℕ) → List (Option ℕ)
+restamped u count waited waits list =
     if nat_lt (length list) count then list ++ Some u ∷ [] else (if waited && not waits then stamp_oldest u list else list)
 
-abbrev pub looked_at : ℕ → ℕ → Kept → Kept → StampLists → StampLists
-looked_at u t old new xs = changed_list t (looked u (new.slots t).count (task_waits old t) (task_waits new t)) xs
+abbrev pub restamped_at : ℕ → ℕ → Kept → Kept → StampLists → StampLists
+restamped_at u t old new xs = changed_list t (restamped u (new.slots t).count (task_waits old t) (task_waits new t)) xs
 
-abbrev pub looked_if : ℕ → Option ℕ → Kept → Kept → StampLists → StampLists
-looked_if u None old new xs = xs
-looked_if u (Some t) old new xs = looked_at u t old new xs
+abbrev pub restamped_if : ℕ → Option ℕ → Kept → Kept → StampLists → StampLists
+restamped_if u None old new xs = xs
+restamped_if u (Some t) old new xs = restamped_at u t old new xs
 
 -- ---- reschedule
 
@@ -64,22 +64,22 @@ abbrev pub acting_task : Action → ℕ
 acting_task (Action.ActivateTask t) = t
 acting_task (Action.SetEvent t m) = t
 
-abbrev pub alarm_looked : System → ℕ → ℕ → Kept → StampLists → StampLists
-alarm_looked S u a o xs = looked_at u (acting_task (alarm S a).action) o (alarm_acts_in S a o).state xs
+abbrev pub alarm_restamped : System → ℕ → ℕ → Kept → StampLists → StampLists
+alarm_restamped S u a o xs = restamped_at u (acting_task (alarm S a).action) o (alarm_acts_in S a o).state xs
 
-abbrev pub alarms_looked : System → ℕ → List ℕ → Kept → StampLists → StampLists
-alarms_looked S u [] o xs = xs
-alarms_looked S u (a ∷ rest) o xs = alarms_looked S u rest (alarm_acts_in S a o).state (alarm_looked S u a o xs)
+abbrev pub alarms_restamped : System → ℕ → List ℕ → Kept → StampLists → StampLists
+alarms_restamped S u [] o xs = xs
+alarms_restamped S u (a ∷ rest) o xs = alarms_restamped S u rest (alarm_acts_in S a o).state (alarm_restamped S u a o xs)
 
-abbrev pub alarm_phase_looked : System → ℕ → Kept → StampLists → StampLists
-alarm_phase_looked S u o xs = alarms_looked S u (due_alarms S (bare o)) (record o { alarms = alarms_advanced S (bare o) }) xs
+abbrev pub alarm_phase_restamped : System → ℕ → Kept → StampLists → StampLists
+alarm_phase_restamped S u o xs = alarms_restamped S u (due_alarms S (bare o)) (record o { alarms = alarms_advanced S (bare o) }) xs
 
-abbrev pub reschedule_looked : System → ℕ → Kept → StampLists → StampLists
-reschedule_looked S u o xs = preempted u o (rescheduled S o).state xs
+abbrev pub reschedule_restamped : System → ℕ → Kept → StampLists → StampLists
+reschedule_restamped S u o xs = preempted u o (rescheduled S o).state xs
 
-abbrev pub before_looked : System → ℕ → List ℕ → Kept → StampLists → StampLists
-before_looked S u arrived o xs =
-    reschedule_looked S u (arrival_phase_in arrived (alarm_phase_in S o).state) (alarm_phase_looked S u o xs)
+abbrev pub before_restamped : System → ℕ → List ℕ → Kept → StampLists → StampLists
+before_restamped S u arrived o xs =
+    reschedule_restamped S u (arrival_phase_in arrived (alarm_phase_in S o).state) (alarm_phase_restamped S u o xs)
 
 -- ---- phases 5 and 6
 
@@ -114,17 +114,17 @@ ended_of (Some t) gone xs = if gone then changed_list t without_oldest xs else x
 abbrev pub ended_if : Kept → Kept → StampLists → StampLists
 ended_if old new xs = ended_of old.running (not old.gone && new.gone) xs
 
-abbrev pub execute_looked : System → ℕ → Kept → StampLists → StampLists
-execute_looked S u o xs =
+abbrev pub execute_restamped : System → ℕ → Kept → StampLists → StampLists
+execute_restamped S u o xs =
     let new = (execute_phase_in S o).state in
-    looked_if u (named_in (instr_in S (caller_in o) o)) o new (ended_if o new (spent_of (caller_in o) xs))
+    restamped_if u (named_in (instr_in S (caller_in o) o)) o new (ended_if o new (spent_of (caller_in o) xs))
 
-abbrev pub last_looked : System → ℕ → Kept → StampLists → StampLists
-last_looked S u o xs = if o.over then xs else reschedule_looked S u o xs
+abbrev pub last_restamped : System → ℕ → Kept → StampLists → StampLists
+last_restamped S u o xs = if o.over then xs else reschedule_restamped S u o xs
 
 -- from the state in which the instruction of a tick is executed
-abbrev pub after_looked : System → ℕ → Kept → StampLists → StampLists
-after_looked S u o xs = last_looked S u (execute_phase_in S o).state (execute_looked S u o xs)
+abbrev pub after_restamped : System → ℕ → Kept → StampLists → StampLists
+after_restamped S u o xs = last_restamped S u (execute_phase_in S o).state (execute_restamped S u o xs)
 
 -- ---- what the lists are
 

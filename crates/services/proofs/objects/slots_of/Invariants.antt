@@ -1,6 +1,6 @@
 use Rattle.std.proofs.Common.{◌≡◌, replicate}
 use Rattle.kept_state.specs.Kept.{unbegun}
-use Rattle.services.proofs.objects.blocks.Given as goal
+use Rattle.services.proofs.objects.slots_of.Given as goal
 
 -- a slot for each task so far
 abbrev pub invariant-loop-made : goal.invariant-loop-made
