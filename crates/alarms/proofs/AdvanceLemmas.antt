@@ -1,20 +1,19 @@
--- The table at the next tick.
-use Rattle.std.proofs.Common.{ℕ, zero, suc, ◌≡◌, ◌<◌, ◌≤◌, ◌+◌, ◌/◌, List, [], ◌∷◌, map, length, set, take, Option, Bool, true, false, ◌||◌, inl, inr, refl, sym, ◌∙◌, ap, ap₂, arith}
-use Rattle.std.specs.List.{filter, list_any}
+-- The table some ticks later, where alarms are due in the last of them.
+use Rattle.std.proofs.Common.{ℕ, zero, suc, ◌≡◌, ◌<◌, ◌≤◌, ◌+◌, ◌/◌, List, [], ◌∷◌, map, length, set, take, get_or, Option, None, Bool, true, false, ◌||◌, inl, inr, refl, sym, ◌∙◌, ap, ap₂, arith}
+use Rattle.std.specs.List.{list_any}
 use Rattle.std.proofs.lemmas.List.{length-set, get_or-set_same, get_or-set_other}
 use Rattle.std.proofs.lemmas.List.Folds.{list_any_more}
 use Rattle.std.proofs.lemmas.Bool.{cases_eq}
 use Rattle.osek_base.specs.declared.task.Counter.{Counter}
 use Rattle.osek_base.specs.Lists.{below}
-use Rattle.osek_base.specs.System.{System}
 use Rattle.osek_base.specs.State.{Expiry}
-use Rattle.osek_base.specs.Alarm.{count, expiry, is_due, is_due_at, alarms_advanced}
+use Rattle.osek_base.specs.Alarm.{is_due_at}
 use Rattle.alarms.specs.declared.counter_alarms.CounterAlarms.{CounterAlarms}
-use Rattle.alarms.specs.Alarms.{IsTableOf, state_of, expired_at, next_tick, due_of, expired}
+use Rattle.alarms.specs.Alarms.{count_in, expired_at, is_due_in, later, once_expired}
 use Rattle.alarms.specs.Waits.{is_raised}
 use Rattle.alarms.specs.Counters.{no_alarms, count_of, expiry_in, IsReady, counter_at, number_of, counter_with, expiries_of, counters_of, table_of, AreWhole, AreAdvanced}
-use Rattle.alarms.proofs.TableLemmas.{map_same, filter_same}
-use Rattle.alarms.proofs.PlaceLemmas.{length-expiries, expiry_there, counter_same, counter_there}
+use Rattle.alarms.proofs.TableLemmas.{map_same}
+use Rattle.alarms.proofs.PlaceLemmas.{length-expiries, expiry_there, counter_there}
 
 -- ---- a test that only one counter passes
 
@@ -40,32 +39,32 @@ any_own test (c ∷ ks) (suc p) low away =
     let rest = any_own test ks p (omega arith) (λ k inside other. away (suc k) (omega arith) (λ same. other (omega arith))) in
     rw first rest
 
--- ---- the next tick
+-- ---- some ticks
 
--- the first counters have gone through it, and the rest are as they were
-pub record AreThrough (tick : ℕ) (old new : List CounterAlarms) (before flags : ℕ) (i : ℕ) : Type 0 where
+-- the first counters have gone through them, and the rest are as they were
+pub record AreThrough (tick n : ℕ) (old new : List CounterAlarms) (before flags : ℕ) (i : ℕ) : Type 0 where
   pub same : length new ≡ length old
-  pub ready : (k : ℕ) → k < i → IsReady (tick + 1) (counter_at new k)
+  pub ready : (k : ℕ) → k < i → IsReady (tick + n) (counter_at new k)
   pub counters : (k : ℕ) → k < i → (counter_at new k).counter ≡ (counter_at old k).counter
   pub expiries : (k a : ℕ) → k < i
-      → expiry_in (tick + 1) (counter_at new k) a ≡ expired_at (count_of (tick + 1) (counter_at old k)) (expiry_in tick (counter_at old k) a)
+      → expiry_in (tick + n) (counter_at new k) a ≡ expired_at (count_of (tick + n) (counter_at old k)) (expiry_in tick (counter_at old k) a)
   pub rest : (k : ℕ) → i ≤ k → counter_at new k ≡ counter_at old k
   pub raised : (a : ℕ) → is_raised a flags
-      ≡ (is_raised a before || list_any (λ k. is_due_at (count_of (tick + 1) k) (expiry_in tick k a)) (take i old))
+      ≡ (is_raised a before || list_any (λ k. is_due_at (count_of (tick + n) k) (expiry_in tick k a)) (take i old))
 
 -- one counter has
-pub record IsThrough (tick : ℕ) (old new : CounterAlarms) (before flags : ℕ) : Type 0 where
-  pub ready : IsReady (tick + 1) new
+pub record IsThrough (tick n : ℕ) (old new : CounterAlarms) (before flags : ℕ) : Type 0 where
+  pub ready : IsReady (tick + n) new
   pub counter : new.counter ≡ old.counter
-  pub expiries : (a : ℕ) → expiry_in (tick + 1) new a ≡ expired_at (count_of (tick + 1) old) (expiry_in tick old a)
-  pub raised : (a : ℕ) → is_raised a flags ≡ (is_raised a before || is_due_at (count_of (tick + 1) old) (expiry_in tick old a))
+  pub expiries : (a : ℕ) → expiry_in (tick + n) new a ≡ expired_at (count_of (tick + n) old) (expiry_in tick old a)
+  pub raised : (a : ℕ) → is_raised a flags ≡ (is_raised a before || is_due_at (count_of (tick + n) old) (expiry_in tick old a))
 
 or-assoc : (a b c : Bool) → ((a || b) || c) ≡ (a || (b || c))
 or-assoc true b c = refl
 or-assoc false b c = refl
 
-module _ (tick : ℕ) (old new : List CounterAlarms) (first before flags : ℕ) (i : ℕ) (x : CounterAlarms)
-    (done : AreThrough tick old new first before i) (low : i < length old) (one : IsThrough tick (counter_at new i) x before flags) where
+module _ (tick n : ℕ) (old new : List CounterAlarms) (first before flags : ℕ) (i : ℕ) (x : CounterAlarms)
+    (done : AreThrough tick n old new first before i) (low : i < length old) (one : IsThrough tick n (counter_at new i) x before flags) where
   next_here : (k : ℕ) → k ≡ i → counter_at (set new i x) k ≡ x
   next_here k is = rw is (get_or-set_same new i x no_alarms (omega (arith, done.same)))
 
@@ -75,7 +74,7 @@ module _ (tick : ℕ) (old new : List CounterAlarms) (first before flags : ℕ) 
   was : (k : ℕ) → k ≡ i → counter_at new i ≡ counter_at old k
   was k is = done.rest i (omega arith) ∙ ap (counter_at old) (sym is)
 
-  next_ready : (k : ℕ) → k < i + 1 → IsReady (tick + 1) (counter_at (set new i x) k)
+  next_ready : (k : ℕ) → k < i + 1 → IsReady (tick + n) (counter_at (set new i x) k)
   next_ready k inside = elim (cases_eq k i) [
     | inl is ↦ rw (next_here k is) one.ready
     | inr other ↦ rw (next_away k other) (done.ready k (omega arith))
@@ -88,16 +87,16 @@ module _ (tick : ℕ) (old new : List CounterAlarms) (first before flags : ℕ) 
   ]
 
   next_expiry : (k a : ℕ) → k < i + 1
-      → expiry_in (tick + 1) (counter_at (set new i x) k) a ≡ expired_at (count_of (tick + 1) (counter_at old k)) (expiry_in tick (counter_at old k) a)
+      → expiry_in (tick + n) (counter_at (set new i x) k) a ≡ expired_at (count_of (tick + n) (counter_at old k)) (expiry_in tick (counter_at old k) a)
   next_expiry k a inside = elim (cases_eq k i) [
     | inl is ↦
-        ap (λ (c : CounterAlarms). expiry_in (tick + 1) c a) (next_here k is)
-        ∙ (one.expiries a ∙ ap (λ (c : CounterAlarms). expired_at (count_of (tick + 1) c) (expiry_in tick c a)) (was k is))
-    | inr other ↦ ap (λ (c : CounterAlarms). expiry_in (tick + 1) c a) (next_away k other) ∙ done.expiries k a (omega arith)
+        ap (λ (c : CounterAlarms). expiry_in (tick + n) c a) (next_here k is)
+        ∙ (one.expiries a ∙ ap (λ (c : CounterAlarms). expired_at (count_of (tick + n) c) (expiry_in tick c a)) (was k is))
+    | inr other ↦ ap (λ (c : CounterAlarms). expiry_in (tick + n) c a) (next_away k other) ∙ done.expiries k a (omega arith)
   ]
 
   abbrev due_test : ℕ → CounterAlarms → Bool
-  due_test a k = is_due_at (count_of (tick + 1) k) (expiry_in tick k a)
+  due_test a k = is_due_at (count_of (tick + n) k) (expiry_in tick k a)
 
   next_raised : (a : ℕ) → is_raised a flags ≡ (is_raised a first || list_any (due_test a) (take (i + 1) old))
   next_raised a =
@@ -107,7 +106,7 @@ module _ (tick : ℕ) (old new : List CounterAlarms) (first before flags : ℕ) 
       ∙ (ap₂ (λ (p q : Bool). p || q) (done.raised a) (ap (due_test a) (was i refl))
       ∙ (or-assoc (is_raised a first) (list_any (due_test a) (take i old)) (due_test a (counter_at old i)) ∙ ap (λ (p : Bool). is_raised a first || p) (sym more)))
 
-  pub through_next : AreThrough tick old (set new i x) first flags (i + 1)
+  pub through_next : AreThrough tick n old (set new i x) first flags (i + 1)
   through_next = record {
     same = length-set new i x ∙ done.same;
     ready = next_ready;
@@ -126,49 +125,42 @@ same_counters ks new (n ∷ ns) same known =
     ap₂ (λ (c : Counter) (cs : List Counter). c ∷ cs) (same n (known 0 (omega arith)))
     (same_counters ks new ns same (λ a inside. known (suc a) (omega arith)))
 
-module _ (tick : ℕ) (ks new : List CounterAlarms) (numbers : List ℕ) (whole : AreWhole tick ks numbers) (all : AreAdvanced tick ks new) where
-  module _ (S : System) (table : IsTableOf S (table_of tick ks numbers)) where
-    as_many : length numbers ≡ length S.alarms
-    as_many = sym (length-expiries tick ks numbers) ∙ table.expiries
+module _ (tick n : ℕ) (ks new : List CounterAlarms) (numbers : List ℕ) (whole : AreWhole tick ks numbers) (all : AreAdvanced tick n ks new) where
+  count_then : (a : ℕ) → a < length numbers
+      → count_of (tick + n) (counter_with ks numbers a) ≡ count_in (later n (table_of tick ks numbers)) a
+  count_then a low = ap (λ (c : Counter). (tick + n) / c.ticks_per_base) (sym (counter_there tick ks numbers a low))
 
-    count_next : (a : ℕ) → a < length numbers
-        → count_of (tick + 1) (counter_with ks numbers a) ≡ count S (state_of S (next_tick (table_of tick ks numbers))) a
-    count_next a low =
-        ap (λ (c : Counter). (tick + 1) / c.ticks_per_base)
-        (sym (counter_there tick ks numbers a low) ∙ counter_same S (table_of tick ks numbers) a table (rw as_many at low))
+  advanced_expiry : (a : ℕ) → a < length numbers
+      → expiry_in (tick + n) (counter_with new numbers a) a
+      ≡ expired_at (count_in (later n (table_of tick ks numbers)) a) (get_or (expiries_of tick ks numbers) a None)
+  advanced_expiry a low =
+      all.expiries (number_of numbers a) a (whole.known a low)
+      ∙ ap₂ expired_at (count_then a low) (sym (expiry_there tick ks numbers a low))
 
-    advanced_expiry : (a : ℕ) → a < length numbers
-        → expiry_in (tick + 1) (counter_with new numbers a) a
-        ≡ expired_at (count S (state_of S (next_tick (table_of tick ks numbers))) a) (expiry (state_of S (next_tick (table_of tick ks numbers))) a)
-    advanced_expiry a low =
-        all.expiries (number_of numbers a) a (whole.known a low)
-        ∙ ap₂ expired_at (count_next a low) (sym (expiry_there tick ks numbers a low))
+  advanced_expiries : expiries_of (tick + n) new numbers ≡ (once_expired (later n (table_of tick ks numbers))).expiries
+  advanced_expiries =
+      map_same (λ a. expiry_in (tick + n) (counter_with new numbers a) a)
+      (λ a. expired_at (count_in (later n (table_of tick ks numbers)) a) (get_or (expiries_of tick ks numbers) a None))
+      (length numbers) advanced_expiry
+      ∙ ap (λ m. map (λ a. expired_at (count_in (later n (table_of tick ks numbers)) a) (get_or (expiries_of tick ks numbers) a None)) (below m))
+      (sym (length-expiries tick ks numbers))
 
-    advanced_expiries : expiries_of (tick + 1) new numbers ≡ alarms_advanced S (state_of S (next_tick (table_of tick ks numbers)))
-    advanced_expiries =
-        map_same (λ a. expiry_in (tick + 1) (counter_with new numbers a) a)
-        (λ a. expired_at (count S (state_of S (next_tick (table_of tick ks numbers))) a) (expiry (state_of S (next_tick (table_of tick ks numbers))) a))
-        (length numbers) advanced_expiry
-        ∙ ap (λ n. map (λ a. expired_at (count S (state_of S (next_tick (table_of tick ks numbers))) a) (expiry (state_of S (next_tick (table_of tick ks numbers))) a)) (below n)) as_many
+  pub advanced_table : table_of (tick + n) new numbers ≡ once_expired (later n (table_of tick ks numbers))
+  advanced_table =
+      ap₂ (λ (es : List (Option Expiry)) (cs : List Counter). record { expiries = es; counters = cs; tick = tick + n })
+      advanced_expiries (same_counters ks new numbers all.counters whole.known)
 
-    pub advanced_table : table_of (tick + 1) new numbers ≡ expired S (next_tick (table_of tick ks numbers))
-    advanced_table =
-        ap₂ (λ (es : List (Option Expiry)) (cs : List Counter). record { expiries = es; counters = cs; tick = tick + 1 })
-        advanced_expiries (same_counters ks new numbers all.counters whole.known)
+  abbrev due_on : ℕ → CounterAlarms → Bool
+  due_on a k = is_due_at (count_of (tick + n) k) (expiry_in tick k a)
 
-    abbrev due_on : ℕ → CounterAlarms → Bool
-    due_on a k = is_due_at (count_of (tick + 1) k) (expiry_in tick k a)
+  due_away : (a k : ℕ) → k < length ks → (k ≡ number_of numbers a → ⊥) → due_on a (counter_at ks k) ≡ false
+  due_away a k inside other =
+      ap (is_due_at (count_of (tick + n) (counter_at ks k))) (whole.own k a inside (λ low same. other (sym same)))
 
-    due_away : (a k : ℕ) → k < length ks → (k ≡ number_of numbers a → ⊥) → due_on a (counter_at ks k) ≡ false
-    due_away a k inside other =
-        ap (is_due_at (count_of (tick + 1) (counter_at ks k))) (whole.own k a inside (λ low same. other (sym same)))
-
-    pub due_table : (flags : ℕ)
-        → ((a : ℕ) → is_raised a flags ≡ list_any (λ k. is_due_at (count_of (tick + 1) k) (expiry_in tick k a)) ks)
-        → filter (λ a. is_raised a flags) (below (length S.alarms)) ≡ due_of S (next_tick (table_of tick ks numbers))
-    due_table flags raised =
-        filter_same (λ a. is_raised a flags) (is_due S (state_of S (next_tick (table_of tick ks numbers)))) (length S.alarms) (λ a inside.
-        let low : a < length numbers = rw as_many inside in
-        raised a
-        ∙ (any_own (due_on a) ks (number_of numbers a) (whole.known a low) (due_away a)
-        ∙ ap₂ is_due_at (count_next a low) (sym (expiry_there tick ks numbers a low))))
+  pub due_table : (flags a : ℕ) → a < length numbers
+      → is_raised a flags ≡ list_any (λ k. is_due_at (count_of (tick + n) k) (expiry_in tick k a)) ks
+      → is_raised a flags ≡ is_due_in (later n (table_of tick ks numbers)) a
+  due_table flags a low raised =
+      raised
+      ∙ (any_own (due_on a) ks (number_of numbers a) (whole.known a low) (due_away a)
+      ∙ ap₂ is_due_at (count_then a low) (sym (expiry_there tick ks numbers a low)))

@@ -1,58 +1,27 @@
 -- Counts and wrapped values of a counter, and how many alarms a list has at most.
-use Rattle.std.proofs.Common.{ℕ, zero, suc, ◌≡◌, ◌<◌, ◌≤◌, ◌+◌, ◌-◌, ◌*◌, ◌/◌, ◌%◌, List, [], ◌∷◌, map, length, Option, None, Some, true, false, cond, not, inl, inr, refl, sym, ◌∙◌, ap, arith, eqb, ltb}
+use Rattle.std.proofs.Common.{ℕ, zero, suc, ◌≡◌, ◌<◌, ◌≤◌, ◌+◌, ◌-◌, ◌%◌, List, [], ◌∷◌, map, length, Option, None, Some, true, false, cond, not, inl, inr, refl, sym, ◌∙◌, ap, arith, eqb, ltb}
 use Rattle.std.specs.List.{list_all}
-use Rattle.std.proofs.lemmas.Nat.{div-mul-add, div-add-mod'}
-use Rattle.std.proofs.Math.Nat.{add-div_left, mod-lt, mod-add-mod}
+use Rattle.std.proofs.Math.Nat.{mod-add-mod}
 use Rattle.std.proofs.lemmas.Bool.{cases_Bool, and_parts, eqb-true, ltb-true, lt-ltb, not-true}
 use Rattle.std.proofs.lemmas.Bool.Decides.{nat_tests}
-use Rattle.alarms.specs.Waits.{Wait, wait_of, less, again, is_over, expiry_at, has, are_apart, are_ahead, without, one_less, is_none_over, are_low, overs, inserted, is_sooner, left_in, cycle_in}
-use Rattle.alarms.specs.Alarms.{expired_at, remaining_at, cycle_of}
+use Rattle.alarms.specs.Waits.{Wait, wait_of, again, is_over, expiry_at, has, are_apart, are_ahead, are_beyond, less_by, without, are_low, inserted, is_sooner, cycle_in}
+use Rattle.alarms.specs.Alarms.{expired_at, cycle_of}
 use Rattle.osek_base.specs.Alarm.{is_due_at}
-use Rattle.alarms.proofs.ExpiryLemmas.{expiry-less, expiry-again, due-over, ahead-over, wait_of-less, wait_of-inserted, wait_of-without, or_first, or_second}
-
--- the count at the next tick
-pub count_stays : (t b : ℕ) → 0 < b → (t + 1 ≡ t / b * b + b → ⊥) → (t + 1) / b ≡ t / b
-count_stays t b base more =
-    let whole = div-add-mod' t b in
-    let low = mod-lt t base in
-    let below : t % b + 1 < b = omega arith in
-    let is : t + 1 ≡ t / b * b + (t % b + 1) = omega arith in
-    ap (λ n. n / b) is ∙ div-mul-add (t / b) b (t % b + 1) below
-
-pub count_grows : (t b : ℕ) → 0 < b → t + 1 ≡ t / b * b + b → (t + 1) / b ≡ t / b + 1
-count_grows t b base last =
-    let is : t + 1 ≡ b + (t / b * b + 0) = omega arith in
-    ap (λ n. n / b) is ∙ (add-div_left (t / b * b + 0) base ∙ ap (λ n. n + 1) (div-mul-add (t / b) b 0 base))
-
--- once it has grown, it grows next a base later
-pub grows_next : (t b : ℕ) → 0 < b → t + 1 ≡ t / b * b + b → t / b * b + b + b ≡ (t + 1) / b * b + b
-grows_next t b base last =
-    let grown : (t + 1) / b * b ≡ (t / b + 1) * b = ap (λ n. n * b) (count_grows t b base last) in
-    let times : (t / b + 1) * b ≡ t / b * b + b = grind arith in
-    omega arith
+use Rattle.alarms.proofs.ExpiryLemmas.{expiry-less, expiry-again, due-over, ahead-over, wait_of-inserted, wait_of-without, or_first, or_second}
 
 pub not_due : (n : ℕ) (ws : List Wait) (a : ℕ) → are_ahead ws ≡ true → is_due_at n (expiry_at n (wait_of a ws)) ≡ false
 not_due n ws a ahead = due-over n (wait_of a ws) ∙ ahead-over ws a ahead
 
-none_over : (ws : List Wait) (a : ℕ) → are_ahead ws ≡ true → is_none_over (wait_of a ws) ≡ true
-none_over [] a ahead = refl
-none_over (w ∷ ws) a ahead = elim (cases_Bool (eqb w.alarm a)) [
-  | inl here ↦ rw here (and_parts _ _ ahead).0
-  | inr away ↦ rw away (none_over ws a (and_parts _ _ ahead).1)
-]
+-- an alarm over ticks in which its counter grows, and over ones in which it doesn't
+pub grown_expiry : (c n : ℕ) (ws : List Wait) (a : ℕ) → 0 < n → are_beyond (n - 1) ws ≡ true
+    → expiry_at (c + n) (again (wait_of a (map (less_by n) ws))) ≡ expired_at (c + n) (expiry_at c (wait_of a ws))
+grown_expiry c n ws a some beyond =
+    expiry-again (c + n) (wait_of a (map (less_by n) ws)) ∙ ap (expired_at (c + n)) (expiry-less c n ws a some beyond)
 
--- an alarm over a tick in which its counter grows, and over one in which it doesn't
-pub grown_expiry : (n : ℕ) (ws : List Wait) (a : ℕ) → are_ahead ws ≡ true
-    → expiry_at (n + 1) (again (wait_of a (map one_less ws))) ≡ expired_at (n + 1) (expiry_at n (wait_of a ws))
-grown_expiry n ws a ahead =
-    let before = expiry-less n (wait_of a ws) (none_over ws a ahead) in
-    rw (wait_of-less ws a, expiry-again (n + 1) (less (wait_of a ws)), before) refl
-
-pub grown_due : (n : ℕ) (ws : List Wait) (a : ℕ) → are_ahead ws ≡ true
-    → is_over (wait_of a (map one_less ws)) ≡ is_due_at (n + 1) (expiry_at n (wait_of a ws))
-grown_due n ws a ahead =
-    let before = expiry-less n (wait_of a ws) (none_over ws a ahead) in
-    rw (wait_of-less ws a, ← due-over (n + 1) (less (wait_of a ws)), before) refl
+pub grown_due : (c n : ℕ) (ws : List Wait) (a : ℕ) → 0 < n → are_beyond (n - 1) ws ≡ true
+    → is_over (wait_of a (map (less_by n) ws)) ≡ is_due_at (c + n) (expiry_at c (wait_of a ws))
+grown_due c n ws a some beyond =
+    sym (due-over (c + n) (wait_of a (map (less_by n) ws))) ∙ ap (is_due_at (c + n)) (expiry-less c n ws a some beyond)
 
 pub stayed_expiry : (n : ℕ) (ws : List Wait) (a : ℕ) → are_ahead ws ≡ true → expiry_at n (wait_of a ws) ≡ expired_at n (expiry_at n (wait_of a ws))
 stayed_expiry n ws a ahead = rw (not_due n ws a ahead) refl
@@ -144,13 +113,6 @@ has_room n ws a low all apart none =
     let most : length (one ∷ ws) ≤ n = few n (one ∷ ws) (rw (first, all) refl) (rw (none, apart) refl) in
     omega arith
 
-pub overs-less : (ws : List Wait) → overs (map one_less ws) ≤ length ws
-overs-less [] = omega arith
-overs-less (w ∷ ws) = elim (cases_Bool (eqb (w.left - 1) 0)) [
-  | inl over ↦ rw over (omega (arith, overs-less ws))
-  | inr left ↦ rw left (omega (arith, overs-less ws))
-]
-
 -- ---- an alarm is set or taken off
 
 pub ahead-inserted : (ws : List Wait) (t : Wait) → 0 < t.left → are_ahead ws ≡ true → are_ahead (inserted t ws) ≡ true
@@ -199,9 +161,3 @@ cancelled_expiry n ws b a apart = elim (cases_Bool (eqb b a)) [
 pub cycle_of_expiry : (n : ℕ) (w : Option Wait) → cycle_in w ≡ cycle_of (expiry_at n w)
 cycle_of_expiry n None = refl
 cycle_of_expiry n (Some w) = refl
-
-pub left_of_expiry : (n : ℕ) (w : Option Wait) → left_in w ≡ remaining_at n (expiry_at n w)
-left_of_expiry n None = refl
-left_of_expiry n (Some w) =
-    let same : n + w.left - n ≡ w.left = omega arith in
-    rw same refl

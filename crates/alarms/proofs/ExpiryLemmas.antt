@@ -1,11 +1,11 @@
 -- The wait of each alarm through changes of the list.
-use Rattle.std.proofs.Common.{ℕ, ◌≡◌, ◌<◌, ◌≤◌, ◌+◌, ◌-◌, List, [], ◌∷◌, ◌++◌, map, length, Option, None, Some, Bool, true, false, cond, not, ◌||◌, inl, inr, refl, sym, ◌∙◌, ap, arith, eqb}
+use Rattle.std.proofs.Common.{ℕ, ◌≡◌, ◌<◌, ◌≤◌, ◌+◌, ◌-◌, List, [], ◌∷◌, ◌++◌, map, length, Option, None, Some, Bool, true, false, cond, not, ◌||◌, inl, inr, refl, sym, ◌∙◌, ap, arith, eqb, ltb}
 use Rattle.std.specs.List.{list_all}
 use Rattle.std.proofs.lemmas.Bool.{cases_Bool, and_parts, eqb-true, ne_eqb, ltb-true, or_from, and_from, not-true, not_from_false}
 use Rattle.std.proofs.lemmas.Bool.Decides.{nat_tests}
 use Rattle.std.proofs.lemmas.List.Folds.{list_any-append}
 use Rattle.osek_base.specs.declared.limits.TheConstants.{MAX_ALARMS}
-use Rattle.alarms.specs.Waits.{Wait, wait_of, inserted, is_sooner, has, are_apart, are_ahead, overs, is_over, again, IsLeft, one_less, restarted, is_raised, without, less, is_none_over, expiry_at}
+use Rattle.alarms.specs.Waits.{Wait, wait_of, inserted, is_sooner, has, are_apart, are_ahead, overs, is_over, again, IsLeft, less_by, are_beyond, restarted, is_raised, without, expiry_at}
 use Rattle.osek_base.specs.Alarm.{is_due_at}
 use Rattle.alarms.specs.Alarms.{expired_at}
 
@@ -276,22 +276,15 @@ pub or_none : (a b : Bool) → b ≡ false → a ≡ (a || b)
 or_none true b none = refl
 or_none false b none = sym none
 
-has-less : (a : ℕ) (ws : List Wait) → has a (map one_less ws) ≡ has a ws
-has-less a [] = refl
-has-less a (w ∷ ws) = rw (has-less a ws) refl
+has-less : (n a : ℕ) (ws : List Wait) → has a (map (less_by n) ws) ≡ has a ws
+has-less n a [] = refl
+has-less n a (w ∷ ws) = rw (has-less n a ws) refl
 
-pub apart-less : (ws : List Wait) → are_apart (map one_less ws) ≡ are_apart ws
-apart-less [] = refl
-apart-less (w ∷ ws) = rw (has-less w.alarm ws, apart-less ws) refl
+pub apart-less : (n : ℕ) (ws : List Wait) → are_apart (map (less_by n) ws) ≡ are_apart ws
+apart-less n [] = refl
+apart-less n (w ∷ ws) = rw (has-less n w.alarm ws, apart-less n ws) refl
 
 -- ---- what a caller sees of an alarm
-
-pub wait_of-less : (ws : List Wait) (a : ℕ) → wait_of a (map one_less ws) ≡ less (wait_of a ws)
-wait_of-less [] a = refl
-wait_of-less (w ∷ ws) a = elim (cases_Bool (eqb w.alarm a)) [
-  | inl here ↦ rw here refl
-  | inr away ↦ rw away (wait_of-less ws a)
-]
 
 pub wait_of-without : (ws : List Wait) (b a : ℕ) → are_apart ws ≡ true → wait_of a (without b ws) ≡ cond (eqb b a) None (wait_of a ws)
 wait_of-without [] b a apart = elim (cases_Bool (eqb b a)) [ inl here ↦ rw here refl | inr away ↦ rw away refl ]
@@ -316,12 +309,17 @@ wait_of-without (w ∷ ws) b a apart =
     ]
 
 -- counts: an expiry by a count that never wraps
-pub expiry-less : (n : ℕ) (w : Option Wait) → is_none_over w ≡ true → expiry_at (n + 1) (less w) ≡ expiry_at n w
-expiry-less n None ahead = refl
-expiry-less n (Some w) ahead =
-    let more : 0 < w.left = ltb-true 0 w.left ahead in
-    let same : n + 1 + (w.left - 1) ≡ n + w.left = omega arith in
-    rw same refl
+pub expiry-less : (c n : ℕ) (ws : List Wait) (a : ℕ) → 0 < n → are_beyond (n - 1) ws ≡ true
+    → expiry_at (c + n) (wait_of a (map (less_by n) ws)) ≡ expiry_at c (wait_of a ws)
+expiry-less c n [] a some beyond = refl
+expiry-less c n (w ∷ ws) a some beyond =
+    let parts = and_parts (ltb (n - 1) w.left) (are_beyond (n - 1) ws) beyond in
+    let more : n - 1 < w.left = ltb-true (n - 1) w.left parts.0 in
+    let same : c + n + (w.left - n) ≡ c + w.left = omega arith in
+    elim (cases_Bool (eqb w.alarm a)) [
+      | inl here ↦ rw (here, same) refl
+      | inr away ↦ rw away (expiry-less c n ws a some parts.1)
+    ]
 
 pub expiry-again : (n : ℕ) (w : Option Wait) → expiry_at n (again w) ≡ expired_at n (expiry_at n w)
 expiry-again n None = refl

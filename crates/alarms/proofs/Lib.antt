@@ -6,7 +6,9 @@ mod CounterLemmas
 mod ExpiryLemmas
 mod IdleLemmas
 mod PassLemmas
-mod PassedLemmas
 mod PlaceLemmas
+mod QuietLemmas
+mod RaisedLemmas
 mod TableLemmas
+mod TableOfLemmas
 mod WaitLemmas

@@ -8,39 +8,13 @@ use Rattle.std.proofs.lemmas.Bool.Decides.{nat_tests}
 use Rattle.std.proofs.Math.Bool.{and-false}
 use Rattle.osek_base.specs.Alarm.{is_due_at}
 use Rattle.alarms.specs.declared.counter_alarms.CounterAlarms.{CounterAlarms}
-use Rattle.alarms.specs.Waits.{Wait, IsSoonest, are_ahead, are_apart, are_beyond, expiry_at, has, less_by, wait_of}
+use Rattle.alarms.specs.Waits.{Wait, IsSoonest, again, are_ahead, are_apart, are_beyond, expiry_at, has, is_over, less_by, wait_of}
+use Rattle.alarms.specs.Alarms.{expired_at}
+use Rattle.alarms.proofs.CountLemmas.{grown_due, grown_expiry}
 use Rattle.alarms.proofs.ExpiryLemmas.{none_there}
 use Rattle.alarms.specs.Counters.{IsReady, count_of, expiry_in, growth, is_quiet_for}
 
 -- ---- some counts pass
-
-pub ahead_after : (n : ℕ) (ws : List Wait) → are_beyond n ws ≡ true → are_ahead (map (less_by n) ws) ≡ true
-ahead_after n [] beyond = refl
-ahead_after n (w ∷ ws) beyond =
-    let parts = and_parts (ltb n w.left) (are_beyond n ws) beyond in
-    let more : n < w.left = ltb-true n w.left parts.0 in
-    let first : ltb 0 (w.left - n) ≡ true = lt-ltb 0 (w.left - n) (omega arith) in
-    rw first (ahead_after n ws parts.1)
-
-has_after : (n a : ℕ) (ws : List Wait) → has a (map (less_by n) ws) ≡ has a ws
-has_after n a [] = refl
-has_after n a (w ∷ ws) = rw (has_after n a ws) refl
-
-pub apart_after : (n : ℕ) (ws : List Wait) → are_apart (map (less_by n) ws) ≡ are_apart ws
-apart_after n [] = refl
-apart_after n (w ∷ ws) = rw (has_after n w.alarm ws, apart_after n ws) refl
-
-pub expiry_after : (c n : ℕ) (ws : List Wait) (a : ℕ) → are_beyond n ws ≡ true
-    → expiry_at (c + n) (wait_of a (map (less_by n) ws)) ≡ expiry_at c (wait_of a ws)
-expiry_after c n [] a beyond = refl
-expiry_after c n (w ∷ ws) a beyond =
-    let parts = and_parts (ltb n w.left) (are_beyond n ws) beyond in
-    let more : n < w.left = ltb-true n w.left parts.0 in
-    let same : c + n + (w.left - n) ≡ c + w.left = omega arith in
-    elim (cases_Bool (eqb w.alarm a)) [
-      | inl here ↦ rw (here, same) refl
-      | inr away ↦ rw away (expiry_after c n ws a parts.1)
-    ]
 
 -- no alarm is due at a count that is reached before any wait is over
 pub not_due_by : (c m : ℕ) (ws : List Wait) (a : ℕ) → c ≤ m → are_beyond (m - c) ws ≡ true
@@ -180,7 +154,20 @@ count_next t n b base =
     let times : ((t + n) / b + 1) * b ≡ (t + n) / b * b + b = grind arith in
     le_of_mul-le-mul_right (omega arith) base
 
+count_last : (t n b : ℕ) → 0 < b → 0 < n → (t + n) / b ≤ (t + (n - 1)) / b + 1
+count_last t zero b base some = absurd (omega arith)
+count_last t (suc p) b base some =
+    let one : suc p - 1 ≡ p = omega arith in
+    let same : p + 1 ≡ suc p = omega arith in
+    rw one (rw same at (count_next t p b base))
+
 -- ---- the ticks of one counter
+
+pub quiet_at_once : (t : ℕ) (k : CounterAlarms) → IsReady t k → is_quiet_for t 0 k ≡ true
+quiet_at_once t k ready =
+    let none : t + 0 ≡ t = omega arith in
+    let same : t / k.counter.ticks_per_base - t / k.counter.ticks_per_base ≡ 0 = omega arith in
+    rw (none, same) ready.ahead
 
 module _ (t n : ℕ) (k : CounterAlarms) (ready : IsReady t k) where
   pub quiet_sooner : (m : ℕ) → m ≤ n → is_quiet_for t n k ≡ true → is_quiet_for t m k ≡ true
@@ -229,6 +216,15 @@ module _ (t n : ℕ) (k : CounterAlarms) (ready : IsReady t k) where
   pub stays : t + n < k.next → count_of (t + n) k ≡ count_of t k
   stays low = count_within t n k.counter.ticks_per_base ready.base (subst (λ m. t + n < m) ready.next_is low)
 
+  pub ready_still : t + n < k.next → IsReady (t + n) k
+  ready_still low = record {
+    base = ready.base;
+    round = ready.round;
+    next_is = ready.next_is ∙ ap (λ c. c * k.counter.ticks_per_base + k.counter.ticks_per_base) (sym (stays low));
+    ahead = ready.ahead;
+    apart = ready.apart;
+  }
+
   -- it grows
   module _ (grows : k.next ≤ t + n) where
     abbrev more : ℕ
@@ -239,20 +235,19 @@ module _ (t n : ℕ) (k : CounterAlarms) (ready : IsReady t k) where
         subst (λ m. count_of (t + n) k ≡ count_of t k + ((t + n - m) / k.counter.ticks_per_base + 1)) (sym ready.next_is)
         (count_after t n k.counter.ticks_per_base ready.base (subst (λ m. m ≤ t + n) ready.next_is grows))
 
-    pub quiet_more : is_quiet_for t n k ≡ true → are_beyond ((t + n - k.next) / k.counter.ticks_per_base + 1) k.running ≡ true
-    quiet_more quiet =
+    pub quiet_more : 0 < n → is_quiet_for t (n - 1) k ≡ true → are_beyond ((t + n - k.next) / k.counter.ticks_per_base + 1 - 1) k.running ≡ true
+    quiet_more some quiet =
         let grown = count_more in
-        let is : growth t n k ≡ more + 1 = omega arith in
-        rw is at quiet
+        let last = count_last t n k.counter.ticks_per_base ready.base some in
+        beyond_less (more + 1 - 1) (growth t (n - 1) k) k.running (omega arith) quiet
 
-    pub ready_more : (ws : List Wait) → is_quiet_for t n k ≡ true
-        → ws ≡ map (less_by ((t + n - k.next) / k.counter.ticks_per_base + 1)) k.running
+    pub ready_more : (ws : List Wait) → are_ahead ws ≡ true → are_apart ws ≡ true
         → IsReady (t + n) (record {
           counter = k.counter;
           next = k.next + ((t + n - k.next) / k.counter.ticks_per_base * k.counter.ticks_per_base + k.counter.ticks_per_base);
           running = ws;
         })
-    ready_more ws quiet is =
+    ready_more ws ahead apart =
         record {
           base = ready.base;
           round = ready.round;
@@ -260,15 +255,21 @@ module _ (t n : ℕ) (k : CounterAlarms) (ready : IsReady t k) where
               ap (λ m. m + (more * k.counter.ticks_per_base + k.counter.ticks_per_base)) ready.next_is
               ∙ (grown_more (count_of t k) more k.counter.ticks_per_base
               ∙ ap (λ c. c * k.counter.ticks_per_base + k.counter.ticks_per_base) (sym count_more));
-          ahead = rw is (ahead_after (more + 1) k.running (quiet_more quiet));
-          apart = rw is (apart_after (more + 1) k.running ∙ ready.apart);
+          ahead = ahead;
+          apart = apart;
         }
 
-    pub expiry_more : (ws : List Wait) (a : ℕ) → is_quiet_for t n k ≡ true
-        → ws ≡ map (less_by ((t + n - k.next) / k.counter.ticks_per_base + 1)) k.running
-        → expiry_at (count_of (t + n) k) (wait_of a ws) ≡ expiry_in t k a
-    expiry_more ws a quiet is =
-        rw (is, count_more) (expiry_after (count_of t k) (more + 1) k.running a (quiet_more quiet))
+    pub expiry_more : (ws : List Wait) (a : ℕ) → 0 < n → is_quiet_for t (n - 1) k ≡ true
+        → wait_of a ws ≡ again (wait_of a (map (less_by ((t + n - k.next) / k.counter.ticks_per_base + 1)) k.running))
+        → expiry_at (count_of (t + n) k) (wait_of a ws) ≡ expired_at (count_of (t + n) k) (expiry_in t k a)
+    expiry_more ws a some quiet is =
+        rw (is, count_more) (grown_expiry (count_of t k) (more + 1) k.running a (omega arith) (quiet_more some quiet))
+
+    pub due_more : (a : ℕ) → 0 < n → is_quiet_for t (n - 1) k ≡ true
+        → is_over (wait_of a (map (less_by ((t + n - k.next) / k.counter.ticks_per_base + 1)) k.running))
+        ≡ is_due_at (count_of (t + n) k) (expiry_in t k a)
+    due_more a some quiet =
+        rw count_more (grown_due (count_of t k) (more + 1) k.running a (omega arith) (quiet_more some quiet))
 
   -- no alarm is due
   pub none_due : (a : ℕ) → is_quiet_for t n k ≡ true → is_due_at (count_of (t + n) k) (expiry_in t k a) ≡ false

@@ -1,5 +1,5 @@
 -- What stands at the place of an alarm in the table, and of an element that is written.
-use Rattle.std.proofs.Common.{ℕ, zero, suc, ◌≡◌, ◌<◌, ◌/◌, List, [], ◌∷◌, map, length, set, drop, get_or, None, refl, ◌∙◌, ap, arith}
+use Rattle.std.proofs.Common.{ℕ, zero, suc, ◌≡◌, ◌<◌, ◌/◌, List, [], ◌∷◌, map, length, set, drop, get_or, None, refl, sym, ◌∙◌, ap, ap₂, ◌+◌, arith}
 use Rattle.std.specs.List.{refill}
 use Rattle.std.proofs.Math.ListN.{drop_of_length-le}
 use Rattle.std.proofs.Math.Seq.{take-length}
@@ -8,10 +8,10 @@ use Rattle.osek_base.specs.declared.task.Counter.{Counter}
 use Rattle.osek_base.specs.System.{System, Alarm, counter, counter_of, no_alarm, no_counter}
 use Rattle.osek_base.specs.Alarm.{count}
 use Rattle.alarms.specs.declared.counter_alarms.CounterAlarms.{CounterAlarms}
-use Rattle.alarms.specs.Alarms.{AlarmTable, IsTableOf, state_of, counter_in, count_in, remaining_at, cycle_of}
-use Rattle.alarms.specs.Waits.{wait_of, left_in, cycle_in}
+use Rattle.alarms.specs.Alarms.{AlarmTable, IsTableOf, state_of, counter_in, count_in, remaining_at, cycle_of, later}
+use Rattle.alarms.specs.Waits.{wait_of, cycle_in}
 use Rattle.alarms.specs.Counters.{count_of, expiry_in, counter_with, expiries_of, counters_of, table_of}
-use Rattle.alarms.proofs.CountLemmas.{cycle_of_expiry, left_of_expiry}
+use Rattle.alarms.proofs.CountLemmas.{cycle_of_expiry}
 use Rattle.alarms.proofs.TableLemmas.{length-map-below, at_below}
 
 -- an element of a vector is written
@@ -62,13 +62,12 @@ known_there tick ks numbers t a is low =
     let same = ap (λ (u : AlarmTable). length u.expiries) is in
     omega (arith, same, length-expiries tick ks numbers)
 
--- how many counts an alarm has left
-pub left_there : (tick : ℕ) (ks : List CounterAlarms) (numbers : List ℕ) (a : ℕ) → a < length numbers
-    → left_in (wait_of a (counter_with ks numbers a).running)
-    ≡ remaining_at (count_in (table_of tick ks numbers) a) (get_or (expiries_of tick ks numbers) a None)
-left_there tick ks numbers a low =
-    rw (count_there tick ks numbers a low, expiry_there tick ks numbers a low)
-    (left_of_expiry (count_of tick (counter_with ks numbers a)) (wait_of a (counter_with ks numbers a).running))
+-- how many counts an alarm has left some ticks later
+pub left_there : (tick n : ℕ) (ks : List CounterAlarms) (numbers : List ℕ) (a : ℕ) → a < length numbers
+    → remaining_at (count_of (tick + n) (counter_with ks numbers a)) (expiry_in tick (counter_with ks numbers a) a)
+    ≡ remaining_at (count_in (later n (table_of tick ks numbers)) a) (get_or (expiries_of tick ks numbers) a None)
+left_there tick n ks numbers a low =
+    ap₂ remaining_at (ap (λ (c : Counter). (tick + n) / c.ticks_per_base) (sym (counter_within ks numbers a low))) (sym (expiry_there tick ks numbers a low))
 
 -- the cycle of an alarm
 pub cycle_listed : (tick : ℕ) (ks : List CounterAlarms) (numbers : List ℕ) (a : ℕ) → a < length numbers

@@ -1,5 +1,7 @@
 -- OSEK/VDX OS: alarms, counters and alarm management. The alarms of a system with their expiries, by counts that never wrap.
-use Rattle.std.specs.Prelude.{ℕ, ◌+◌, ◌-◌, ◌/◌, ◌≡◌, ◌<◌, if◌then◌else◌, List, [], map, Option, None, Some, length, slice_index_or}
+use Rattle.std.specs.Prelude.{ℕ, ◌+◌, ◌-◌, ◌/◌, ◌≡◌, ◌<◌, ◌≤◌, Bool, false, if◌then◌else◌, List, [], map, Option, None, Some, length, slice_index_or}
+use Rattle.osek_base.specs.declared.limits.TheConstants.{MAX_TICKS}
+use Rattle.osek_base.specs.Lists.{below}
 use Rattle.osek_base.specs.declared.status.Status.{Status}
 use Rattle.osek_base.specs.Types.{ServiceCall}
 use Rattle.osek_base.specs.declared.task.Counter.{Counter}
@@ -69,9 +71,26 @@ due_of S a = due_alarms S (state_of S a)
 abbrev pub expired : System → AlarmTable → AlarmTable
 expired S a = record a { expiries = alarms_advanced S (state_of S a) }
 
+-- whether an alarm is due, and the alarms once those that are due have expired, by the table alone
+abbrev pub is_due_in : AlarmTable → ℕ → Bool
+is_due_in t i = is_due_at (count_in t i) (slice_index_or t.expiries i None)
+
+abbrev pub once_expired : AlarmTable → AlarmTable
+once_expired t = record t { expiries = map (λ i. expired_at (count_in t i) (slice_index_or t.expiries i None)) (below (length t.expiries)) }
+
 -- the same alarms some ticks later
 abbrev pub later : ℕ → AlarmTable → AlarmTable
 later n a = record a { tick = a.tick + n }
+
+-- no alarm is due in so many ticks that follow
+abbrev pub AreQuietFor : ℕ → AlarmTable → Type 0
+AreQuietFor n t = (k : ℕ) → k < n → (i : ℕ) → i < length t.expiries → is_due_in (later (k + 1) t) i ≡ false
+
+-- of the ticks after a table that is kept, so many passed, and it is known of so many that no alarm is due in them
+pub record IsAheadOf (ahead quiet : ℕ) (t : AlarmTable) : Type 0 where
+  pub few : ahead ≤ quiet
+  pub early : t.tick + quiet < MAX_TICKS
+  pub none : AreQuietFor quiet t
 
 -- so many ticks passed at once, in none of which an alarm is due
 pub record HavePassed (n : ℕ) (old new : AlarmTable) : Type 0 where

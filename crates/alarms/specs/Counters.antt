@@ -78,17 +78,10 @@ pub record IsChanged (tick : ℕ) (old new : CounterAlarms) (a : ℕ) (e : Optio
   pub counter : new.counter ≡ old.counter
   pub expiries : (b : ℕ) → expiry_in tick new b ≡ (if a == b then e else expiry_in tick old b)
 
--- the counters have gone through the tick after this one
-pub record AreAdvanced (tick : ℕ) (old new : List CounterAlarms) : Type 0 where
-  pub same : length new ≡ length old
-  pub ready : (k : ℕ) → k < length old → IsReady (tick + 1) (counter_at new k)
-  pub counters : (k : ℕ) → k < length old → (counter_at new k).counter ≡ (counter_at old k).counter
-  pub expiries : (k a : ℕ) → k < length old
-      → expiry_in (tick + 1) (counter_at new k) a ≡ expired_at (count_of (tick + 1) (counter_at old k)) (expiry_in tick (counter_at old k) a)
-
--- the counters have gone through some ticks in which no alarm is due
-pub record ArePassed (tick n : ℕ) (old new : List CounterAlarms) : Type 0 where
+-- the counters have gone through some ticks, and the alarms that are due in the last of them expired
+pub record AreAdvanced (tick n : ℕ) (old new : List CounterAlarms) : Type 0 where
   pub same : length new ≡ length old
   pub ready : (k : ℕ) → k < length old → IsReady (tick + n) (counter_at new k)
   pub counters : (k : ℕ) → k < length old → (counter_at new k).counter ≡ (counter_at old k).counter
-  pub expiries : (k a : ℕ) → k < length old → expiry_in (tick + n) (counter_at new k) a ≡ expiry_in tick (counter_at old k) a
+  pub expiries : (k a : ℕ) → k < length old
+      → expiry_in (tick + n) (counter_at new k) a ≡ expired_at (count_of (tick + n) (counter_at old k)) (expiry_in tick (counter_at old k) a)

@@ -1,5 +1,5 @@
 -- OSEK/VDX OS: counters and alarm management. The running alarms of one counter, the one that expires last first.
-use Rattle.std.specs.Prelude.{ℕ, ◌+◌, ◌-◌, ◌≤◌, ◌≡◌, Bool, true, false, length, not, nat_le, nat_lt, ◌==◌, ◌&&◌, ◌||◌, if◌then◌else◌, List, [], ◌∷◌, Option, Some, None, slice_index_or, slice_set}
+use Rattle.std.specs.Prelude.{ℕ, ◌+◌, ◌-◌, ◌≤◌, ◌<◌, ◌≡◌, Bool, true, false, length, not, nat_le, nat_lt, ◌==◌, ◌&&◌, ◌||◌, if◌then◌else◌, List, [], ◌∷◌, Option, Some, None, slice_index_or, slice_set}
 use Rattle.std.specs.Int.{bit_at}
 use Rattle.std.specs.List.{list_all, list_any}
 use Rattle.osek_base.specs.declared.limits.TheConstants.{MAX_ALARMS}
@@ -76,10 +76,6 @@ abbrev pub cycle_in : Option Wait → Option ℕ
 cycle_in None = None
 cycle_in (Some w) = Some w.cycle
 
--- one count less
-abbrev pub one_less : Wait → Wait
-one_less w = record w { left = w.left - 1 }
-
 -- so many counts less
 abbrev pub less_by : ℕ → Wait → Wait
 less_by n w = record w { left = w.left - n }
@@ -123,6 +119,17 @@ again (Some w) = if w.left == 0 then (if w.cycle == 0 then None else Some (recor
 abbrev pub is_raised : ℕ → ℕ → Bool
 is_raised a word = bit_at word a == 1
 
+-- no alarm is due from a number on and before another one
+abbrev pub AreNoneRaised : ℕ → ℕ → ℕ → Type 0
+AreNoneRaised word from to = (a : ℕ) → from ≤ a → a < to → is_raised a word ≡ false
+
+-- an alarm is the first that is due from a number on and before another one
+pub record IsFirstRaised (word from to a : ℕ) : Type 0 where
+  pub from_on : from ≤ a
+  pub before : a < to
+  pub raised : is_raised a word ≡ true
+  pub none : AreNoneRaised word from a
+
 -- some alarms whose wait was over have started again, and their bits are set
 pub record IsLeft (old : List Wait) (before : ℕ) (ws : List Wait) (due : ℕ) : Type 0 where
   pub waits_same : (a : ℕ) → again (wait_of a ws) ≡ again (wait_of a old)
@@ -133,15 +140,6 @@ pub record IsLeft (old : List Wait) (before : ℕ) (ws : List Wait) (due : ℕ) 
 -- a list with an alarm that expired: it starts again with its cycle, if it has one
 abbrev pub restarted : ℕ → ℕ → List Wait → List Wait
 restarted a cycle ws = if cycle == 0 then ws else inserted (record { alarm = a; left = cycle; cycle = cycle }) ws
-
--- the wait of an alarm once a count has passed
-abbrev pub less : Option Wait → Option Wait
-less None = None
-less (Some w) = Some (one_less w)
-
-abbrev pub is_none_over : Option Wait → Bool
-is_none_over None = true
-is_none_over (Some w) = nat_lt 0 w.left
 
 -- the expiry of an alarm by a count that never wraps: the present count and what is left
 abbrev pub expiry_at : ℕ → Option Wait → Option Expiry

@@ -1,45 +1,37 @@
 //! The alarms of a system.
 
-ghost use Rattle.std.specs.Prelude.{◌≡◌, ◌<◌, ◌≤◌, ◌+◌, ◌^◌, ℕ, [], length, map, replicate, Option, None, Some, is_some, slice_index_or, slice_set};
-ghost use Rattle.std.specs.List.{filter};
-ghost use Rattle.osek_base.specs.Lists.{below};
+ghost use Rattle.std.specs.Prelude.{◌≡◌, ◌<◌, ◌≤◌, ◌+◌, ◌^◌, ℕ, [], length, map, replicate, Option, None, Some, is_some, slice_index_or, slice_set, true, false};
 ghost use Rattle.osek_base.specs.System.{System as Configured, alarm_start_in, counter, counter_of};
 ghost use Rattle.osek_base.specs.Alarm.{is_bad_cycle, next_count};
 ghost use Rattle.osek_base.specs.declared.instr.Service.{Service};
 ghost use Rattle.osek_base.specs.Trace.{first_expiry, starting_alarms};
-ghost use Rattle.alarms.specs.Waits.{is_raised};
-ghost use Rattle.alarms.specs.Alarms.{IsTableOf, status_of, after_call, counter_in, count_in, remaining_at, remaining_of, cycle_of, next_tick, due_of, expired, HavePassed, later};
+ghost use Rattle.alarms.specs.Alarms.{AreQuietFor, IsTableOf, status_of, after_call, counter_in, count_in, remaining_at, remaining_of, cycle_of, next_tick, due_of, expired, HavePassed, later};
 
-use crate::counter_alarms::CounterAlarms;
-use crate::counters::{
-    advance_each, cancel_on, counter_numbers, idle_counters, pass_each, quiet_ticks,
-    replace_counters, start_on,
-};
-use crate::due_alarms::DueAlarms;
+use crate::counted_alarms::CountedAlarms;
 use crate::due_list::DueList;
-use crate::replacing::replace;
-use arrayvec::ArrayVec;
-use osek_base::{AlarmId, Counter, MAX_ALARMS, MAX_COUNTERS, MAX_TICKS, ModeId, Status, System};
+use osek_base::{AlarmId, Counter, MAX_ALARMS, MAX_TICKS, ModeId, Status, System};
 use std::marker::Model;
 
 /// The alarms of a system, and the tick. Contracts see the expiry of each alarm that is on, by a count that never wraps,
 /// and the counter of each alarm. A call is handed the system that the alarms were made of.
+///
+/// The counters count where it matters: `ahead` ticks passed since they last did, and no alarm is
+/// due in the `quiet` ticks after that.
 #[derive(Drop)]
 pub struct Alarms {
-    counters: ArrayVec<CounterAlarms, MAX_COUNTERS>,
-    numbers: ArrayVec<u8, MAX_ALARMS>,
-    tick: u32,
+    counted: CountedAlarms,
+    ahead: u32,
+    quiet: u32,
 }
 
 impl Model for Alarms {
-    ghost use Rattle.alarms.specs.Alarms.{AlarmTable};
-    ghost use Rattle.alarms.specs.Counters.{table_of, AreWhole};
+    ghost use Rattle.alarms.specs.Alarms.{AlarmTable, IsAheadOf, later};
 
     ghost Value = { AlarmTable };
 
-    ghost view = { λ a. table_of a.tick a.counters.items a.numbers.items };
+    ghost view = { λ a. later a.ahead a.counted };
 
-    ghost invariant = { λ a. AreWhole a.tick a.counters.items a.numbers.items };
+    ghost invariant = { λ a. IsAheadOf a.ahead a.quiet a.counted };
 }
 
 impl Alarms {
@@ -52,11 +44,10 @@ impl Alarms {
         } }
         ensures table { IsTableOf system.now result }
     {
-        let parts = system.parts();
         Alarms {
-            counters: idle_counters(&parts.counters),
-            numbers: counter_numbers(&parts.alarms),
-            tick: 0,
+            counted: CountedAlarms::new(system),
+            ahead: 0,
+            quiet: 0,
         }
     }
 
@@ -64,9 +55,9 @@ impl Alarms {
     pub fn copy_from(&mut self, other: &Alarms)
         ensures { self.new ≡ other.now }
     {
-        replace_counters(&mut self.counters, other.counters.as_slice());
-        replace(&mut self.numbers, other.numbers.as_slice());
-        self.tick = other.tick;
+        self.counted.copy_from(&other.counted);
+        self.ahead = other.ahead;
+        self.quiet = other.quiet;
     }
 
     /// How often `advance` was called: the present tick, below [`MAX_TICKS`].
@@ -74,7 +65,7 @@ impl Alarms {
         ensures value { result ≡ self.now.tick }
         ensures low { result < MAX_TICKS }
     {
-        self.tick
+        self.counted.tick() + self.ahead
     }
 
     /// Sets the alarms that start by themselves in a mode, to their ALARMTIME and CYCLETIME from count 0 on. All others
@@ -172,9 +163,7 @@ impl Alarms {
         requires { alarm < length self.now.expiries }
         ensures { result ≡ cycle_of (slice_index_or self.now.expiries alarm None) }
     {
-        let number = self.numbers[alarm.number() as usize];
-        let counter = &self.counters[number as usize];
-        counter.running.cycle(alarm)
+        self.counted.cycle(alarm)
     }
 
     /// The next tick begins, and the alarms that are due in it expire: each expires again a cycle later, or goes off. The
@@ -187,30 +176,10 @@ impl Alarms {
         ensures alarms { self.new ≡ expired system.now (next_tick self.old) }
         ensures table { IsTableOf system.now self.new }
     {
-        let expired = self.expire();
         due.clear();
-        if !expired.is_none() {
-            expired.list(system.alarm_count(), due);
+        if !self.pass_quiet() {
+            self.advance_counted(system, due);
         }
-    }
-
-    /// The next tick begins, and the alarms that are due in it expire: each expires again a cycle later, or goes off. The
-    /// answer has these alarms.
-    #[inline(always)]
-    pub fn expire(&mut self) -> DueAlarms
-        requires last { self.old.tick + 1 < MAX_TICKS }
-        ensures due { (S : Configured) → IsTableOf S self.old
-            → filter (λ a. is_raised a result) (below (length S.alarms))
-            ≡ due_of S (next_tick self.old) }
-        ensures alarms { (S : Configured) → IsTableOf S self.old
-            → self.new ≡ expired S (next_tick self.old) }
-        ensures table { (S : Configured) → IsTableOf S self.old → IsTableOf S self.new }
-    {
-        let mut due = DueAlarms::none();
-        let tick = self.tick;
-        advance_each(&mut self.counters, tick, &mut due);
-        self.tick = tick + 1;
-        due
     }
 
     /// The ticks that follow pass, at most some, up to the one before the first in which an alarm is due. Answers how many
@@ -222,11 +191,45 @@ impl Alarms {
         ensures last { result < most → (S : Configured) → IsTableOf S self.old
             → due_of S (later (result + 1) self.old) ≡ [] → ⊥ }
     {
-        let tick = self.tick;
-        let passed = quiet_ticks(&self.counters, tick, most);
-        pass_each(&mut self.counters, tick, passed);
-        self.tick = tick + passed;
-        passed
+        self.counted.pass(self.ahead);
+        let left = MAX_TICKS - 1 - self.counted.tick();
+        self.quiet = self.counted.quiet_ticks(left);
+        self.ahead = self.quiet.min(most);
+        self.ahead
+    }
+
+    /// The next tick begins, where it is known already that no alarm is due in it. Answers whether it is; else nothing changes.
+    #[inline(always)]
+    pub fn pass_quiet(&mut self) -> bool
+        ensures quiet { result ≡ true → AreQuietFor 1 self.old }
+        ensures passed { result ≡ true → HavePassed 1 self.old self.new }
+        ensures same { result ≡ false → self.new ≡ self.old }
+    {
+        if self.ahead < self.quiet {
+            self.ahead += 1;
+            true
+        } else {
+            false
+        }
+    }
+
+    /// The next tick begins, up to which the counters count. The alarms that are due in it expire, and
+    /// `due`, which is empty, gets them.
+    #[inline(never)]
+    fn advance_counted(&mut self, system: &System, due: &mut DueList)
+        requires table { IsTableOf system.now self.old }
+        requires last { self.old.tick + 1 < MAX_TICKS }
+        requires none { due.old ≡ [] }
+        ensures due { due.new ≡ due_of system.now (next_tick self.old) }
+        ensures alarms { self.new ≡ expired system.now (next_tick self.old) }
+    {
+        let expired = self.counted.advance_by(self.ahead + 1);
+        if !expired.is_none() {
+            expired.list(system.alarm_count(), due);
+        }
+        let left = MAX_TICKS - 1 - self.counted.tick();
+        self.ahead = 0;
+        self.quiet = self.counted.quiet_ticks(left);
     }
 
     /// Whether an alarm is on.
@@ -234,7 +237,7 @@ impl Alarms {
         requires { alarm < length self.now.expiries }
         ensures { result ≡ is_some (slice_index_or self.now.expiries alarm None) }
     {
-        self.counts_left(alarm).is_some()
+        self.cycle(alarm).is_some()
     }
 
     /// How many counts an alarm has before it expires; None where it is off.
@@ -243,9 +246,7 @@ impl Alarms {
         ensures { result
             ≡ remaining_at (count_in self.now alarm) (slice_index_or self.now.expiries alarm None) }
     {
-        let number = self.numbers[alarm.number() as usize];
-        let counter = &self.counters[number as usize];
-        counter.running.remaining(alarm)
+        self.counted.counts_left(self.ahead, alarm)
     }
 
     /// How many counts there are to the next one at which an alarm's counter has the value `start`.
@@ -256,9 +257,7 @@ impl Alarms {
             ≡ next_count (counter_in self.now alarm) (count_in self.now alarm) start }
         ensures some { 0 < result }
     {
-        let number = self.numbers[alarm.number() as usize];
-        let counter = &self.counters[number as usize];
-        counter.wait_until(self.tick, start)
+        self.counted.wait_until(self.ahead, alarm, start)
     }
 
     /// An alarm that is off starts: it expires in `wait` counts, and each `cycle` counts after that, 0 for once.
@@ -271,8 +270,10 @@ impl Alarms {
               (Some (record { count = count_in self.old alarm + wait; cycle = cycle }));
         } }
     {
-        let number = self.numbers[alarm.number() as usize];
-        start_on(&mut self.counters, number as usize, alarm, wait, cycle);
+        self.counted.pass(self.ahead);
+        self.ahead = 0;
+        self.quiet = 0;
+        self.counted.start_alarm(alarm, wait, cycle);
     }
 
     /// An alarm goes off.
@@ -280,8 +281,10 @@ impl Alarms {
         requires { alarm < length self.old.expiries }
         ensures { self.new ≡ record self.old { expiries = slice_set self.old.expiries alarm None } }
     {
-        let number = self.numbers[alarm.number() as usize];
-        cancel_on(&mut self.counters, number as usize, alarm);
+        self.counted.pass(self.ahead);
+        self.ahead = 0;
+        self.quiet = 0;
+        self.counted.cancel_alarm(alarm);
     }
 
     /// An alarm that is off starts at tick 0, if it starts by itself in a mode.
@@ -308,7 +311,7 @@ impl Alarms {
         ensures value { result ≡ length self.now.expiries }
         ensures low { result ≤ MAX_ALARMS }
     {
-        self.numbers.len() as u8
+        self.counted.len()
     }
 }
 

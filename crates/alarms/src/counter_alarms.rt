@@ -1,14 +1,14 @@
 //! A counter and its alarms.
 
-ghost use Rattle.std.specs.Prelude.{◌≡◌, ◌<◌, ◌≤◌, ◌+◌, ◌||◌, ◌^◌, ℕ, true, false};
+ghost use Rattle.std.specs.Prelude.{◌≡◌, ◌<◌, ◌≤◌, ◌+◌, ◌-◌, ◌||◌, ◌^◌, ℕ, true, false};
 ghost use Rattle.osek_base.specs.Alarm.{is_due_at, next_count};
-ghost use Rattle.alarms.specs.Alarms.{expired_at};
+ghost use Rattle.alarms.specs.Alarms.{expired_at, remaining_at};
 ghost use Rattle.alarms.specs.Waits.{is_raised};
 ghost use Rattle.alarms.specs.Counters.{IsReady, count_of, expiry_in, idle, is_quiet_for};
 
 use crate::difference_list::DifferenceList;
 use crate::due_alarms::DueAlarms;
-use osek_base::{Counter, MAX_TICKS};
+use osek_base::{AlarmId, Counter, MAX_TICKS};
 
 /// A counter, the tick in which it grows next, and its running alarms.
 #[derive(Drop)]
@@ -60,24 +60,30 @@ impl CounterAlarms {
         self.running.copy_from(&other.running);
     }
 
-    /// The tick after `tick`: where the counter grows, its alarms that are due expire, and are added to `due`.
+    /// Some ticks after `tick` pass, before the last of which no alarm is due: the alarms that are
+    /// due in the last one expire, and are added to `due`.
     #[inline(always)]
-    pub fn advance(&mut self, tick: u32, due: &mut DueAlarms)
-        requires tick { tick + 1 < MAX_TICKS }
+    pub fn advance(&mut self, tick: u32, ticks: u32, due: &mut DueAlarms)
+        requires tick { tick + ticks < MAX_TICKS }
+        requires some { 0 < ticks }
         requires ready { IsReady tick self.old }
-        ensures ready { IsReady (tick + 1) self.new }
+        requires quiet { is_quiet_for tick (ticks - 1) self.old ≡ true }
+        ensures ready { IsReady (tick + ticks) self.new }
         ensures counter { self.new.counter ≡ self.old.counter }
         ensures expiries { (a : ℕ)
-            → expiry_in (tick + 1) self.new a
-            ≡ expired_at (count_of (tick + 1) self.old) (expiry_in tick self.old a) }
+            → expiry_in (tick + ticks) self.new a
+            ≡ expired_at (count_of (tick + ticks) self.old) (expiry_in tick self.old a) }
         ensures due { (a : ℕ)
             → is_raised a due.new
             ≡ (is_raised a due.old
-            || is_due_at (count_of (tick + 1) self.old) (expiry_in tick self.old a)) }
+            || is_due_at (count_of (tick + ticks) self.old) (expiry_in tick self.old a)) }
     {
-        if tick + 1 == self.next {
-            self.next += self.counter.ticks_per_base;
-            self.running.advance(due);
+        let reached = tick + ticks;
+        if reached >= self.next {
+            let base = self.counter.ticks_per_base;
+            let more = (reached - self.next) / base;
+            self.next += more * base + base;
+            self.running.advance(more + 1, due);
         }
     }
 
@@ -104,23 +110,17 @@ impl CounterAlarms {
         }
     }
 
-    /// Some ticks after `tick` pass, in which no alarm is due.
-    pub fn pass(&mut self, tick: u32, ticks: u32)
+    /// How many counts an alarm has, some ticks after `tick`, before it expires; None where it isn't
+    /// running.
+    pub fn counts_left(&self, tick: u32, ticks: u32, alarm: AlarmId) -> Option<u32>
         requires tick { tick + ticks < MAX_TICKS }
-        requires ready { IsReady tick self.old }
-        requires quiet { is_quiet_for tick ticks self.old ≡ true }
-        ensures ready { IsReady (tick + ticks) self.new }
-        ensures counter { self.new.counter ≡ self.old.counter }
-        ensures expiries { (a : ℕ)
-            → expiry_in (tick + ticks) self.new a ≡ expiry_in tick self.old a }
+        requires base { 1 ≤ self.now.counter.ticks_per_base }
+        ensures { result
+            ≡ remaining_at (count_of (tick + ticks) self.now) (expiry_in tick self.now alarm) }
     {
-        let reached = tick + ticks;
-        if reached >= self.next {
-            let base = self.counter.ticks_per_base;
-            let more = (reached - self.next) / base;
-            self.next += more * base + base;
-            self.running.count_down_by(more + 1);
-        }
+        let left = self.running.remaining(alarm)?;
+        let base = self.counter.ticks_per_base;
+        Some(left.saturating_sub((tick + ticks) / base - tick / base))
     }
 
     /// At a tick, how many counts there are to the next one at which the counter has the value `start`: 1 to

@@ -1,10 +1,10 @@
 //! The counters of a system, with their alarms.
 
-ghost use Rattle.std.specs.Prelude.{◌≡◌, ◌<◌, ◌≤◌, ◌+◌, ◌||◌, ℕ, length, map, slice_set, true, false};
+ghost use Rattle.std.specs.Prelude.{◌≡◌, ◌<◌, ◌≤◌, ◌+◌, ◌-◌, ◌||◌, ℕ, length, map, slice_set, true, false};
 ghost use Rattle.std.specs.List.{list_all, list_any};
 ghost use Rattle.osek_base.specs.Alarm.{is_due_at};
 ghost use Rattle.alarms.specs.Waits.{is_raised, inserted, without};
-ghost use Rattle.alarms.specs.Counters.{AreAdvanced, ArePassed, IsReady, count_of, counter_at, expiry_in, idle, is_quiet_for};
+ghost use Rattle.alarms.specs.Counters.{AreAdvanced, IsReady, count_of, counter_at, expiry_in, idle, is_quiet_for};
 
 use crate::counter_alarms::CounterAlarms;
 use crate::due_alarms::DueAlarms;
@@ -66,26 +66,30 @@ pub fn counter_numbers(alarms: &[Alarm]) -> ArrayVec<u8, MAX_ALARMS>
     numbers
 }
 
-/// The tick after `tick`: the alarms of all counters that are due expire, and are added to `due`.
-#[inline(always)]
+/// Some ticks after `tick` pass, before the last of which no alarm is due: the alarms of all counters
+/// that are due in the last one expire, and are added to `due`.
 pub fn advance_each(
     counters: &mut ArrayVec<CounterAlarms, MAX_COUNTERS>,
     tick: u32,
+    ticks: u32,
     due: &mut DueAlarms,
 )
-    requires tick { tick + 1 < MAX_TICKS }
+    requires tick { tick + ticks < MAX_TICKS }
+    requires some { 0 < ticks }
     requires ready { (k : ℕ) → k < length counters.old.items
         → IsReady tick (counter_at counters.old.items k) }
-    ensures counters { AreAdvanced tick counters.old.items counters.new.items }
+    requires quiet { (k : ℕ) → k < length counters.old.items
+        → is_quiet_for tick (ticks - 1) (counter_at counters.old.items k) ≡ true }
+    ensures counters { AreAdvanced tick ticks counters.old.items counters.new.items }
     ensures due { (a : ℕ)
         → is_raised a due.new
         ≡ (is_raised a due.old
-        || list_any (λ k. is_due_at (count_of (tick + 1) k) (expiry_in tick k a))
+        || list_any (λ k. is_due_at (count_of (tick + ticks) k) (expiry_in tick k a))
         counters.old.items) }
 {
     for number in 0..counters.len() {
         let counter = &mut counters[number];
-        counter.advance(tick, due);
+        counter.advance(tick, ticks, due);
     }
 }
 
@@ -106,21 +110,6 @@ pub fn quiet_ticks(counters: &ArrayVec<CounterAlarms, MAX_COUNTERS>, tick: u32, 
         least = counter.quiet_ticks(tick, least);
     }
     least
-}
-
-/// Some ticks after `tick` pass, in which no alarm of any counter is due.
-pub fn pass_each(counters: &mut ArrayVec<CounterAlarms, MAX_COUNTERS>, tick: u32, ticks: u32)
-    requires tick { tick + ticks < MAX_TICKS }
-    requires ready { (k : ℕ) → k < length counters.old.items
-        → IsReady tick (counter_at counters.old.items k) }
-    requires quiet { (k : ℕ) → k < length counters.old.items
-        → is_quiet_for tick ticks (counter_at counters.old.items k) ≡ true }
-    ensures { ArePassed tick ticks counters.old.items counters.new.items }
-{
-    for number in 0..counters.len() {
-        let counter = &mut counters[number];
-        counter.pass(tick, ticks);
-    }
 }
 
 /// An alarm of a counter starts, to expire in `wait` counts.

@@ -2,7 +2,7 @@
 
 ghost use Rattle.std.specs.Prelude.{◌≡◌, ◌==◌, ◌<◌, ◌≤◌, ◌^◌, ◌+◌, ◌-◌, [], ◌∷◌, ◌++◌, ◌||◌, ℕ, length, map, is_some, drop, take, Option, Some, None, IfSome, IfNone, MatchOption, slice_index_or, true, false};
 ghost use Rattle.std.specs.List.{list_all, insert, remove, list_any};
-ghost use Rattle.alarms.specs.Waits.{span, inserted, without, wait_of, left_in, cycle_in, one_less, Wait, waits, wait_before, is_sooner, not_waiting, cut_at, grown_at, is_of, are_ahead, are_beyond, less_by, IsSoonest, are_apart, overs, is_over, again, is_raised, restarted};
+ghost use Rattle.alarms.specs.Waits.{span, inserted, without, wait_of, left_in, cycle_in, Wait, waits, wait_before, is_sooner, not_waiting, cut_at, grown_at, is_of, are_ahead, are_beyond, less_by, IsSoonest, are_apart, overs, is_over, again, is_raised, restarted};
 
 use crate::due_alarms::DueAlarms;
 use crate::replacing::replace;
@@ -125,14 +125,15 @@ impl DifferenceList {
         }
     }
 
-    /// One count passes, where no wait is over. Answers whether one is over then.
+    /// Some counts pass, before the last of which no wait is over. Answers whether one is over then.
     #[inline(always)]
-    pub fn count_down(&mut self) -> bool
-        requires { are_ahead self.old ≡ true }
-        ensures waits { self.new ≡ map one_less self.old }
+    fn count_down(&mut self, counts: u32) -> bool
+        requires some { 0 < counts }
+        requires beyond { are_beyond (counts - 1) self.old ≡ true }
+        ensures waits { self.new ≡ map (less_by counts) self.old }
         ensures ahead { result ≡ false → are_ahead self.new ≡ true }
     {
-        cut_last(&mut self.entries)
+        cut_last(&mut self.entries, counts)
     }
 
     /// How many counts are left of the wait that is over first. None where no alarm is running.
@@ -144,14 +145,6 @@ impl DifferenceList {
             return None;
         }
         Some(self.entries[len - 1].difference)
-    }
-
-    /// Some counts pass, after which no wait is over.
-    pub fn count_down_by(&mut self, counts: u32)
-        requires { are_beyond counts self.old ≡ true }
-        ensures waits { self.new ≡ map (less_by counts) self.old }
-    {
-        cut_last_by(&mut self.entries, counts);
     }
 
     /// Takes the last wait out, where it is over. None where no wait is over.
@@ -173,20 +166,22 @@ impl DifferenceList {
         })
     }
 
-    /// The next count of the counter: one count passes, and the alarms whose wait is over are added to `due` and start
-    /// again with their cycle, or go off.
+    /// Some counts of the counter pass, before the last of which no wait is over: the alarms whose wait
+    /// is over then are added to `due` and start again with their cycle, or go off.
     #[inline(always)]
-    pub fn advance(&mut self, due: &mut DueAlarms)
-        requires ahead { are_ahead self.old ≡ true }
+    pub fn advance(&mut self, counts: u32, due: &mut DueAlarms)
+        requires some { 0 < counts }
+        requires beyond { are_beyond (counts - 1) self.old ≡ true }
         requires apart { are_apart self.old ≡ true }
-        ensures waits { (a : ℕ) → wait_of a self.new ≡ again (wait_of a (map one_less self.old)) }
+        ensures waits { (a : ℕ)
+            → wait_of a self.new ≡ again (wait_of a (map (less_by counts) self.old)) }
         ensures due { (a : ℕ)
             → is_raised a due.new
-            ≡ (is_raised a due.old || is_over (wait_of a (map one_less self.old))) }
+            ≡ (is_raised a due.old || is_over (wait_of a (map (less_by counts) self.old))) }
         ensures apart { are_apart self.new ≡ true }
         ensures ahead { are_ahead self.new ≡ true }
     {
-        if self.count_down() {
+        if self.count_down(counts) {
             self.expire(due);
         }
     }
@@ -285,13 +280,13 @@ fn take_last(entries: &mut ArrayVec<Waiting, MAX_ALARMS>) -> Waiting
     }
 }
 
-/// The last wait is one count shorter. Answers whether it is over.
+/// The last wait is some counts shorter. Answers whether it is over.
 #[inline(always)]
-fn cut_last(entries: &mut ArrayVec<Waiting, MAX_ALARMS>) -> bool
+fn cut_last(entries: &mut ArrayVec<Waiting, MAX_ALARMS>, counts: u32) -> bool
     requires { 0 < length entries.old.items
-        → 1
+        → counts
         ≤ (slice_index_or entries.old.items (length entries.old.items - 1) not_waiting).difference }
-    ensures items { entries.new.items ≡ cut_at entries.old.items (length entries.old.items) 1 }
+    ensures items { entries.new.items ≡ cut_at entries.old.items (length entries.old.items) counts }
     ensures ahead { result ≡ false → are_ahead (waits entries.new.items) ≡ true }
 {
     let len = entries.len();
@@ -299,22 +294,8 @@ fn cut_last(entries: &mut ArrayVec<Waiting, MAX_ALARMS>) -> bool
         return false;
     }
     let last = &mut entries[len - 1];
-    last.difference -= 1;
+    last.difference -= counts;
     last.difference == 0
-}
-
-/// The last wait is some counts shorter.
-fn cut_last_by(entries: &mut ArrayVec<Waiting, MAX_ALARMS>, counts: u32)
-    requires { 0 < length entries.old.items
-        → counts
-        ≤ (slice_index_or entries.old.items (length entries.old.items - 1) not_waiting).difference }
-    ensures { entries.new.items ≡ cut_at entries.old.items (length entries.old.items) counts }
-{
-    let len = entries.len();
-    if len > 0 {
-        let last = &mut entries[len - 1];
-        last.difference -= counts;
-    }
 }
 
 /// Takes an entry out, whose difference the entry before it gets.

@@ -1,9 +1,9 @@
 //! The alarms that are due in a tick.
 
-ghost use Rattle.std.specs.Prelude.{◌≡◌, ◌≤◌, ◌||◌, ◌==◌, ℕ, [], false, true};
+ghost use Rattle.std.specs.Prelude.{◌≡◌, ◌≤◌, ◌||◌, ◌==◌, ℕ, [], MatchOption, false, true};
 ghost use Rattle.std.specs.List.{filter};
 ghost use Rattle.osek_base.specs.Lists.{below};
-ghost use Rattle.alarms.specs.Waits.{is_raised};
+ghost use Rattle.alarms.specs.Waits.{AreNoneRaised, IsFirstRaised, is_raised};
 
 use crate::due_list::DueList;
 use osek_base::{AlarmId, MAX_ALARMS};
@@ -69,9 +69,26 @@ fn list_set(word: u64, count: usize, due: &mut DueList)
     requires none { due.old ≡ [] }
     ensures { due.new ≡ filter (λ a. is_raised a word) (below count) }
 {
-    for number in 0..count {
-        if (word >> number) % 2 == 1 {
-            due.push(AlarmId::new(number as u8));
-        }
+    let mut from = 0;
+    while let Some(number) = next_raised(word, from, count) {
+        due.push(AlarmId::new(number as u8));
+        from = number + 1;
     }
+}
+
+/// The first number from `from` on and below `count` whose bit is set, if there is one.
+#[inline(always)]
+fn next_raised(word: u64, from: usize, count: usize) -> Option<usize>
+    requires { count ≤ MAX_ALARMS }
+    ensures { MatchOption result (AreNoneRaised word from count) (IsFirstRaised word from count) }
+{
+    if from >= count {
+        return None;
+    }
+    let left = word >> from;
+    if left == 0 {
+        return None;
+    }
+    let number = from + left.trailing_zeros() as usize;
+    if number < count { Some(number) } else { None }
 }

@@ -2,23 +2,25 @@
 
 ghost use Rattle.std.specs.Prelude.{◌≡◌, ◌<◌, ◌≤◌, ◌∷◌, ◌++◌, [], length, slice_index_or};
 
-use crate::replacing::replace;
-use arrayvec::ArrayVec;
 use osek_base::{AlarmId, MAX_ALARMS};
 use std::marker::Model;
 
 /// The alarms that are due, at most [`MAX_ALARMS`]. Contracts see the list of their numbers.
 #[derive(Drop)]
 pub struct DueList {
-    alarms: ArrayVec<AlarmId, MAX_ALARMS>,
+    alarms: [AlarmId; MAX_ALARMS],
+    len: usize,
 }
 
 impl Model for DueList {
-    ghost use Rattle.std.specs.Prelude.{ℕ, List};
+    ghost use Rattle.std.specs.Prelude.{ℕ, List, ◌≡◌, ◌≤◌, length, take};
+    ghost use Rattle.osek_base.specs.declared.limits.TheConstants.{MAX_ALARMS};
 
     ghost Value = { List ℕ };
 
-    ghost view = { λ d. d.alarms.items };
+    ghost view = { λ d. take d.len d.alarms };
+
+    ghost invariant = { λ d. (d.len ≤ MAX_ALARMS) × (length d.alarms ≡ MAX_ALARMS) };
 }
 
 impl DueList {
@@ -27,25 +29,25 @@ impl DueList {
         ensures { result ≡ [] }
     {
         DueList {
-            alarms: ArrayVec::new(),
+            alarms: [AlarmId::new(0); MAX_ALARMS],
+            len: 0,
         }
     }
 
-    /// Takes all alarms out. In most ticks there are none, and then nothing is done.
+    /// Takes all alarms out.
     #[inline(always)]
     pub fn clear(&mut self)
         ensures { self.new ≡ [] }
     {
-        if !self.alarms.is_empty() {
-            self.alarms.clear();
-        }
+        self.len = 0;
     }
 
     /// The content becomes that of another list.
     pub fn copy_from(&mut self, other: &DueList)
         ensures { self.new ≡ other.now }
     {
-        replace(&mut self.alarms, other.alarms.as_slice());
+        self.alarms = other.alarms;
+        self.len = other.len;
     }
 
     /// How many alarms there are.
@@ -54,7 +56,7 @@ impl DueList {
         ensures value { result ≡ length self.now }
         ensures few { result ≤ MAX_ALARMS }
     {
-        self.alarms.len()
+        self.len
     }
 
     /// Adds an alarm behind the others.
@@ -63,7 +65,8 @@ impl DueList {
         requires { length self.old < MAX_ALARMS }
         ensures { self.new ≡ self.old ++ alarm ∷ [] }
     {
-        self.alarms.push(alarm);
+        self.alarms[self.len] = alarm;
+        self.len += 1;
     }
 
     /// The alarm at a place of the list.
@@ -72,6 +75,6 @@ impl DueList {
         requires { place < length self.now }
         ensures { result ≡ slice_index_or self.now place 0 }
     {
-        self.alarms.as_slice()[place]
+        self.alarms[place]
     }
 }

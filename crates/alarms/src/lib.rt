@@ -2,6 +2,7 @@
 #![tactic(auto)]
 
 mod alarms;
+mod counted_alarms;
 mod counter_alarms;
 mod counters;
 mod difference_list;

@@ -7,7 +7,7 @@ use bounds::{Bounds, Figure};
 use osek_base::System;
 
 /// A figure, with the words of its kind and of its column.
-#[derive(Clone, Copy, Debug)]
+#[derive(Clone, Copy)]
 pub struct NamedFigure {
     pub figure: Figure,
     pub kind: &'static str,

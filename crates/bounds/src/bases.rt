@@ -51,6 +51,13 @@ fn place_of(held: &[Base<'_>], entry: usize) -> Option<usize> {
     None
 }
 
+/// One more machine beside so many that nobody makes use of yet, and room to note that.
+fn note_user(held: usize, users: &mut Vec<usize>, free: &mut Vec<usize>) -> Result<(), AllocError> {
+    free.reserve(held.saturating_add(1))?;
+    users.push(0)?;
+    Ok(())
+}
+
 /// Machines of one system, in numbered places.
 #[derive(Drop)]
 pub(crate) struct Bases<'s> {
@@ -150,8 +157,7 @@ impl<'s> Bases<'s> {
         requires { IsOf self.old base.machine }
         ensures { self.new ≡ self.old }
     {
-        self.free.reserve(self.held.len().saturating_add(1))?;
-        self.users.push(0)?;
+        note_user(self.held.len(), &mut self.users, &mut self.free)?;
         self.held.push(base)?;
         Ok(())
     }

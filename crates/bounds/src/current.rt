@@ -19,6 +19,7 @@ use packed_labels::{pack, packed_are_told};
 use seen_machines::Watcher;
 use state_bytes::write_key;
 use std::alloc::{AllocError, Global};
+use std::mem;
 
 /// Boots a machine again, in a mode.
 pub(crate) fn boot_again<'s>(
@@ -35,6 +36,8 @@ pub(crate) fn boot_again<'s>(
 {
     let booted = Machine::boot(alloc, system, mode)?;
     machine.copy_from(&booted);
+    // It goes by one call.
+    mem::drop(booted);
     Ok(())
 }
 

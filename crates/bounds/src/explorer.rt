@@ -10,7 +10,7 @@ use crate::comparing::Comparing;
 use crate::current::{boot_again, can_go_on, node_of, tick_from};
 use crate::figure::held_count;
 use crate::node::Node;
-use crate::raised::Raised;
+use crate::room::Room;
 use crate::routines::{common, pending_routines, put_routines, without};
 use crate::states::States;
 use crate::trails::Trails;
@@ -19,13 +19,11 @@ use bound_labels::Labels;
 use bound_peaks::Peaks;
 use kernel::Machine;
 use needs::Needs;
-use osek_base::{IsrId, ModeId, System};
-use packed_labels::{ReadLabels, free_routines};
+use osek_base::{ModeId, System};
+use packed_labels::free_routines;
 use run_bounds::{lost_change_nothing, nodes_are_kept, notes_stay, one_state_tells, subsets_may};
 use search::{Progress, Steps, subset_from};
-use seen_machines::Watcher;
 use std::alloc::{AllocError, Global};
-use std::cell::Cell;
 use std::marker::Model;
 use std::mem;
 
@@ -42,16 +40,7 @@ pub(crate) struct Explorer<'s, 'w, W: Watch> {
     states: States<'s>,
     /// The machine that is ticked.
     current: StateMachine<'s>,
-    /// The labels of the node that is visited, and those behind a tick.
-    read: ReadLabels,
-    labels: Labels,
-    /// Room for the bytes of the next node, which takes it, until that is known not to be kept.
-    bytes: Vec<u8>,
-    /// Room in which nodes are compared, while none are.
-    comparing: Cell<Option<Box<Comparing>>>,
-    /// The routines whose interrupts arrive in a tick.
-    arrived: Vec<IsrId>,
-    watcher: Watcher,
+    room: Room,
     peaks: Peaks,
     /// How it came to all of these, of which contracts see nothing.
     trails: Trails,
@@ -109,6 +98,9 @@ impl<'s, 'w, W: Watch> Explorer<'s, 'w, W> {
         ensures distances { IfOk result (λ e. e.distances ≡ distances.now) }
         ensures cap { IfOk result (λ e. e.cap ≡ cap) }
     {
+        // The smallest comes first, as each way out drops what was made before it.
+        let comparing = Box::new(alloc, Comparing::new(alloc))?;
+        let trails = Trails::new(alloc, system)?;
         let current = Machine::boot(alloc, system, mode)?;
         let states = States::new(alloc, system, needs, mode)?;
         Ok(Explorer {
@@ -119,34 +111,21 @@ impl<'s, 'w, W: Watch> Explorer<'s, 'w, W> {
             cap,
             states,
             current,
-            read: ReadLabels::new(alloc),
-            labels: Labels::new(alloc),
-            bytes: Vec::new(alloc),
-            comparing: Cell::new(Some(Box::new(alloc, Comparing::new(alloc))?)),
-            arrived: Vec::new(alloc),
-            watcher: Watcher::new(),
+            room: Room::new(alloc, comparing),
             peaks: Peaks::new(alloc),
-            trails: Trails::new(alloc, system)?,
+            trails,
             kept: 0,
             watch,
         })
     }
 
-    /// The labels that were raised when a node was joined last, if they weren't taken since.
-    fn take_raised(&self) -> Option<Raised> {
-        let mut comparing = self.comparing.take()?;
-        let raised = comparing.raised.take();
-        self.comparing.set(Some(comparing));
-        raised
-    }
-
     /// Whether memory was wanted where nodes were compared, which can't be told there.
     pub(crate) fn wants_memory(&self) -> bool {
-        match self.comparing.take() {
+        match self.room.comparing.take() {
             None => true,
             Some(comparing) => {
                 let wants_memory = comparing.wants_memory;
-                self.comparing.set(Some(comparing));
+                self.room.comparing.set(Some(comparing));
                 wants_memory
             }
         }
@@ -184,7 +163,19 @@ impl<'s, 'w, W: Watch> Explorer<'s, 'w, W> {
     pub(crate) fn into_found(self) -> (Peaks, Trails)
         ensures { result.0 ≡ self.entry.peaks }
     {
-        (self.peaks, self.trails)
+        let Explorer {
+            states,
+            current,
+            room,
+            peaks,
+            trails,
+            ..
+        } = self;
+        // Each of these goes by one call.
+        mem::drop(states);
+        mem::drop(current);
+        mem::drop(room);
+        (peaks, trails)
     }
 }
 
@@ -243,9 +234,9 @@ impl<'s, 'w, W: Watch> Steps for Explorer<'s, 'w, W> {
         from: &Node,
         choice: u64,
     ) -> Result<Option<Node>, AllocError> {
-        put_routines(choice, self.system.routine_count(), &mut self.arrived)?;
-        self.read.read(from.packed())?;
-        let Some(labels) = self.read.of(from.packed()) else {
+        put_routines(choice, self.system.routine_count(), &mut self.room.arrived)?;
+        self.room.read.read(from.packed())?;
+        let Some(labels) = self.room.read.of(from.packed()) else {
             return Ok(None);
         };
         let Some(machine) = self.states.at(from.key()) else {
@@ -256,11 +247,16 @@ impl<'s, 'w, W: Watch> Steps for Explorer<'s, 'w, W> {
         }
         one_state_tells();
         notes_stay();
-        tick_from(machine, &mut self.current, &self.arrived, &mut self.watcher);
-        let seen = self.watcher.seen();
-        self.labels.become_next(self.system, self.cap, self.distances, choice, seen, labels)?;
-        let room = mem::replace(&mut self.bytes, Vec::new(alloc));
-        let Some(node) = node_of(&self.current, self.needs, &self.labels, room)? else {
+        tick_from(
+            machine,
+            &mut self.current,
+            &self.room.arrived,
+            &mut self.room.watcher,
+        );
+        let seen = self.room.watcher.seen();
+        self.room.labels.become_next(self.system, self.cap, self.distances, choice, seen, labels)?;
+        let room = mem::replace(&mut self.room.bytes, Vec::new(alloc));
+        let Some(node) = node_of(&self.current, self.needs, &self.room.labels, room)? else {
             return Ok(None);
         };
         let is_over = self.current.is_shut_down();
@@ -272,11 +268,11 @@ impl<'s, 'w, W: Watch> Steps for Explorer<'s, 'w, W> {
     }
 
     fn covers(&self, one: &Node, other: &Node) -> bool {
-        let Some(mut comparing) = self.comparing.take() else {
+        let Some(mut comparing) = self.room.comparing.take() else {
             return false;
         };
         let covers = one.covers(other, &mut comparing);
-        self.comparing.set(Some(comparing));
+        self.room.comparing.set(Some(comparing));
         covers
     }
 
@@ -286,11 +282,11 @@ impl<'s, 'w, W: Watch> Steps for Explorer<'s, 'w, W> {
         node: &mut Node,
         other: Node,
     ) -> Result<Option<Node>, AllocError> {
-        let Some(mut comparing) = self.comparing.take() else {
+        let Some(mut comparing) = self.room.comparing.take() else {
             return Ok(Some(other));
         };
         let done = node.join(alloc, self.system, &other, &mut comparing)?;
-        self.comparing.set(Some(comparing));
+        self.room.comparing.set(Some(comparing));
         if done {
             return Ok(None);
         }
@@ -299,8 +295,8 @@ impl<'s, 'w, W: Watch> Steps for Explorer<'s, 'w, W> {
 
     fn keep(&mut self, alloc: Global, node: &mut Node) -> Result<(), AllocError> {
         self.kept = node.size_with(self.kept);
-        self.bytes = node.fit(alloc)?;
-        let raised = self.take_raised();
+        self.room.bytes = node.fit(alloc)?;
+        let raised = self.room.take_raised();
         let entry = self.trails.enter(node.entry(), raised)?;
         let base = self.states.open(alloc, &self.current, entry, node.base())?;
         node.keep(entry, base);
@@ -309,7 +305,7 @@ impl<'s, 'w, W: Watch> Steps for Explorer<'s, 'w, W> {
     }
 
     fn take_back(&mut self, node: Node) {
-        self.bytes = node.into_bytes();
+        self.room.bytes = node.into_bytes();
     }
 
     fn settle(&mut self, node: &mut Node) {

@@ -10,7 +10,7 @@ use std::alloc::{AllocError, Global};
 
 /// A figure of a thing, by the thing's number in declaration order. RES_SCHEDULER stands behind the
 /// declared resources.
-#[derive(Clone, Copy, Debug, PartialEq, Eq)]
+#[derive(Clone, Copy, PartialEq)]
 pub enum Figure {
     /// The greatest response of a task.
     Response(usize),

@@ -14,6 +14,7 @@ mod finding;
 mod node;
 mod origin;
 mod raised;
+mod room;
 mod routines;
 mod states;
 mod stops;

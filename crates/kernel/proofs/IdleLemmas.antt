@@ -26,10 +26,14 @@ use Rattle.kernel.specs.Watches.{Watched, Watches, Begins, early, executing, las
 use Rattle.kernel.proofs.DoesLemmas.{does_nothing}
 use Rattle.kernel.proofs.QuietLemmas.{quiet_by_core}
 use Rattle.kernel.proofs.TickLemmas.{IsTicked, Phases, may_start, ticked}
+use Rattle.kernel.proofs.ToldLemmas.{both}
 
 -- no alarm acted
 abbrev pub none_acted : Acted
 none_acted = record { due = []; refused = [] }
+
+pub unacted : (S : System) (o : Kept) → due_alarms S (bare o) ≡ [] → none_acted ≡ acted_in S o
+unacted S o none = sym (ap (λ due. both due (refused_of_in S due (advanced_in S o))) none)
 
 -- ---- what is looked at in such a tick
 
@@ -56,12 +60,6 @@ module _ (S : System) (o : Kept) (quiet : IsQuiet S o) where
         ap (λ (r : KeptRecorded). reschedule_restamped S u (arrival_phase_in [] r.state) (alarm_phase_restamped S u o xs)) (alarm_phase_silent S o size none)
         ∙ unpreempted u (alarm_phase_restamped S u o xs)
         ∙ ap (λ due. alarms_restamped S u due (record o { alarms = alarms_advanced S (bare o) }) xs) none
-
-    unacted : none_acted ≡ acted_in S o
-    unacted = sym (ap (λ due. both due (refused_of_in S due (advanced_in S o))) none)
-      where
-        both : List ℕ → List ℕ → Acted
-        both due refused = record { due = due; refused = refused }
 
 -- ---- a tick
 
@@ -126,7 +124,7 @@ module _ (counted : Bool) (n : ℕ) (w : Watched) (opening : List TraceEvent) (a
   idle_ticked : IsTicked counted [] (between w n opening acted) (between (idled w) (n + 1) [] none_acted) n (opening ++ TraceEvent.Idle ∷ [])
   idle_ticked =
       ticked counted [] n w (watched_at w n) (watched_at (idled w) n) (watched_at (idled w) n) (watched_at (idled w) n) opening [] opening opening [] [] acted none_acted
-      TraceEvent.Idle h low quiet.on tt refl refl (unacted S o quiet size none) phases
+      TraceEvent.Idle h low quiet.on tt refl refl (unacted S o none) phases
 
 -- ---- some ticks
 

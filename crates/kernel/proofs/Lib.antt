@@ -24,6 +24,8 @@ pub mod TickLemmas
 pub mod QuietLemmas
 pub mod IdleLemmas
 pub mod IdleRuns
+pub mod SteadyLemmas
+pub mod SteadyRuns
 pub mod BootStamps
 pub mod BootLemmas
 pub mod LawLemmas

@@ -1,24 +1,24 @@
 //! OSEK/VDX OS: system services; the modelled processor. One instruction of who executes, by its kind.
 
-ghost use Rattle.std.specs.Prelude.{◌≡◌, ◌<◌, ◌+◌, ◌∷◌, [], true, false, length};
+ghost use Rattle.std.specs.Prelude.{◌≡◌, ◌<◌, ◌+◌, ◌∷◌, ◌++◌, [], true, false, length};
 ghost use Rattle.osek_base.specs.declared.trace_event.Outcome.{Outcome};
 ghost use Rattle.osek_base.specs.declared.trace_event.TraceEvent.{TraceEvent};
 ghost use Rattle.osek_base.specs.declared.instr.Instr.{Instr};
-ghost use Rattle.osek_base.specs.Tick.{shutdown_record};
-ghost use Rattle.machine.specs.Packed.{instr_of, is_control, is_plain};
+ghost use Rattle.osek_base.specs.declared.trace_event.Source.{Source};
+ghost use Rattle.osek_base.specs.Tick.{error_record, shutdown_record};
+ghost use Rattle.machine.specs.Packed.{instr_of, is_control, is_plain, service_of};
 ghost use Rattle.kept_state.specs.KeptTick.{execute_phase_in};
 ghost use Rattle.blocking_laws.specs.Restamping.{named_by};
 ghost use Rattle.kernel.specs.Processor.{ComesTo, IsNext, MayFetch};
 ghost use Rattle.kernel.specs.Does.{Adds, Does, DoesWithin};
-ghost use Rattle.kernel.specs.Controls.{control_context, ends_routine};
+ghost use Rattle.kernel.specs.Controls.{IsCall, control_context, ends_routine};
 
-use crate::alarm_phase::record_error;
 use crate::next::Next;
 use crate::processor::Processor;
 use machine::Cpu;
 use osek_base::{
     Control, Instr, MAX_INSTRUCTIONS, MAX_RECORDS, Outcome, Owner, Register, Service, Source,
-    System, TaskId, TickRecord, TraceEvent,
+    Status, System, TaskId, TickRecord, TraceEvent,
 };
 use ready_queues::ReadyQueues;
 
@@ -70,33 +70,51 @@ impl<'s, Q: ReadyQueues> Processor<'s, Q> {
 
     /// A service with a status, which goes to r0, with its results behind it.
     #[inline(always)]
-    pub fn execute_service(
-        &mut self,
-        next: &Next,
-        service: &Service<Register>,
-        behind: &mut TickRecord,
-    ) -> Outcome
+    pub fn execute_service(&mut self, next: &Next, behind: &mut TickRecord) -> Outcome
         requires comes { ComesTo self.old next.now behind.old }
-        requires service { instr_of next.now.packed ≡ Instr.Service service.now }
+        requires call { IsCall (instr_of next.now.packed) }
         ensures { DoesWithin 2 execute_phase_in self.old self.new []
             (TraceEvent.Executed next.now.owner next.now.place (instr_of next.now.packed) result
             ∷ behind.new) }
     {
-        let answer = self.core.serve(next.owner, service);
+        let answer = self.core.serve(next.owner, next.packed);
         let Some(status) = answer.status else {
             unreachable!()
         };
         self.core.answer(next.owner, status, answer.results);
-        let source = Source::Owner(next.owner);
-        record_error(
-            self.system,
-            source,
-            Instr::Service(*service),
-            status,
-            behind,
-        );
+        record_refusal(self.system, next, status, behind);
         Outcome::Answer(status, answer.results)
     }
+}
+
+/// Records what a service answers other than E_OK, where ErrorHook is on.
+#[inline(always)]
+fn record_refusal(system: &System, next: &Next, status: Status, behind: &mut TickRecord)
+    requires call { IsCall (instr_of next.now.packed) }
+    requires room { length behind.old < MAX_RECORDS }
+    ensures { Adds (error_record system.now (Source.Owner next.now.owner)
+        (Instr.Service (service_of (instr_of next.now.packed))) status) behind.old behind.new }
+{
+    if status != Status::Ok && system.hooks().error {
+        push_refusal(next, status, behind);
+    }
+}
+
+/// Adds an error record of the service that was executed. It alone unpacks the instruction again.
+#[inline(never)]
+fn push_refusal(next: &Next, status: Status, behind: &mut TickRecord)
+    requires call { IsCall (instr_of next.now.packed) }
+    requires room { length behind.old < MAX_RECORDS }
+    ensures { behind.new
+        ≡ behind.old
+        ++ TraceEvent.Error (Source.Owner next.now.owner)
+        (Instr.Service (service_of (instr_of next.now.packed))) status ∷ [] }
+{
+    behind.push(TraceEvent::Error(
+        Source::Owner(next.owner),
+        Instr::Service(next.packed.service()),
+        status,
+    ));
 }
 
 /// The task on which a service acts.

@@ -1,9 +1,9 @@
 //! OSEK/VDX OS: system services; the modelled processor. The last two phases of a tick: one instruction of who executes, and a
 //! reschedule.
 
-ghost use Rattle.std.specs.Prelude.{◌<◌, ◌∷◌, [], Some};
+ghost use Rattle.std.specs.Prelude.{◌≡◌, ◌<◌, ◌∷◌, [], Some, false, true};
 ghost use Rattle.osek_base.specs.declared.trace_event.TraceEvent.{TraceEvent};
-ghost use Rattle.machine.specs.Packed.{instr_of};
+ghost use Rattle.machine.specs.Packed.{instr_of, is_plain};
 ghost use Rattle.kernel.specs.Controls.{IsCall};
 ghost use Rattle.kernel.specs.Watches.{Begins, Finishes, IsReady, MayFinish, MayRun, WatchesWithin, executing};
 
@@ -55,11 +55,44 @@ impl<'s, Q: ReadyQueues, B: Blockers> Watched<'s, Q, B> {
 
     /// The last two phases, where somebody executes.
     #[inline(always)]
-    fn finish(&mut self, who: Owner, tick: u32, behind: &mut TickRecord) -> Executed
+    pub fn finish(&mut self, who: Owner, tick: u32, behind: &mut TickRecord) -> Executed
         requires { MayFinish B.are_counted self.old who behind.old }
         ensures { Finishes B.are_counted tick self.old self.new (Some result) behind.new }
     {
         let next = self.processor.next_of(&who);
+        if next.packed.is_plain() {
+            self.finish_plain(next, tick, behind)
+        } else {
+            self.finish_service(next, tick, behind)
+        }
+    }
+
+    /// The last two phases, where the instruction is a plain one. Its way to the end is its own, so
+    /// that most ticks wait for nothing that only services have.
+    #[inline(always)]
+    fn finish_plain(&mut self, next: Next, tick: u32, behind: &mut TickRecord) -> Executed
+        requires may { MayRun B.are_counted self.old next behind.old }
+        requires plain { is_plain (instr_of next.packed) ≡ true }
+        ensures { Finishes B.are_counted tick self.old self.new (Some result) behind.new }
+    {
+        let owner = next.owner;
+        let place = next.place;
+        let outcome = self.execute_plain(next, tick, behind);
+        self.last_phase(tick, behind);
+        Executed {
+            owner,
+            place,
+            outcome,
+        }
+    }
+
+    /// The last two phases, where the instruction is a service.
+    #[inline(always)]
+    fn finish_service(&mut self, next: Next, tick: u32, behind: &mut TickRecord) -> Executed
+        requires may { MayRun B.are_counted self.old next behind.old }
+        requires service { is_plain (instr_of next.packed) ≡ false }
+        ensures { Finishes B.are_counted tick self.old self.new (Some result) behind.new }
+    {
         let owner = next.owner;
         let place = next.place;
         let outcome = self.execute(next, tick, behind);
@@ -71,16 +104,26 @@ impl<'s, Q: ReadyQueues, B: Blockers> Watched<'s, Q, B> {
         }
     }
 
-    /// Who executes does its next instruction. Services with a status alone make, release or end jobs.
+    /// A plain instruction. It makes, releases or ends no job.
+    #[inline(always)]
+    fn execute_plain(&mut self, next: Next, tick: u32, behind: &TickRecord) -> Outcome
+        requires may { MayRun B.are_counted self.old next behind.now }
+        requires plain { is_plain (instr_of next.packed) ≡ true }
+        ensures { WatchesWithin B.are_counted 2 executing tick self.old self.new []
+            (TraceEvent.Executed next.owner next.place (instr_of next.packed) result ∷ behind.now) }
+    {
+        self.processor.execute_plain(next)
+    }
+
+    /// Who executes does a service. Those with a status alone make, release or end jobs.
     #[inline(always)]
     fn execute(&mut self, next: Next, tick: u32, behind: &mut TickRecord) -> Outcome
-        requires { MayRun B.are_counted self.old next behind.old }
+        requires may { MayRun B.are_counted self.old next behind.old }
+        requires service { is_plain (instr_of next.packed) ≡ false }
         ensures { WatchesWithin B.are_counted 2 executing tick self.old self.new []
             (TraceEvent.Executed next.owner next.place (instr_of next.packed) result ∷ behind.new) }
     {
-        if next.packed.is_plain() {
-            self.processor.execute_plain(next)
-        } else if next.packed.is_control() {
+        if next.packed.is_control() {
             self.processor.execute_control(&next, behind);
             Outcome::Control
         } else {
@@ -97,10 +140,13 @@ impl<'s, Q: ReadyQueues, B: Blockers> Watched<'s, Q, B> {
             (TraceEvent.Executed next.now.owner next.now.place (instr_of next.now.packed) result
             ∷ behind.new) }
     {
+        if !B::are_counted() {
+            return self.processor.execute_service(next, behind);
+        }
         let service = next.packed.service();
         let named = acting_task(&service);
         let before = self.processor.stand(&named);
-        let outcome = self.processor.execute_service(next, &service, behind);
+        let outcome = self.processor.execute_service(next, behind);
         let after = self.processor.stand(&named);
         self.blocking.executed_since(&before, &after, tick);
         outcome

@@ -1,6 +1,6 @@
 //! OSEK/VDX OS: system start-up; application modes. The kernel: a machine with all interrupts that arrive.
 
-ghost use Rattle.std.specs.Prelude.{◌≡◌, ◌<◌, ◌≤◌, ◌+◌, ◌-◌, ◌++◌, false, IfOk, map, slice_index, length};
+ghost use Rattle.std.specs.Prelude.{◌≡◌, ◌<◌, ◌≤◌, ◌+◌, ◌-◌, ◌++◌, [], false, IfOk, IsFalse, MatchOption, Some, map, slice_index, length};
 ghost use Rattle.osek_base.specs.BlockingText.{blockers_at};
 ghost use Rattle.osek_base.specs.Names.{number_of};
 ghost use Rattle.ready_queues.specs.LevelLists.{level_lists, by_level};
@@ -229,6 +229,27 @@ impl<'s, Q: ReadyQueues, B: Blockers> Kernel<'s, Q, B> {
         self.tick_with(&mut Unseen, before, behind)
     }
 
+    /// Does one tick, where no interrupt arrives in it and it is known that nothing comes before the
+    /// instruction of the running task: no alarm is due, no routine is pending, and a reschedule
+    /// would change nothing. Most ticks of a busy system are such. Answers what it executed;
+    /// `behind` becomes the records behind that of the instruction, and none stand before it. None
+    /// is where that isn't known: then nothing of the run changed, and a caller does the usual tick,
+    /// [`tick_parts`](Kernel::tick_parts).
+    #[inline(always)]
+    pub fn tick_steady(&mut self, behind: &mut TickRecord) -> Option<Executed>
+        requires { is_over self.old ≡ false }
+        ensures { MatchOption result (self.new ≡ self.old)
+            (λ e. HasRunApart self.old self.new [] (Some e) behind.new) }
+    {
+        let tick = self.machine.next_tick();
+        if arrives_in(self.arrivals.list(), self.arrived, tick) {
+            return None;
+        }
+        let executed = self.machine.tick_steady(behind)?;
+        self.earlier = self.arrived;
+        Some(executed)
+    }
+
     /// As [`tick_parts`](Kernel::tick_parts), and leaves what the tasks are when the instruction is executed: that is behind
     /// phases 1 to 4 of the tick, in which alarms act, interrupts arrive, a task is dispatched and a routine starts.
     pub fn tick_seen(
@@ -282,6 +303,15 @@ fn arrived_by(list: &[Arrival], arrived: usize, tick: u32) -> usize
         next += 1;
     }
     next
+}
+
+/// Whether an arrival of a list is in a tick, where so many had arrived before it.
+#[inline(always)]
+fn arrives_in(list: &[Arrival], arrived: usize, tick: u32) -> bool
+    requires { AreLeft list.now arrived tick }
+    ensures { IsFalse result → HaveArrived list.now tick arrived arrived }
+{
+    arrived < list.len() && list[arrived].tick == tick
 }
 
 /// How many of the ticks from one on, at most some, come before the next arrival, where so many have arrived.

@@ -1,7 +1,7 @@
 //! OSEK/VDX OS: system start-up; application modes. A booted system that does tick by tick, each with the interrupts that arrive
 //! in it.
 
-ghost use Rattle.std.specs.Prelude.{◌≡◌, ◌<◌, ◌≤◌, ◌+◌, [], IfOk, map, slice_index, length};
+ghost use Rattle.std.specs.Prelude.{◌≡◌, ◌<◌, ◌≤◌, ◌+◌, [], IfOk, MatchOption, Some, map, slice_index, length};
 ghost use Rattle.osek_base.specs.Lists.{below};
 ghost use Rattle.osek_base.specs.State.{shared_window};
 ghost use Rattle.kept_state.specs.KeptTick.{before_execution_in};
@@ -207,6 +207,29 @@ impl<'s, Q: ReadyQueues, B: Blockers> Machine<'s, Q, B> {
             (below (length (system_of self.old).tasks)) }
     {
         self.tick_with(arrived, at, before, behind)
+    }
+
+    /// Does one tick in which no interrupt arrives, where it is known that nothing comes before the
+    /// instruction of the running task: no alarm is due, no routine is pending, and a reschedule
+    /// would change nothing. Answers what it executed; `behind` becomes the records behind that of
+    /// the instruction, and none stand before it. None is where that isn't known, as in the first
+    /// tick: then the machine stays as it was, and a caller does the usual tick,
+    /// [`tick`](Machine::tick).
+    #[inline(always)]
+    pub fn tick_steady(&mut self, behind: &mut TickRecord) -> Option<Executed>
+        requires { MayTick [] self.old }
+        ensures { MatchOption result (self.new ≡ self.old)
+            (λ e. HasTicked B.are_counted [] self.old self.new [] (Some e) behind.new) }
+    {
+        if self.ticks == 0 {
+            return None;
+        }
+        let task = self.watched.begin_steady()?;
+        self.acted.clear();
+        behind.clear();
+        self.watched.begin(self.ticks);
+        self.ticks += 1;
+        Some(self.watched.finish(Owner::Task(task), self.ticks, behind))
     }
 
     /// As `tick`, with a look at the system when the instruction is executed.

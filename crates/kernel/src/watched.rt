@@ -1,11 +1,12 @@
 //! OSEK/VDX OS: alarms; interrupt processing; task management, scheduling policy. The phases of a tick round its instruction,
 //! in which the stamps follow that tell since when jobs are ready.
 
-ghost use Rattle.std.specs.Prelude.{◌≡◌, ◌<◌, ◌≤◌, ◌+◌, true, length};
+ghost use Rattle.std.specs.Prelude.{◌≡◌, ◌<◌, ◌≤◌, ◌+◌, MatchOption, true, length};
 ghost use Rattle.std.specs.List.{All};
 ghost use Rattle.kernel.specs.Does.{Adds};
 ghost use Rattle.kernel.specs.Idle.{Passes};
 ghost use Rattle.kernel.specs.Processor.{picture, system_of};
+ghost use Rattle.kernel.specs.Steady.{BeginsSteady};
 ghost use Rattle.kernel.specs.Told.{if_refused};
 ghost use Rattle.kernel.specs.Watches.{AlarmActs, AllAct, MayActAll, MayActNow, MayStart, Starts, WatchesWithin, early, last, phase_of_alarms, rescheduling};
 
@@ -15,7 +16,7 @@ use crate::blocking::Blocking;
 use crate::looker::Looker;
 use crate::processor::Processor;
 use alarms::DueList;
-use osek_base::{AlarmId, IsrId, MAX_ALARMS, MAX_RECORDS, MAX_TICKS, Status, TickRecord};
+use osek_base::{AlarmId, IsrId, MAX_ALARMS, MAX_RECORDS, MAX_TICKS, Status, TaskId, TickRecord};
 use ready_queues::ReadyQueues;
 use std::marker::Model;
 
@@ -59,6 +60,16 @@ impl<'s, Q: ReadyQueues, B: Blockers> Watched<'s, Q, B> {
         self.processor.arrival_phase(arrived);
         self.reschedule(tick, before);
         self.processor.start_phase();
+    }
+
+    /// The first four phases of a tick in which no interrupt arrives, where it is known that they do
+    /// nothing but begin it, and that a task executes then. Answers that task; else nothing changes.
+    #[inline(always)]
+    pub fn begin_steady(&mut self) -> Option<TaskId>
+        requires { self.old.processor.objects.tick + 1 < MAX_TICKS }
+        ensures { MatchOption result (self.new ≡ self.old) (BeginsSteady self.old self.new) }
+    {
+        self.processor.begin_steady()
     }
 
     /// The ticks that follow pass, at most some, up to the one before the first in which an alarm is due; nobody executes in
@@ -141,9 +152,13 @@ impl<'s, Q: ReadyQueues, B: Blockers> Watched<'s, Q, B> {
             self.new records.old records.new }
     {
         if !self.processor.is_dispatched() {
-            let runner = self.processor.reschedule(records);
-            self.blocking
-                .preempted(runner, &self.processor.running(), tick);
+            if B::are_counted() {
+                let runner = self.processor.reschedule(records);
+                self.blocking
+                    .preempted(runner, &self.processor.running(), tick);
+            } else {
+                self.processor.reschedule_alone(records);
+            }
         }
     }
 
@@ -154,7 +169,7 @@ impl<'s, Q: ReadyQueues, B: Blockers> Watched<'s, Q, B> {
         ensures { WatchesWithin B.are_counted (length records.old + 2) last tick self.old self.new
             records.old records.new }
     {
-        if !self.processor.is_over() {
+        if !self.processor.is_dispatched() && !self.processor.is_over() {
             self.reschedule(tick, records);
         }
     }

@@ -136,17 +136,8 @@ refused_in : (S : System) (d : KeptCaller) (o : Kept) (call : ServiceCall) (refu
 refused_in S d o call None h = absurd (grind arith)
 refused_in S d o call (Some refusal) h = refl
 
-refused_service : (S : System) (o : Kept) (call : ServiceCall) → is_refusal (Some (served_in S o call).status) ≡ true
+pub refused_service : (S : System) (o : Kept) (call : ServiceCall) → is_refusal (Some (served_in S o call).status) ≡ true
     → (served_in S o call).state ≡ o
 unfolding service_in
 refused_service S o call h =
     refused_in S (caller_in o) o call (first_refusal ((interrupts_off (bare o), Status.SysDisabled) ∷ refusals_in S (caller_in o) o call)) h
-
-pub served_dispatched : (o n : Objects) (call : ServiceCall) (known : Bool) (answer : Answer) → Answers call o n answer
-    → (known ≡ true → is_dispatched_in o.system (kept_in o) ≡ true) → (known && is_refusal answer.status) ≡ true
-    → is_dispatched_in n.system (kept_in n) ≡ true
-served_dispatched o n call known answer answers before h =
-    let both = and_split known (is_refusal answer.status) h in
-    ap₂ is_dispatched_in answers.system
-    (answers.kept ∙ refused_service o.system (kept_in o) call (ap is_refusal (sym answers.status) ∙ both.1))
-    ∙ before both.0

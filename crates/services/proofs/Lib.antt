@@ -5,9 +5,11 @@ pub mod StandsLemmas
 pub mod CallerLemmas
 pub mod AlarmLemmas
 pub mod DispatchedLemmas
+pub mod SteadyLemmas
 pub mod RescheduledLemmas
 pub mod AsDefinedLemmas
 pub mod StepLemmas
 pub mod CompactLemmas
 pub mod CopyLemmas
 pub mod ReleasedLemmas
+pub mod ServedLemmas

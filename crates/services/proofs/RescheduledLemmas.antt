@@ -116,11 +116,11 @@ module _ (S : System) where
       sym (ap (is_dispatched_in S) is) ∙ state_dispatched s standing (sym (ap may_dispatch_in same) ∙ may)
 
 -- what is known after a reschedule
-pub core_rescheduled : (o n : Objects) (was : Bool) → n.system ≡ o.system → IsCore o was → kept_in n ≡ (rescheduled o.system (kept_in o)).state
+pub core_rescheduled : (o n : Objects) (was settled : Bool) → n.system ≡ o.system → IsCore o was settled → kept_in n ≡ (rescheduled o.system (kept_in o)).state
     → (was || may_dispatch_in (kept_in o)) ≡ true → is_dispatched_in n.system (kept_in n) ≡ true
-core_rescheduled o n true system core new known =
+core_rescheduled o n true settled system core new known =
     ap₂ is_dispatched_in system (new ∙ ap (λ (r : KeptRecorded). r.state) (rescheduled_again o.system (kept_in o) (core.dispatched refl))) ∙ core.dispatched refl
-core_rescheduled o n false system core new known = go core.stands
+core_rescheduled o n false settled system core new known = go core.stands
   where
     go : Stands o → is_dispatched_in n.system (kept_in n) ≡ true
     go (s, stands) =

@@ -70,9 +70,9 @@ fit_where_stands o (s, stands) =
       woken = fits.woken;
     }
 
--- objects of which it isn't known whether they are dispatched
-pub known_to_stand : {o : Objects} → Stands o → IsCore o false
-known_to_stand stands = record { stands = stands; dispatched = λ known. absurd (grind arith) }
+-- objects of which it isn't known whether they are dispatched, or settled
+pub known_to_stand : {o : Objects} → Stands o → IsCore o false false
+known_to_stand stands = record { stands = stands; dispatched = λ known. absurd (grind arith); settled = λ known. absurd (grind arith) }
 
 -- no task has more jobs than any may have
 pub few_jobs : (o : Objects) → Stands o → (t : ℕ) → t < length o.system.tasks → (by_task o.slots t).count ≤ MAX_ACTIVATION

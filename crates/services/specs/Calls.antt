@@ -4,6 +4,9 @@ use Rattle.osek_base.specs.declared.ids.Owner.{Owner}
 use Rattle.osek_base.specs.declared.ids.ResId.{ResId}
 use Rattle.osek_base.specs.declared.instr.Service.{Service}
 use Rattle.osek_base.specs.Types.{ServiceCall}
+use Rattle.osek_base.specs.Tick.{at_values}
+use Rattle.machine.specs.declared.packed_instr.PackedInstr.{PackedInstr}
+use Rattle.machine.specs.Packed.{instr_of, is_control, is_plain, service_of}
 use Rattle.osek_base.specs.System.{System}
 use Rattle.osek_base.specs.Instruction.{Context}
 use Rattle.osek_base.specs.State.{Active, fresh_context}
@@ -112,3 +115,14 @@ pub record IsSameCaller (o n : Objects) : Type 0 where
   pub running : n.running ≡ o.running
   pub active : IsSameActive o.active n.active
   pub contexts : (t : ℕ) → n.gone ≡ false → context_in (kept_in n) (Owner.Task t) ≡ context_in (kept_in o) (Owner.Task t)
+
+-- ---- a service of a program
+
+-- the instruction is a service with a status
+pub record IsService (packed : PackedInstr) : Type 0 where
+  pub plain : is_plain (instr_of packed) ≡ false
+  pub control : is_control (instr_of packed) ≡ false
+
+-- it asks with the values of the registers of who executes
+abbrev pub call_of : PackedInstr → Owner → Objects → ServiceCall
+call_of packed owner o = at_values (context_in (kept_in o) owner) (service_of (instr_of packed))

@@ -1,6 +1,8 @@
 -- OSEK/VDX OS: task management, scheduling policy. From where a task is dispatched, and where a reschedule changes nothing.
 use Rattle.std.specs.Prelude.{ℕ, suc, ◌≡◌, ◌<◌, ◌≤◌, Bool, true, false, not, ◌&&◌, if◌then◌else◌, List, [], Option, Some, None, is_some, length}
 use Rattle.osek_base.specs.declared.status.Status.{Status}
+use Rattle.osek_base.specs.declared.instr.Service.{Service}
+use Rattle.osek_base.specs.Types.{ServiceCall}
 use Rattle.osek_base.specs.System.{System}
 use Rattle.osek_base.specs.Ceiling.{internal_ceiling, top_priority}
 use Rattle.kept_state.specs.Kept.{Kept, Slot}
@@ -8,6 +10,7 @@ use Rattle.ready_queues.specs.QueueMoves.{first, highest}
 use Rattle.kept_state.specs.Moves.{dynamic_in}
 use Rattle.kept_state.specs.KeptService.{is_above}
 use Rattle.services.specs.Objects.{Objects, Stands, kept_in}
+use Rattle.services.specs.Quiet.{IsSettled}
 
 -- the level is the highest that has a task, and its first one exists
 pub record IsHighest (S : System) (q : ℕ → List ℕ) (l : ℕ) : Type 0 where
@@ -38,7 +41,19 @@ is_refusal None = false
 is_refusal (Some Status.Ok) = false
 is_refusal (Some refusal) = true
 
--- objects that stand for a state, and whether they are known to be dispatched
-pub record IsCore (o : Objects) (known : Bool) : Type 0 where
+-- whether a service may call for a reschedule
+abbrev pub may_dispatch : ServiceCall → Bool
+may_dispatch (Service.ActivateTask t) = true
+may_dispatch Service.TerminateTask = true
+may_dispatch (Service.ChainTask t) = true
+may_dispatch Service.Schedule = true
+may_dispatch (Service.ReleaseResource r) = true
+may_dispatch (Service.SetEvent t m) = true
+may_dispatch (Service.WaitEvent m) = true
+may_dispatch _ = false
+
+-- objects that stand for a state, whether they are known to be dispatched, and whether to be settled
+pub record IsCore (o : Objects) (known still : Bool) : Type 0 where
   pub stands : Stands o
   pub dispatched : known ≡ true → is_dispatched_in o.system (kept_in o) ≡ true
+  pub settled : still ≡ true → IsSettled o.system (kept_in o)

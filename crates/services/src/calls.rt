@@ -3,14 +3,14 @@
 ghost use Rattle.std.specs.Prelude.{◌≡◌, Some};
 ghost use Rattle.osek_base.specs.declared.status.Status.{Status};
 ghost use Rattle.osek_base.specs.declared.trace_event.Results.{Results};
-ghost use Rattle.osek_base.specs.Tick.{at_values};
 ghost use Rattle.services.specs.Dispatched.{is_refusal};
 ghost use Rattle.services.specs.Objects.{kept_in, AreFit};
-ghost use Rattle.services.specs.Calls.{context_in, IsKnown, IsOnAlarm, IsThere};
+ghost use Rattle.services.specs.Calls.{call_of, IsKnown, IsOnAlarm, IsService, IsThere};
 ghost use Rattle.services.specs.Steps.{Answers, Replies};
 
 use crate::objects::Objects;
-use osek_base::{Owner, Register, Results, Service, Status};
+use machine::PackedInstr;
+use osek_base::{Owner, Results, Service, Status};
 use ready_queues::ReadyQueues;
 
 /// What a service answers: its status, None for a service without one, and at most three results, which come with E_OK
@@ -69,21 +69,21 @@ impl Answer {
 
 impl<'s, Q: ReadyQueues> Objects<'s, Q> {
     /// A service of a program with a status, by who executes, with the values of its registers. It is refused with 32 while
-    /// interrupts are off.
+    /// interrupts are off, and unpacked only where they are on.
     #[tactic(auto, unfolding(kept_state::specs::KeptService::service_in, kept_state::specs::KeptService::unasked_in))]
     #[inline(always)]
-    pub fn serve_program(&mut self, owner: Owner, service: &Service<Register>) -> Answer
+    pub fn serve_program(&mut self, owner: Owner, packed: PackedInstr) -> Answer
         requires fit { AreFit self.old }
         requires who { IsThere self.old owner }
-        requires known { IsKnown self.old.system
-            (at_values (context_in (kept_in self.old) owner) service.now) }
-        ensures { Answers (at_values (context_in (kept_in self.old) owner) service.now) self.old
-            self.new result }
+        requires call { IsService packed }
+        requires known { IsKnown self.old.system (call_of packed owner self.old) }
+        ensures { Answers (call_of packed owner self.old) self.old self.new result }
     {
         if self.interrupts_off() {
             return Answer::plain(Status::SysDisabled);
         }
-        let call = self.with_values(owner, service);
+        let cpu = self.cpu_of(owner);
+        let call = cpu.with_values(&packed.service());
         self.serve(&call)
     }
 

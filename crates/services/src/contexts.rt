@@ -3,7 +3,7 @@
 ghost use Rattle.std.specs.Prelude.{◌≡◌, ◌<◌, ◌+◌, ◌↔◌, IsTrue};
 ghost use Rattle.std.specs.Borrow.{sem};
 ghost use Rattle.osek_base.specs.Instruction.{Context};
-ghost use Rattle.osek_base.specs.Tick.{answered, at_values};
+ghost use Rattle.osek_base.specs.Tick.{answered};
 ghost use Rattle.kept_state.specs.KeptTick.{with_context_in};
 ghost use Rattle.services.specs.Objects.{kept_in};
 ghost use Rattle.services.specs.Calls.{caller_as, context_in, IsThere, MayGoOn};
@@ -12,7 +12,7 @@ ghost use Rattle.services.specs.Steps.{Becomes};
 
 use crate::objects::Objects;
 use machine::{Cpu, PackedInstr, Windows, exec_packed};
-use osek_base::{Effect, MAX_INSTRUCTIONS, Owner, Register, Results, Service, Status};
+use osek_base::{Effect, MAX_INSTRUCTIONS, Owner, Results, Status};
 use ready_queues::ReadyQueues;
 
 impl<'s, Q: ReadyQueues> Objects<'s, Q> {
@@ -67,15 +67,6 @@ impl<'s, Q: ReadyQueues> Objects<'s, Q> {
                 Some(active) => active.cpu_mut(),
             },
         }
-    }
-
-    /// A service of a program with the values of the registers of who executes.
-    #[inline(always)]
-    pub fn with_values(&self, owner: Owner, service: &Service<Register>) -> Service<u32>
-        requires who { IsThere self.now owner }
-        ensures { result ≡ at_values (context_in (kept_in self.now) owner) service.now }
-    {
-        self.cpu_of(owner).with_values(service)
     }
 
     /// A plain instruction of who executes, on its registers, its place and its window.

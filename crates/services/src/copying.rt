@@ -39,6 +39,7 @@ impl<'s, Q: CopyQueues> Core<'s, Q> {
     {
         self.objects.copy_from(&other.objects);
         self.is_dispatched = other.is_dispatched;
+        self.is_settled = other.is_settled;
     }
 }
 

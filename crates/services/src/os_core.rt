@@ -1,9 +1,9 @@
 //! OSEK/VDX OS: system services. The core of a kernel: the objects of a running system, which stand for a state of it.
 
-ghost use Rattle.std.specs.Prelude.{◌≡◌, ◌<◌, ◌≤◌, ◌+◌, ◌&&◌, ◌||◌, IfOk, IfSome, MatchOption, Some, false, true, slice_index, slice_set, length};
+ghost use Rattle.std.specs.Prelude.{◌≡◌, ◌<◌, ◌≤◌, ◌+◌, ◌&&◌, ◌||◌, IfOk, IfSome, MatchOption, Some, false, true, slice_index, slice_set, length, not};
 ghost use Rattle.osek_base.specs.declared.instr.Service.{Service};
 ghost use Rattle.osek_base.specs.State.{shared_window, still};
-ghost use Rattle.osek_base.specs.Tick.{answered, at_values};
+ghost use Rattle.osek_base.specs.Tick.{answered};
 ghost use Rattle.osek_base.specs.Trace.{starting_alarms};
 ghost use Rattle.run_laws.proofs.Formed.{IsPlaced};
 ghost use Rattle.kept_state.specs.KeptService.{ByNobody, caller_in};
@@ -11,8 +11,9 @@ ghost use Rattle.kept_state.specs.KeptTick.{silent_in, start_phase_in, still_in,
 ghost use Rattle.kept_state.specs.Moves.{contender, rescheduled};
 ghost use Rattle.kept_state.specs.Standing.{MayServe, runner_waits};
 ghost use Rattle.services.specs.AsDefined.{HasActed, IsControlled, IsServed};
-ghost use Rattle.services.specs.Calls.{IsExecuting, IsKnown, IsThere, MayGoOn, caller_as, context_in};
-ghost use Rattle.services.specs.Dispatched.{is_refusal};
+ghost use Rattle.services.specs.Calls.{call_of, IsExecuting, IsKnown, IsService, IsThere, MayGoOn, caller_as, context_in};
+ghost use Rattle.services.specs.Dispatched.{is_refusal, may_dispatch};
+ghost use Rattle.machine.specs.Packed.{instr_of, service_of};
 ghost use Rattle.services.specs.Objects.{StandsFor, kept_in};
 ghost use Rattle.services.specs.PlainSteps.{ExecutesPlain, IsPlainAt, plain_context};
 ghost use Rattle.services.specs.Steps.{Advances, Becomes, Does};
@@ -40,6 +41,8 @@ pub struct Core<'s, Q: ReadyQueues> {
     pub(crate) objects: Objects<'s, Q>,
     /// Set only where a reschedule changes nothing; each step that may call for one takes it back.
     pub(crate) is_dispatched: bool,
+    /// Set only where no ShutdownOS ended the run, a task runs, and no routine is active or pending.
+    pub(crate) is_settled: bool,
 }
 
 impl<'s, Q: ReadyQueues> Model for Core<'s, Q> {
@@ -50,15 +53,35 @@ impl<'s, Q: ReadyQueues> Model for Core<'s, Q> {
 
     ghost view = { λ c. c.objects };
 
-    ghost invariant = { λ c. IsCore c.objects c.is_dispatched };
+    ghost invariant = { λ c. IsCore c.objects c.is_dispatched c.is_settled };
 }
 
-/// Whether a reschedule is still known to change nothing after a call: a refused one changed nothing.
+/// Whether a service may call for a reschedule: each but those that change nothing of who is to run.
 #[inline(always)]
-fn stays_known(known: bool, answer: &Answer) -> bool
-    ensures { result ≡ (known && is_refusal answer.now.status) }
+fn may_dispatch(service: &Service<Register>) -> bool
+    ensures { result ≡ may_dispatch service.now }
 {
-    known && answer.is_refusal()
+    match service {
+        Service::ActivateTask(_)
+        | Service::TerminateTask
+        | Service::ChainTask(_)
+        | Service::Schedule
+        | Service::ReleaseResource(_)
+        | Service::SetEvent(..)
+        | Service::WaitEvent(_) => true,
+        _ => false,
+    }
+}
+
+/// Whether what was known of who is to run still is after a service: a refused one changed nothing.
+#[inline(always)]
+fn stays_known(known: bool, answer: &Answer, packed: PackedInstr) -> bool
+    requires { IsService packed }
+    ensures { result
+        ≡ (known && (is_refusal answer.now.status
+        || not (may_dispatch (service_of (instr_of packed))))) }
+{
+    known && (answer.is_refusal() || !may_dispatch(&packed.service()))
 }
 
 /// After a reschedule, another is known to change nothing where it could dispatch.
@@ -82,6 +105,7 @@ impl<'s, Q: ReadyQueues> Core<'s, Q> {
         Ok(Core {
             objects: Objects::new(alloc, system)?,
             is_dispatched: false,
+            is_settled: false,
         })
     }
 
@@ -128,6 +152,7 @@ impl<'s, Q: ReadyQueues> Core<'s, Q> {
         ensures { HasActed (Service.ActivateTask (Some task)) self.old self.new result }
     {
         self.is_dispatched = false;
+        self.is_settled = false;
         self.objects.activate(task)
     }
 
@@ -139,6 +164,7 @@ impl<'s, Q: ReadyQueues> Core<'s, Q> {
         ensures { HasActed (Service.SetEvent (Some task) mask) self.old self.new result }
     {
         self.is_dispatched = false;
+        self.is_settled = false;
         self.objects.set_event(task, mask)
     }
 
@@ -150,22 +176,23 @@ impl<'s, Q: ReadyQueues> Core<'s, Q> {
         ensures { IsControlled control.now self.old self.new }
     {
         self.is_dispatched = false;
+        self.is_settled = false;
         self.objects.control(control);
     }
 
     /// A service of a program with a status, by who executes, with the values of its registers. While interrupts are off, it
     /// is answered 32, and nothing changes.
     #[inline(always)]
-    pub fn serve(&mut self, owner: Owner, service: &Service<Register>) -> Answer
+    pub fn serve(&mut self, owner: Owner, packed: PackedInstr) -> Answer
         requires who { IsExecuting (kept_in self.old) owner }
-        requires known { IsKnown self.old.system
-            (at_values (context_in (kept_in self.old) owner) service.now) }
+        requires call { IsService packed }
+        requires known { IsKnown self.old.system (call_of packed owner self.old) }
         requires serves { MayServe self.old.system (kept_in self.old) }
-        ensures { IsServed (at_values (context_in (kept_in self.old) owner) service.now) self.old
-            self.new result }
+        ensures { IsServed (call_of packed owner self.old) self.old self.new result }
     {
-        let answer = self.objects.serve_program(owner, service);
-        self.is_dispatched = stays_known(self.is_dispatched, &answer);
+        let answer = self.objects.serve_program(owner, packed);
+        self.is_dispatched = stays_known(self.is_dispatched, &answer, packed);
+        self.is_settled = stays_known(self.is_settled, &answer, packed);
         answer
     }
 
@@ -191,6 +218,7 @@ impl<'s, Q: ReadyQueues> Core<'s, Q> {
         let runner = self.objects.contender();
         let could = self.objects.reschedule(&runner, record_of_tick);
         becomes_known(&mut self.is_dispatched, could);
+        self.is_settled = self.objects.is_settled();
         runner
     }
 
@@ -209,6 +237,7 @@ impl<'s, Q: ReadyQueues> Core<'s, Q> {
         requires { routine < length self.old.system.routines }
         ensures { self.new ≡ record self.old { pending = slice_set self.old.pending routine true } }
     {
+        self.is_settled = false;
         self.objects.arrive(routine);
     }
 

@@ -1,13 +1,13 @@
 //! OSEK/VDX OS: task management, alarms. Ticks in which nothing happens.
 
-ghost use Rattle.std.specs.Prelude.{◌≡◌, ◌<◌, ◌≤◌, ◌+◌, [], true};
+ghost use Rattle.std.specs.Prelude.{◌≡◌, ◌<◌, ◌≤◌, ◌+◌, [], true, IfSome, IsTrue, IsFalse};
 ghost use Rattle.kept_state.specs.Quiet.{IsQuiet};
 ghost use Rattle.services.specs.Objects.{kept_in};
-ghost use Rattle.services.specs.Quiet.{HasPassed, IsIdle, due_next};
+ghost use Rattle.services.specs.Quiet.{HasPassed, IsIdle, IsSettled, IsSteady, due_next};
 
 use crate::objects::Objects;
 use crate::os_core::Core;
-use osek_base::MAX_TICKS;
+use osek_base::{MAX_TICKS, TaskId};
 use ready_queues::ReadyQueues;
 
 impl<'s, Q: ReadyQueues> Objects<'s, Q> {
@@ -20,6 +20,27 @@ impl<'s, Q: ReadyQueues> Objects<'s, Q> {
             return false;
         }
         self.pending_routine().is_none()
+    }
+
+    /// Whether no ShutdownOS ended the run, a task runs, and no routine is active or pending.
+    #[inline(always)]
+    pub fn is_settled(&self) -> bool
+        ensures { result ≡ true → IsSettled self.now.system (kept_in self.now) }
+    {
+        if self.running.is_none() || self.active.is_some() || self.over {
+            return false;
+        }
+        self.pending_routine().is_none()
+    }
+
+    /// The next tick begins, where it is known that no alarm is due in it. Answers whether it does.
+    #[inline(always)]
+    fn begin_quiet(&mut self) -> bool
+        requires { self.old.tick + 1 < MAX_TICKS }
+        ensures begins { IsTrue result → HasPassed 1 self.old self.new }
+        ensures stays { IsFalse result → self.new ≡ self.old }
+    {
+        self.alarms.pass_quiet()
     }
 
     /// The ticks that follow pass, at most some, up to the one before the first in which an alarm is due. Answers how many
@@ -43,6 +64,29 @@ impl<'s, Q: ReadyQueues> Core<'s, Q> {
         ensures { result ≡ true → IsQuiet self.now.system (kept_in self.now) }
     {
         self.objects.is_idle() && self.is_dispatched
+    }
+
+    /// The task that executes in a tick in which no alarm is due and no interrupt arrives, where it is known that nothing else
+    /// comes before its instruction.
+    #[inline(always)]
+    pub fn steady_task(&self) -> Option<TaskId>
+        ensures { IfSome result (IsSteady self.now.system (kept_in self.now)) }
+    {
+        if self.is_dispatched && self.is_settled {
+            self.objects.running()
+        } else {
+            None
+        }
+    }
+
+    /// The next tick begins, where it is known that no alarm is due in it. Answers whether it does; else nothing changes.
+    #[inline(always)]
+    pub fn begin_quiet(&mut self) -> bool
+        requires { self.old.tick + 1 < MAX_TICKS }
+        ensures begins { IsTrue result → HasPassed 1 self.old self.new }
+        ensures stays { IsFalse result → self.new ≡ self.old }
+    {
+        self.objects.begin_quiet()
     }
 
     /// The ticks that follow pass, at most some, up to the one before the first in which an alarm is due. Answers how many

@@ -22,4 +22,4 @@ pub use line::{LineText, line_text};
 pub use sink::{Sink, SinkFault, StdSink};
 pub use tick_text::TickText;
 pub use view::{upper_view, upper_view_into};
-pub use written_records::{write_tick, write_tick_parts};
+pub use written_records::{write_from_executed, write_tick, write_tick_parts};

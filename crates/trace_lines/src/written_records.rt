@@ -156,6 +156,27 @@ fn write_executed_parts<S: Sink>(
     write_tick(texts, tick, number, behind, text, out)
 }
 
+/// Writes the lines of a tick of which that of what it executed is the first by way of the block.
+#[inline(always)]
+pub fn write_from_executed<S: Sink>(
+    texts: &InstructionTexts<'_>,
+    tick: &TickText,
+    number: Option<u32>,
+    executed: &Executed,
+    behind: &TickRecord,
+    text: &mut Block,
+    out: &mut S,
+) -> Result<(), SinkFault>
+    requires placed { StandsIn texts.now executed.now }
+    requires behind { AllByRecursion (IsOfProgram texts.now) behind.now }
+    ensures { PutsBehind S.taken S.has_failed out.old out.new text.old text.new
+        (tick_text texts.now.names tick.now number
+        (executed_record texts.now executed.now ∷ behind.now)) result }
+{
+    write_executed(texts, tick, number, executed, text, out)?;
+    write_tick(texts, tick, number, behind, text, out)
+}
+
 /// Writes the lines of a tick in which nobody executed by way of the block.
 #[inline(never)]
 fn write_idle_parts<S: Sink>(

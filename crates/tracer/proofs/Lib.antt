@@ -5,3 +5,4 @@ pub mod TraceLemmas
 pub mod WritesLemmas
 pub mod AloneLemmas
 pub mod IdleTickLemmas
+pub mod TickLines

@@ -22,7 +22,7 @@ use osek_base::{MAX_TICKS, TickRecord};
 use ready_queues::LevelQueues;
 use trace_lines::{
     Block, IdleWord, InstructionTexts, Sink, SinkFault, TickText, flush, upper_view_into,
-    write_idle_ticks, write_tick, write_tick_parts,
+    write_from_executed, write_idle_ticks, write_tick, write_tick_parts,
 };
 
 /// What the lines of a run are made of besides its records: what is shown of it and the texts of its
@@ -83,9 +83,9 @@ fn number_shown<B: Blockers>(kernel: &Kernel<'_, LevelQueues, B>, shown: Shown) 
     }
 }
 
-/// Does a tick, and writes all its records by way of the block.
-#[inline(always)]
-fn pass_whole<B: Blockers, S: Sink>(
+/// Does a tick of any kind, and writes all its records by way of the block.
+#[inline(never)]
+fn pass_any<B: Blockers, S: Sink>(
     kernel: &mut Kernel<'_, LevelQueues, B>,
     lines: &LineTexts<'_, '_>,
     room: &mut Room,
@@ -110,6 +110,38 @@ fn pass_whole<B: Blockers, S: Sink>(
         &mut room.text,
         out,
     )
+}
+
+/// Does a tick, and writes all its records by way of the block. Of most ticks that of the instruction is the first.
+#[inline(always)]
+fn pass_whole<B: Blockers, S: Sink>(
+    kernel: &mut Kernel<'_, LevelQueues, B>,
+    lines: &LineTexts<'_, '_>,
+    room: &mut Room,
+    out: &mut S,
+) -> Result<(), SinkFault>
+    requires ready { MayPass lines.now.texts.now lines.now.shown B.are_counted lines.now.digits
+        kernel.old }
+    requires all { (told : List TraceEvent)
+        → records_shown lines.now.texts.now lines.now.shown told ≡ told }
+    ensures { TickPasses S.taken S.has_failed lines.now.texts.now lines.now.shown kernel.old
+        kernel.new out.old out.new room.old.text room.new.text result }
+{
+    match kernel.tick_steady(&mut room.others) {
+        None => pass_any(kernel, lines, room, out),
+        Some(executed) => {
+            let number = number_shown(kernel, lines.shown);
+            write_from_executed(
+                lines.texts,
+                &lines.digits,
+                number,
+                &executed,
+                &room.others,
+                &mut room.text,
+                out,
+            )
+        }
+    }
 }
 
 /// Does a tick, and writes what is shown of it by way of the block.

@@ -26,7 +26,7 @@ const LENGTHS: u32 = 5;
 
 /// A run that comes twice to one state while a job of a task stands, so that it can be gone on
 /// without end: what arrives from the one tick on comes once more behind the other, and so on.
-#[derive(Debug, Drop)]
+#[derive(Drop)]
 pub struct Endless {
     /// Those before `until`.
     pub arrivals: Arrivals,

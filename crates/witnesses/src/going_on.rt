@@ -5,7 +5,7 @@ use osek_base::{Arrival, IsrId, MAX_ROUTINES};
 use std::alloc::{AllocError, Global};
 
 /// How interrupts go on.
-#[derive(Clone, Copy, Debug, PartialEq, Eq)]
+#[derive(Clone, Copy, PartialEq)]
 pub(crate) enum GoingOn {
     /// None comes any more.
     Never,

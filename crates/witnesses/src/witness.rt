@@ -12,7 +12,7 @@ use osek_base::{Arrival, Arrivals, ModeId, System};
 use std::alloc::{AllocError, Global};
 
 /// Arrivals that keep distances, and behind how many ticks their run shows a figure.
-#[derive(Debug, Drop)]
+#[derive(Drop)]
 pub struct Witness {
     pub arrivals: Arrivals,
     /// 0 to 1,000,000.

@@ -10,12 +10,12 @@ loop-number-preserved c =
     let low : c.loop-number.number < length c.args.counters.now.items = omega (arith, c.loop-number-test.true, c.len-number-end.ensures.value) in
     let element : get_or c.deref_mut.result.now c.loop-number.number c.index-deref_mut-number.result ≡ counter_at c.loop-number.counters.items c.loop-number.number =
     rw c.deref_mut.ensures.value (get_or_default c.loop-number.counters.items c.loop-number.number c.index-deref_mut-number.result no_alarms (omega (arith, c.loop-number.invariant.same))) in
-    let through : IsThrough c.args.tick (get_or c.deref_mut.result.now c.loop-number.number c.index-deref_mut-number.result) c.advance.new.self c.loop-number.due c.advance.new.due = record {
+    let through : IsThrough c.args.tick c.args.ticks (get_or c.deref_mut.result.now c.loop-number.number c.index-deref_mut-number.result) c.advance.new.self c.loop-number.due c.advance.new.due = record {
       ready = c.advance.ensures.ready;
       counter = c.advance.ensures.counter;
       expiries = c.advance.ensures.expiries;
       raised = c.advance.ensures.due;
     } in
-    let one = subst (λ k. IsThrough c.args.tick k c.advance.new.self c.loop-number.due c.advance.new.due) element through in
+    let one = subst (λ k. IsThrough c.args.tick c.args.ticks k c.advance.new.self c.loop-number.due c.advance.new.due) element through in
     rw (c.deref_mut.ensures.value, refill_set c.loop-number.counters.items c.loop-number.number c.advance.new.self)
-    (through_next c.args.tick c.args.counters.now.items c.loop-number.counters.items c.args.due.now c.loop-number.due c.advance.new.due c.loop-number.number c.advance.new.self c.loop-number.invariant low one)
+    (through_next c.args.tick c.args.ticks c.args.counters.now.items c.loop-number.counters.items c.args.due.now c.loop-number.due c.advance.new.due c.loop-number.number c.advance.new.self c.loop-number.invariant low one)

@@ -2,4 +2,4 @@ use Rattle.alarms.proofs.AdvanceLemmas.{AreThrough}
 use Rattle.alarms.proofs.counters.advance_each.Given as goal
 
 abbrev pub invariant-loop-number : goal.invariant-loop-number
-invariant-loop-number l = AreThrough l.tick l.initial.counters.items l.counters.items l.initial.due l.due l.number
+invariant-loop-number l = AreThrough l.tick l.ticks l.initial.counters.items l.counters.items l.initial.due l.due l.number

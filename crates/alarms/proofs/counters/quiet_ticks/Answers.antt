@@ -1,7 +1,7 @@
 use Rattle.std.proofs.Common.{◌≡◌, ◌<◌, ◌∙◌, length, subst, arith}
 use Rattle.std.proofs.lemmas.List.{get_or_default}
 use Rattle.alarms.specs.Counters.{counter_at, no_alarms}
-use Rattle.alarms.proofs.PassedLemmas.{IsQuiet, quiet_next}
+use Rattle.alarms.proofs.QuietLemmas.{IsQuiet, quiet_next}
 use Rattle.alarms.proofs.counters.quiet_ticks.Goals as goal
 
 pub loop-number-preserved : goal.loop-number-preserved

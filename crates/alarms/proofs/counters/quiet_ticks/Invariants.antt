@@ -1,4 +1,4 @@
-use Rattle.alarms.proofs.PassedLemmas.{AreQuiet}
+use Rattle.alarms.proofs.QuietLemmas.{AreQuiet}
 use Rattle.alarms.proofs.counters.quiet_ticks.Given as goal
 
 abbrev pub invariant-loop-number : goal.invariant-loop-number

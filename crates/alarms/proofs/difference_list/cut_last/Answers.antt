@@ -11,4 +11,4 @@ returns-clause-ahead c = λ test.
     let e : Waiting = slice_index_or es (n - 1) c.index-deref_mut-len.result in
     let some : 0 < n = omega (arith, c.if-len-eq0.false) in
     rw (c.deref_mut.ensures.value, refill_set es (n - 1) _)
-    (written_ahead es n (record e { difference = e.difference - 1 }) c.len-len.ensures.value some (rw (c.deref_mut.ensures.value) at test))
+    (written_ahead es n (record e { difference = e.difference - c.args.counts }) c.len-len.ensures.value some (rw (c.deref_mut.ensures.value) at test))

@@ -4,14 +4,14 @@ use Rattle.bounds.specs.Held.{IsOf}
 use Rattle.bounds.proofs.HeldLemmas.{push_in}
 use Rattle.bounds.proofs.bases.Bases.add.Goals as goal
 
-pub invariant_of-self-in_err-push-2 : goal.invariant_of-self-in_err-push-2
-invariant_of-self-in_err-push-2 c =
-    subst (All (λ h. IsOf c.self.inside.system.now h.machine)) (sym c.in_err-push-2.ensures.items)
+pub invariant_of-self-in_err-push : goal.invariant_of-self-in_err-push
+invariant_of-self-in_err-push c =
+    subst (All (λ h. IsOf c.self.inside.system.now h.machine)) (sym c.in_err-push.ensures.items)
     c.self.invariant
 
 pub invariant_of-self-2 : goal.invariant_of-self-2
 invariant_of-self-2 c =
-    push_in c.self.inside.system.now c.self.inside.held.items c.push-2.new.self.items c.args.base
-    c.in_ok-push-2.ensures.items
+    push_in c.self.inside.system.now c.self.inside.held.items c.push.new.self.items c.args.base
+    c.in_ok-push.ensures.items
     (subst (λ S. IsOf S c.args.base.machine) (sym c.self.view_is) c.requires)
     c.self.invariant

@@ -6,6 +6,7 @@ use Rattle.services.specs.Objects.{Objects, kept_in}
 use Rattle.services.specs.Calls.{IsThere, MayGoOn, caller_as, context_in}
 use Rattle.services.proofs.DispatchedLemmas.{gone_on_dispatched, still_dispatched}
 use Rattle.services.proofs.StandsLemmas.{stands_gone_on_there}
+use Rattle.services.proofs.SteadyLemmas.{gone_on_settled, still_settled}
 use Rattle.services.proofs.os_core.Core.answer.Goals as goal
 
 pub answer-requires-clause-room : goal.answer-requires-clause-room
@@ -26,4 +27,7 @@ invariant_of-self g c =
       dispatched = λ known.
           still_dispatched o c.answer.new.self (with_context_in (caller_as who) x) c.answer.ensures.system c.answer.ensures.kept
           (gone_on_dispatched o.system (kept_in o) (caller_as who) x) (c.self.invariant.dispatched known);
+      settled = λ known.
+          still_settled o c.answer.new.self (with_context_in (caller_as who) x) c.answer.ensures.system c.answer.ensures.kept
+          (gone_on_settled o.system (kept_in o) (c.self.invariant.settled known) (caller_as who) x);
     }

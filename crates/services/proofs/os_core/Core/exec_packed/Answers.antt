@@ -7,6 +7,7 @@ use Rattle.services.specs.PlainSteps.{IsPlainAt, plain_context}
 use Rattle.services.proofs.CallerLemmas.{there, there_goes_on}
 use Rattle.services.proofs.DispatchedLemmas.{gone_on_dispatched, still_dispatched}
 use Rattle.services.proofs.StandsLemmas.{stands_gone_on}
+use Rattle.services.proofs.SteadyLemmas.{gone_on_settled, still_settled}
 use Rattle.services.proofs.os_core.Core.exec_packed.Goals as goal
 
 pub exec_packed-requires-clause-who : goal.exec_packed-requires-clause-who
@@ -32,4 +33,7 @@ invariant_of-self g c =
       dispatched = λ known.
           still_dispatched o c.exec_packed.new.self (with_context_in (caller_as who) x) c.exec_packed.ensures.system c.exec_packed.ensures.kept
           (gone_on_dispatched o.system (kept_in o) (caller_as who) x) (c.self.invariant.dispatched known);
+      settled = λ known.
+          still_settled o c.exec_packed.new.self (with_context_in (caller_as who) x) c.exec_packed.ensures.system c.exec_packed.ensures.kept
+          (gone_on_settled o.system (kept_in o) (c.self.invariant.settled known) (caller_as who) x);
     }

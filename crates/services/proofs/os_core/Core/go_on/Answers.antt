@@ -1,4 +1,5 @@
 use Rattle.services.proofs.StandsLemmas.{stands_gone_on}
+use Rattle.services.proofs.SteadyLemmas.{gone_on_settled, still_settled}
 use Rattle.services.proofs.os_core.Core.go_on.Goals as goal
 use Rattle.std.proofs.Common.{sym, subst}
 use Rattle.run_laws.proofs.Formed.{IsPlaced}
@@ -20,4 +21,7 @@ invariant_of-self g c =
       dispatched = λ known.
           still_dispatched o c.go_on.new.self (with_context_in (caller_as c.args.owner) c.args.cpu) c.go_on.ensures.system c.go_on.ensures.kept
           (gone_on_dispatched o.system (kept_in o) (caller_as c.args.owner) c.args.cpu) (c.self.invariant.dispatched known);
+      settled = λ known.
+          still_settled o c.go_on.new.self (with_context_in (caller_as c.args.owner) c.args.cpu) c.go_on.ensures.system c.go_on.ensures.kept
+          (gone_on_settled o.system (kept_in o) (c.self.invariant.settled known) (caller_as c.args.owner) c.args.cpu);
     }

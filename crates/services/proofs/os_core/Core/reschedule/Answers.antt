@@ -23,6 +23,7 @@ invariant_of-self g c =
       stands =
           stands_rescheduled c.self.inside.objects c.reschedule-could.new.self c.reschedule-could.ensures.does.system c.self.invariant.stands c.reschedule-could.ensures.does.kept;
       dispatched = λ known.
-          core_rescheduled c.self.inside.objects c.reschedule-could.new.self was c.reschedule-could.ensures.does.system c.self.invariant c.reschedule-could.ensures.does.kept
+          core_rescheduled c.self.inside.objects c.reschedule-could.new.self was c.self.inside.is_settled c.reschedule-could.ensures.does.system c.self.invariant c.reschedule-could.ensures.does.kept
           (sym (ap (λ b. was || b) c.reschedule-could.ensures.could) ∙ sym c.becomes_known.ensures ∙ known);
+      settled = λ known. c.is_settled-self-inside.ensures known;
     }

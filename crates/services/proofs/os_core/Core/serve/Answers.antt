@@ -1,13 +1,13 @@
 use Rattle.std.proofs.Common.{sym, ◌∙◌, subst}
-use Rattle.osek_base.specs.Tick.{at_values}
 use Rattle.osek_base.specs.Types.{ServiceCall}
 use Rattle.kept_state.specs.Standing.{MayServe}
 use Rattle.services.specs.AsDefined.{IsServed}
 use Rattle.services.specs.Objects.{Objects, kept_in}
-use Rattle.services.specs.Calls.{IsExecuting, IsKnown, context_in}
+use Rattle.services.specs.Calls.{IsExecuting, IsKnown, call_of, context_in}
 use Rattle.services.proofs.AsDefinedLemmas.{served_as_defined}
 use Rattle.services.proofs.CallerLemmas.{served_caller, there}
-use Rattle.services.proofs.DispatchedLemmas.{served_dispatched}
+use Rattle.machine.specs.Packed.{instr_of, service_of}
+use Rattle.services.proofs.ServedLemmas.{may_dispatch_at, served_dispatched, served_settled}
 use Rattle.services.proofs.StandsLemmas.{fit_where_stands, stands_served}
 use Rattle.services.proofs.os_core.Core.serve.Goals as goal
 
@@ -21,30 +21,35 @@ serve_program-answer-requires-clause-who g c =
 
 pub serve_program-answer-requires-clause-known : goal.serve_program-answer-requires-clause-known
 serve_program-answer-requires-clause-known g c =
-    subst (λ (k : Objects). IsKnown k.system (at_values (context_in (kept_in k) c.args.owner) c.args.service.now)) (sym c.self.view_is) c.requires.known
+    subst (λ (k : Objects). IsKnown k.system (call_of c.args.packed c.args.owner k)) (sym c.self.view_is) c.requires.known
 
 pub invariant_of-self : goal.invariant_of-self
 invariant_of-self g c =
     let o : Objects = c.self.inside.objects in
-    let call : ServiceCall = at_values (context_in (kept_in o) c.args.owner) c.args.service.now in
+    let call : ServiceCall = call_of c.args.packed c.args.owner o in
     let r = c.serve_program-answer in
+    let asked : ServiceCall = service_of (instr_of c.args.packed) in
+    let same = may_dispatch_at (context_in (kept_in o) c.args.owner) asked in
     record {
       stands =
           stands_served o r.new.self r.ensures.system call c.self.invariant.stands
-          (subst (λ (k : Objects). IsKnown k.system (at_values (context_in (kept_in k) c.args.owner) c.args.service.now)) (sym c.self.view_is) c.requires.known)
+          (subst (λ (k : Objects). IsKnown k.system (call_of c.args.packed c.args.owner k)) (sym c.self.view_is) c.requires.known)
           (subst (λ (k : Objects). MayServe k.system (kept_in k)) (sym c.self.view_is) c.requires.serves) r.ensures.kept;
       dispatched = λ known.
-          served_dispatched o r.new.self call c.self.inside.is_dispatched r.result r.ensures c.self.invariant.dispatched
-          (sym c.stays_known-self-inside.ensures ∙ known);
+          served_dispatched o r.new.self call asked c.self.inside.is_dispatched r.result r.ensures same
+          (sym c.stays_known-self-inside.ensures ∙ known) c.self.invariant.dispatched;
+      settled = λ known.
+          served_settled o r.new.self call asked c.self.inside.is_settled r.result r.ensures same
+          (sym c.stays_known-self-inside-2.ensures ∙ known) c.self.invariant.settled;
     }
 
 pub returns : goal.returns
 returns g c =
     let o : Objects = c.self.inside.objects in
-    let call : ServiceCall = at_values (context_in (kept_in o) c.args.owner) c.args.service.now in
+    let call : ServiceCall = call_of c.args.packed c.args.owner o in
     let r = c.serve_program-answer in
     subst
-    (λ (k : Objects). IsServed (at_values (context_in (kept_in k) c.args.owner) c.args.service.now) k r.new.self r.result)
+    (λ (k : Objects). IsServed (call_of c.args.packed c.args.owner k) k r.new.self r.result)
     c.self.view_is
     (record {
       system = r.ensures.system;
@@ -54,6 +59,6 @@ returns g c =
       kept = r.ensures.kept;
       defined =
           served_as_defined o r.new.self r.ensures.system call r.result
-          (subst (λ (k : Objects). IsKnown k.system (at_values (context_in (kept_in k) c.args.owner) c.args.service.now)) (sym c.self.view_is) c.requires.known)
+          (subst (λ (k : Objects). IsKnown k.system (call_of c.args.packed c.args.owner k)) (sym c.self.view_is) c.requires.known)
           (subst (λ (k : Objects). MayServe k.system (kept_in k)) (sym c.self.view_is) c.requires.serves) r.ensures;
     })

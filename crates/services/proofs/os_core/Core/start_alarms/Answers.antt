@@ -1,4 +1,5 @@
 use Rattle.services.proofs.StandsLemmas.{stands_started}
+use Rattle.services.specs.Quiet.{IsSettled}
 use Rattle.services.proofs.os_core.Core.start_alarms.Goals as goal
 use Rattle.std.proofs.Common.{◌≡◌, true, sym, subst}
 use Rattle.services.specs.Objects.{Objects, kept_in}
@@ -9,4 +10,7 @@ invariant_of-self g c =
     record {
       stands = stands_started c.self.inside.objects c.start_alarms.new.self c.args.mode c.self.invariant.stands c.start_alarms.ensures;
       dispatched = λ known. subst (λ (o : Objects). is_dispatched_in o.system (kept_in o) ≡ true) (sym c.start_alarms.ensures) (c.self.invariant.dispatched known);
+      settled = λ known.
+          subst (λ (o : Objects). IsSettled o.system (kept_in o)) (sym c.start_alarms.ensures)
+          (record { on = (c.self.invariant.settled known).on; runs = (c.self.invariant.settled known).runs; no_routine = (c.self.invariant.settled known).no_routine; none_pending = (c.self.invariant.settled known).none_pending });
     }

@@ -1,4 +1,5 @@
 use Rattle.services.proofs.StandsLemmas.{stands_routine}
+use Rattle.services.proofs.SteadyLemmas.{started_settled, still_settled}
 use Rattle.services.proofs.os_core.Core.start_routine.Goals as goal
 use Rattle.kept_state.specs.KeptTick.{start_phase_in}
 use Rattle.services.specs.Objects.{Objects, kept_in}
@@ -12,4 +13,7 @@ invariant_of-self g c =
       dispatched = λ known.
           still_dispatched o c.start_routine.new.self (start_phase_in o.system) c.start_routine.ensures.system c.start_routine.ensures.kept
           (started_dispatched o.system (kept_in o)) (c.self.invariant.dispatched known);
+      settled = λ known.
+          still_settled o c.start_routine.new.self (start_phase_in o.system) c.start_routine.ensures.system c.start_routine.ensures.kept
+          (started_settled o.system (kept_in o) (c.self.invariant.settled known));
     }

@@ -1,0 +1,40 @@
+use Rattle.std.proofs.Common.{◌≡◌, ◌<◌, ◌≤◌, false, sym, subst, arith}
+use Rattle.osek_base.specs.declared.limits.TheConstants.{MAX_TICKS}
+use Rattle.kernel.specs.Machine.{Machine, next_tick, picture}
+use Rattle.kernel.proofs.SteadyLemmas.{has_begun_steady, may_fetch, steady_ticked}
+use Rattle.kernel.proofs.ticking.Machine.tick_steady.Goals as goal
+
+pub finish-requires : goal.finish-requires
+finish-requires g c =
+    let k = c.self.inside in
+    let counted = g.B.Blockers.are_counted in
+    let begun : 1 ≤ k.ticks = omega (arith, c.if-self-eq0.false) in
+    let low : k.ticks < MAX_TICKS = subst (λ (x : Machine). next_tick x < MAX_TICKS) (sym c.self.view_is) c.requires.limit in
+    record {
+      fetch =
+          may_fetch counted k.ticks k.watched k.opening k.acted c.self.invariant begun low c.begin_steady.new.self
+          c.in_ok-task.task c.in_ok-task.ensures c.begin.new.self c.begin.ensures;
+      ready = record {
+        begun =
+            has_begun_steady counted k.ticks k.watched k.opening k.acted c.self.invariant begun low c.begin_steady.new.self
+            c.in_ok-task.task c.in_ok-task.ensures c.begin.new.self c.begin.ensures
+            (subst (λ (x : Machine). (picture x).over ≡ false) (sym c.self.view_is) c.requires.on);
+        none = c.clear-2.ensures;
+      };
+    }
+
+pub invariant_of-self-2 : goal.invariant_of-self-2
+invariant_of-self-2 g c =
+    let k = c.self.inside in
+    (steady_ticked g.B.Blockers.are_counted k.ticks k.watched c.begin_steady.new.self c.begin.new.self c.finish.new.self
+    k.opening c.finish.new.behind k.acted c.clear.new.self c.in_ok-task.task c.finish.result c.args.self.now c.self.view_is
+    c.self.invariant (omega (arith, c.if-self-eq0.false)) c.requires c.in_ok-task.ensures c.clear.ensures c.begin.ensures
+    c.finish.ensures).keeps
+
+pub returns : goal.returns
+returns g c =
+    let k = c.self.inside in
+    (steady_ticked g.B.Blockers.are_counted k.ticks k.watched c.begin_steady.new.self c.begin.new.self c.finish.new.self
+    k.opening c.finish.new.behind k.acted c.clear.new.self c.in_ok-task.task c.finish.result c.args.self.now c.self.view_is
+    c.self.invariant (omega (arith, c.if-self-eq0.false)) c.requires c.in_ok-task.ensures c.clear.ensures c.begin.ensures
+    c.finish.ensures).ticked
