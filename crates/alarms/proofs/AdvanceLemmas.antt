@@ -5,6 +5,7 @@ use Rattle.std.proofs.lemmas.List.{length-set, get_or-set_same, get_or-set_other
 use Rattle.std.proofs.lemmas.List.Folds.{list_any_more}
 use Rattle.std.proofs.lemmas.Bool.{cases_eq}
 use Rattle.osek_base.specs.declared.task.Counter.{Counter}
+use Rattle.osek_base.specs.declared.limits.TheConstants.{MAX_TICKS}
 use Rattle.osek_base.specs.Lists.{below}
 use Rattle.osek_base.specs.State.{Expiry}
 use Rattle.osek_base.specs.Alarm.{is_due_at}
@@ -149,6 +150,17 @@ module _ (tick n : ℕ) (ks new : List CounterAlarms) (numbers : List ℕ) (whol
   advanced_table =
       ap₂ (λ (es : List (Option Expiry)) (cs : List Counter). record { expiries = es; counters = cs; tick = tick + n })
       advanced_expiries (same_counters ks new numbers all.counters whole.known)
+
+  pub advanced_whole : tick + n < MAX_TICKS → AreWhole (tick + n) new numbers
+  advanced_whole early = record {
+    early = early;
+    few = whole.few;
+    ready = λ k inside. all.ready k (omega (arith, all.same, inside));
+    known = λ a low. omega (arith, all.same, whole.known a low);
+    own = λ k a inside away.
+        all.expiries k a (omega (arith, all.same, inside))
+        ∙ ap (expired_at (count_of (tick + n) (counter_at ks k))) (whole.own k a (omega (arith, all.same, inside)) away);
+  }
 
   abbrev due_on : ℕ → CounterAlarms → Bool
   due_on a k = is_due_at (count_of (tick + n) k) (expiry_in tick k a)

@@ -1,6 +1,7 @@
 -- Ticks in which no alarm is due: all counters, and the table.
-use Rattle.std.proofs.Common.{ℕ, zero, suc, ◌≡◌, ◌<◌, ◌≤◌, ◌+◌, ◌/◌, List, [], ◌∷◌, take, length, Bool, true, false, inl, inr, refl, sym, ◌∙◌, ap, ap₂, subst, arith}
+use Rattle.std.proofs.Common.{ℕ, zero, suc, ◌≡◌, ◌<◌, ◌≤◌, ◌+◌, ◌/◌, List, [], ◌∷◌, take, length, set, Bool, true, false, inl, inr, refl, sym, ◌∙◌, ap, ap₂, subst, arith}
 use Rattle.std.specs.List.{list_all}
+use Rattle.std.proofs.lemmas.List.{get_or-set_other, get_or-set_same, length-set, take-set}
 use Rattle.std.proofs.lemmas.List.Folds.{list_all_kept, list_all_more}
 use Rattle.std.proofs.Math.Bool.{and-false}
 use Rattle.std.proofs.lemmas.Bool.{cases_eq, cases_lt}
@@ -26,7 +27,7 @@ pub record IsQuiet (tick least now : ℕ) (k : CounterAlarms) : Type 0 where
   pub last : now < least → is_quiet_for tick (now + 1) k ≡ false
 
 pub quiet_next : (tick most least now : ℕ) (ks : List CounterAlarms) (i : ℕ)
-    → ((k : ℕ) → k < length ks → IsReady tick (counter_at ks k)) → i < length ks
+    → ((k : ℕ) → k < i → IsReady tick (counter_at ks k)) → i < length ks
     → AreQuiet tick most least ks i → IsQuiet tick least now (counter_at ks i)
     → AreQuiet tick most now ks (i + 1)
 quiet_next tick most least now ks i ready low done one = record {
@@ -44,6 +45,24 @@ quiet_next tick most least now ks i ready low done one = record {
         list_all_kept (is_quiet_for tick (now + 1)) ks i (rw same at (done.last (omega arith)))
   ];
 }
+
+-- a counter that wasn't asked yet has become another one
+quiet_set : (tick most least : ℕ) (ks : List CounterAlarms) (i : ℕ) (x : CounterAlarms)
+    → AreQuiet tick most least ks i → AreQuiet tick most least (set ks i x) i
+quiet_set tick most least ks i x done = record {
+  few = done.few;
+  quiet = λ k inside. rw (get_or-set_other ks i k x no_alarms (λ (is : k ≡ i). omega arith)) (done.quiet k inside);
+  last = λ some. rw (take-set ks i x) (done.last some);
+}
+
+pub quiet_through : (tick most least now : ℕ) (ks : List CounterAlarms) (i : ℕ) (x : CounterAlarms)
+    → ((k : ℕ) → k < i + 1 → IsReady tick (counter_at (set ks i x) k)) → i < length ks
+    → AreQuiet tick most least ks i → IsQuiet tick least now x
+    → AreQuiet tick most now (set ks i x) (i + 1)
+quiet_through tick most least now ks i x ready low done one =
+    quiet_next tick most least now (set ks i x) i (λ k inside. ready k (omega arith)) (omega (arith, length-set ks i x))
+    (quiet_set tick most least ks i x done)
+    (subst (IsQuiet tick least now) (sym (get_or-set_same ks i x no_alarms low)) one)
 
 -- ---- the table
 

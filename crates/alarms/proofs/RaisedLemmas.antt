@@ -1,6 +1,7 @@
 -- The alarms whose bits are set, one after another.
-use Rattle.std.proofs.Common.{ℕ, zero, suc, ◌≡◌, ◌<◌, ◌≤◌, ◌+◌, ◌-◌, ◌/◌, ◌%◌, ◌^◌, [], ◌∷◌, ◌++◌, Bool, true, false, eqb, inl, inr, refl, sym, ◌∙◌, ap, arith, w64}
+use Rattle.std.proofs.Common.{ℕ, zero, suc, ◌≡◌, ◌<◌, ◌≤◌, ◌+◌, ◌-◌, ◌/◌, ◌%◌, ◌^◌, List, [], ◌∷◌, ◌++◌, Option, None, Some, Bool, true, false, eqb, inl, inr, refl, sym, ◌∙◌, ap, arith, w64}
 use Rattle.std.specs.List.{filter}
+use Rattle.std.specs.Option.{MatchOption}
 use Rattle.std.specs.Int.{bit_at, trailing_zeros}
 use Rattle.std.proofs.lemmas.Nat.{shr-shr}
 use Rattle.std.proofs.lemmas.Nat.Bits.{bit_at-zero, bit_at-trailing_zeros}
@@ -66,9 +67,38 @@ skipped word from (suc to) more none = elim (cases_lt to from) [
       ∙ (append-nil (filter (λ a. is_raised a word) (below to)) ∙ skipped word from to high (λ a more before. none a more (omega arith))))
 ]
 
-pub listed_next : (word from to a : ℕ) → IsFirstRaised word from to a
-    → filter (λ b. is_raised b word) (below from) ++ a ∷ [] ≡ filter (λ b. is_raised b word) (below (suc a))
-listed_next word from to a first =
-    ap (λ xs. xs ++ a ∷ []) (sym (skipped word from a first.from_on first.none))
-    ∙ (ap (λ xs. filter (λ b. is_raised b word) (below a) ++ xs) (sym (filter_here (λ b. is_raised b word) a first.raised))
-    ∙ sym (filter-append (λ b. is_raised b word) (below a) (a ∷ [])))
+-- all before an alarm that is due are listed
+pub record AreListed (word count : ℕ) (due : List ℕ) (a : ℕ) : Type 0 where
+  pub before : a < count
+  pub raised : is_raised a word ≡ true
+  pub listed : due ≡ filter (λ b. is_raised b word) (below a)
+
+-- what is listed where this is the next alarm that is due, if there is one
+abbrev pub AreListedUpTo : ℕ → ℕ → List ℕ → Option ℕ → Type 0
+AreListedUpTo word count due next = MatchOption next (due ≡ filter (λ b. is_raised b word) (below count)) (AreListed word count due)
+
+abbrev pub IsNext : ℕ → ℕ → ℕ → Option ℕ → Type 0
+IsNext word from count next = MatchOption next (AreNoneRaised word from count) (IsFirstRaised word from count)
+
+pub listed_up_to : (word from count : ℕ) (due : List ℕ) (next : Option ℕ) → from ≤ count → due ≡ filter (λ b. is_raised b word) (below from)
+    → IsNext word from count next → AreListedUpTo word count due next
+listed_up_to word from count due None low is none = is ∙ sym (skipped word from count low none)
+listed_up_to word from count due (Some a) low is first = record {
+  before = first.before;
+  raised = first.raised;
+  listed = is ∙ sym (skipped word from a first.from_on first.none);
+}
+
+pub listed_more : (word count : ℕ) (due : List ℕ) (a : ℕ) → AreListed word count due a
+    → due ++ a ∷ [] ≡ filter (λ b. is_raised b word) (below (a + 1))
+listed_more word count due a done =
+    let more : suc a ≡ a + 1 = omega arith in
+    ap (λ xs. xs ++ a ∷ []) done.listed
+    ∙ (ap (λ xs. filter (λ b. is_raised b word) (below a) ++ xs) (sym (filter_here (λ b. is_raised b word) a done.raised))
+    ∙ (sym (filter-append (λ b. is_raised b word) (below a) (a ∷ []))
+    ∙ ap (λ n. filter (λ b. is_raised b word) (below n)) more))
+
+-- how many numbers are left from the next one on
+abbrev pub left_from : ℕ → Option ℕ → ℕ
+left_from count None = 0
+left_from count (Some a) = count - a

@@ -44,6 +44,10 @@ grown e n = record e { difference = e.difference + n }
 abbrev pub grown_at : List Waiting → ℕ → List Waiting
 grown_at es place = if place == 0 then es else slice_set es (place - 1) (grown (slice_index_or es (place - 1) not_waiting) (slice_index_or es place not_waiting).difference)
 
+-- an entry with another difference
+abbrev pub recounted : Waiting → ℕ → Waiting
+recounted e n = record e { difference = n }
+
 -- whether an entry is of an alarm
 abbrev pub is_of : ℕ → Waiting → Bool
 is_of a e = e.alarm == a
@@ -140,6 +144,12 @@ pub record IsLeft (old : List Wait) (before : ℕ) (ws : List Wait) (due : ℕ) 
 -- a list with an alarm that expired: it starts again with its cycle, if it has one
 abbrev pub restarted : ℕ → ℕ → List Wait → List Wait
 restarted a cycle ws = if cycle == 0 then ws else inserted (record { alarm = a; left = cycle; cycle = cycle }) ws
+
+-- the wait of the only alarm was over, and it has started again
+pub record IsAgainAlone (a cycle : ℕ) (old new : List Wait) : Type 0 where
+  pub cyclic : 0 < cycle
+  pub over : old ≡ record { alarm = a; left = 0; cycle = cycle } ∷ []
+  pub again : new ≡ restarted a cycle []
 
 -- the expiry of an alarm by a count that never wraps: the present count and what is left
 abbrev pub expiry_at : ℕ → Option Wait → Option Expiry

@@ -223,13 +223,12 @@ impl Alarms {
         ensures due { due.new ≡ due_of system.now (next_tick self.old) }
         ensures alarms { self.new ≡ expired system.now (next_tick self.old) }
     {
-        let expired = self.counted.advance_by(self.ahead + 1);
+        let (expired, quiet) = self.counted.advance_by(self.ahead + 1);
+        self.ahead = 0;
+        self.quiet = quiet;
         if !expired.is_none() {
             expired.list(system.alarm_count(), due);
         }
-        let left = MAX_TICKS - 1 - self.counted.tick();
-        self.ahead = 0;
-        self.quiet = self.counted.quiet_ticks(left);
     }
 
     /// Whether an alarm is on.

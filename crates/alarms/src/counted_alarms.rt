@@ -145,20 +145,28 @@ impl CountedAlarms {
     }
 
     /// Some ticks pass, before the last of which no alarm is due. The alarms that are due in the last
-    /// one expire: each expires again a cycle later, or goes off. The answer has these alarms.
-    pub fn advance_by(&mut self, ticks: u32) -> DueAlarms
+    /// one expire: each expires again a cycle later, or goes off. Answers these alarms, and how many
+    /// ticks more pass before one in which an alarm is due, or up to the last tick of all.
+    #[inline(always)]
+    pub fn advance_by(&mut self, ticks: u32) -> (DueAlarms, u32)
         requires some { 0 < ticks }
         requires last { self.old.tick + ticks < MAX_TICKS }
         requires quiet { AreQuietFor (ticks - 1) self.old }
         ensures due { (a : ℕ) → a < length self.old.expiries
-            → is_raised a result ≡ is_due_in (later ticks self.old) a }
+            → is_raised a result.0 ≡ is_due_in (later ticks self.old) a }
         ensures alarms { self.new ≡ once_expired (later ticks self.old) }
+        ensures early { self.old.tick + ticks + result.1 < MAX_TICKS }
+        ensures quiet { AreQuietFor result.1 self.new }
+        ensures last { self.old.tick + ticks + result.1 + 1 < MAX_TICKS
+            → AreQuietFor (result.1 + 1) self.new → ⊥ }
     {
         let mut due = DueAlarms::none();
         let tick = self.tick;
-        advance_each(&mut self.counters, tick, ticks, &mut due);
-        self.tick = tick + ticks;
-        due
+        let reached = tick + ticks;
+        let most = MAX_TICKS - 1 - reached;
+        let quiet = advance_each(&mut self.counters, tick, ticks, most, &mut due);
+        self.tick = reached;
+        (due, quiet)
     }
 
     /// Some ticks pass, in which no alarm is due.
@@ -173,6 +181,7 @@ impl CountedAlarms {
     }
 
     /// How many of the ticks that follow pass, at most `most`, before one in which an alarm is due.
+    #[inline(always)]
     pub fn quiet_ticks(&self, most: u32) -> u32
         requires { self.now.tick + most < MAX_TICKS }
         ensures few { result ≤ most }

@@ -88,6 +88,7 @@ impl CounterAlarms {
     }
 
     /// How many of the ticks after `tick` pass, at most `most`, before one in which an alarm is due.
+    #[inline(always)]
     pub fn quiet_ticks(&self, tick: u32, most: u32) -> u32
         requires tick { tick + most < MAX_TICKS }
         requires ready { IsReady tick self.now }

@@ -67,14 +67,17 @@ pub fn counter_numbers(alarms: &[Alarm]) -> ArrayVec<u8, MAX_ALARMS>
 }
 
 /// Some ticks after `tick` pass, before the last of which no alarm is due: the alarms of all counters
-/// that are due in the last one expire, and are added to `due`.
+/// that are due in the last one expire, and are added to `due`. Answers how many of the ticks after
+/// that pass, at most `most`, before one in which an alarm is due.
+#[inline(always)]
 pub fn advance_each(
     counters: &mut ArrayVec<CounterAlarms, MAX_COUNTERS>,
     tick: u32,
     ticks: u32,
+    most: u32,
     due: &mut DueAlarms,
-)
-    requires tick { tick + ticks < MAX_TICKS }
+) -> u32
+    requires tick { tick + ticks + most < MAX_TICKS }
     requires some { 0 < ticks }
     requires ready { (k : ℕ) → k < length counters.old.items
         → IsReady tick (counter_at counters.old.items k) }
@@ -86,14 +89,24 @@ pub fn advance_each(
         ≡ (is_raised a due.old
         || list_any (λ k. is_due_at (count_of (tick + ticks) k) (expiry_in tick k a))
         counters.old.items) }
+    ensures few { result ≤ most }
+    ensures quiet { (k : ℕ) → k < length counters.new.items
+        → is_quiet_for (tick + ticks) result (counter_at counters.new.items k) ≡ true }
+    ensures last { result < most
+        → list_all (is_quiet_for (tick + ticks) (result + 1)) counters.new.items ≡ false }
 {
+    let reached = tick + ticks;
+    let mut least = most;
     for number in 0..counters.len() {
         let counter = &mut counters[number];
         counter.advance(tick, ticks, due);
+        least = counter.quiet_ticks(reached, least);
     }
+    least
 }
 
 /// How many of the ticks after `tick` pass, at most `most`, before one in which an alarm of any counter is due.
+#[inline(always)]
 pub fn quiet_ticks(counters: &ArrayVec<CounterAlarms, MAX_COUNTERS>, tick: u32, most: u32) -> u32
     requires tick { tick + most < MAX_TICKS }
     requires ready { (k : ℕ) → k < length counters.now.items

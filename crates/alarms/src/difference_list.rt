@@ -2,9 +2,10 @@
 
 ghost use Rattle.std.specs.Prelude.{◌≡◌, ◌==◌, ◌<◌, ◌≤◌, ◌^◌, ◌+◌, ◌-◌, [], ◌∷◌, ◌++◌, ◌||◌, ℕ, length, map, is_some, drop, take, Option, Some, None, IfSome, IfNone, MatchOption, slice_index_or, true, false};
 ghost use Rattle.std.specs.List.{list_all, insert, remove, list_any};
-ghost use Rattle.alarms.specs.Waits.{span, inserted, without, wait_of, left_in, cycle_in, Wait, waits, wait_before, is_sooner, not_waiting, cut_at, grown_at, is_of, are_ahead, are_beyond, less_by, IsSoonest, are_apart, overs, is_over, again, is_raised, restarted};
+ghost use Rattle.alarms.specs.Waits.{span, inserted, without, wait_of, left_in, cycle_in, Wait, waits, wait_before, is_sooner, not_waiting, cut_at, grown_at, is_of, are_ahead, are_beyond, less_by, IsSoonest, are_apart, overs, is_over, again, is_raised, restarted, IsAgainAlone};
 
 use crate::due_alarms::DueAlarms;
+use crate::lone_alarm::{is_over_alone, recount};
 use crate::replacing::replace;
 use arrayvec::ArrayVec;
 use osek_base::{AlarmId, MAX_ALARMS};
@@ -12,10 +13,10 @@ use std::marker::Model;
 
 /// A running alarm: how many counts it expires after the next one of the list, and its cycle in counts, 0 for once.
 #[derive(Clone, Copy, Debug, Default)]
-struct Waiting {
-    alarm: AlarmId,
-    difference: u32,
-    cycle: u32,
+pub struct Waiting {
+    pub alarm: AlarmId,
+    pub difference: u32,
+    pub cycle: u32,
 }
 
 /// An alarm whose wait is over, with its cycle.
@@ -77,6 +78,7 @@ impl DifferenceList {
     }
 
     /// An alarm starts, to expire in `wait` counts.
+    #[inline(always)]
     pub fn insert(&mut self, alarm: AlarmId, wait: u32, cycle: u32)
         requires { length self.old < MAX_ALARMS }
         ensures { self.new
@@ -137,6 +139,7 @@ impl DifferenceList {
     }
 
     /// How many counts are left of the wait that is over first. None where no alarm is running.
+    #[inline(always)]
     pub fn soonest(&self) -> Option<u32>
         ensures { MatchOption result (self.now ≡ []) (λ n. IsSoonest n self.now) }
     {
@@ -187,7 +190,7 @@ impl DifferenceList {
     }
 
     /// The alarms whose wait is over are added to `due`, and start again with their cycle, or go off.
-    #[inline(never)]
+    #[inline(always)]
     fn expire(&mut self, due: &mut DueAlarms)
         requires { are_apart self.old ≡ true }
         ensures waits { (a : ℕ) → wait_of a self.new ≡ again (wait_of a self.old) }
@@ -197,13 +200,36 @@ impl DifferenceList {
         ensures ahead { are_ahead self.new ≡ true }
     {
         let _few = self.len();
+        if let Some(alone) = self.restart_alone() {
+            due.raise(alone.alarm);
+            return;
+        }
         while let Some(expired) = self.take_due() {
             due.raise(expired.alarm);
             self.restart(expired);
         }
     }
 
+    /// The only alarm, where its wait is over and it is cyclic: it starts again in its place. Else
+    /// None, and nothing changes.
+    #[inline(always)]
+    fn restart_alone(&mut self) -> Option<Due>
+        ensures some { IfSome result (λ d. IsAgainAlone d.alarm d.cycle self.old self.new) }
+        ensures none { IfNone result (self.new ≡ self.old) }
+    {
+        if !is_over_alone(&self.entries) {
+            return None;
+        }
+        let only = self.entries[0];
+        recount(&mut self.entries, only.cycle);
+        Some(Due {
+            alarm: only.alarm,
+            cycle: only.cycle,
+        })
+    }
+
     /// An alarm that expired starts again with its cycle, if it has one.
+    #[inline(always)]
     fn restart(&mut self, expired: Due)
         requires { length self.old < MAX_ALARMS }
         ensures { self.new ≡ restarted expired.alarm expired.cycle self.old }
@@ -313,6 +339,7 @@ fn take_out(entries: &mut ArrayVec<Waiting, MAX_ALARMS>, place: usize)
 }
 
 /// Puts an entry at a place, whose wait the entry before it no longer has to count.
+#[inline(always)]
 fn put_in(entries: &mut ArrayVec<Waiting, MAX_ALARMS>, place: usize, entry: Waiting)
     requires place { place ≤ length entries.old.items }
     requires room { length entries.old.items < MAX_ALARMS }
@@ -333,6 +360,7 @@ fn put_in(entries: &mut ArrayVec<Waiting, MAX_ALARMS>, place: usize, entry: Wait
 }
 
 /// Where an alarm that is to expire in `wait` counts goes, and what is left of its wait there.
+#[inline(always)]
 fn place_for(entries: &ArrayVec<Waiting, MAX_ALARMS>, alarm: AlarmId, wait: u32) -> (usize, u32)
     ensures place { result.0 ≤ length entries.now.items }
     ensures left { result.1 + span (drop result.0 entries.now.items) ≡ wait }
@@ -356,6 +384,7 @@ fn place_for(entries: &ArrayVec<Waiting, MAX_ALARMS>, alarm: AlarmId, wait: u32)
 }
 
 /// Whether an entry stays nearer to the end than an alarm with so much left.
+#[inline(always)]
 fn is_before(entry: &Waiting, alarm: AlarmId, left: u32) -> bool
     ensures value { result
         ≡ is_sooner (record { alarm = alarm; left = left; cycle = 0 }) (wait_before 0 entry.now) }

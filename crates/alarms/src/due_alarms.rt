@@ -63,16 +63,16 @@ impl DueAlarms {
 }
 
 /// Adds the alarms whose bits are set, of the first `count`, in declaration order.
-#[inline(never)]
+#[inline(always)]
 fn list_set(word: u64, count: usize, due: &mut DueList)
     requires count { count ≤ MAX_ALARMS }
     requires none { due.old ≡ [] }
     ensures { due.new ≡ filter (λ a. is_raised a word) (below count) }
 {
-    let mut from = 0;
-    while let Some(number) = next_raised(word, from, count) {
+    let mut next = next_raised(word, 0, count);
+    while let Some(number) = next {
         due.push(AlarmId::new(number as u8));
-        from = number + 1;
+        next = next_raised(word, number + 1, count);
     }
 }
 

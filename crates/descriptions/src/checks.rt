@@ -208,6 +208,24 @@ fn tell_alarm<'a>(
     }
 }
 
+/// Tells what is wrong of a task, besides its name.
+fn tell_of_task<'a>(
+    alloc: Global,
+    nodes: &'a [Node],
+    described: &Described<'a>,
+    task: &Task<'a>,
+    faults: &mut Vec<Fault<'a>>,
+) -> Result<(), AllocError> {
+    tell_references(alloc, nodes, described, &task.body, faults)?;
+    tell_task(alloc, &task.body, faults)?;
+    if task.activations > 1 && !events_of(alloc, nodes, &task.body)?.is_empty() {
+        let wrong = Wrong::ExtendedActivations;
+        let place = task.place;
+        tell(faults, place, wrong)?;
+    }
+    Ok(())
+}
+
 /// Tells what is wrong of a description as a whole.
 pub fn tell_all<'a>(
     alloc: Global,
@@ -218,13 +236,7 @@ pub fn tell_all<'a>(
     tell_names(alloc, described, faults)?;
     tell_counts(alloc, nodes, described, faults)?;
     for task in &described.tasks {
-        tell_references(alloc, nodes, described, &task.body, faults)?;
-        tell_task(alloc, &task.body, faults)?;
-        if task.activations > 1 && !events_of(alloc, nodes, &task.body)?.is_empty() {
-            let wrong = Wrong::ExtendedActivations;
-            let place = task.place;
-            tell(faults, place, wrong)?;
-        }
+        tell_of_task(alloc, nodes, described, task, faults)?;
     }
     for interrupt in &described.interrupts {
         tell_references(alloc, nodes, described, &interrupt.body, faults)?;

@@ -2,10 +2,11 @@
 
 use osek_base::MAX_NAME;
 use std::alloc::AllocError;
+use std::fmt::{self, Debug, Display, Formatter, Write};
 use thiserror::Error;
 
 /// What is wrong at a place.
-#[derive(Clone, Copy, Debug, Drop, Error)]
+#[derive(Clone, Copy, Drop, Error)]
 pub enum Wrong<'a> {
     #[error("unknown section {0}; there are [[task]], [[interrupt]] and [[alarm]]")]
     UnknownSection(&'a str),
@@ -71,6 +72,12 @@ pub enum Wrong<'a> {
     JitterTooGreat,
     #[error("there are more than {0} {1}")]
     TooMany(usize, &'static str),
+}
+
+impl Debug for Wrong<'_> {
+    fn fmt<W: Write>(&self, f: &mut Formatter<W>) -> fmt::Result {
+        Display::fmt(self, f)
+    }
 }
 
 /// What is wrong, and the place in bytes.

@@ -27,7 +27,7 @@ impl<'s, Q: ReadyQueues> Processor<'s, Q> {
 
     /// An alarm acts: it activates a task, or sets events. A refusal is an error record of the alarm, and changes nothing.
     /// Answers the status of its action.
-    #[inline(never)]
+    #[inline(always)]
     pub fn alarm_acts(&mut self, alarm: AlarmId, records: &mut TickRecord) -> Status
         requires { AlarmMayAct alarm self.old records.old }
         ensures { Acts alarm self.old self.new records.old records.new result }

@@ -1,7 +1,7 @@
 //! Since which tick each job is ready, and how many blockers it had, in a kernel that counts blockers. No part of the standards.
 
 ghost use Rattle.std.specs.Prelude.{◌≡◌, ◌<◌, true, IfSome, length};
-ghost use Rattle.blocking_laws.specs.Restamping.{ended_of, preempted_by};
+ghost use Rattle.blocking_laws.specs.Restamping.{preempted_by};
 ghost use Rattle.kernel.specs.Idle.{rested};
 ghost use Rattle.kernel.specs.Stamping.{IsNumber, MayBegin, MayFollow, MayLook, restamped_between, number_told, stood_between};
 ghost use Rattle.kernel.specs.Processor.{system_of};
@@ -131,27 +131,16 @@ impl<B: Blockers> Blocking<B> {
         ensures { Follows B.are_counted (stood_between tick before.now after.now) self.old
             self.new }
     {
-        let has_ended = !before.gone && after.gone;
-        self.ended(&before.running, has_ended);
-        if let (Some(earlier), Some(later)) = (&before.named, &after.named) {
-            let stood = without_ended(earlier, &before.running, has_ended);
-            self.restamp(&stood, later, tick);
-        }
-    }
-
-    /// The job of the running task has ended, or not.
-    #[inline(always)]
-    fn ended(&mut self, running: &Option<TaskId>, has_ended: bool)
-        requires { B.are_counted ≡ true → IfSome running.now (λ t. t < length self.old.stamps) }
-        ensures { Follows B.are_counted (ended_of running.now has_ended) self.old self.new }
-    {
         if !B::are_counted() {
             return;
         }
-        if let Some(task) = running {
-            if has_ended {
-                self.stamps.end(*task);
-            }
+        let has_ended = !before.gone && after.gone;
+        if has_ended && let Some(task) = &before.running {
+            self.stamps.end(*task);
+        }
+        if let (Some(earlier), Some(later)) = (&before.named, &after.named) {
+            let stood = without_ended(earlier, &before.running, has_ended);
+            self.restamp(&stood, later, tick);
         }
     }
 

@@ -69,7 +69,7 @@ impl<'s, Q: ReadyQueues> Processor<'s, Q> {
     }
 
     /// A service with a status, which goes to r0, with its results behind it.
-    #[inline(always)]
+    #[inline(never)]
     pub fn execute_service(&mut self, next: &Next, behind: &mut TickRecord) -> Outcome
         requires comes { ComesTo self.old next.now behind.old }
         requires call { IsCall (instr_of next.now.packed) }
@@ -87,7 +87,7 @@ impl<'s, Q: ReadyQueues> Processor<'s, Q> {
     }
 }
 
-/// Records what a service answers other than E_OK, where ErrorHook is on.
+/// Records what a service answers other than E_OK, where ErrorHook is on. Only then is the instruction unpacked again.
 #[inline(always)]
 fn record_refusal(system: &System, next: &Next, status: Status, behind: &mut TickRecord)
     requires call { IsCall (instr_of next.now.packed) }
@@ -96,25 +96,12 @@ fn record_refusal(system: &System, next: &Next, status: Status, behind: &mut Tic
         (Instr.Service (service_of (instr_of next.now.packed))) status) behind.old behind.new }
 {
     if status != Status::Ok && system.hooks().error {
-        push_refusal(next, status, behind);
+        behind.push(TraceEvent::Error(
+            Source::Owner(next.owner),
+            Instr::Service(next.packed.service()),
+            status,
+        ));
     }
-}
-
-/// Adds an error record of the service that was executed. It alone unpacks the instruction again.
-#[inline(never)]
-fn push_refusal(next: &Next, status: Status, behind: &mut TickRecord)
-    requires call { IsCall (instr_of next.now.packed) }
-    requires room { length behind.old < MAX_RECORDS }
-    ensures { behind.new
-        ≡ behind.old
-        ++ TraceEvent.Error (Source.Owner next.now.owner)
-        (Instr.Service (service_of (instr_of next.now.packed))) status ∷ [] }
-{
-    behind.push(TraceEvent::Error(
-        Source::Owner(next.owner),
-        Instr::Service(next.packed.service()),
-        status,
-    ));
 }
 
 /// The task on which a service acts.

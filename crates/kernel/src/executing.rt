@@ -53,54 +53,32 @@ impl<'s, Q: ReadyQueues, B: Blockers> Watched<'s, Q, B> {
         self.finish(who, tick, behind)
     }
 
-    /// The last two phases, where somebody executes.
+    /// The last two phases, where somebody executes. A plain instruction and a service have each a way to the end of their own,
+    /// so that most ticks wait for nothing that only services have.
     #[inline(always)]
     pub fn finish(&mut self, who: Owner, tick: u32, behind: &mut TickRecord) -> Executed
         requires { MayFinish B.are_counted self.old who behind.old }
         ensures { Finishes B.are_counted tick self.old self.new (Some result) behind.new }
     {
         let next = self.processor.next_of(&who);
+        let owner = next.owner;
+        let place = next.place;
         if next.packed.is_plain() {
-            self.finish_plain(next, tick, behind)
+            let outcome = self.execute_plain(next, tick, behind);
+            self.last_phase(tick, behind);
+            Executed {
+                owner,
+                place,
+                outcome,
+            }
         } else {
-            self.finish_service(next, tick, behind)
-        }
-    }
-
-    /// The last two phases, where the instruction is a plain one. Its way to the end is its own, so
-    /// that most ticks wait for nothing that only services have.
-    #[inline(always)]
-    fn finish_plain(&mut self, next: Next, tick: u32, behind: &mut TickRecord) -> Executed
-        requires may { MayRun B.are_counted self.old next behind.old }
-        requires plain { is_plain (instr_of next.packed) ≡ true }
-        ensures { Finishes B.are_counted tick self.old self.new (Some result) behind.new }
-    {
-        let owner = next.owner;
-        let place = next.place;
-        let outcome = self.execute_plain(next, tick, behind);
-        self.last_phase(tick, behind);
-        Executed {
-            owner,
-            place,
-            outcome,
-        }
-    }
-
-    /// The last two phases, where the instruction is a service.
-    #[inline(always)]
-    fn finish_service(&mut self, next: Next, tick: u32, behind: &mut TickRecord) -> Executed
-        requires may { MayRun B.are_counted self.old next behind.old }
-        requires service { is_plain (instr_of next.packed) ≡ false }
-        ensures { Finishes B.are_counted tick self.old self.new (Some result) behind.new }
-    {
-        let owner = next.owner;
-        let place = next.place;
-        let outcome = self.execute(next, tick, behind);
-        self.last_phase(tick, behind);
-        Executed {
-            owner,
-            place,
-            outcome,
+            let outcome = self.execute(next, tick, behind);
+            self.last_phase(tick, behind);
+            Executed {
+                owner,
+                place,
+                outcome,
+            }
         }
     }
 
@@ -126,12 +104,14 @@ impl<'s, Q: ReadyQueues, B: Blockers> Watched<'s, Q, B> {
         if next.packed.is_control() {
             self.processor.execute_control(&next, behind);
             Outcome::Control
-        } else {
+        } else if B::are_counted() {
             self.serve(&next, tick, behind)
+        } else {
+            self.processor.execute_service(&next, behind)
         }
     }
 
-    /// A service with a status. The task on which it acts is looked at before and after.
+    /// A service with a status, where blockers are counted: the task on which it acts is looked at before and after.
     #[inline(never)]
     fn serve(&mut self, next: &Next, tick: u32, behind: &mut TickRecord) -> Outcome
         requires may { MayRun B.are_counted self.old next.now behind.old }
@@ -140,9 +120,6 @@ impl<'s, Q: ReadyQueues, B: Blockers> Watched<'s, Q, B> {
             (TraceEvent.Executed next.now.owner next.now.place (instr_of next.now.packed) result
             ∷ behind.new) }
     {
-        if !B::are_counted() {
-            return self.processor.execute_service(next, behind);
-        }
         let service = next.packed.service();
         let named = acting_task(&service);
         let before = self.processor.stand(&named);

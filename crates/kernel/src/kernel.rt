@@ -1,13 +1,13 @@
 //! OSEK/VDX OS: system start-up; application modes. The kernel: a machine with all interrupts that arrive.
 
-ghost use Rattle.std.specs.Prelude.{◌≡◌, ◌<◌, ◌≤◌, ◌+◌, ◌-◌, ◌++◌, [], false, IfOk, IsFalse, MatchOption, Some, map, slice_index, length};
+ghost use Rattle.std.specs.Prelude.{◌≡◌, ◌<◌, ◌≤◌, ◌+◌, ◌-◌, ◌++◌, [], false, IfOk, MatchOption, Some, map, slice_index, length};
 ghost use Rattle.osek_base.specs.BlockingText.{blockers_at};
 ghost use Rattle.osek_base.specs.Names.{number_of};
 ghost use Rattle.ready_queues.specs.LevelLists.{level_lists, by_level};
 ghost use Rattle.osek_base.specs.State.{shared_window};
 ghost use Rattle.kept_state.specs.Kept.{kept};
 ghost use Rattle.kernel.specs.Stamping.{IsNumber};
-ghost use Rattle.kernel.specs.Machine.{IsSharedWord};
+ghost use Rattle.kernel.specs.Machine.{HasCome, IsSharedWord};
 ghost use Rattle.kernel.specs.Progress.{AreFree, AreKnown, AreLeft, Boots, HasIdled, HasRun, HasRunApart, HaveArrived, is_over, run_of};
 ghost use Rattle.blocking_laws.specs.Steps.{step_at};
 ghost use Rattle.kernel.specs.Told.{task_at};
@@ -97,6 +97,14 @@ impl<'s, Q: ReadyQueues, B: Blockers> Kernel<'s, Q, B> {
             arrived: 0,
             machine,
         })
+    }
+
+    /// The machine that came so far in the run. It lends the objects of the services, which tell what is kept of its state.
+    pub fn machine(&self) -> &Machine<'s, Q, B>
+        ensures { HasCome B.are_counted self.now.system self.now.mode self.now.arrivals
+            self.now.ticks result.now }
+    {
+        &self.machine
     }
 
     /// How many ticks are done.
@@ -242,7 +250,8 @@ impl<'s, Q: ReadyQueues, B: Blockers> Kernel<'s, Q, B> {
             (λ e. HasRunApart self.old self.new [] (Some e) behind.new) }
     {
         let tick = self.machine.next_tick();
-        if arrives_in(self.arrivals.list(), self.arrived, tick) {
+        let end = arrived_by(self.arrivals.list(), self.arrived, tick);
+        if end != self.arrived {
             return None;
         }
         let executed = self.machine.tick_steady(behind)?;
@@ -303,15 +312,6 @@ fn arrived_by(list: &[Arrival], arrived: usize, tick: u32) -> usize
         next += 1;
     }
     next
-}
-
-/// Whether an arrival of a list is in a tick, where so many had arrived before it.
-#[inline(always)]
-fn arrives_in(list: &[Arrival], arrived: usize, tick: u32) -> bool
-    requires { AreLeft list.now arrived tick }
-    ensures { IsFalse result → HaveArrived list.now tick arrived arrived }
-{
-    arrived < list.len() && list[arrived].tick == tick
 }
 
 /// How many of the ticks from one on, at most some, come before the next arrival, where so many have arrived.

@@ -6,24 +6,14 @@ use arrayvec::ArrayVec;
 
 /// Gives a list so many places, to be filled then. One that has as many stays as it is, which takes
 /// no time.
-#[inline(always)]
 pub fn give_places<T: Default + Drop, const CAP: usize>(list: &mut ArrayVec<T, CAP>, count: usize)
     requires { count ≤ CAP }
     ensures { length list.new.items ≡ count }
 {
     if list.len() != count {
-        make_places(list, count);
-    }
-}
-
-/// Makes a list anew, of so many places.
-#[inline(never)]
-fn make_places<T: Default + Drop, const CAP: usize>(list: &mut ArrayVec<T, CAP>, count: usize)
-    requires { count ≤ CAP }
-    ensures { length list.new.items ≡ count }
-{
-    list.clear();
-    for _made in 0..count {
-        list.push(T::default());
+        list.clear();
+        for _made in 0..count {
+            list.push(T::default());
+        }
     }
 }

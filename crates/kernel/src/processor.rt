@@ -1,6 +1,6 @@
 //! OSEK/VDX OS: system services; the modelled processor. A system in the midst of a tick, and three of its phases.
 
-ghost use Rattle.std.specs.Prelude.{◌≡◌, ◌<◌, ◌≤◌, ◌+◌, MatchOption, true, length};
+ghost use Rattle.std.specs.Prelude.{◌≤◌, ◌+◌, ◌<◌, length};
 ghost use Rattle.std.specs.List.{All};
 ghost use Rattle.osek_base.specs.Tick.{flagged};
 ghost use Rattle.kept_state.specs.KeptTick.{arrival_phase_in, start_phase_in};
@@ -9,10 +9,9 @@ ghost use Rattle.kept_state.specs.Quiet.{IsQuiet};
 ghost use Rattle.kernel.specs.Idle.{HasPassed};
 ghost use Rattle.kernel.specs.Processor.{picture, system_of};
 ghost use Rattle.kernel.specs.Does.{Becomes, DoesWithin, Reschedules};
-ghost use Rattle.kernel.specs.Steady.{PassesSteady};
 
 use machine::{Code, Windows};
-use osek_base::{IsrId, MAX_RECORDS, MAX_TICKS, System, TaskId, TickRecord};
+use osek_base::{IsrId, MAX_RECORDS, System, TaskId, TickRecord};
 use ready_queues::ReadyQueues;
 use services::Core;
 use std::marker::Model;
@@ -66,21 +65,6 @@ impl<'s, Q: ReadyQueues> Processor<'s, Q> {
             records.new }
     {
         self.core.reschedule(records);
-    }
-
-    /// The next tick begins, where it is known that no alarm is due in it, and that nothing else
-    /// comes before the instruction of the running task, if no interrupt arrives. Answers that task;
-    /// else nothing changes.
-    #[inline(always)]
-    pub fn begin_steady(&mut self) -> Option<TaskId>
-        requires { self.old.objects.tick + 1 < MAX_TICKS }
-        ensures { MatchOption result (self.new ≡ self.old) (PassesSteady self.old self.new) }
-    {
-        let task = self.core.steady_task()?;
-        if !self.core.begin_quiet() {
-            return None;
-        }
-        Some(task)
     }
 
     /// A pending routine starts.

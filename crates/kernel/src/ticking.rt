@@ -251,7 +251,8 @@ impl<'s, Q: ReadyQueues, B: Blockers> Machine<'s, Q, B> {
         behind.clear();
         self.watched
             .early_phases(self.ticks, arrived, &mut self.acted, before);
-        self.watched.show(looker);
+        let watched = &self.watched;
+        looker.look(&watched.processor);
         self.watched.begin(self.ticks);
         self.ticks += 1;
         self.watched.late_phases(self.ticks, behind)

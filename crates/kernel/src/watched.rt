@@ -13,7 +13,6 @@ ghost use Rattle.kernel.specs.Watches.{AlarmActs, AllAct, MayActAll, MayActNow, 
 use crate::acted::Acted;
 use crate::blockers::Blockers;
 use crate::blocking::Blocking;
-use crate::looker::Looker;
 use crate::processor::Processor;
 use alarms::DueList;
 use osek_base::{AlarmId, IsrId, MAX_ALARMS, MAX_RECORDS, MAX_TICKS, Status, TaskId, TickRecord};
@@ -69,7 +68,11 @@ impl<'s, Q: ReadyQueues, B: Blockers> Watched<'s, Q, B> {
         requires { self.old.processor.objects.tick + 1 < MAX_TICKS }
         ensures { MatchOption result (self.new ≡ self.old) (BeginsSteady self.old self.new) }
     {
-        self.processor.begin_steady()
+        let task = self.processor.core.steady_task()?;
+        if !self.processor.core.begin_quiet() {
+            return None;
+        }
+        Some(task)
     }
 
     /// The ticks that follow pass, at most some, up to the one before the first in which an alarm is due; nobody executes in
@@ -83,14 +86,6 @@ impl<'s, Q: ReadyQueues, B: Blockers> Watched<'s, Q, B> {
             self.blocking.rest();
         }
         passed
-    }
-
-    /// Lets somebody look at the processor.
-    #[inline(always)]
-    pub fn show<L: Looker>(&self, looker: &mut L)
-        ensures { L.HasSeen looker.new (system_of self.now.processor) (picture self.now.processor) }
-    {
-        looker.look(&self.processor);
     }
 
     /// Counters advance, and the due alarms act in declaration order. In the first tick the counters stand, and none is due.
@@ -130,7 +125,7 @@ impl<'s, Q: ReadyQueues, B: Blockers> Watched<'s, Q, B> {
     }
 
     /// An alarm acts, and the task on which it acts is looked at before and after. Answers the status of its action.
-    #[inline(never)]
+    #[inline(always)]
     pub fn alarm_acts(&mut self, alarm: AlarmId, tick: u32, records: &mut TickRecord) -> Status
         requires { MayActNow B.are_counted alarm self.old records.old }
         ensures { AlarmActs B.are_counted alarm tick self.old self.new records.old records.new

@@ -14,10 +14,10 @@ use std::alloc::{AllocError, Global};
 pub(crate) const DEFAULT_MODE: &str = "OSDEFAULTAPPMODE";
 
 /// The resource that is there without being declared.
-pub(crate) const SCHEDULER: &str = "RES_SCHEDULER";
+const SCHEDULER: &str = "RES_SCHEDULER";
 
 /// An object that is declared.
-#[derive(Clone, Copy, Debug)]
+#[derive(Clone, Copy)]
 pub(crate) struct Declared<'a> {
     pub kind: Kind,
     pub name: &'a str,

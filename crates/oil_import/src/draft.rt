@@ -15,9 +15,8 @@ impl Draft {
         }
     }
 
-    pub(crate) fn into_text(self) -> String {
-        let Draft { text } = self;
-        text
+    pub(crate) fn as_bytes(&self) -> &[u8] {
+        self.text.as_bytes()
     }
 
     /// The first lines, up to the CPU's opening brace.

@@ -125,16 +125,55 @@ impl<'a> Importer<'a> {
             let subject = Subject::Word("OS");
             self.messages.refuse(end, subject, reasons::MISSING)?;
         }
-        let is_declared = self.objects.find(Kind::AppMode, DEFAULT_MODE).is_some();
-        let is_wanted = self.needs_default_mode || self.objects.count(Kind::AppMode) == 0;
-        if is_wanted && !is_declared {
-            let subject = Subject::Object("APPMODE", DEFAULT_MODE);
-            self.messages
-                .tell(end, Verdict::Set, subject, reasons::DEFAULT_MODE)?;
-            self.draft.open_object("APPMODE", DEFAULT_MODE)?;
-            self.draft.close_object()?;
+        if self.lacks_default_mode() {
+            self.add_default_mode(end)?;
         }
         self.draft.close_file()
+    }
+
+    /// Whether the mode is wanted that is there without being declared.
+    fn lacks_default_mode(&self) -> bool {
+        let is_wanted = self.needs_default_mode || self.objects.count(Kind::AppMode) == 0;
+        is_wanted && self.objects.find(Kind::AppMode, DEFAULT_MODE).is_none()
+    }
+
+    fn add_default_mode(&mut self, end: Place) -> Result<(), AllocError> {
+        let subject = Subject::Object("APPMODE", DEFAULT_MODE);
+        self.messages
+            .tell(end, Verdict::Set, subject, reasons::DEFAULT_MODE)?;
+        self.draft.open_object("APPMODE", DEFAULT_MODE)?;
+        self.draft.close_object()
+    }
+
+    /// Takes all items up to the end of a file, of which one is its CPU.
+    fn items(
+        &mut self,
+        alloc: Global,
+        items: &[Item<'a>],
+        cpu: Option<usize>,
+        end: Place,
+    ) -> Result<(), AllocError> {
+        for (number, item) in items.iter().enumerate() {
+            if item.depth == 0 {
+                let objects = if cpu == Some(number) {
+                    Some(inside(items, number, 0))
+                } else {
+                    None
+                };
+                self.outer(alloc, item, objects)?;
+            }
+        }
+        if first(items, VERSION).is_none() {
+            let subject = Subject::Word(VERSION);
+            let place = Place::first(0);
+            self.messages
+                .tell(place, Verdict::Set, subject, reasons::NO_VERSION)?;
+        }
+        if cpu.is_none() {
+            let subject = Subject::Word(CPU);
+            self.messages.refuse(end, subject, reasons::NO_CPU)?;
+        }
+        Ok(())
     }
 }
 
@@ -146,24 +185,7 @@ pub(crate) fn import_items<'a>(
     messages: Messages<'a>,
 ) -> Result<Importer<'a>, AllocError> {
     let cpu = first(items, CPU);
-    let objects = of_cpu(items, cpu);
-    let mut importer = Importer::new(alloc, objects, messages)?;
-    for (number, item) in items.iter().enumerate() {
-        if item.depth == 0 {
-            let is_cpu = cpu == Some(number);
-            importer.outer(alloc, item, is_cpu.then_some(objects))?;
-        }
-    }
-    if first(items, VERSION).is_none() {
-        let subject = Subject::Word(VERSION);
-        let reason = reasons::NO_VERSION;
-        importer
-            .messages
-            .tell(Place::first(0), Verdict::Set, subject, reason)?;
-    }
-    if cpu.is_none() {
-        let subject = Subject::Word(CPU);
-        importer.messages.refuse(end, subject, reasons::NO_CPU)?;
-    }
+    let mut importer = Importer::new(alloc, of_cpu(items, cpu), messages)?;
+    importer.items(alloc, items, cpu, end)?;
     Ok(importer)
 }

@@ -6,19 +6,55 @@ ghost use Rattle.oil_printer.specs.Plain.{IsPlain};
 
 use crate::files::import_items;
 use crate::includes::all_tokens;
-use crate::items::items_of;
+use crate::items::{Item, items_of};
 use crate::messages::{Messages, Subject};
 use crate::reasons;
+use crate::settings::Importer;
 use crate::sources::{Place, Source};
 use oil_printer::reprint_oil;
 use std::alloc::{AllocError, Global};
 
 /// What files become.
-#[derive(Debug, Drop)]
+#[derive(Drop)]
 pub struct PlainOil<'a> {
     /// Plain OIL, unless something was refused.
     pub text: Option<String>,
     pub messages: Messages<'a>,
+}
+
+/// The items of all files, and the place of the end.
+fn all_items<'a>(
+    alloc: Global,
+    sources: &[Source<'a>],
+    messages: &mut Messages<'a>,
+) -> Result<(Vec<Item<'a>>, Place), AllocError> {
+    let (tokens, end) = all_tokens(alloc, sources, messages)?;
+    let items = items_of(alloc, &tokens, end)?;
+    Ok((items, end))
+}
+
+/// What files become before it is read and printed.
+fn drafted<'a>(alloc: Global, sources: &[Source<'a>]) -> Result<Importer<'a>, AllocError> {
+    let mut messages = Messages::new(alloc);
+    let (items, end) = all_items(alloc, sources, &mut messages)?;
+    import_items(alloc, &items, end, messages)
+}
+
+/// Plain OIL as it is printed, unless something was refused.
+fn printed(alloc: Global, importer: &mut Importer<'_>) -> Result<Option<String>, AllocError>
+    ensures { IfOk result (λ t. IfSome t (λ text. IsPlain (string_bytes text))) }
+{
+    if importer.messages.is_refused() {
+        return Ok(None);
+    }
+    let text = reprint_oil(alloc, importer.draft.as_bytes())?;
+    if text.is_none() {
+        let place = Place::first(0);
+        importer
+            .messages
+            .refuse(place, Subject::Word("CPU"), reasons::NOT_READ)?;
+    }
+    Ok(text)
 }
 
 /// Imports OIL files as they are used: the first one, and the others where they are included.
@@ -28,22 +64,10 @@ pub struct PlainOil<'a> {
 pub fn import<'a>(alloc: Global, sources: &[Source<'a>]) -> Result<PlainOil<'a>, AllocError>
     ensures { IfOk result (λ i. IfSome i.text (λ text. IsPlain (string_bytes text))) }
 {
-    let mut messages = Messages::new(alloc);
-    let (tokens, end) = all_tokens(alloc, sources, &mut messages)?;
-    let items = items_of(alloc, &tokens, end)?;
-    let importer = import_items(alloc, &items, end, messages)?;
-    let mut messages = importer.messages;
-    if messages.is_refused() {
-        return Ok(PlainOil {
-            text: None,
-            messages,
-        });
-    }
-    let draft = importer.draft.into_text();
-    let text = reprint_oil(alloc, draft.as_bytes())?;
-    if text.is_none() {
-        let place = Place::first(0);
-        messages.refuse(place, Subject::Word("CPU"), reasons::NOT_READ)?;
-    }
-    Ok(PlainOil { text, messages })
+    let mut importer = drafted(alloc, sources)?;
+    let text = printed(alloc, &mut importer)?;
+    Ok(PlainOil {
+        text,
+        messages: importer.messages,
+    })
 }

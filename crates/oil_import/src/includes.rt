@@ -5,6 +5,7 @@ use crate::reasons;
 use crate::sources::{Place, Source, last_part};
 use crate::tokens::{Lexeme, Token, tokenize};
 use std::alloc::{AllocError, Global};
+use std::mem;
 
 /// The tokens of a file, and how far they are taken.
 #[derive(Drop)]
@@ -18,6 +19,16 @@ struct File<'a> {
 }
 
 impl<'a> File<'a> {
+    fn new(alloc: Global, number: usize, source: Source<'a>) -> Result<Self, AllocError> {
+        let (tokens, end) = tokenize(alloc, number, source)?;
+        Ok(File {
+            tokens,
+            end,
+            taken: 0,
+            is_included: number == 0,
+        })
+    }
+
     /// The next token that isn't taken.
     fn next(&mut self) -> Option<Token<'a>> {
         let token = *self.tokens.get(self.taken)?;
@@ -42,19 +53,21 @@ enum Next<'a> {
 
 impl<'a> Files<'a> {
     fn new(alloc: Global, sources: &[Source<'a>]) -> Result<Self, AllocError> {
-        let mut files = Vec::new(alloc);
+        let mut files = Files {
+            files: Vec::new(alloc),
+            open: Vec::new(alloc),
+        };
+        files.add_all(alloc, sources)?;
+        Ok(files)
+    }
+
+    /// Adds all files, of which the first is open.
+    fn add_all(&mut self, alloc: Global, sources: &[Source<'a>]) -> Result<(), AllocError> {
+        self.open.push(0)?;
         for (number, source) in sources.iter().enumerate() {
-            let (tokens, end) = tokenize(alloc, number, *source)?;
-            files.push(File {
-                tokens,
-                end,
-                taken: 0,
-                is_included: number == 0,
-            })?;
+            self.files.push(File::new(alloc, number, *source)?)?;
         }
-        let mut open = Vec::new(alloc);
-        open.push(0)?;
-        Ok(Files { files, open })
+        Ok(())
     }
 
     /// How many steps it takes to go through all files: a token or an end each.
@@ -141,6 +154,40 @@ fn tell_unused<'a>(
     Ok(())
 }
 
+/// Takes a token, or goes on with the file that it includes.
+fn take<'a>(
+    files: &mut Files<'a>,
+    sources: &[Source<'_>],
+    token: Token<'a>,
+    tokens: &mut Vec<Token<'a>>,
+    messages: &mut Messages<'a>,
+) -> Result<(), AllocError> {
+    if let Lexeme::Include(path) = token.lexeme {
+        return enter(files, sources, token.place, path, messages);
+    }
+    tokens.push(token)?;
+    Ok(())
+}
+
+/// Takes the tokens of all files that are included, and answers the place of the end.
+fn take_all<'a>(
+    files: &mut Files<'a>,
+    sources: &[Source<'a>],
+    tokens: &mut Vec<Token<'a>>,
+    messages: &mut Messages<'a>,
+) -> Result<Place, AllocError> {
+    let mut end = Place::first(0);
+    for _ in 0..files.steps() {
+        match files.next() {
+            None => break,
+            Some(Next::End(place)) => end = place,
+            Some(Next::Token(token)) => take(files, sources, token, tokens, messages)?,
+        }
+    }
+    tell_unused(files, sources, messages)?;
+    Ok(end)
+}
+
 /// The tokens of all files that are included, and the place of the end. Files are included where they are named, each
 /// once, the first file from the front.
 pub fn all_tokens<'a>(
@@ -150,17 +197,7 @@ pub fn all_tokens<'a>(
 ) -> Result<(Vec<Token<'a>>, Place), AllocError> {
     let mut files = Files::new(alloc, sources)?;
     let mut tokens = Vec::new(alloc);
-    let mut end = Place::first(0);
-    for _ in 0..files.steps() {
-        match files.next() {
-            None => break,
-            Some(Next::End(place)) => end = place,
-            Some(Next::Token(token)) => match token.lexeme {
-                Lexeme::Include(path) => enter(&mut files, sources, token.place, path, messages)?,
-                _ => tokens.push(token)?,
-            },
-        }
-    }
-    tell_unused(&files, sources, messages)?;
-    Ok((tokens, end))
+    let end = take_all(&mut files, sources, &mut tokens, messages);
+    mem::drop(files);
+    Ok((tokens, end?))
 }

@@ -6,7 +6,7 @@ use crate::tokens::{Lexeme, Token};
 use std::alloc::{AllocError, Global};
 
 /// What stands behind the first word of an item.
-#[derive(Clone, Copy, Debug, PartialEq, Eq)]
+#[derive(Clone, Copy)]
 pub(crate) enum Written<'a> {
     Nothing,
     /// Another word, as an object's name.
@@ -18,7 +18,7 @@ pub(crate) enum Written<'a> {
 }
 
 /// What stands between two semicolons or braces: an object or an attribute.
-#[derive(Clone, Copy, Debug)]
+#[derive(Clone, Copy)]
 pub(crate) struct Item<'a> {
     /// How many braces are open round it.
     pub depth: usize,
@@ -35,7 +35,7 @@ pub(crate) struct Item<'a> {
 }
 
 /// How far an item is read.
-#[derive(Clone, Copy, Debug, PartialEq, Eq)]
+#[derive(Clone, Copy, PartialEq, Eq)]
 enum Reading {
     /// Nothing of it.
     Begin,

@@ -5,7 +5,7 @@ use std::alloc::{AllocError, Global};
 use std::io::{self, Write};
 
 /// What became of something.
-#[derive(Clone, Copy, Debug, PartialEq, Eq)]
+#[derive(Clone, Copy, PartialEq, Eq)]
 pub enum Verdict {
     LeftOut,
     /// It didn't stand there.
@@ -17,7 +17,7 @@ pub enum Verdict {
 }
 
 /// What a message is about.
-#[derive(Clone, Copy, Debug, PartialEq, Eq)]
+#[derive(Clone, Copy)]
 pub enum Subject<'a> {
     /// `KIND NAME`, as `TASK A`.
     Object(&'a str, &'a str),
@@ -28,7 +28,7 @@ pub enum Subject<'a> {
 }
 
 /// A message.
-#[derive(Clone, Copy, Debug)]
+#[derive(Clone, Copy)]
 pub struct Message<'a> {
     pub place: Place,
     pub verdict: Verdict,
@@ -37,7 +37,7 @@ pub struct Message<'a> {
 }
 
 /// The messages of an import, in the order of the text where each stands by itself.
-#[derive(Debug, Drop)]
+#[derive(Drop)]
 pub struct Messages<'a> {
     list: Vec<Message<'a>>,
     is_refused: bool,
@@ -67,6 +67,14 @@ impl<'a> Messages<'a> {
         self.is_refused
     }
 
+    pub(crate) fn add(&mut self, message: Message<'a>) -> Result<(), AllocError> {
+        if message.verdict == Verdict::Refused {
+            self.is_refused = true;
+        }
+        self.list.push(message)?;
+        Ok(())
+    }
+
     /// Adds a message.
     pub(crate) fn tell(
         &mut self,
@@ -75,16 +83,12 @@ impl<'a> Messages<'a> {
         subject: Subject<'a>,
         reason: &'static str,
     ) -> Result<(), AllocError> {
-        if verdict == Verdict::Refused {
-            self.is_refused = true;
-        }
-        self.list.push(Message {
+        self.add(Message {
             place,
             verdict,
             subject,
             reason,
-        })?;
-        Ok(())
+        })
     }
 
     /// Adds a refusal.

@@ -169,6 +169,23 @@ impl<'a> Importer<'a> {
             .leave_out(item.place, subject_of(item), reason)
     }
 
+    /// Refuses several activations of a task that lists an event.
+    fn refuse_activations(
+        &mut self,
+        object: Object<'a>,
+        item: &Item<'a>,
+        value: &str,
+    ) -> Result<(), AllocError> {
+        if is_one(value) || self.objects.is_basic(object.name) {
+            return Ok(());
+        }
+        self.messages.refuse(
+            item.written_place,
+            subject_of(item),
+            reasons::ONE_ACTIVATION,
+        )
+    }
+
     /// An attribute of an object, and its block.
     fn attribute(
         &mut self,
@@ -182,14 +199,8 @@ impl<'a> Importer<'a> {
         let Some(value) = self.taken(attribute, item, seen)? else {
             return Ok(());
         };
-        if attribute == AttributeName::Activation
-            && !is_one(value)
-            && !self.objects.is_basic(object.name)
-        {
-            let place = item.written_place;
-            let subject = subject_of(item);
-            self.messages
-                .refuse(place, subject, reasons::ONE_ACTIVATION)?;
+        if attribute == AttributeName::Activation {
+            self.refuse_activations(object, item, value)?;
         }
         self.draft.open_setting(item.word, value)?;
         let scope = block_of(attribute, value);

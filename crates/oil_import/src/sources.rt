@@ -1,7 +1,7 @@
 //! The files that are imported, no part of the standards, and the places in them.
 
 /// A file: its name as it was given, and its bytes.
-#[derive(Clone, Copy, Debug)]
+#[derive(Clone, Copy)]
 pub struct Source<'a> {
     pub name: &'a str,
     pub text: &'a [u8],
@@ -9,7 +9,7 @@ pub struct Source<'a> {
 
 /// A place in a file: which file of those given, counted from 0, and a line and a column in bytes, counted from 1. LF, CR
 /// and CR LF end a line. A byte order mark isn't counted.
-#[derive(Clone, Copy, Debug, PartialEq, Eq)]
+#[derive(Clone, Copy)]
 pub struct Place {
     pub file: usize,
     pub line: usize,

@@ -4,7 +4,7 @@ use crate::sources::{Place, Source};
 use std::alloc::{AllocError, Global};
 
 /// What a token is.
-#[derive(Clone, Copy, Debug, PartialEq, Eq)]
+#[derive(Clone, Copy)]
 pub enum Lexeme<'a> {
     /// A name or number: a run of letters, digits, `_`, `.`, `+` and `-`.
     Word(&'a str),
@@ -26,7 +26,7 @@ pub enum Lexeme<'a> {
 }
 
 /// A token and its place.
-#[derive(Clone, Copy, Debug)]
+#[derive(Clone, Copy)]
 pub struct Token<'a> {
     pub place: Place,
     pub lexeme: Lexeme<'a>,

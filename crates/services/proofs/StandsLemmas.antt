@@ -72,7 +72,12 @@ fit_where_stands o (s, stands) =
 
 -- objects of which it isn't known whether they are dispatched, or settled
 pub known_to_stand : {o : Objects} → Stands o → IsCore o false false
-known_to_stand stands = record { stands = stands; dispatched = λ known. absurd (grind arith); settled = λ known. absurd (grind arith) }
+known_to_stand stands = record {
+  stands = stands;
+  dispatched = λ known. absurd (grind arith);
+  settled = λ known. absurd (grind arith);
+  both = λ known. absurd (grind arith);
+}
 
 -- no task has more jobs than any may have
 pub few_jobs : (o : Objects) → Stands o → (t : ℕ) → t < length o.system.tasks → (by_task o.slots t).count ≤ MAX_ACTIVATION

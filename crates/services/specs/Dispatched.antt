@@ -3,7 +3,7 @@ use Rattle.std.specs.Prelude.{ℕ, suc, ◌≡◌, ◌<◌, ◌≤◌, Bool, tru
 use Rattle.osek_base.specs.declared.status.Status.{Status}
 use Rattle.osek_base.specs.declared.instr.Service.{Service}
 use Rattle.osek_base.specs.Types.{ServiceCall}
-use Rattle.osek_base.specs.System.{System}
+use Rattle.osek_base.specs.System.{System, priority_of}
 use Rattle.osek_base.specs.Ceiling.{internal_ceiling, top_priority}
 use Rattle.kept_state.specs.Kept.{Kept, Slot}
 use Rattle.ready_queues.specs.QueueMoves.{first, highest}
@@ -41,19 +41,29 @@ is_refusal None = false
 is_refusal (Some Status.Ok) = false
 is_refusal (Some refusal) = true
 
--- whether a service may call for a reschedule
-abbrev pub may_dispatch : ServiceCall → Bool
-may_dispatch (Service.ActivateTask t) = true
-may_dispatch Service.TerminateTask = true
-may_dispatch (Service.ChainTask t) = true
-may_dispatch Service.Schedule = true
-may_dispatch (Service.ReleaseResource r) = true
-may_dispatch (Service.SetEvent t m) = true
-may_dispatch (Service.WaitEvent m) = true
-may_dispatch _ = false
+-- whether a task is ready above the static priority of the running one; whether any is, where none runs
+abbrev pub is_outranked_by : System → Option ℕ → Option ℕ → Bool
+is_outranked_by S None top = is_some top
+is_outranked_by S (Some t) top = is_above (priority_of S t) top
 
--- objects that stand for a state, whether they are known to be dispatched, and whether to be settled
+abbrev pub is_runner_outranked : System → Kept → Bool
+is_runner_outranked S o = is_outranked_by S o.running (highest (suc (top_priority S)) o.queues)
+
+-- whether a service may call for a reschedule, by whether the running task is outranked behind it: one that makes or releases
+-- a job, or lowers the running one, does so only then
+abbrev pub may_dispatch : Bool → ServiceCall → Bool
+may_dispatch outranked (Service.ActivateTask t) = outranked
+may_dispatch outranked Service.TerminateTask = true
+may_dispatch outranked (Service.ChainTask t) = true
+may_dispatch outranked Service.Schedule = true
+may_dispatch outranked (Service.ReleaseResource r) = outranked
+may_dispatch outranked (Service.SetEvent t m) = outranked
+may_dispatch outranked (Service.WaitEvent m) = true
+may_dispatch outranked _ = false
+
+-- objects that stand for a state, whether they are known to be dispatched, and whether to be settled besides
 pub record IsCore (o : Objects) (known still : Bool) : Type 0 where
   pub stands : Stands o
   pub dispatched : known ≡ true → is_dispatched_in o.system (kept_in o) ≡ true
   pub settled : still ≡ true → IsSettled o.system (kept_in o)
+  pub both : still ≡ true → known ≡ true

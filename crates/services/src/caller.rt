@@ -73,6 +73,7 @@ impl<'s, Q: ReadyQueues> Objects<'s, Q> {
     }
 
     /// Whether the caller is a job whose task may take a resource.
+    #[inline(always)]
     pub fn may_take(&self, resource: &ResId) -> bool
         ensures { result ≡ may_take_in self.now.system (caller_in (kept_in self.now)) resource.now }
     {
@@ -86,6 +87,7 @@ impl<'s, Q: ReadyQueues> Objects<'s, Q> {
     }
 
     /// Whether a resource's ceiling is below the caller's static priority.
+    #[inline(always)]
     pub fn is_above_ceiling(&self, resource: &ResId) -> bool
         ensures { result
             ≡ is_above_ceiling_in self.now.system (caller_in (kept_in self.now)) resource.now }
@@ -131,10 +133,7 @@ impl<'s, Q: ReadyQueues> Objects<'s, Q> {
         ensures value { result ≡ self.now.running }
         ensures known { IfSome result (λ t. t < length self.now.system.tasks) }
     {
-        match &self.running {
-            None => None,
-            Some(task) => Some(*task),
-        }
+        self.running
     }
 
     /// The running task's number, as GetTaskID answers it.

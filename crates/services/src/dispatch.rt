@@ -9,7 +9,7 @@ ghost use Rattle.kept_state.specs.Moves.{activated_in, released_in, contender, d
 ghost use Rattle.kept_state.specs.Standing.{room_for};
 ghost use Rattle.ready_queues.specs.LevelLists.{by_level};
 ghost use Rattle.services.specs.Objects.{by_task, kept_in, AreFit};
-ghost use Rattle.services.specs.Dispatched.{IsHighest};
+ghost use Rattle.services.specs.Dispatched.{IsHighest, is_runner_outranked};
 ghost use Rattle.services.specs.Steps.{Becomes, Does, Records};
 
 use crate::objects::Objects;
@@ -80,6 +80,21 @@ impl<'s, Q: ReadyQueues> Objects<'s, Q> {
         ensures { result ≡ highest (suc (top_priority self.now.system)) (by_level self.now.queues) }
     {
         self.ready.highest(self.system.top_priority())
+    }
+
+    /// Whether a task is ready above the static priority of the running one; whether any is, where none runs.
+    #[inline(always)]
+    pub fn is_runner_outranked(&self) -> bool
+        requires { AreFit self.now }
+        ensures { result ≡ is_runner_outranked self.now.system (kept_in self.now) }
+    {
+        match self.highest() {
+            None => false,
+            Some(level) => match self.running() {
+                None => true,
+                Some(task) => self.level_of(task) < level,
+            },
+        }
     }
 
     /// The dynamic priority of a task's oldest job.

@@ -12,9 +12,10 @@ ghost use Rattle.kept_state.specs.Moves.{contender, rescheduled};
 ghost use Rattle.kept_state.specs.Standing.{MayServe, runner_waits};
 ghost use Rattle.services.specs.AsDefined.{HasActed, IsControlled, IsServed};
 ghost use Rattle.services.specs.Calls.{call_of, IsExecuting, IsKnown, IsService, IsThere, MayGoOn, caller_as, context_in};
-ghost use Rattle.services.specs.Dispatched.{is_refusal, may_dispatch};
+ghost use Rattle.services.specs.Dispatched.{is_refusal, is_runner_outranked, may_dispatch};
 ghost use Rattle.machine.specs.Packed.{instr_of, service_of};
-ghost use Rattle.services.specs.Objects.{StandsFor, kept_in};
+ghost use Rattle.services.specs.Objects.{AreFit, StandsFor, kept_in};
+ghost use Rattle.services.specs.Quiet.{IsSettled};
 ghost use Rattle.services.specs.PlainSteps.{ExecutesPlain, IsPlainAt, plain_context};
 ghost use Rattle.services.specs.Steps.{Advances, Becomes, Does};
 
@@ -41,7 +42,7 @@ pub struct Core<'s, Q: ReadyQueues> {
     pub(crate) objects: Objects<'s, Q>,
     /// Set only where a reschedule changes nothing; each step that may call for one takes it back.
     pub(crate) is_dispatched: bool,
-    /// Set only where no ShutdownOS ended the run, a task runs, and no routine is active or pending.
+    /// Set only where besides no ShutdownOS ended the run, a task runs, and no routine is active or pending.
     pub(crate) is_settled: bool,
 }
 
@@ -56,32 +57,52 @@ impl<'s, Q: ReadyQueues> Model for Core<'s, Q> {
     ghost invariant = { λ c. IsCore c.objects c.is_dispatched c.is_settled };
 }
 
-/// Whether a service may call for a reschedule: each but those that change nothing of who is to run.
+/// Whether a service that is done may call for a reschedule. One that makes or releases a job, or lowers the running one, does
+/// so only where a task is ready above the running one.
 #[inline(always)]
-fn may_dispatch(service: &Service<Register>) -> bool
-    ensures { result ≡ may_dispatch service.now }
+fn may_dispatch<Q: ReadyQueues>(objects: &Objects<'_, Q>, service: &Service<Register>) -> bool
+    requires { AreFit objects.now }
+    ensures { result
+        ≡ may_dispatch (is_runner_outranked objects.now.system (kept_in objects.now)) service.now }
 {
     match service {
-        Service::ActivateTask(_)
-        | Service::TerminateTask
+        Service::TerminateTask
         | Service::ChainTask(_)
         | Service::Schedule
-        | Service::ReleaseResource(_)
-        | Service::SetEvent(..)
         | Service::WaitEvent(_) => true,
+        Service::ActivateTask(_) | Service::ReleaseResource(_) | Service::SetEvent(..) => {
+            objects.is_runner_outranked()
+        }
         _ => false,
     }
 }
 
-/// Whether what was known of who is to run still is after a service: a refused one changed nothing.
+/// Whether what is known of who is to run still holds behind a service: a refused one changed nothing.
 #[inline(always)]
-fn stays_known(known: bool, answer: &Answer, packed: PackedInstr) -> bool
-    requires { IsService packed }
+fn stays_known<Q: ReadyQueues>(
+    objects: &Objects<'_, Q>,
+    answer: &Answer,
+    packed: PackedInstr,
+) -> bool
+    requires fit { AreFit objects.now }
+    requires call { IsService packed }
     ensures { result
-        ≡ (known && (is_refusal answer.now.status
-        || not (may_dispatch (service_of (instr_of packed))))) }
+        ≡ (is_refusal answer.now.status
+        || not
+        (may_dispatch (is_runner_outranked objects.now.system (kept_in objects.now))
+        (service_of (instr_of packed)))) }
 {
-    known && (answer.is_refusal() || !may_dispatch(&packed.service()))
+    answer.is_refusal() || !may_dispatch(objects, &packed.service())
+}
+
+/// What is known is kept where it still holds.
+#[inline(always)]
+fn keep_where(known: &mut bool, stays: bool)
+    ensures { known.new ≡ (known.old && stays) }
+{
+    if !stays {
+        *known = false;
+    }
 }
 
 /// After a reschedule, another is known to change nothing where it could dispatch.
@@ -92,6 +113,15 @@ fn becomes_known(known: &mut bool, could: bool)
     if could {
         *known = true;
     }
+}
+
+/// Whether a system is known to be settled, where it is known that a reschedule changes nothing.
+#[inline(always)]
+fn becomes_settled<Q: ReadyQueues>(objects: &Objects<'_, Q>, is_dispatched: bool) -> bool
+    ensures settled { result ≡ true → IsSettled objects.now.system (kept_in objects.now) }
+    ensures both { result ≡ true → is_dispatched ≡ true }
+{
+    is_dispatched && objects.is_settled()
 }
 
 impl<'s, Q: ReadyQueues> Core<'s, Q> {
@@ -191,8 +221,9 @@ impl<'s, Q: ReadyQueues> Core<'s, Q> {
         ensures { IsServed (call_of packed owner self.old) self.old self.new result }
     {
         let answer = self.objects.serve_program(owner, packed);
-        self.is_dispatched = stays_known(self.is_dispatched, &answer, packed);
-        self.is_settled = stays_known(self.is_settled, &answer, packed);
+        let stays = stays_known(&self.objects, &answer, packed);
+        keep_where(&mut self.is_dispatched, stays);
+        keep_where(&mut self.is_settled, stays);
         answer
     }
 
@@ -218,7 +249,7 @@ impl<'s, Q: ReadyQueues> Core<'s, Q> {
         let runner = self.objects.contender();
         let could = self.objects.reschedule(&runner, record_of_tick);
         becomes_known(&mut self.is_dispatched, could);
-        self.is_settled = self.objects.is_settled();
+        self.is_settled = becomes_settled(&self.objects, self.is_dispatched);
         runner
     }
 

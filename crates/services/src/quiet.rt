@@ -72,7 +72,7 @@ impl<'s, Q: ReadyQueues> Core<'s, Q> {
     pub fn steady_task(&self) -> Option<TaskId>
         ensures { IfSome result (IsSteady self.now.system (kept_in self.now)) }
     {
-        if self.is_dispatched && self.is_settled {
+        if self.is_settled {
             self.objects.running()
         } else {
             None

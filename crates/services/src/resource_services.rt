@@ -17,6 +17,7 @@ impl<'s, Q: ReadyQueues> Objects<'s, Q> {
     /// The caller holds a resource. E_OS_ACCESS in a routine, where the caller's task doesn't list it, or where a job holds
     /// it. RES_SCHEDULER needn't be listed.
     #[tactic(auto, unfolding(kept_state::specs::KeptService::unasked_in))]
+    #[inline(always)]
     pub fn get_resource(&mut self, resource: &ResId) -> Status
         ensures { Serves (Service.GetResource (Some resource.now)) self.old self.new result }
     {
@@ -36,6 +37,7 @@ impl<'s, Q: ReadyQueues> Objects<'s, Q> {
     /// The caller releases a resource. E_OS_ACCESS in a routine, or where the resource's ceiling is below the caller's static
     /// priority; E_OS_NOFUNC where it isn't the last that the caller got and still holds.
     #[tactic(auto, unfolding(kept_state::specs::KeptService::unasked_in))]
+    #[inline(always)]
     pub fn release_resource(&mut self, resource: &ResId) -> Status
         ensures { Serves (Service.ReleaseResource (Some resource.now)) self.old self.new result }
     {
@@ -49,6 +51,7 @@ impl<'s, Q: ReadyQueues> Objects<'s, Q> {
     }
 
     /// Whether a job holds a resource.
+    #[inline(always)]
     fn is_held(&self, resource: &ResId) -> bool
         ensures { result ≡ is_held_in self.now.system (kept_in self.now) resource.now }
     {
@@ -56,6 +59,7 @@ impl<'s, Q: ReadyQueues> Objects<'s, Q> {
     }
 
     /// The calling job gets a resource that no job holds.
+    #[inline(always)]
     fn get_held(&mut self, resource: &ResId)
         requires free { is_held_in self.old.system (kept_in self.old) resource.now ≡ false }
         ensures { Becomes (λ _S o. with_caller_in (caller_in o) (slot_gets resource.now) o)
@@ -69,6 +73,7 @@ impl<'s, Q: ReadyQueues> Objects<'s, Q> {
 
     /// The calling job releases a resource. E_OS_NOFUNC where it isn't the last that the job got and still holds; then
     /// nothing changes.
+    #[inline(always)]
     fn release_held(&mut self, resource: &ResId) -> Status
         ensures system { self.new.system ≡ self.old.system }
         ensures status { result
@@ -90,8 +95,15 @@ impl<'s, Q: ReadyQueues> Objects<'s, Q> {
 }
 
 /// Whether an oldest job holds a resource.
+#[inline(always)]
 fn any_holds(slots: &[Slot], resource: &ResId) -> bool
     ensures { result ≡ list_any (holds_in resource.now) slots.now }
 {
-    slots.iter().any(|slot| slot.holds(resource))
+    for number in 0..slots.len() {
+        let slot = &slots[number];
+        if slot.holds(resource) {
+            return true;
+        }
+    }
+    false
 }

@@ -207,6 +207,7 @@ impl Slot {
     }
 
     /// The oldest job gets a resource that it doesn't hold.
+    #[inline(always)]
     pub fn get(&mut self, resource: &ResId)
         requires { IsFalse (holds_in resource.now self.old) }
         ensures { self.new ≡ slot_gets resource.now self.old }
@@ -216,6 +217,7 @@ impl Slot {
 
     /// The oldest job releases a resource. E_OS_NOFUNC where it isn't the last that it got and still holds; then nothing
     /// changes.
+    #[inline(always)]
     pub fn release(&mut self, resource: &ResId) -> Status
         ensures status { result
             ≡ (if is_resource (last_of self.old.held) resource.now then Status.Ok

@@ -11,25 +11,36 @@ fn name_of(system: &System, number: usize) -> &str {
     }
 }
 
+/// Writes what is said of a task, where there is such a task.
+fn write_task<W: Write>(
+    system: &System,
+    task: Option<usize>,
+    said: &str,
+    out: &mut W,
+) -> io::Result<()> {
+    match task {
+        Some(task) => writeln!(out, "  {} {said}", name_of(system, task)),
+        None => Ok(()),
+    }
+}
+
 /// Writes the class, and below it the first task that lists an event, the first with several
 /// activations, and the first that has the priority of the task before it.
 pub(crate) fn write_class<W: Write>(system: &System, class: Class, out: &mut W) -> io::Result<()> {
     writeln!(out, "class {}", class.name())?;
-    if let Some(task) = first_extended(system) {
-        writeln!(out, "  {} lists an event", name_of(system, task))?;
-    }
-    if let Some(task) = first_multiple(system) {
-        writeln!(out, "  {} has several activations", name_of(system, task))?;
-    }
-    if let Some(task) = first_tied(system) {
-        let before = name_of(system, task.saturating_sub(1));
-        writeln!(
-            out,
-            "  {before} and {} have one priority",
-            name_of(system, task)
-        )?;
-    }
-    Ok(())
+    let extended = first_extended(system);
+    write_task(system, extended, "lists an event", out)?;
+    let multiple = first_multiple(system);
+    write_task(system, multiple, "has several activations", out)?;
+    let Some(task) = first_tied(system) else {
+        return Ok(());
+    };
+    let before = name_of(system, task.saturating_sub(1));
+    writeln!(
+        out,
+        "  {before} and {} have one priority",
+        name_of(system, task)
+    )
 }
 
 fn first_extended(system: &System) -> Option<usize> {

@@ -1,7 +1,7 @@
 //! Events and their masks.
 
 use crate::lists::tasks_with;
-use crate::table::{Row, Table};
+use crate::table::Table;
 use oil_reader::{Object, SyntaxTree};
 use osek_base::System;
 use std::alloc::{AllocError, Global};
@@ -18,6 +18,18 @@ fn mask_of(system: &System, name: &str) -> u32 {
     0
 }
 
+fn add_event(
+    alloc: Global,
+    tree: &SyntaxTree<'_>,
+    event: &str,
+    mask: u32,
+    table: &mut Table,
+) -> Result<(), AllocError> {
+    table.text(event)?;
+    table.mask(mask)?;
+    table.names(tasks_with(alloc, tree, "EVENT", event)?)
+}
+
 /// The events, in declaration order.
 pub(crate) fn event_table(
     alloc: Global,
@@ -27,11 +39,7 @@ pub(crate) fn event_table(
     let mut table = Table::new(alloc, &["event", "mask", "tasks"])?;
     let masks = system.parts().events.iter();
     for (event, mask) in system.names().events.iter().zip(masks) {
-        let mut row = Row::new(alloc);
-        row.text(event.as_str())?;
-        row.mask(*mask)?;
-        row.names(&tasks_with(alloc, tree, "EVENT", event.as_str())?)?;
-        table.add(row)?;
+        add_event(alloc, tree, event.as_str(), *mask, &mut table)?;
     }
     Ok(table)
 }

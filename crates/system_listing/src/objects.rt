@@ -1,7 +1,7 @@
 //! The tables of interrupt routines, resources, counters and alarms.
 
 use crate::lists::{modes, tasks_with};
-use crate::table::{Row, Table};
+use crate::table::Table;
 use oil_reader::{Kind, Object, SyntaxTree};
 use osek_base::{ResId, ResourceNumber, System};
 use std::alloc::{AllocError, Global};
@@ -20,33 +20,41 @@ pub(crate) fn routine_table(alloc: Global, tree: &SyntaxTree<'_>) -> Result<Tabl
     let mut table = Table::new(alloc, &["routine", "priority"])?;
     for routine in &tree.objects {
         if routine.kind == Kind::Isr {
-            let mut row = Row::new(alloc);
-            row.text(routine.name.text)?;
-            row.number(number_in(routine, "PRIORITY") as usize)?;
-            table.add(row)?;
+            table.text(routine.name.text)?;
+            table.number(number_in(routine, "PRIORITY") as usize)?;
         }
     }
     Ok(table)
 }
 
-/// The ceilings of the declared resources, by number.
-fn ceilings(alloc: Global, system: &System) -> Result<Vec<u8>, AllocError> {
-    let mut ceilings = Vec::new(alloc);
-    for number in 0..system.resource_count() {
-        let resource = ResId::Declared(ResourceNumber::new(number as u8));
-        ceilings.push(system.ceiling(resource))?;
+/// The ceiling of a declared resource.
+fn ceiling(system: &System, number: usize) -> u8 {
+    if number >= system.resource_count() {
+        return 0;
     }
-    Ok(ceilings)
+    system.ceiling(ResId::Declared(ResourceNumber::new(number as u8)))
 }
 
 /// Adds RES_SCHEDULER, which is open to every task.
-fn add_scheduler(alloc: Global, system: &System, table: &mut Table) -> Result<(), AllocError> {
-    let mut row = Row::new(alloc);
-    row.text("RES_SCHEDULER")?;
-    row.number(usize::from(system.ceiling(ResId::Scheduler)))?;
-    row.text("STANDARD")?;
-    row.text("all")?;
-    table.add(row)
+fn add_scheduler(system: &System, table: &mut Table) -> Result<(), AllocError> {
+    table.text("RES_SCHEDULER")?;
+    table.number(usize::from(system.ceiling(ResId::Scheduler)))?;
+    table.text("STANDARD")?;
+    table.text("all")
+}
+
+fn add_resource(
+    alloc: Global,
+    tree: &SyntaxTree<'_>,
+    resource: &Object<'_>,
+    ceiling: u8,
+    table: &mut Table,
+) -> Result<(), AllocError> {
+    let name = resource.name.text;
+    table.text(name)?;
+    table.number(usize::from(ceiling))?;
+    table.text(word_in(resource, "RESOURCEPROPERTY"))?;
+    table.names(tasks_with(alloc, tree, "RESOURCE", name)?)
 }
 
 /// The resources, in declaration order, and RES_SCHEDULER where it exists.
@@ -56,21 +64,15 @@ pub(crate) fn resource_table(
     tree: &SyntaxTree<'_>,
 ) -> Result<Table, AllocError> {
     let mut table = Table::new(alloc, &["resource", "ceiling", "property", "tasks"])?;
-    let ceilings = ceilings(alloc, system)?;
-    let mut ceilings = ceilings.iter();
+    let mut number: usize = 0;
     for resource in &tree.objects {
         if resource.kind == Kind::Resource {
-            let name = resource.name.text;
-            let mut row = Row::new(alloc);
-            row.text(name)?;
-            row.number(usize::from(*ceilings.next().unwrap_or(&0)))?;
-            row.text(word_in(resource, "RESOURCEPROPERTY"))?;
-            row.names(&tasks_with(alloc, tree, "RESOURCE", name)?)?;
-            table.add(row)?;
+            add_resource(alloc, tree, resource, ceiling(system, number), &mut table)?;
+            number = number.saturating_add(1);
         }
     }
     if system.has_res_scheduler() {
-        add_scheduler(alloc, system, &mut table)?;
+        add_scheduler(system, &mut table)?;
     }
     Ok(table)
 }
@@ -81,12 +83,10 @@ pub(crate) fn counter_table(alloc: Global, tree: &SyntaxTree<'_>) -> Result<Tabl
     let mut table = Table::new(alloc, &["counter", words[0], words[1], words[2]])?;
     for counter in &tree.objects {
         if counter.kind == Kind::Counter {
-            let mut row = Row::new(alloc);
-            row.text(counter.name.text)?;
+            table.text(counter.name.text)?;
             for word in &words {
-                row.number(number_in(counter, *word) as usize)?;
+                table.number(number_in(counter, *word) as usize)?;
             }
-            table.add(row)?;
         }
     }
     Ok(table)
@@ -101,38 +101,41 @@ fn acted_on<'a>(alarm: &Object<'a>, word: &str) -> &'a str {
 }
 
 /// Adds a time of an alarm that starts by itself, in counts.
-fn add_time(alarm: &Object<'_>, word: &str, row: &mut Row) -> Result<(), AllocError> {
+fn add_time(alarm: &Object<'_>, word: &str, table: &mut Table) -> Result<(), AllocError> {
     match inner(alarm, "AUTOSTART", word) {
-        Some(setting) => row.number(number_of(setting.value) as usize),
-        None => row.text(""),
+        Some(setting) => table.number(number_of(setting.value) as usize),
+        None => table.text(""),
     }
+}
+
+const ALARM_COLUMNS: [&str; 8] = [
+    "alarm",
+    "counter",
+    "action",
+    "task",
+    "event",
+    "starts",
+    "ALARMTIME",
+    "CYCLETIME",
+];
+
+fn add_alarm(alloc: Global, alarm: &Object<'_>, table: &mut Table) -> Result<(), AllocError> {
+    table.text(alarm.name.text)?;
+    table.text(word_in(alarm, "COUNTER"))?;
+    table.text(word_in(alarm, "ACTION"))?;
+    table.text(acted_on(alarm, "TASK"))?;
+    table.text(acted_on(alarm, "EVENT"))?;
+    table.names(modes(alloc, alarm)?)?;
+    add_time(alarm, "ALARMTIME", table)?;
+    add_time(alarm, "CYCLETIME", table)
 }
 
 /// The alarms, in declaration order.
 pub(crate) fn alarm_table(alloc: Global, tree: &SyntaxTree<'_>) -> Result<Table, AllocError> {
-    let columns = [
-        "alarm",
-        "counter",
-        "action",
-        "task",
-        "event",
-        "starts",
-        "ALARMTIME",
-        "CYCLETIME",
-    ];
-    let mut table = Table::new(alloc, &columns)?;
+    let mut table = Table::new(alloc, &ALARM_COLUMNS)?;
     for alarm in &tree.objects {
         if alarm.kind == Kind::Alarm {
-            let mut row = Row::new(alloc);
-            row.text(alarm.name.text)?;
-            row.text(word_in(alarm, "COUNTER"))?;
-            row.text(word_in(alarm, "ACTION"))?;
-            row.text(acted_on(alarm, "TASK"))?;
-            row.text(acted_on(alarm, "EVENT"))?;
-            row.names(&modes(alloc, alarm)?)?;
-            add_time(alarm, "ALARMTIME", &mut row)?;
-            add_time(alarm, "CYCLETIME", &mut row)?;
-            table.add(row)?;
+            add_alarm(alloc, alarm, &mut table)?;
         }
     }
     Ok(table)

@@ -3,22 +3,39 @@
 use std::alloc::{AllocError, Global};
 use std::io::{self, Write};
 
-/// A row of a table, cell by cell.
+/// A table: its cells row by row, those of the heading first.
 #[derive(Drop)]
-pub(crate) struct Row {
+pub(crate) struct Table {
     alloc: Global,
+    /// How many cells a row has.
+    columns: usize,
     cells: Vec<String>,
 }
 
-impl Row {
-    pub(crate) fn new(alloc: Global) -> Self {
-        Row {
+/// Writes a cell, and blanks up to a width and two more behind it.
+fn write_cell<W: Write>(cell: &str, width: usize, out: &mut W) -> io::Result<()> {
+    out.write_all(cell.as_bytes())?;
+    for _missing in cell.len()..width {
+        out.write_all(b" ")?;
+    }
+    out.write_all(b"  ")
+}
+
+impl Table {
+    /// A table with a heading and no rows.
+    pub(crate) fn new(alloc: Global, heading: &[&str]) -> Result<Self, AllocError> {
+        let mut table = Table {
             alloc,
+            columns: heading.len(),
             cells: Vec::new(alloc),
+        };
+        for column in heading {
+            table.text(*column)?;
         }
+        Ok(table)
     }
 
-    /// Adds a text, or `-` in place of an empty one.
+    /// Adds a text as the next cell, or `-` in place of an empty one.
     pub(crate) fn text(&mut self, text: &str) -> Result<(), AllocError> {
         let text = if text.is_empty() { "-" } else { text };
         self.cells.push(format!(in self.alloc; "{text}")?)?;
@@ -35,8 +52,8 @@ impl Row {
         Ok(())
     }
 
-    /// Adds names with commas between them.
-    pub(crate) fn names(&mut self, names: &[&str]) -> Result<(), AllocError> {
+    /// Adds names as one cell, with commas between them.
+    pub(crate) fn names(&mut self, names: Vec<&str>) -> Result<(), AllocError> {
         let mut text = String::new(self.alloc);
         for (number, name) in names.iter().enumerate() {
             if number > 0 {
@@ -46,76 +63,37 @@ impl Row {
         }
         self.text(text.as_str())
     }
-}
 
-/// A table: its heading, and rows of as many cells.
-#[derive(Drop)]
-pub(crate) struct Table {
-    heading: Row,
-    rows: Vec<Row>,
-}
-
-/// Writes a cell, and blanks up to a width and two more behind it.
-fn write_cell<W: Write>(cell: &str, width: usize, out: &mut W) -> io::Result<()> {
-    out.write_all(cell.as_bytes())?;
-    for _missing in cell.len()..width {
-        out.write_all(b" ")?;
-    }
-    out.write_all(b"  ")
-}
-
-impl Table {
-    /// A table with a heading and no rows.
-    pub(crate) fn new(alloc: Global, heading: &[&str]) -> Result<Self, AllocError> {
-        let mut row = Row::new(alloc);
-        for column in heading {
-            row.text(*column)?;
-        }
-        Ok(Table {
-            heading: row,
-            rows: Vec::new(alloc),
-        })
-    }
-
-    pub(crate) fn add(&mut self, row: Row) -> Result<(), AllocError> {
-        self.rows.push(row)?;
-        Ok(())
+    /// In which column the cell of a number stands.
+    fn column_of(&self, number: usize) -> usize {
+        number.checked_rem(self.columns).unwrap_or(0)
     }
 
     /// How many letters the longest cell of a column has.
     fn width(&self, column: usize) -> usize {
-        let mut width = match self.heading.cells.get(column) {
-            Some(cell) => cell.len(),
-            None => 0,
-        };
-        for row in &self.rows {
-            if let Some(cell) = row.cells.get(column) {
+        let mut width: usize = 0;
+        for (number, cell) in self.cells.iter().enumerate() {
+            if self.column_of(number) == column {
                 width = width.max(cell.len());
             }
         }
         width
     }
 
-    /// Writes a row. Nothing stands behind its last cell.
-    fn write_row<W: Write>(&self, row: &Row, out: &mut W) -> io::Result<()> {
-        let Some((last, cells)) = row.cells.split_last() else {
-            return Ok(());
-        };
-        for (column, cell) in cells.iter().enumerate() {
-            write_cell(cell.as_str(), self.width(column), out)?;
-        }
-        writeln!(out, "{last}")
-    }
-
-    /// Writes an empty line and the table, where it has rows.
+    /// Writes an empty line and the table, where it has rows. Nothing stands behind the last cell
+    /// of a row.
     pub(crate) fn write<W: Write>(&self, out: &mut W) -> io::Result<()> {
-        if self.rows.is_empty() {
+        if self.cells.len() <= self.columns {
             return Ok(());
         }
         out.write_all(b"\n")?;
-        self.write_row(&self.heading, out)?;
-        for row in &self.rows {
-            self.write_row(row, out)?;
+        for (number, cell) in self.cells.iter().enumerate() {
+            let column = self.column_of(number);
+            if column.saturating_add(1) == self.columns {
+                writeln!(out, "{cell}")?;
+            } else {
+                write_cell(cell.as_str(), self.width(column), out)?;
+            }
         }
         Ok(())
     }

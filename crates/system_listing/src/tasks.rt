@@ -1,7 +1,7 @@
 //! The table of the tasks.
 
 use crate::lists::{listed, modes, resources};
-use crate::table::{Row, Table};
+use crate::table::Table;
 use oil_reader::{Kind, Object, SyntaxTree};
 use osek_base::{System, TaskId};
 use std::alloc::{AllocError, Global};
@@ -20,16 +20,14 @@ const COLUMNS: [&str; 10] = [
     "events",
 ];
 
-/// The priority that each task has at least while it runs, by number: its own, or its internal
-/// ceiling.
-fn thresholds(alloc: Global, system: &System) -> Result<Vec<u8>, AllocError> {
-    let mut thresholds = Vec::new(alloc);
-    for number in 0..system.task_count() {
-        let task = TaskId::new(number as u8);
-        let priority = system.priority_of(task);
-        thresholds.push(priority.max(system.internal_ceiling(task).unwrap_or(0)))?;
+/// The priority that a task has at least while it runs: its own, or its internal ceiling.
+fn threshold(system: &System, number: usize) -> u8 {
+    if number >= system.task_count() {
+        return 0;
     }
-    Ok(thresholds)
+    let task = TaskId::new(number as u8);
+    let priority = system.priority_of(task);
+    priority.max(system.internal_ceiling(task).unwrap_or(0))
 }
 
 /// Adds what an object has as a task.
@@ -37,17 +35,32 @@ fn add_attributes(
     alloc: Global,
     tree: &SyntaxTree<'_>,
     task: &Object<'_>,
-    row: &mut Row,
+    table: &mut Table,
 ) -> Result<(), AllocError> {
-    row.text(match attribute(task, "SCHEDULE") {
+    table.text(match attribute(task, "SCHEDULE") {
         Some(schedule) => word_of(schedule.setting.value),
         None => "",
     })?;
-    row.number(number_in(task, "ACTIVATION") as usize)?;
-    row.names(&modes(alloc, task)?)?;
-    row.names(&resources(alloc, tree, task, true)?)?;
-    row.names(&resources(alloc, tree, task, false)?)?;
-    row.names(&listed(alloc, task, "EVENT")?)
+    table.number(number_in(task, "ACTIVATION") as usize)?;
+    table.names(modes(alloc, task)?)?;
+    table.names(resources(alloc, tree, task, true)?)?;
+    table.names(resources(alloc, tree, task, false)?)?;
+    table.names(listed(alloc, task, "EVENT")?)
+}
+
+fn add_task(
+    alloc: Global,
+    system: &System,
+    tree: &SyntaxTree<'_>,
+    number: usize,
+    task: &Object<'_>,
+    table: &mut Table,
+) -> Result<(), AllocError> {
+    table.text(task.name.text)?;
+    table.number(number)?;
+    table.number(number_in(task, "PRIORITY") as usize)?;
+    table.number(usize::from(threshold(system, number)))?;
+    add_attributes(alloc, tree, task, table)
 }
 
 /// The tasks by their numbers.
@@ -57,17 +70,9 @@ pub(crate) fn task_table(
     tree: &SyntaxTree<'_>,
 ) -> Result<Table, AllocError> {
     let mut table = Table::new(alloc, &COLUMNS)?;
-    let thresholds = thresholds(alloc, system)?;
-    let names = system.names().tasks.iter();
-    for (number, (name, threshold)) in names.zip(thresholds.iter()).enumerate() {
+    for (number, name) in system.names().tasks.iter().enumerate() {
         if let Some(task) = object(tree, Kind::Task, name.as_str()) {
-            let mut row = Row::new(alloc);
-            row.text(name.as_str())?;
-            row.number(number)?;
-            row.number(number_in(task, "PRIORITY") as usize)?;
-            row.number(usize::from(*threshold))?;
-            add_attributes(alloc, tree, task, &mut row)?;
-            table.add(row)?;
+            add_task(alloc, system, tree, number, task, &mut table)?;
         }
     }
     Ok(table)

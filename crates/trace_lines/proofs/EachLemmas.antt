@@ -1,5 +1,5 @@
 -- What holds of each element of a list and its number.
-use Rattle.std.proofs.Common.{◌≡◌, ℕ, zero, suc, ◌+◌, ◌<◌, List, [], ◌∷◌, ◌++◌, length, get_or, sym, subst, ap, ◌∙◌, arith}
+use Rattle.std.proofs.Common.{◌≡◌, ℕ, zero, suc, ◌+◌, ◌<◌, List, [], ◌∷◌, ◌++◌, length, get_or, refl, sym, subst, ap, ◌∙◌, arith}
 use Rattle.std.proofs.lemmas.List.{length-append}
 use Rattle.std.specs.List.{AllByRecursion}
 use Rattle.run_laws.proofs.Lists.{some_inside}
@@ -13,6 +13,12 @@ module _ {X : Type 0} where
   each_more P (z ∷ xs) x each this zero y h = each 0 y h
   each_more P (z ∷ xs) x each this (suc i) y h =
       each_more (λ n. P (suc n)) xs x (λ n w k. each (suc n) w k) this i y h
+
+  -- what holds of each holds of the one at a place
+  pub each_at : (P : ℕ → X → Type 0) (xs : List X) (i : ℕ) (x : X) → EachAt P xs → i < length xs → x ≡ get_or xs i x → P i x
+  each_at P [] i x each h e = absurd (omega (arith, h))
+  each_at P (y ∷ xs) zero x each h e = subst (P 0) (sym e) (each 0 y refl)
+  each_at P (y ∷ xs) (suc i) x each h e = each_at (λ n. P (suc n)) xs i x (λ n w k. each (suc n) w k) (omega (arith, h)) e
 
   -- what holds of all holds of the one at a place
   pub all_at : (P : X → Type 0) (xs : List X) (i : ℕ) (x : X) → AllByRecursion P xs → i < length xs → x ≡ get_or xs i x → P x

@@ -63,3 +63,24 @@ tens_long old t some few is =
     is ∙ ap (λ d. d ++ 57 ∷ 32 ∷ []) (digits ∙ split) ∙ append_assoc front ((48 + t % 10) ∷ []) (57 ∷ 32 ∷ []) in
     let long : length old ≡ length front + 3 = ap (λ (l : List ℕ). length l) whole ∙ length-append front ((48 + t % 10) ∷ 57 ∷ 32 ∷ []) in
     omega (arith, long)
+
+-- ---- numbers of two, three and four digits
+
+-- the digits of a number are those of its tens, and the last
+last_digit : (n : ℕ) → 10 ≤ n → n < 10000 → decimal n ≡ decimal (n / 10) ++ (48 + n % 10) ∷ []
+last_digit n more few = decimal_step n more (omega (arith, few))
+
+pub two_digits : (n : ℕ) → 10 ≤ n → n < 100 → decimal n ≡ (48 + n / 10) ∷ (48 + n % 10) ∷ []
+two_digits n more few =
+    last_digit n more (omega (arith, few)) ∙ ap (λ d. d ++ (48 + n % 10) ∷ []) (decimal_digit (n / 10) (omega (arith, few)))
+
+pub three_digits : (n : ℕ) → 100 ≤ n → n < 1000 → decimal n ≡ (48 + n / 10 / 10) ∷ (48 + n / 10 % 10) ∷ (48 + n % 10) ∷ []
+three_digits n more few =
+    last_digit n (omega (arith, more)) (omega (arith, few))
+    ∙ ap (λ d. d ++ (48 + n % 10) ∷ []) (two_digits (n / 10) (omega (arith, more)) (omega (arith, few)))
+
+pub four_digits : (n : ℕ) → 1000 ≤ n → n < 10000
+    → decimal n ≡ (48 + n / 10 / 10 / 10) ∷ (48 + n / 10 / 10 % 10) ∷ (48 + n / 10 % 10) ∷ (48 + n % 10) ∷ []
+four_digits n more few =
+    last_digit n (omega (arith, more)) few
+    ∙ ap (λ d. d ++ (48 + n % 10) ∷ []) (three_digits (n / 10) (omega (arith, more)) (omega (arith, few)))

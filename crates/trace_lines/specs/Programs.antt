@@ -1,8 +1,8 @@
 -- What is known of the instructions that a run records, and the texts that are kept of a program. No part of the standards.
-use Rattle.std.specs.Prelude.{◌≡◌, ℕ, List, Some, slice_get}
+use Rattle.std.specs.Prelude.{◌≡◌, ℕ, List, Some, slice_get, length}
 use Rattle.osek_base.specs.declared.ids.Owner.{Owner}
 use Rattle.osek_base.specs.declared.trace_event.TraceEvent.{TraceEvent}
-use Rattle.osek_base.specs.System.{System, instruction_at}
+use Rattle.osek_base.specs.System.{System, instruction_at, program}
 use Rattle.trace_lines.specs.Lines.{IsExecutedText}
 
 -- an instruction that is recorded stands at its place of its owner's program
@@ -18,6 +18,12 @@ IsTextAt S who place text = IsExecutedText S.names who place (instruction_at S w
 abbrev pub EachAt : {X : Type 0} → (ℕ → X → Type 0) → List X → Type 0
 EachAt {X} P xs = (i : ℕ) (x : X) → slice_get xs i ≡ Some x → P i x
 
--- each of the texts is that of the instruction at its number in an owner's program
-abbrev pub AreTextsOf : System → Owner → List (List ℕ) → Type 0
-AreTextsOf S who texts = EachAt (IsTextAt S who) texts
+-- a text for each instruction of an owner's program, each that of the instruction at its number
+pub record AreTextsOf (S : System) (who : Owner) (texts : List (List ℕ)) : Type 0 where
+  pub counted : length texts ≡ length (program S who)
+  pub each : EachAt (IsTextAt S who) texts
+
+-- those of the programs of so many owners
+pub record AreAllTexts (S : System) (owner : ℕ → Owner) (count : ℕ) (programs : List (List (List ℕ))) : Type 0 where
+  pub counted : length programs ≡ count
+  pub each : EachAt (λ n. AreTextsOf S (owner n)) programs

@@ -3,10 +3,12 @@
 
 ghost use Rattle.std.specs.Prelude.{◌≡◌, ◌+◌, ◌≤◌, ◌++◌, length, decimal, codes};
 ghost use Rattle.osek_base.specs.Text.{outcome_text};
+ghost use Rattle.osek_base.specs.declared.trace_event.Outcome.{Outcome};
 ghost use Rattle.osek_base.specs.Tick.{status_number};
 
 use crate::block::{BLOCK_SIZE, Block};
-use crate::line::{push_digits, push_effect, push_results};
+use crate::block_digits::{push_block_digits, push_block_number};
+use crate::line::push_results;
 use crate::text::Text;
 use osek_base::{Effect, Outcome, Results, Status};
 
@@ -22,7 +24,7 @@ fn push_status(text: &mut Block, status: Status)
         text.push_array(&[b' ', b'=', b' ', b'0' + number]);
     } else {
         text.push_str(" = ");
-        push_digits(text, number as u32);
+        push_block_digits(text, number as u32);
     }
 }
 
@@ -37,7 +39,35 @@ fn push_value(text: &mut Block, value: u32)
         text.push_array(&[b' ', b'-', b'>', b' ', b'0' + value as u8]);
     } else {
         text.push_str(" -> ");
-        push_digits(text, value);
+        push_block_digits(text, value);
+    }
+}
+
+/// Appends ` -> ` with the index of a word that was stored, and its value, to a block.
+#[inline(always)]
+fn push_stored(text: &mut Block, index: u32, value: u32)
+    requires { length text.old + 48 ≤ BLOCK_SIZE }
+    ensures same { text.new
+        ≡ text.old ++ codes " -> [" ++ decimal index ++ codes "] " ++ decimal value }
+    ensures short { length text.new ≤ length text.old + 48 }
+{
+    text.push_str(" -> [");
+    push_block_number(text, index);
+    text.push_str("] ");
+    push_block_number(text, value);
+}
+
+/// Appends what a plain instruction did to a block.
+#[inline(always)]
+fn push_effect(text: &mut Block, effect: Effect)
+    requires { length text.old + 48 ≤ BLOCK_SIZE }
+    ensures same { text.new ≡ text.old ++ outcome_text (Outcome.Plain effect) }
+    ensures short { length text.new ≤ length text.old + 48 }
+{
+    match effect {
+        Effect::Nothing => {}
+        Effect::Value(value) => push_value(text, value),
+        Effect::Stored(index, value) => push_stored(text, index as u32, value),
     }
 }
 
@@ -48,15 +78,12 @@ pub(crate) fn push_outcome(text: &mut Block, outcome: &Outcome)
     ensures same { text.new ≡ text.old ++ outcome_text outcome.now }
     ensures short { length text.new ≤ length text.old + 48 }
 {
-    match outcome {
-        Outcome::Plain(Effect::Nothing) | Outcome::Control => {}
-        Outcome::Plain(Effect::Value(value)) => push_value(text, *value),
-        Outcome::Plain(effect) => push_effect(text, *effect),
-        Outcome::Answer(status, results) => {
-            push_status(text, *status);
-            if !matches!(results, Results::Nothing) {
-                push_results(text, *results);
-            }
+    if let Outcome::Plain(effect) = outcome {
+        push_effect(text, *effect);
+    } else if let Outcome::Answer(status, results) = outcome {
+        push_status(text, *status);
+        if !matches!(results, Results::Nothing) {
+            push_results(text, *results);
         }
     }
 }

@@ -1,10 +1,10 @@
 //! The texts of a system's instructions, made before the first tick, no part of the standards.
 
-ghost use Rattle.std.specs.Prelude.{◌≡◌, ◌+◌, ◌<◌, ◌≤◌, ◌∷◌, ◌++◌, [], IfOk, IfSome, OnOk, length};
+ghost use Rattle.std.specs.Prelude.{◌≡◌, ◌+◌, ◌≤◌, ◌∷◌, ◌++◌, [], IfOk, IfSome, OnOk, length};
 ghost use Rattle.osek_base.specs.Executed.{StandsIn, executed_record};
-ghost use Rattle.osek_base.specs.Text.{event_text, line};
+ghost use Rattle.osek_base.specs.Text.{line};
 ghost use Rattle.osek_base.specs.declared.ids.Owner.{Owner};
-ghost use Rattle.trace_lines.specs.Programs.{AreTextsOf, EachAt, IsOfProgram, IsTextAt};
+ghost use Rattle.trace_lines.specs.Programs.{AreAllTexts, IsOfProgram, IsTextAt};
 
 use crate::block::{BLOCK_SIZE, Block, RECORD_SIZE};
 use crate::block_outcome::push_outcome;
@@ -25,7 +25,8 @@ fn push_program(programs: &mut Vec<ProgramTexts>, program: ProgramTexts) -> Resu
 
 /// The texts of the tasks' programs, by number.
 fn task_texts(alloc: Global, system: &System) -> Result<Vec<ProgramTexts>, AllocError>
-    ensures { IfOk result (λ r. EachAt (λ t. AreTextsOf system.now (Owner.Task t)) r.items) }
+    ensures { IfOk result
+        (λ r. AreAllTexts system.now Owner.Task (length system.now.tasks) r.items) }
 {
     let mut programs = Vec::new(alloc);
     system.names();
@@ -38,7 +39,8 @@ fn task_texts(alloc: Global, system: &System) -> Result<Vec<ProgramTexts>, Alloc
 
 /// The texts of the routines' programs, by number.
 fn routine_texts(alloc: Global, system: &System) -> Result<Vec<ProgramTexts>, AllocError>
-    ensures { IfOk result (λ r. EachAt (λ i. AreTextsOf system.now (Owner.Routine i)) r.items) }
+    ensures { IfOk result
+        (λ r. AreAllTexts system.now Owner.Routine (length system.now.routines) r.items) }
 {
     let mut programs = Vec::new(alloc);
     system.names();
@@ -47,18 +49,6 @@ fn routine_texts(alloc: Global, system: &System) -> Result<Vec<ProgramTexts>, Al
         push_program(&mut programs, ProgramTexts::of(alloc, system, &who)?)?;
     }
     Ok(programs)
-}
-
-/// Appends what the line of an instruction has behind the tick, where its text isn't kept.
-#[inline(never)]
-fn push_unkept(system: &System, executed: Executed, text: &mut Block)
-    requires placed { StandsIn system.now executed }
-    requires room { length text.old + 240 ≤ BLOCK_SIZE }
-    ensures same { text.new
-        ≡ text.old ++ event_text system.now.names (executed_record system.now executed) }
-    ensures short { length text.new ≤ length text.old + 222 }
-{
-    push_event(text, system.names(), &executed.record_in(system));
 }
 
 /// The texts of all instructions of a system. Seen as the system.
@@ -72,15 +62,16 @@ pub struct InstructionTexts<'s> {
 impl<'s> Model for InstructionTexts<'s> {
     ghost use Rattle.osek_base.specs.System.{System};
     ghost use Rattle.osek_base.specs.declared.ids.Owner.{Owner};
-    ghost use Rattle.trace_lines.specs.Programs.{AreTextsOf, EachAt};
+    ghost use Rattle.std.specs.Prelude.{length};
+    ghost use Rattle.trace_lines.specs.Programs.{AreAllTexts};
 
     ghost Value = { System };
 
     ghost view = { λ s. s.system.now };
 
     ghost invariant = { λ s.
-        EachAt (λ t. AreTextsOf s.system.now (Owner.Task t)) s.tasks.items
-        × EachAt (λ i. AreTextsOf s.system.now (Owner.Routine i)) s.routines.items };
+        AreAllTexts s.system.now Owner.Task (length s.system.now.tasks) s.tasks.items
+        × AreAllTexts s.system.now Owner.Routine (length s.system.now.routines) s.routines.items };
 }
 
 impl<'s> InstructionTexts<'s> {
@@ -105,8 +96,25 @@ impl<'s> InstructionTexts<'s> {
         self.system
     }
 
-    /// The text of the instruction at a place of a task's or routine's program.
+    /// The text of an instruction that was executed.
     #[inline(always)]
+    fn executed_text(&self, executed: &Executed) -> &KeptText
+        requires { StandsIn self.now executed.now }
+        ensures { IsTextAt self.now executed.now.owner executed.now.place result.now }
+    {
+        match &executed.owner {
+            Owner::Task(task) => {
+                let program = &self.tasks[task.number() as usize];
+                program.text(&executed.place)
+            }
+            Owner::Routine(routine) => {
+                let program = &self.routines[routine.number() as usize];
+                program.text(&executed.place)
+            }
+        }
+    }
+
+    /// The text of the instruction at a place of a task's or routine's program, if there is one.
     fn text_at(&self, who: &Owner, place: &Place) -> Option<&KeptText>
         ensures { IfSome result (λ text. IsTextAt self.now who.now place.now text.now) }
     {
@@ -127,12 +135,8 @@ impl<'s> InstructionTexts<'s> {
         ensures short { length text.new ≤ length text.old + 238 }
     {
         tick.push_to(text);
-        if let Some(kept) = self.text_at(&executed.owner, &executed.place) {
-            kept.push_to(text);
-            push_outcome(text, &executed.outcome);
-        } else {
-            push_unkept(self.system, *executed, text);
-        }
+        self.executed_text(executed).push_to(text);
+        push_outcome(text, &executed.outcome);
     }
 
     /// Appends the line of a record of that tick, without the line's end; an instruction isn't spelled again.

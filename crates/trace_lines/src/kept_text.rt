@@ -8,7 +8,7 @@ use std::alloc::{AllocError, Global};
 use std::marker::Model;
 
 /// How many bytes of a text are copied at once, which most texts don't exceed.
-const FRONT_SIZE: usize = 64;
+const FRONT_SIZE: usize = 48;
 
 /// A text that is kept. Seen as its bytes.
 #[derive(Drop)]

@@ -2,6 +2,7 @@
 #![tactic(auto)]
 
 mod block;
+mod block_digits;
 mod block_outcome;
 mod idle_lines;
 mod instruction_texts;

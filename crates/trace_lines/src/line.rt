@@ -169,7 +169,7 @@ pub(crate) fn push_results<T: Text>(text: &mut T, results: Results)
 }
 
 #[inline(always)]
-pub(crate) fn push_effect<T: Text>(text: &mut T, effect: Effect)
+fn push_effect<T: Text>(text: &mut T, effect: Effect)
     requires { length (T.bytes text.old) + 48 ≤ T.room }
     ensures same { T.bytes text.new ≡ T.bytes text.old ++ outcome_text (Outcome.Plain effect) }
     ensures short { length (T.bytes text.new) ≤ length (T.bytes text.old) + 48 }

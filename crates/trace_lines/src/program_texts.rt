@@ -65,6 +65,15 @@ impl ProgramTexts {
         Ok(ProgramTexts { texts })
     }
 
+    /// The text at a place of the program.
+    #[inline(always)]
+    pub fn text(&self, place: &Place) -> &KeptText
+        requires { place.now < length self.now }
+        ensures { slice_get self.now place.now ≡ Some result.now }
+    {
+        &self.texts[place.number() as usize]
+    }
+
     /// The text at a place, if there is one.
     #[inline(always)]
     pub fn at(&self, place: &Place) -> Option<&KeptText>

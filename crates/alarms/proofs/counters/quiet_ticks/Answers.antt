@@ -17,5 +17,5 @@ loop-number-preserved c =
       last = c.quiet_ticks-least.ensures.last;
     } in
     quiet_next c.args.tick c.args.most c.loop-number.least c.quiet_ticks-least.result c.args.counters.now.items c.loop-number.number
-    c.requires.ready low c.loop-number.invariant
+    (λ k inside. c.requires.ready k (omega arith)) low c.loop-number.invariant
     (subst (IsQuiet c.args.tick c.loop-number.least c.quiet_ticks-least.result) element one)

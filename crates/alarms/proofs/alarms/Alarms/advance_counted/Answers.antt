@@ -9,10 +9,10 @@ use Rattle.alarms.proofs.alarms.Alarms.advance_counted.Goals as goal
 
 pub returns-clause-due : goal.returns-clause-due
 returns-clause-due c =
-    let all : filter (λ a. is_raised a c.advance_by-expired.result) (below (length c.args.system.now.alarms)) ≡ due_of c.args.system.now (next_tick c.args.self.now) =
-    counted_due c.args.system.now c.self.inside.ahead c.advance_by-expired.result c.self.inside.counted c.args.self.now c.self.view_is c.requires.table c.advance_by-expired.ensures.due in
+    let all : filter (λ a. is_raised a c.advance_by-expired.result.0) (below (length c.args.system.now.alarms)) ≡ due_of c.args.system.now (next_tick c.args.self.now) =
+    counted_due c.args.system.now c.self.inside.ahead c.advance_by-expired.result.0 c.self.inside.counted c.args.self.now c.self.view_is c.requires.table c.advance_by-expired.ensures.due in
     elim c.if-not-is_none.branch [
-      | then-not-is_none w ↦ w.due-is ∙ (w.list.ensures ∙ (ap (λ n. filter (λ a. is_raised a c.advance_by-expired.result) (below n)) w.alarm_count.ensures.value ∙ all))
+      | then-not-is_none w ↦ w.due-is ∙ (w.list.ensures ∙ (ap (λ n. filter (λ a. is_raised a c.advance_by-expired.result.0) (below n)) w.alarm_count.ensures.value ∙ all))
       | else-not-is_none w ↦ w.due-is ∙ (c.requires.none ∙ (sym (c.is_none.ensures w.if-not-is_none.false (length c.args.system.now.alarms)) ∙ all))
     ]
 

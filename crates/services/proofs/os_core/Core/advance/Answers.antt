@@ -13,4 +13,5 @@ invariant_of-self g c =
       settled = λ known.
           subst (λ (o : Objects). IsSettled o.system (kept_in o)) (sym c.advance.ensures.objects)
           (record { on = (c.self.invariant.settled known).on; runs = (c.self.invariant.settled known).runs; no_routine = (c.self.invariant.settled known).no_routine; none_pending = (c.self.invariant.settled known).none_pending });
+      both = c.self.invariant.both;
     }

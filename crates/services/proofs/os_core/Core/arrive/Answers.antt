@@ -10,4 +10,5 @@ invariant_of-self g c =
       stands = stands_flagged c.self.inside.objects c.arrive.new.self c.args.routine c.self.invariant.stands c.arrive.ensures;
       dispatched = λ known. subst (λ (o : Objects). is_dispatched_in o.system (kept_in o) ≡ true) (sym c.arrive.ensures) (c.self.invariant.dispatched known);
       settled = λ known. absurd (grind arith);
+      both = λ known. absurd (grind arith);
     }

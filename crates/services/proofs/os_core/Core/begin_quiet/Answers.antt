@@ -17,6 +17,7 @@ invariant_of-self g c =
             dispatched = λ known. subst (λ (x : Objects). is_dispatched_in x.system (kept_in x) ≡ true) (sym after) (c.self.invariant.dispatched known);
             settled = λ known. subst (λ (x : Objects). IsSettled x.system (kept_in x)) (sym after)
                 (record { on = (c.self.invariant.settled known).on; runs = (c.self.invariant.settled known).runs; no_routine = (c.self.invariant.settled known).no_routine; none_pending = (c.self.invariant.settled known).none_pending });
+            both = c.self.invariant.both;
           }
       | inr stays ↦
           subst (λ (x : Objects). IsCore x c.self.inside.is_dispatched c.self.inside.is_settled) (sym (c.begin_quiet.ensures.stays stays)) c.self.invariant

@@ -36,4 +36,5 @@ invariant_of-self g c =
       settled = λ known.
           still_settled o c.exec_packed.new.self (with_context_in (caller_as who) x) c.exec_packed.ensures.system c.exec_packed.ensures.kept
           (gone_on_settled o.system (kept_in o) (c.self.invariant.settled known) (caller_as who) x);
+      both = c.self.invariant.both;
     }

@@ -24,4 +24,5 @@ invariant_of-self g c =
       settled = λ known.
           still_settled o c.go_on.new.self (with_context_in (caller_as c.args.owner) c.args.cpu) c.go_on.ensures.system c.go_on.ensures.kept
           (gone_on_settled o.system (kept_in o) (c.self.invariant.settled known) (caller_as c.args.owner) c.args.cpu);
+      both = c.self.invariant.both;
     }

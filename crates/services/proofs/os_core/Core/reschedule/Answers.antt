@@ -25,5 +25,6 @@ invariant_of-self g c =
       dispatched = λ known.
           core_rescheduled c.self.inside.objects c.reschedule-could.new.self was c.self.inside.is_settled c.reschedule-could.ensures.does.system c.self.invariant c.reschedule-could.ensures.does.kept
           (sym (ap (λ b. was || b) c.reschedule-could.ensures.could) ∙ sym c.becomes_known.ensures ∙ known);
-      settled = λ known. c.is_settled-self-inside.ensures known;
+      settled = c.becomes_settled-self-inside.ensures.settled;
+      both = c.becomes_settled-self-inside.ensures.both;
     }

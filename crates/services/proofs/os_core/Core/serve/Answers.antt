@@ -1,4 +1,5 @@
-use Rattle.std.proofs.Common.{sym, ◌∙◌, subst}
+use Rattle.std.proofs.Common.{◌&&◌, sym, ◌∙◌, ap, ap₂, subst}
+use Rattle.osek_base.proofs.PlaceLemmas.{and_split}
 use Rattle.osek_base.specs.Types.{ServiceCall}
 use Rattle.kept_state.specs.Standing.{MayServe}
 use Rattle.services.specs.AsDefined.{IsServed}
@@ -23,6 +24,15 @@ pub serve_program-answer-requires-clause-known : goal.serve_program-answer-requi
 serve_program-answer-requires-clause-known g c =
     subst (λ (k : Objects). IsKnown k.system (call_of c.args.packed c.args.owner k)) (sym c.self.view_is) c.requires.known
 
+pub stays_known-stays-requires-clause-fit : goal.stays_known-stays-requires-clause-fit
+stays_known-stays-requires-clause-fit g c =
+    let o : Objects = c.self.inside.objects in
+    let r = c.serve_program-answer in
+    fit_where_stands r.new.self
+    (stands_served o r.new.self r.ensures.system (call_of c.args.packed c.args.owner o) c.self.invariant.stands
+    (subst (λ (k : Objects). IsKnown k.system (call_of c.args.packed c.args.owner k)) (sym c.self.view_is) c.requires.known)
+    (subst (λ (k : Objects). MayServe k.system (kept_in k)) (sym c.self.view_is) c.requires.serves) r.ensures.kept)
+
 pub invariant_of-self : goal.invariant_of-self
 invariant_of-self g c =
     let o : Objects = c.self.inside.objects in
@@ -37,10 +47,13 @@ invariant_of-self g c =
           (subst (λ (k : Objects). MayServe k.system (kept_in k)) (sym c.self.view_is) c.requires.serves) r.ensures.kept;
       dispatched = λ known.
           served_dispatched o r.new.self call asked c.self.inside.is_dispatched r.result r.ensures same
-          (sym c.stays_known-self-inside.ensures ∙ known) c.self.invariant.dispatched;
+          (ap (λ b. c.self.inside.is_dispatched && b) (sym c.stays_known-stays.ensures) ∙ sym c.keep_where.ensures ∙ known) c.self.invariant.dispatched;
       settled = λ known.
           served_settled o r.new.self call asked c.self.inside.is_settled r.result r.ensures same
-          (sym c.stays_known-self-inside-2.ensures ∙ known) c.self.invariant.settled;
+          (ap (λ b. c.self.inside.is_settled && b) (sym c.stays_known-stays.ensures) ∙ sym c.keep_where-2.ensures ∙ known) c.self.invariant.settled;
+      both = λ known.
+          let was = and_split c.self.inside.is_settled c.stays_known-stays.result (sym c.keep_where-2.ensures ∙ known) in
+          c.keep_where.ensures ∙ ap₂ (λ a b. a && b) (c.self.invariant.both was.0) was.1;
     }
 
 pub returns : goal.returns

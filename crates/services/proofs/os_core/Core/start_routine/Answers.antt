@@ -16,4 +16,5 @@ invariant_of-self g c =
       settled = λ known.
           still_settled o c.start_routine.new.self (start_phase_in o.system) c.start_routine.ensures.system c.start_routine.ensures.kept
           (started_settled o.system (kept_in o) (c.self.invariant.settled known));
+      both = c.self.invariant.both;
     }

@@ -5,9 +5,9 @@ use Rattle.services.specs.Quiet.{IsSteady}
 use Rattle.services.proofs.SteadyLemmas.{steady}
 use Rattle.services.proofs.os_core.Core.steady_task.Goals as goal
 
-pub returns-then-self-2 : goal.returns-then-self-2
-returns-then-self-2 g c =
+pub returns-then-self : goal.returns-then-self
+returns-then-self g c =
     let o : Objects = c.self.inside.objects in
     subst (λ (x : Objects). IfSome c.running.result (IsSteady x.system (kept_in x))) c.self.view_is
-    (steady o.system (kept_in o) (c.self.invariant.dispatched c.if-self.true) (c.self.invariant.settled c.if-self-2.true)
+    (steady o.system (kept_in o) (c.self.invariant.dispatched (c.self.invariant.both c.if-self.true)) (c.self.invariant.settled c.if-self.true)
     c.running.result c.running.ensures.value)
