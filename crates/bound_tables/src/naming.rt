@@ -3,7 +3,7 @@
 use crate::failed_service::name_of;
 use crate::told::figure_of;
 use bound_kinds::{KINDS, Kind, column_of, place_of};
-use bounds::{Bounds, Figure};
+use bound_nodes::{Bounds, Figure};
 use osek_base::System;
 
 /// A figure, with the words of its kind and of its column.

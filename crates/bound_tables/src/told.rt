@@ -2,7 +2,7 @@
 
 use crate::cells::Cell;
 use bound_kinds::Column;
-use bounds::{Bounds, Figure};
+use bound_nodes::{Bounds, Figure};
 
 /// The bounds of a system, the figures that a run is known to show as they are told, the tasks, by
 /// number, that a run is known to keep from ending for as long as one likes, and the services, by

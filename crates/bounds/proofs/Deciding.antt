@@ -10,8 +10,9 @@ use Rattle.search.specs.Searched.{AreAll}
 use Rattle.bound_peaks.specs.Peaks.{Peaks}
 use Rattle.run_bounds.specs.Bounds.{AreBounds, AreBoundsUpTo, LevelsBound, SearchesBound}
 use Rattle.run_bounds.specs.Nodes.{Setting, rules_of}
-use Rattle.bounds.specs.Exploring.{AreNotedIn, Explorer, IsGround, setting_of}
-use Rattle.bounds.specs.Found.{Says}
+use Rattle.bound_nodes.specs.Ground.{IsGround}
+use Rattle.bounds.specs.Exploring.{AreNotedIn, Explorer, setting_of}
+use Rattle.bound_nodes.specs.Found.{Says}
 
 -- for what an explorer goes by behind the search
 pub found : SearchesBound → LevelsBound → (e f : Explorer) (limits : Limits) (outcome : Outcome)

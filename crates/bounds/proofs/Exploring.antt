@@ -23,8 +23,9 @@ use Rattle.run_bounds.specs.Nodes.{AreNoted, Comes, IsAfter, IsFirst, IsNext, No
 use Rattle.run_bounds.specs.Trying.{AreFree, MaySubsets, OneStateTells, SubsetsMay}
 use Rattle.run_bounds.proofs.Going.{boot_state}
 use Rattle.run_bounds.proofs.Trying.{labels_are_ordered}
-use Rattle.bounds.specs.Held.{Ground, IsIn}
-use Rattle.bounds.specs.Exploring.{AreNotedIn, Explorer, IsGround, setting_of}
+use Rattle.bound_nodes.specs.Ground.{Ground, IsGround}
+use Rattle.bounds.specs.Held.{IsIn}
+use Rattle.bounds.specs.Exploring.{AreNotedIn, Explorer, setting_of}
 
 -- a run comes to a machine's state
 comes : (S : System) (m : Machine) → IsOfRun false m → system_of m ≡ S → Comes S (picture m)

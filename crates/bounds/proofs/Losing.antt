@@ -16,7 +16,8 @@ use Rattle.run_bounds.specs.Lost.{IsWithoutLost, LoseNothing, LostChangeNothing}
 use Rattle.run_bounds.specs.Nodes.{AreNoted, IsNext, May, Node, Setting, StandsFor, rules_of}
 use Rattle.run_bounds.specs.Trying.{OneStateTells, TellsAll}
 use Rattle.bounds.specs.Held.{IsIn}
-use Rattle.bounds.specs.Exploring.{AreNotedIn, Explorer, IsGround, setting_of}
+use Rattle.bound_nodes.specs.Ground.{IsGround}
+use Rattle.bounds.specs.Exploring.{AreNotedIn, Explorer, setting_of}
 use Rattle.bounds.proofs.Exploring.{stands}
 
 pub few_routines : (S : System) → IsProper S → length S.routines ≤ MAX_ROUTINES

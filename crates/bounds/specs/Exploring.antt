@@ -1,12 +1,9 @@
 -- A search through the states of a system, by machines.
 use Rattle.std.specs.Prelude.{ℕ, List}
-use Rattle.osek_base.specs.Proper.{IsProper}
-use Rattle.needed_data.specs.Need.{Suffices}
 use Rattle.needs.specs.Table.{need_of}
-use Rattle.state_keys.specs.InRange.{NeedsOwnWords}
 use Rattle.bound_peaks.specs.Peaks.{Peaks}
 use Rattle.run_bounds.specs.Nodes.{AreNoted, Node, Setting}
-use Rattle.bounds.specs.Held.{Ground}
+use Rattle.bound_nodes.specs.Ground.{Ground}
 
 -- what a search goes by, and the greatest times that it has noted
 pub record Explorer : Type 0 where
@@ -28,9 +25,3 @@ setting_of e =
 
 abbrev pub AreNotedIn : Explorer → Node → ℕ → Type 0
 AreNotedIn e x set = AreNoted (setting_of e) e.peaks x set
-
--- a system that a search can go through: its need suffices
-pub record IsGround (g : Ground) : Type 0 where
-  pub proper : IsProper g.system
-  pub suffices : Suffices g.system (need_of g.needs)
-  pub own : NeedsOwnWords g.system (need_of g.needs)

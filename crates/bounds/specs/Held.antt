@@ -1,15 +1,10 @@
 -- Machines, and the keys of their states.
 use Rattle.std.specs.Prelude.{ℕ, ◌≡◌, Bool, false, true, List}
 use Rattle.osek_base.specs.System.{System}
-use Rattle.needs.specs.declared.table.Needs.{Needs}
 use Rattle.needs.specs.Table.{need_of}
+use Rattle.bound_nodes.specs.Ground.{Ground}
 use Rattle.kernel.specs.Machine.{IsOfRun, Machine, picture, system_of}
 use Rattle.state_keys.specs.Key.{key}
-
--- a system, and what is needed of it
-pub record Ground : Type 0 where
-  pub system : System
-  pub needs : Needs
 
 -- the key of a machine's state
 abbrev pub key_of : Ground → Machine → List ℕ

@@ -1,8 +1,8 @@
 -- What holds of an explorer all the time.
 use Rattle.std.specs.Prelude.{◌≡◌, false}
 use Rattle.kernel.specs.Machine.{IsOfRun, Machine, system_of}
-use Rattle.bounds.specs.Held.{Ground}
-use Rattle.bounds.specs.Exploring.{Explorer, IsGround}
+use Rattle.bound_nodes.specs.Ground.{Ground, IsGround}
+use Rattle.bounds.specs.Exploring.{Explorer}
 
 -- the machines of states and the one that is ticked are of the system
 pub record IsExploring (e : Explorer) (kept : Ground) (current : Machine) : Type 0 where

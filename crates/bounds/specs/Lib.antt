@@ -1,5 +1,3 @@
 pub mod Held
 pub mod Exploring
 pub mod Invariant
-pub mod Figures
-pub mod Found

@@ -10,8 +10,8 @@ ghost use Rattle.needs.specs.Table.{need_of};
 ghost use Rattle.state_keys.specs.Key.{key};
 
 use crate::bases::StateMachine;
-use crate::node::Node;
 use bound_labels::Labels;
+use bound_nodes::Node;
 use kernel::Machine;
 use needs::Needs;
 use osek_base::{IsrId, MAX_ROUTINES, MAX_TICKS, ModeId, System};

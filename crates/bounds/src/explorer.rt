@@ -2,20 +2,16 @@
 //! keep their distances.
 
 ghost use Rattle.std.specs.Prelude.{◌≡◌, IfOk};
-ghost use Rattle.bounds.specs.Exploring.{IsGround};
-ghost use Rattle.bounds.specs.Held.{Ground};
+ghost use Rattle.bound_nodes.specs.Ground.{IsGround};
+ghost use Rattle.bound_nodes.specs.Ground.{Ground};
 
 use crate::bases::StateMachine;
-use crate::comparing::Comparing;
 use crate::current::{boot_again, can_go_on, node_of, tick_from};
-use crate::figure::held_count;
-use crate::node::Node;
 use crate::room::Room;
-use crate::routines::{common, pending_routines, put_routines, without};
+use crate::routines::pending_routines;
 use crate::states::States;
-use crate::trails::Trails;
-use crate::watch::Watch;
 use bound_labels::Labels;
+use bound_nodes::{Comparing, Node, Trails, Watch, common, held_count, put_routines, without};
 use bound_peaks::Peaks;
 use kernel::Machine;
 use needs::Needs;

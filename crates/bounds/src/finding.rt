@@ -1,41 +1,15 @@
 //! The bounds of all runs of a system.
 
 ghost use Rattle.std.specs.Prelude.{◌≡◌, IfOk};
-ghost use Rattle.bounds.specs.Found.{AreFound};
+ghost use Rattle.bound_nodes.specs.Found.{AreFound};
 
 use crate::explorer::Explorer;
-use crate::trails::Trails;
-use crate::watch::Watch;
-use bound_peaks::Peaks;
+use bound_nodes::{Bounds, Extent, Watch};
 use needs::needed_data;
 use osek_base::{ModeId, System};
 use run_bounds::{levels_bound, searches_bound};
-use search::{Limits, Outcome, search};
+use search::{Limits, search};
 use std::alloc::{AllocError, Global};
-
-/// How far a search goes, and up to which age it tells times.
-#[derive(Clone, Copy)]
-pub struct Extent {
-    /// How many states may be kept.
-    pub nodes: usize,
-    /// How many visits of states may be made.
-    pub visits: u64,
-    /// The age up to which times are told, in ticks: one that reaches it may be any.
-    pub cap: u32,
-}
-
-/// What a search has come to.
-#[derive(Drop)]
-pub struct Bounds {
-    /// Whether all states were visited, and how many.
-    pub outcome: Outcome,
-    /// The greatest times that were seen, and what has happened in any tick.
-    pub peaks: Peaks,
-    /// The age up to which times are told, in ticks.
-    pub cap: u32,
-    /// How the search has come to the peaks, for runs that may show them.
-    pub trails: Trails,
-}
 
 /// Searches all states that a system comes to in a mode, whatever interrupts arrive that come at
 /// least as many ticks apart as their routine's distance, 1 where none is given.

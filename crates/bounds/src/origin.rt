@@ -5,7 +5,8 @@ ghost use Rattle.bounds.specs.Held.{IsIn, IsOf};
 
 use crate::bases::StateMachine;
 use crate::current::can_go_on;
-use crate::routines::{pending_routines, put_routines};
+use crate::routines::pending_routines;
+use bound_nodes::put_routines;
 use kernel::Machine;
 use needs::Needs;
 use number_bytes::are_equal;
@@ -33,7 +34,8 @@ pub(crate) struct Origin<'s> {
 }
 
 impl<'s> Model for Origin<'s> {
-    ghost use Rattle.bounds.specs.Held.{Ground, IsOrigin};
+    ghost use Rattle.bound_nodes.specs.Ground.{Ground};
+    ghost use Rattle.bounds.specs.Held.{IsOrigin};
 
     ghost Value = { Ground };
 

@@ -1,8 +1,7 @@
 //! Room for what is done with one node, which goes on to the next.
 
-use crate::comparing::Comparing;
-use crate::raised::Raised;
 use bound_labels::Labels;
+use bound_nodes::{Comparing, Raised};
 use osek_base::IsrId;
 use packed_labels::ReadLabels;
 use seen_machines::Watcher;

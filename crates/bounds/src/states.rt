@@ -5,11 +5,10 @@ ghost use Rattle.std.specs.Prelude.{◌≡◌, IfOk, IfSome};
 ghost use Rattle.bounds.specs.Held.{IsIn, IsOf};
 
 use crate::bases::{Bases, Spot, StateMachine};
-use crate::effort::Effort;
 use crate::origin::Origin;
 use crate::stops::Stops;
-use crate::trails::Trails;
 use crate::way::{Passed, Start, put_way};
+use bound_nodes::{Effort, Trails};
 use needs::Needs;
 use osek_base::{ModeId, System};
 use std::alloc::{AllocError, Global};
@@ -45,7 +44,7 @@ pub(crate) struct States<'s> {
 
 impl<'s> Model for States<'s> {
     ghost use Rattle.std.specs.Prelude.{◌≡◌};
-    ghost use Rattle.bounds.specs.Held.{Ground};
+    ghost use Rattle.bound_nodes.specs.Ground.{Ground};
 
     ghost Value = { Ground };
 

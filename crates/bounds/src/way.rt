@@ -2,7 +2,7 @@
 
 use crate::bases::Spot;
 use crate::stops::Stops;
-use crate::trails::Trails;
+use bound_nodes::Trails;
 use std::alloc::AllocError;
 
 /// A tick on the way.

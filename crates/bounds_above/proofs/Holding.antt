@@ -9,7 +9,7 @@ use Rattle.search.specs.declared.outcome.Outcome.TheVariants.{Decided, Undecided
 use Rattle.bound_peaks.specs.Peaks.{Peaks}
 use Rattle.run_bounds.specs.Bounds.{AreBounds, AreBoundsUpTo}
 use Rattle.upper_figures.specs.FiguresAbove.{BoundsOfThePartHold}
-use Rattle.bounds.specs.Found.{Says}
+use Rattle.bound_nodes.specs.Found.{Says}
 use Rattle.bounds_above.specs.Above.{BoundAll, BoundAllUpTo}
 
 pub hold_above : BoundsOfThePartHold → (S part : System) (p mode : ℕ) (distances : List ℕ) (cap : ℕ) (peaks : Peaks)

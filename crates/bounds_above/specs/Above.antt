@@ -2,8 +2,8 @@
 -- it.
 use Rattle.std.specs.Prelude.{ℕ, List}
 use Rattle.osek_base.specs.System.{System}
-use Rattle.bounds.specs.declared.finding.Bounds.{Bounds}
-use Rattle.bounds.specs.Found.{Says}
+use Rattle.bound_nodes.specs.declared.found.Bounds.{Bounds}
+use Rattle.bound_nodes.specs.Found.{Says}
 use Rattle.bound_peaks.specs.Peaks.{Peaks}
 use Rattle.upper_bounds.specs.Above.{AreOneAbove}
 use Rattle.upper_figures.specs.FiguresAbove.{AreBoundsAbove, AreBoundsAboveUpTo}

@@ -5,7 +5,8 @@ ghost use Rattle.osek_base.specs.Separable.{Separable};
 ghost use Rattle.osek_base.specs.Agree.{upper_part};
 ghost use Rattle.bounds_above.specs.Above.{HoldAbove};
 
-use bounds::{Bounds, Extent, Watch, find_bounds};
+use bound_nodes::{Bounds, Extent, Watch};
+use bounds::find_bounds;
 use osek_base::{ModeId, System};
 use std::alloc::{AllocError, Global};
 use upper_figures::bounds_of_the_part_hold;

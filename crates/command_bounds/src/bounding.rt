@@ -2,11 +2,12 @@
 
 use crate::search_watch::SearchWatch;
 use crate::witnessing::write_witness;
+use bound_nodes::{Bounds, Extent};
 use bound_tables::{
     Told, is_known, json_of, write_decided, write_lines, write_remarks, write_undecided,
     write_up_to,
 };
-use bounds::{Bounds, Extent, find_bounds};
+use bounds::find_bounds;
 use bounds_above::find_upper_bounds;
 use command_answers::{DistanceFault, Texts, Verdict, mode_of, system_of, write_denial};
 use command_requests::{BoundsLine, Distance, Wanted};

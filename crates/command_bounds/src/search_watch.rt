@@ -1,6 +1,6 @@
 //! How far a search through all runs is. No part of the standards.
 
-use bounds::Watch;
+use bound_nodes::Watch;
 use run_views::Progress;
 use search::Progress as Found;
 use std::io::Write;

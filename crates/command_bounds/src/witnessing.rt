@@ -1,7 +1,7 @@
 //! What is written of a run that shows a figure: its arrivals, and how many ticks show it.
 
+use bound_nodes::{Bounds, Figure};
 use bound_tables::{NamedFigure, figure_named, service_named, service_text};
-use bounds::{Bounds, Figure};
 use command_answers::Verdict;
 use command_requests::Wanted;
 use osek_base::{Arrivals, ModeId, System};

@@ -7,7 +7,7 @@ use Rattle.osek_base.specs.declared.arrivals.Arrival.{Arrival}
 use Rattle.osek_base.specs.Lists.{is_in}
 use Rattle.osek_base.specs.System.{System}
 use Rattle.osek_base.specs.Trace.{arriving}
-use Rattle.observed_runs.specs.Observed.{times}
+use Rattle.seen_ticks.specs.Observed.{times}
 use Rattle.run_laws.proofs.Lists.{all_append, all_kept, all_map, all_weaker}
 use Rattle.same_future.specs.Shown.{arrives}
 use Rattle.bound_labels.specs.Labels.{distance_of}

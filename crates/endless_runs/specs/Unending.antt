@@ -4,7 +4,7 @@ use Rattle.std.specs.List.{AllByRecursion}
 use Rattle.osek_base.specs.declared.arrivals.Arrival.{Arrival}
 use Rattle.osek_base.specs.System.{System}
 use Rattle.osek_base.specs.Trace.{arriving, run}
-use Rattle.observed_runs.specs.Observed.{times}
+use Rattle.seen_ticks.specs.Observed.{times}
 use Rattle.same_future.specs.Alike.{kept_after}
 use Rattle.same_future.specs.Covering.{AreSpaced}
 use Rattle.shown_ticks.specs.Seen.{seen_in}

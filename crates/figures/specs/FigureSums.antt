@@ -1,5 +1,5 @@
 -- Figures of a run, over the observations of its ticks, newest first.
-use Rattle.std.specs.Prelude.{◌≡◌, ℕ, ◌<◌, Bool, false, List, [], ◌∷◌, Option, Some, None, map, length, count_by, slice_index_or, nat_lt, ◌&&◌, ◌==◌, ◌+◌, cond, is_none}
+use Rattle.std.specs.Prelude.{◌≡◌, ℕ, zero, suc, ◌<◌, Bool, false, List, [], ◌∷◌, Option, Some, None, map, length, count_by, slice_index_or, nat_lt, ◌&&◌, ◌==◌, ◌+◌, cond, is_none}
 use Rattle.osek_base.specs.System.{System, Task as Configured}
 use Rattle.osek_base.specs.declared.status.TaskState.TheVariants.{Suspended}
 use Rattle.osek_base.specs.declared.status.Status.{Status}
@@ -62,6 +62,10 @@ is_routine None k = false
 is_routine (Some (Task t)) k = false
 is_routine (Some (Routine i)) k = i == k
 
+-- what is seen as of a tick of another number
+abbrev pub numbered : ℕ → Observation → Observation
+numbered tick o = record o { tick = tick }
+
 -- what an observation has of each thing, by number
 abbrev pub task_tick : List ℕ → Observation → ℕ → TaskTick
 task_tick levels o k = record {
@@ -84,6 +88,11 @@ holder_tick o k = record { tick = o.tick; holder = slice_index_or o.holders.item
 
 abbrev pub alarm_tick : Observation → ℕ → AlarmTick
 alarm_tick o k = record { tick = o.tick; seen = slice_index_or o.alarms.items k unseen_alarm }
+
+-- so many ticks from one on, newest first, in which but for the number the same is seen
+abbrev pub alike : Observation → ℕ → ℕ → List Observation → List Observation
+alike o first zero before = before
+alike o first (suc n) before = numbered (first + n) o ∷ alike o first n before
 
 -- nobody executes
 abbrev pub is_idle : Observation → Bool

@@ -1,9 +1,9 @@
 //! Figures of a run.
 
-ghost use Rattle.std.specs.Prelude.{List, [], ◌∷◌, ◌≡◌};
+ghost use Rattle.std.specs.Prelude.{List, [], ◌∷◌, ◌≡◌, ◌-◌};
 ghost use Rattle.osek_base.specs.System.{System};
 ghost use Rattle.observations.specs.declared.observation.Observation.{Observation};
-ghost use Rattle.figures.specs.FigureSums.{AreFigures};
+ghost use Rattle.figures.specs.FigureSums.{AreFigures, alike, numbered};
 
 use crate::alarm_figures::AlarmFigures;
 use crate::broken::{
@@ -87,14 +87,33 @@ impl Figures {
         ensures { (S : System) (before : List Observation) → AreFigures S before self.old
             → AreFigures S (observation.now ∷ before) self.new }
     {
+        self.observe_at(observation.tick, observation);
+    }
+
+    /// The ticks from one on and before another are seen, in each of which all but the number is as
+    /// in an observation.
+    pub fn observe_alike(&mut self, observation: &Observation, first: u32, end: u32)
+        ensures { (S : System) (before : List Observation) → AreFigures S before self.old
+            → AreFigures S (alike observation.now first (end - first) before) self.new }
+    {
+        for number in 0..end.saturating_sub(first) {
+            self.observe_at(first + number, observation);
+        }
+    }
+
+    /// A tick more is seen, of that number; else all is as in an observation.
+    fn observe_at(&mut self, tick: u32, observation: &Observation)
+        ensures { (S : System) (before : List Observation) → AreFigures S before self.old
+            → AreFigures S (numbered tick observation.now ∷ before) self.new }
+    {
         self.ticks = counted(self.ticks, true);
-        self.last = observation.tick;
+        self.last = tick;
         self.idle = counted(self.idle, is_idle(observation));
         let levels = self.levels.as_slice();
-        observe_tasks(self.tasks.as_mut_slice(), levels, observation);
-        observe_routines(self.routines.as_mut_slice(), observation);
-        observe_resources(self.resources.as_mut_slice(), observation);
-        observe_alarms(self.alarms.as_mut_slice(), observation);
+        observe_tasks(self.tasks.as_mut_slice(), levels, tick, observation);
+        observe_routines(self.routines.as_mut_slice(), tick, observation);
+        observe_resources(self.resources.as_mut_slice(), tick, observation);
+        observe_alarms(self.alarms.as_mut_slice(), tick, observation);
     }
 
     fn task_groups<'a>(

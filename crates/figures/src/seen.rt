@@ -10,6 +10,7 @@ ghost use Rattle.figures.specs.FigureSums.{
   routine_tick,
   holder_tick,
   alarm_tick,
+  numbered,
   is_idle,
   is_error,
   is_task,
@@ -84,22 +85,22 @@ pub fn holder_seen(holders: &[Holder], number: usize) -> Holder
     }
 }
 
-/// Who holds a resource in a tick.
-pub fn holder_tick(observation: &Observation, number: usize) -> HolderTick
-    ensures { result ≡ holder_tick observation.now number }
+/// Who holds a resource in a tick of that number.
+pub fn holder_tick(tick: u32, observation: &Observation, number: usize) -> HolderTick
+    ensures { result ≡ holder_tick (numbered tick observation.now) number }
 {
     HolderTick {
-        tick: observation.tick,
+        tick,
         holder: holder_seen(observation.holders.as_slice(), number),
     }
 }
 
-/// What an observation has of an alarm.
-pub fn alarm_tick(observation: &Observation, number: usize) -> AlarmTick
-    ensures { result ≡ alarm_tick observation.now number }
+/// What an observation has of an alarm, as of a tick of that number.
+pub fn alarm_tick(tick: u32, observation: &Observation, number: usize) -> AlarmTick
+    ensures { result ≡ alarm_tick (numbered tick observation.now) number }
 {
     AlarmTick {
-        tick: observation.tick,
+        tick,
         seen: alarm_seen(observation.alarms.as_slice(), number),
     }
 }
@@ -150,14 +151,15 @@ fn lower_executes(levels: &[u8], executor: &Option<Owner>, number: usize) -> boo
     }
 }
 
-/// What an observation has of a task, by the static priorities of all tasks.
-pub fn task_tick(levels: &[u8], observation: &Observation, number: usize) -> TaskTick
+/// What an observation has of a task, as of a tick of that number, by the static priorities of all
+/// tasks.
+pub fn task_tick(levels: &[u8], tick: u32, observation: &Observation, number: usize) -> TaskTick
     requires { number < length levels.now }
-    ensures { result ≡ task_tick levels.now observation.now number }
+    ensures { result ≡ task_tick levels.now (numbered tick observation.now) number }
 {
     let executes = is_task(&observation.executor, number);
     TaskTick {
-        tick: observation.tick,
+        tick,
         seen: task_seen(observation.tasks.as_slice(), number),
         lower_executes: lower_executes(levels, &observation.executor, number),
         has_failed: executes && is_error(&observation.answered),
@@ -175,12 +177,12 @@ pub fn is_idle(observation: &Observation) -> bool
     }
 }
 
-/// What an observation has of a routine.
-pub fn routine_tick(observation: &Observation, number: usize) -> RoutineTick
-    ensures { result ≡ routine_tick observation.now number }
+/// What an observation has of a routine, as of a tick of that number.
+pub fn routine_tick(tick: u32, observation: &Observation, number: usize) -> RoutineTick
+    ensures { result ≡ routine_tick (numbered tick observation.now) number }
 {
     RoutineTick {
-        tick: observation.tick,
+        tick,
         seen: routine_seen(observation.routines.as_slice(), number),
         has_failed: is_routine(&observation.executor, number) && is_error(&observation.answered),
     }

@@ -9,7 +9,7 @@ use Rattle.osek_base.specs.Separable.{Separable}
 use Rattle.osek_base.specs.System.{System}
 use Rattle.observations.specs.declared.observation.Observation.{Observation}
 use Rattle.observations.specs.declared.task_seen.TaskSeen.{TaskSeen}
-use Rattle.observed_runs.specs.Observed.{Ticked, task_seen, tick_at}
+use Rattle.seen_ticks.specs.Observed.{Ticked, task_seen, tick_at}
 use Rattle.same_future.proofs.Tables.{table_at}
 use Rattle.figures.specs.AlarmSums.{alarm_figures}
 use Rattle.figures.specs.Counts.{capped}

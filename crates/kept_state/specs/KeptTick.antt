@@ -38,8 +38,12 @@ abbrev pub alarms_act_in : System → List ℕ → Kept → KeptRecorded
 alarms_act_in S [] o = silent_in o
 alarms_act_in S (a ∷ rest) o = and_then_in (alarm_acts_in S a o) (alarms_act_in S rest)
 
+-- the alarms that are due expire
+abbrev pub advanced_in : System → Kept → Kept
+advanced_in S o = record o { alarms = alarms_advanced S (bare o) }
+
 unfoldable pub alarm_phase_in : System → Kept → KeptRecorded
-alarm_phase_in S o = alarms_act_in S (due_alarms S (bare o)) (record o { alarms = alarms_advanced S (bare o) })
+alarm_phase_in S o = alarms_act_in S (due_alarms S (bare o)) (advanced_in S o)
 
 abbrev pub arrival_phase_in : List ℕ → Kept → Kept
 arrival_phase_in arrived o = record o { pending = flagged arrived o.pending }

@@ -17,12 +17,12 @@ use Rattle.machine.specs.Windows.{word}
 use Rattle.kept_state.specs.Kept.{Kept}
 use Rattle.kept_state.specs.Moves.{KeptRecorded}
 use Rattle.kept_state.specs.KeptService.{ByNobody, bare, unasked_in}
-use Rattle.kept_state.specs.KeptTick.{alarm_reply_in, alarm_acts_in, alarms_act_in, alarm_phase_in, and_then_in}
+use Rattle.kept_state.specs.KeptTick.{alarm_reply_in, alarm_acts_in, alarms_act_in, alarm_phase_in, and_then_in, advanced_in}
 use Rattle.kept_state.specs.Standing.{runner_waits}
 use Rattle.kept_state.proofs.InRuns.{action_keeps_ready}
 use Rattle.services.specs.Objects.{Objects, kept_in}
 use Rattle.kernel.specs.Processor.{IsBefore, Processor, at_tick, clocked, picture, system_of}
-use Rattle.kernel.specs.Does.{Adds, Becomes, Does, advanced_in}
+use Rattle.kernel.specs.Does.{Adds, Becomes, Does}
 use Rattle.kernel.specs.Told.{Acts}
 use Rattle.kernel.proofs.AlarmLemmas.{events_by, first_alarm_phase, state_by, status_by}
 use Rattle.kernel.proofs.DoesLemmas.{Step, processor_of, does_nothing, does_same, then_does}

@@ -20,7 +20,7 @@ use Rattle.kept_state.proofs.Quiet.{nothing_due as none_due, nothing_advanced as
 use Rattle.kept_state.proofs.Words.{with_words, reply_with, unasked_words}
 use Rattle.services.specs.Objects.{Objects, kept_of, kept_in}
 use Rattle.kernel.specs.Processor.{AreAhead}
-use Rattle.kernel.specs.Told.{acting_in}
+use Rattle.seen_ticks.specs.Told.{acting_in}
 
 -- an alarm acts by the service of its action
 module _ (S : System) (a : ℕ) (w : Words) (o : Objects) (action : Action) (is : (alarm S a).action ≡ action) where

@@ -9,19 +9,19 @@ use Rattle.osek_base.specs.System.{System}
 use Rattle.osek_base.specs.Trace.{arriving}
 use Rattle.kept_state.specs.Kept.{Kept}
 use Rattle.kept_state.specs.KeptService.{ByNobody, bare, caller_by, caller_in}
-use Rattle.kept_state.specs.KeptTick.{arrival_phase_in, before_execution_in, execute_phase_in, last_phase_in, tick_in}
+use Rattle.kept_state.specs.KeptTick.{advanced_in, arrival_phase_in, before_execution_in, execute_phase_in, last_phase_in, silent_in, tick_in}
 use Rattle.kept_state.specs.Moves.{KeptRecorded, contender_of, rescheduled}
 use Rattle.kept_state.specs.Quiet.{IsQuiet, idle_step, later}
 use Rattle.kept_state.proofs.Quiet.{alarm_phase_silent, before_silent, last_silent, nobody_executes, quiet_later, quiet_ticks}
 use Rattle.blocking_laws.specs.Restamping.{StampLists, alarm_phase_restamped, alarms_restamped, before_restamped, ended_of, instr_in, last_restamped, restamped_if, named_in, preempted_by, reschedule_restamped, spent_of}
 use Rattle.services.specs.Objects.{Objects, kept_in}
 use Rattle.kernel.specs.declared.acted.Acted.{Acted}
-use Rattle.kernel.specs.Does.{advanced_in}
 use Rattle.kernel.specs.Idle.{Passes, PassesOn, StaysIdle, rested}
 use Rattle.kernel.specs.Stamping.{executed_restamped, noted, number_for}
 use Rattle.kernel.specs.Machine.{IsCore, IsMachine, Machine, between, next_tick, picture as picture_in, system_of as system_in}
 use Rattle.kernel.specs.Processor.{Processor, at_tick, picture, system_of}
-use Rattle.kernel.specs.Told.{acted_in, refused_of_in}
+use Rattle.seen_ticks.specs.Told.{refused_of_in}
+use Rattle.kernel.specs.Told.{acted_in}
 use Rattle.kernel.specs.Watches.{Watched, Watches, Begins, early, executing, last, watched_at}
 use Rattle.kernel.proofs.DoesLemmas.{does_nothing}
 use Rattle.kernel.proofs.QuietLemmas.{quiet_by_core}
@@ -180,6 +180,11 @@ pub all_idle : (S : System) (o : Kept) (k : ℕ) → IsQuiet S o → length o.al
     → ((i : ℕ) → i < k → due_alarms S (bare (later i o)) ≡ []) → (i : ℕ) → i < k → tick_in S [] (later i o) ≡ idle_step (later i o)
 all_idle S o k quiet size none i less = quiet_ticks S (later i o) (quiet_later S o i quiet) size (none i less)
 
+pub all_silent : (S : System) (o : Kept) (k : ℕ) → IsQuiet S o → length o.alarms ≡ length S.alarms
+    → ((i : ℕ) → i < k → due_alarms S (bare (later i o)) ≡ []) → (i : ℕ) → i < k
+    → before_execution_in S [] (later i o) ≡ silent_in (later i o)
+all_silent S o k quiet size none i less = before_silent S (later i o) (quiet_later S o i quiet) size (none i less)
+
 -- ---- what the machine does
 
 pub record IsPassed (counted : Bool) (clock most idle : ℕ) (old new : Machine) : Type 0 where
@@ -225,9 +230,13 @@ module _ (counted : Bool) (n : ℕ) (w : Watched) (opening : List TraceEvent) (a
               few = few;
               system = refl;
               after = refl;
+              none_due = none;
+              before = all_silent (system_of w.processor) (picture (at_tick w.processor n)) (suc k) quiet size none;
+              nobody = λ some. nobody (system_of w.processor) (picture (at_tick w.processor n)) quiet;
               idle = all_idle (system_of w.processor) (picture (at_tick w.processor n)) (suc k) quiet size none;
-              on = λ later. quiet.on;
-              begun = λ later. h.none_later begun;
+              on = λ some. quiet.on;
+              not_first = λ some. begun;
+              begun = λ some. h.none_later begun;
               next = refl;
               goes_on = there.goes_on;
               of_run = there.keeps.of_run;

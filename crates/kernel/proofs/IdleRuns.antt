@@ -1,25 +1,54 @@
 -- Of a run, ticks in which nothing happens, and a kernel that passes them.
-use Rattle.std.proofs.Common.{◌≡◌, ℕ, zero, suc, ◌+◌, ◌-◌, ◌<◌, Bool, false, List, [], ◌∷◌, ◌++◌, sym, ◌∙◌, ap, ap₂, subst, arith}
+use Rattle.std.proofs.Common.{◌≡◌, ℕ, zero, suc, ◌+◌, ◌-◌, ◌<◌, Bool, true, false, List, [], ◌∷◌, ◌++◌, refl, sym, ◌∙◌, ap, ap₂, subst, arith}
+use Rattle.std.specs.Prelude.{None}
+use Rattle.std.proofs.lemmas.Bool.{true≢false}
 use Rattle.osek_base.specs.declared.arrivals.Arrival.{Arrival}
 use Rattle.osek_base.specs.declared.trace_event.TraceEvent.{TraceEvent}
+use Rattle.osek_base.specs.Alarm.{due_alarms}
+use Rattle.osek_base.specs.Blocker.{calling_job}
+use Rattle.osek_base.specs.BlockingText.{blockers_at}
 use Rattle.osek_base.specs.Proper.{IsProper}
+use Rattle.osek_base.specs.Service.{Caller, JobCalls, RoutineCalls, NobodyCalls}
 use Rattle.osek_base.specs.System.{System}
-use Rattle.osek_base.specs.Tick.{tick}
+use Rattle.osek_base.specs.Tick.{executor, tick}
 use Rattle.osek_base.specs.Trace.{Run, arriving, run}
-use Rattle.blocking_laws.specs.Steps.{record_at}
-use Rattle.blocking_laws.proofs.StepLemmas.{run_tick}
+use Rattle.blocking_laws.specs.Stamps.{blockers_by, levels_of, stamps_in, stamps_of}
+use Rattle.blocking_laws.specs.Steps.{record_at, step_at}
+use Rattle.blocking_laws.proofs.StampLemmas.{blockers_are}
+use Rattle.blocking_laws.proofs.StepLemmas.{run_more, run_tick, unwritten_more}
 use Rattle.kept_state.specs.Kept.{Kept, kept}
-use Rattle.kept_state.specs.KeptTick.{KeptStep, tick_in}
+use Rattle.kept_state.specs.KeptService.{KeptCaller, ByNobody, bare, caller_in, kept_caller}
+use Rattle.kept_state.specs.KeptTick.{KeptStep, before_execution_in, silent_in, tick_in}
+use Rattle.kept_state.specs.Moves.{KeptRecorded}
 use Rattle.kept_state.specs.Quiet.{idle_step, later}
+use Rattle.kept_state.proofs.InRuns.{before_alike}
+use Rattle.kept_state.proofs.Served.{executor_kept}
 use Rattle.kept_state.proofs.Ticked.{ticks}
 use Rattle.kernel.specs.Idle.{StaysIdle}
 use Rattle.kernel.specs.Keeping.{IsKernel}
 use Rattle.kernel.specs.Machine.{HasCome, Machine, next_tick, picture}
-use Rattle.kernel.specs.Progress.{AreFree, AreLeft, HasIdled, Progress}
+use Rattle.kernel.specs.Progress.{AreFree, AreLeft, HasIdled, LeavesAll, Progress}
 use Rattle.kernel.proofs.ArrivalLemmas.{left_behind, none_between}
+use Rattle.kernel.proofs.KeepingLemmas.{step_is}
 use Rattle.kernel.proofs.LawLemmas.{lawful}
-use Rattle.kernel.proofs.RunLemmas.{unwritten_more}
 use Rattle.kernel.proofs.TickLemmas.{further}
+
+-- a tick in which nobody executes has no number of blockers
+unblocked : (S : System) (mode : ℕ) (arrivals : List Arrival) (n : ℕ) → IsProper S → (run S mode arrivals n).state.over ≡ false
+    → kept_caller (executor (step_at S mode arrivals n).executing) ≡ ByNobody → blockers_at S mode arrivals n ≡ None
+unblocked S mode arrivals n proper going is =
+    blockers_are S mode arrivals n going proper
+    ∙ ap (blockers_by S (levels_of S mode arrivals n) (stamps_in S mode arrivals n (stamps_of S mode arrivals n)))
+    (jobless (executor (step_at S mode arrivals n).executing) is)
+  where
+    is_nobody : KeptCaller → Bool
+    is_nobody ByNobody = true
+    is_nobody _ = false
+
+    jobless : (c : Caller) → kept_caller c ≡ ByNobody → calling_job c ≡ None
+    jobless (JobCalls j) is = absurd (true≢false (sym (ap is_nobody is)))
+    jobless (RoutineCalls a) is = refl
+    jobless NobodyCalls is = refl
 
 module _ (S : System) (proper : IsProper S) (mode : ℕ) (arrivals : List Arrival) (t : ℕ) (o : Kept) (on : o.over ≡ false) where
   -- the run so many ticks later
@@ -71,6 +100,40 @@ module _ (S : System) (proper : IsProper S) (mode : ℕ) (arrivals : List Arriva
       ∙ ap₂ (λ v x. (tick_in S v x).events) free (sym there.same)
       ∙ ap (λ (x : KeptStep). x.events) idle
 
+  -- what is kept when its instruction is executed
+  pub at_there : (k : ℕ) → arriving arrivals (t + k) ≡ [] → before_execution_in S [] (later k o) ≡ silent_in (later k o)
+      → IsThere k → kept S (step_at S mode arrivals (t + k)).executing ≡ later k o
+  at_there k free silent there =
+      ap (kept S) (sym (step_is S proper mode arrivals (t + k) (later k o) there.same (going_there k there)))
+      ∙ ap (λ (r : KeptRecorded). r.state) (before_alike S mode arrivals (t + k) (arriving arrivals (t + k)) proper)
+      ∙ ap₂ (λ v x. (before_execution_in S v x).state) free (sym there.same)
+      ∙ ap (λ (r : KeptRecorded). r.state) silent
+
+  -- and behind it
+  pub behind_there : (k : ℕ) → arriving arrivals (t + k) ≡ [] → tick_in S [] (later k o) ≡ idle_step (later k o) → IsThere k
+      → kept S (step_at S mode arrivals (t + k)).after ≡ later 1 (later k o)
+  behind_there k free idle there =
+      let going = going_there k there in
+      sym (ap (λ (r : Run). kept S r.state) (run_more S mode arrivals (t + k) going))
+      ∙ sym (further S proper mode arrivals (t + k) (later k o) there.same going)
+      ∙ ap (λ v. (tick_in S v (later k o)).after) free ∙ ap (λ (x : KeptStep). x.after) idle
+
+  leaves_all : (k : ℕ) → arriving arrivals (t + k) ≡ [] → due_alarms S (bare (later k o)) ≡ [] → caller_in o ≡ ByNobody
+      → before_execution_in S [] (later k o) ≡ silent_in (later k o) → tick_in S [] (later k o) ≡ idle_step (later k o)
+      → IsThere k → LeavesAll S mode arrivals (t + k) (later k o)
+  leaves_all k free none nobody silent idle there =
+      let at = at_there k free silent there in
+      record {
+        none_arrive = free;
+        none_due = ap (λ (x : Kept). due_alarms S (bare x)) (sym there.same) ∙ none;
+        no_blockers =
+            unblocked S mode arrivals (t + k) proper (going_there k there)
+            (executor_kept S (step_at S mode arrivals (t + k)).executing ∙ ap caller_in at ∙ nobody);
+        before = sym there.same;
+        at = at;
+        behind = behind_there k free idle there;
+      }
+
 -- ---- a machine that stays idle
 
 module _ (counted : Bool) (S : System) (proper : IsProper S) (mode : ℕ) (arrivals : List Arrival)
@@ -99,6 +162,15 @@ module _ (counted : Bool) (S : System) (proper : IsProper S) (mode : ℕ) (arriv
   idle_records k low =
       idle_there S proper mode arrivals (next_tick m) o (idled.on (omega (arith, low))) k (free k low) (stays k low) (is_there k low)
 
+  idle_leaves : (k : ℕ) → k < n → LeavesAll S mode arrivals (next_tick m + k) (later k (kept S (run S mode arrivals (next_tick m)).state))
+  idle_leaves k low =
+      subst (λ (x : Kept). LeavesAll S mode arrivals (next_tick m + k) (later k x)) come.at.same
+      (leaves_all S proper mode arrivals (next_tick m) o (idled.on (omega (arith, low))) k (free k low)
+      (subst (λ (T : System). due_alarms T (bare (later k o)) ≡ []) come.at.system (idled.none_due k low))
+      (idled.nobody (omega (arith, low)))
+      (subst (λ (T : System). before_execution_in T [] (later k o) ≡ silent_in (later k o)) come.at.system (idled.before k low))
+      (stays k low) (is_there k low))
+
   idle_going : (k : ℕ) → k < n → (run S mode arrivals (next_tick m + k)).state.over ≡ false
   idle_going k low = going_there S proper mode arrivals (next_tick m) o (idled.on (omega (arith, low))) k (is_there k low)
 
@@ -109,16 +181,16 @@ progress S mode arrivals m = record { system = S; mode = mode; arrivals = arriva
 
 -- the kernel keeps the run behind them, and has idled
 pub record KernelIdles (counted : Bool) (S : System) (mode : ℕ) (arrivals : List Arrival) (lent : List ℕ)
-    (cursor most n : ℕ) (old : Progress) (new : Machine) : Type 0 where
-  pub keeps : IsKernel counted S mode arrivals lent cursor cursor new
+    (cursor coming most n : ℕ) (old : Progress) (new : Machine) : Type 0 where
+  pub keeps : IsKernel counted S mode arrivals lent cursor cursor coming new
   pub idled : HasIdled most old (progress S mode arrivals new) n
 
 pub kernel_idles : (counted : Bool) (S : System) (mode : ℕ) (arrivals list : List Arrival) (lent : List ℕ)
-    (earlier cursor tick most free n : ℕ) (old : Progress) (m new : Machine) → progress S mode arrivals m ≡ old
-    → IsKernel counted S mode arrivals lent earlier cursor m → list ≡ arrivals → tick ≡ next_tick m
+    (earlier cursor coming tick most free n : ℕ) (old : Progress) (m new : Machine) → progress S mode arrivals m ≡ old
+    → IsKernel counted S mode arrivals lent earlier cursor coming m → list ≡ arrivals → tick ≡ next_tick m
     → AreFree list cursor tick most free → StaysIdle counted free n m new → 0 < n
-    → KernelIdles counted S mode arrivals lent cursor most n old new
-kernel_idles counted S mode arrivals list lent earlier cursor tick most free n old m new is v list_is tick_is freed idles
+    → KernelIdles counted S mode arrivals lent cursor coming most n old new
+kernel_idles counted S mode arrivals list lent earlier cursor coming tick most free n old m new is v list_is tick_is freed idles
     some =
     let few = idles.few in
     let left = subst (λ t. AreFree arrivals cursor t most free) tick_is
@@ -136,6 +208,7 @@ kernel_idles counted S mode arrivals list lent earlier cursor tick most free n o
         left =
             subst (AreLeft arrivals cursor) (sym next)
             (left_behind arrivals cursor (next_tick m) most free n v.left left few);
+        ahead = v.ahead;
         last = λ begun.
             ap (arriving arrivals) last_is ∙ none (n - 1) (omega (arith, some)) ∙ sym (none_between lent cursor);
         forward = omega arith;
@@ -143,8 +216,10 @@ kernel_idles counted S mode arrivals list lent earlier cursor tick most free n o
       };
       idled = subst (λ r. HasIdled most r (progress S mode arrivals new) n) is (record {
         few = omega (arith, few, fewer);
+        not_first = idles.not_first;
         records = idle_records counted S v.proper mode arrivals m new free n v.come idles none;
         going = idle_going counted S v.proper mode arrivals m new free n v.come idles none;
+        stays = idle_leaves counted S v.proper mode arrivals m new free n v.come idles none;
         next = ap (λ t. record (progress S mode arrivals m) { ticks = t }) next;
         lawful = lawful (progress S mode arrivals new) v.proper;
       });

@@ -8,7 +8,7 @@ use Rattle.osek_base.specs.State.{Job, State, jobs_of}
 use Rattle.osek_base.specs.Blocker.{calling_job, executing_job}
 use Rattle.osek_base.specs.BlockingText.{blockers_at}
 use Rattle.osek_base.specs.Proper.{IsProper}
-use Rattle.osek_base.specs.Tick.{before_execution, executor, tick}
+use Rattle.osek_base.specs.Tick.{before_execution, executor}
 use Rattle.osek_base.specs.Trace.{arriving, run}
 use Rattle.run_laws.proofs.Known.{executor_calls}
 use Rattle.run_laws.proofs.RankedTick.{IsExecuting, before_executing, run_ordered}
@@ -29,7 +29,7 @@ use Rattle.kernel.specs.Machine.{AreLast}
 use Rattle.blocking_laws.proofs.AfterStamps.{run_listed}
 use Rattle.blocking_laws.proofs.BeforeStamps.{before_listed}
 use Rattle.kernel.proofs.NumberLemmas.{noted_last, number_is}
-use Rattle.blocking_laws.proofs.StepLemmas.{run_tick}
+use Rattle.blocking_laws.proofs.StepLemmas.{executing_is}
 use Rattle.blocking_laws.proofs.SpentStamps.{spent_at, spent_here}
 use Rattle.blocking_laws.proofs.StampLemmas.{Going, blockers_are}
 
@@ -68,10 +68,6 @@ spent_counted d xs t = ap (λ (ys : List (Option ℕ)). length ys) (spent_at d x
 
 -- ---- a tick
 
-executing_is : (S : System) (arrived : List ℕ) (s : State) → (before_execution S arrived s).state ≡ (tick S arrived s).executing
-unfolding tick
-executing_is S arrived s = refl
-
 -- a run whose picture is k, and which isn't over
 module _ (S : System) (proper : IsProper S) (mode : ℕ) (arrivals : List Arrival) (n : ℕ) (k : Kept)
     (same : k ≡ kept S (run S mode arrivals n).state) (going : Going S mode arrivals n) where
@@ -80,9 +76,7 @@ module _ (S : System) (proper : IsProper S) (mode : ℕ) (arrivals : List Arriva
   e = (before_execution S (arriving arrivals n) (run S mode arrivals n).state).state
 
   pub step_is : e ≡ (step_at S mode arrivals n).executing
-  step_is =
-      executing_is S (arriving arrivals n) (run S mode arrivals n).state
-      ∙ ap (λ t. (tick S (arriving arrivals t) (run S mode arrivals n).state).executing) (sym (run_tick S mode arrivals n going))
+  step_is = executing_is S mode arrivals n going
 
   -- phases 1 to 4
   pub begun_listed : (xs zs : StampLists) → zs ≡ before_restamped S n (arriving arrivals n) k xs

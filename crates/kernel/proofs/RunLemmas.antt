@@ -1,12 +1,11 @@
 -- Whether a tick of a run follows.
-use Rattle.std.proofs.Common.{◌≡◌, ℕ, ◌+◌, ◌<◌, Bool, true, false, List, [], refl, ap, arith}
+use Rattle.std.proofs.Common.{◌≡◌, ℕ, ◌<◌, Bool, true, false, List, refl, arith}
 use Rattle.std.specs.Prelude.{◌||◌, nat_le}
 use Rattle.std.proofs.lemmas.Bool.{true≢false}
 use Rattle.osek_base.specs.declared.limits.TheConstants.{MAX_TICKS}
 use Rattle.osek_base.specs.declared.arrivals.Arrival.{Arrival}
 use Rattle.osek_base.specs.System.{System}
-use Rattle.osek_base.specs.Trace.{Run, run}
-use Rattle.blocking_laws.proofs.StepLemmas.{run_more}
+use Rattle.osek_base.specs.Trace.{run}
 use Rattle.kernel.specs.Progress.{is_over}
 
 -- a run of n ticks that isn't over, and isn't at the limit
@@ -24,7 +23,3 @@ pub going : (S : System) (mode : ℕ) (arrivals : List Arrival) (n : ℕ)
 going S mode arrivals n h =
     let parts = going_parts (nat_le MAX_TICKS n) (run S mode arrivals n).state.over h in
     record { limit = grind (arith, parts.0); on = parts.1 }
-
-pub unwritten_more : (S : System) (mode : ℕ) (arrivals : List Arrival) (n : ℕ) → (run S mode arrivals n).state.over ≡ false
-    → (run S mode arrivals (n + 1)).unwritten ≡ []
-unwritten_more S mode arrivals n on = ap (λ (r : Run). r.unwritten) (run_more S mode arrivals n on)

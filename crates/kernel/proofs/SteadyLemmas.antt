@@ -19,7 +19,7 @@ use Rattle.run_laws.proofs.RankedTick.{IsRunState, run_ordered}
 use Rattle.ready_queues.specs.QueueMoves.{highest}
 use Rattle.kept_state.specs.Kept.{Kept, Slot, kept}
 use Rattle.kept_state.specs.KeptService.{ByTask, bare, caller_by, caller_in}
-use Rattle.kept_state.specs.KeptTick.{and_then_in, arrival_phase_in, before_execution_in, routine_started_in, silent_in, start_phase_in}
+use Rattle.kept_state.specs.KeptTick.{and_then_in, arrival_phase_in, before_execution_in, routine_started_in, silent_in, start_phase_in, advanced_in}
 use Rattle.kept_state.specs.Moves.{KeptRecorded, chosen, contender, contender_of, dynamic_in, may_dispatch_in, rescheduled}
 use Rattle.kept_state.specs.Standing.{Fits, IsRunnerPlaced}
 use Rattle.kept_state.proofs.Fitting.{fits_where_standing}
@@ -28,7 +28,6 @@ use Rattle.blocking_laws.specs.Restamping.{StampLists, alarm_phase_restamped, al
 use Rattle.services.specs.Objects.{Objects, kept_in}
 use Rattle.services.specs.Quiet.{HasPassed as PassesByObjects, IsSteady}
 use Rattle.kernel.specs.declared.acted.Acted.{Acted}
-use Rattle.kernel.specs.Does.{advanced_in}
 use Rattle.kernel.specs.Machine.{HasTicked, IsMachine, Machine, MayTick, Ticks, between, next_tick, picture as picture_in}
 use Rattle.kernel.specs.Processor.{MayFetch, Processor, at_tick, picture, system_of}
 use Rattle.kernel.specs.Steady.{BeginsSteady, PassesSteady}

@@ -1,7 +1,6 @@
 -- A kernel whose machine does such a tick, in which no interrupt arrives.
 use Rattle.std.proofs.Common.{◌≡◌, ℕ, ◌-◌, ◌<◌, Bool, false, List, [], ◌∷◌, length, map, sym, ◌∙◌, ap, subst, arith}
 use Rattle.std.specs.Prelude.{Some, IfSome}
-use Rattle.std.specs.List.{All}
 use Rattle.std.proofs.lemmas.List.Elements.{All-from_recursion}
 use Rattle.osek_base.specs.declared.arrivals.Arrival.{Arrival}
 use Rattle.osek_base.specs.declared.executed.Executed.{Executed}
@@ -19,9 +18,9 @@ use Rattle.kernel.proofs.LawLemmas.{lawful}
 use Rattle.kernel.proofs.RunLemmas.{IsGoing, going}
 use Rattle.kernel.proofs.TickLemmas.{record_told}
 
-module _ (counted : Bool) (S : System) (mode : ℕ) (arrivals : List Arrival) (lent : List ℕ) (earlier cursor : ℕ)
+module _ (counted : Bool) (S : System) (mode : ℕ) (arrivals : List Arrival) (lent : List ℕ) (earlier cursor coming : ℕ)
     (old : Progress) (m : Machine) (is : progress S mode arrivals m ≡ old)
-    (v : IsKernel counted S mode arrivals lent earlier cursor m) (follows : is_over old ≡ false) where
+    (v : IsKernel counted S mode arrivals lent earlier cursor coming m) (follows : is_over old ≡ false) where
   goes : IsGoing S mode arrivals (next_tick m)
   goes = going S mode arrivals (next_tick m) (ap is_over is ∙ follows)
 
@@ -34,17 +33,14 @@ module _ (counted : Bool) (S : System) (mode : ℕ) (arrivals : List Arrival) (l
 
   -- the kernel keeps the run behind the tick
   pub record KernelTicks (new : Machine) (executed : Executed) (behind : List TraceEvent) : Type 0 where
-    pub keeps : IsKernel counted S mode arrivals lent cursor cursor new
+    pub keeps : IsKernel counted S mode arrivals lent cursor cursor coming new
     pub ran : HasRunApart old (progress S mode arrivals new) [] (Some executed) behind
 
-  pub kernel_ticks : (list : List Arrival) (tick : ℕ) → list ≡ arrivals → tick ≡ next_tick m
-      → HaveArrived list tick cursor cursor → (new : Machine) (e : Executed) (behind : List TraceEvent)
+  pub kernel_ticks : (coming ≡ next_tick m → ⊥) → (new : Machine) (e : Executed) (behind : List TraceEvent)
       → HasTicked counted [] m new [] (Some e) behind → KernelTicks new e behind
-  kernel_ticks list tick list_is tick_is arrived new e behind done =
+  kernel_ticks not_now new e behind done =
       let next = done.ticks.next in
-      let here : HaveArrived arrivals (next_tick m) cursor cursor =
-      subst (λ n. HaveArrived arrivals n cursor cursor) tick_is
-      (subst (λ (xs : List Arrival). HaveArrived xs tick cursor cursor) list_is arrived) in
+      let here : HaveArrived arrivals (next_tick m) cursor cursor = v.ahead (next_tick m) not_now v.left in
       let none : arriving arrivals (next_tick m) ≡ [] =
       here.these ∙ none_between (map (λ (a : Arrival). a.routine) arrivals) cursor in
       let last_is : next_tick new - 1 ≡ next_tick m = omega (arith, next) in
@@ -54,6 +50,7 @@ module _ (counted : Bool) (S : System) (mode : ℕ) (arrivals : List Arrival) (l
           known = v.known;
           routines = v.routines;
           left = subst (AreLeft arrivals cursor) (sym next) here.left;
+          ahead = v.ahead;
           last = λ begun. ap (arriving arrivals) last_is ∙ none ∙ sym (none_between lent cursor);
           forward = omega arith;
           come =

@@ -11,7 +11,7 @@ use Rattle.osek_base.proofs.FrameLemmas.{tick_tick}
 use Rattle.run_laws.proofs.FormedTick.{run_form}
 use Rattle.blocking_laws.specs.Steps.{record_at, step_at}
 use Rattle.blocking_laws.specs.Stamps.{stamps_of}
-use Rattle.blocking_laws.proofs.StepLemmas.{run_more, run_tick}
+use Rattle.blocking_laws.proofs.StepLemmas.{run_more, run_tick, unwritten_more}
 use Rattle.kept_state.specs.Kept.{Kept, kept}
 use Rattle.kept_state.specs.KeptTick.{KeptStep, before_execution_in, execute_phase_in, last_phase_in, tick_in}
 use Rattle.kept_state.specs.Moves.{KeptRecorded}
@@ -30,7 +30,6 @@ use Rattle.kernel.specs.Told.{acted_at, acted_in}
 use Rattle.kernel.proofs.ToldLemmas.{acted_told}
 use Rattle.kernel.specs.Machine.{GoesOn, HasCome, IsAt, IsMachine, Machine, Ticks, between, next_tick}
 use Rattle.kernel.proofs.PastLemmas.{at_past}
-use Rattle.kernel.proofs.RunLemmas.{unwritten_more}
 use Rattle.kernel.specs.Processor.{AreAhead, IsBefore, MayExecute, at_tick, picture, system_of}
 use Rattle.kernel.specs.Watches.{Begins, HasBegun, MayAct, MayStart, Watched, Watches, early, executing, last, watched_at}
 use Rattle.kernel.proofs.KeepingLemmas.{after_told, begun_listed, counted_of, counted_spent, levels_told, number_told, step_is}

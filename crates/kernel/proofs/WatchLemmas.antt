@@ -7,10 +7,10 @@ use Rattle.kept_state.specs.Kept.{Kept}
 use Rattle.osek_base.specs.Alarm.{due_alarms}
 use Rattle.kept_state.specs.KeptService.{bare}
 use Rattle.kept_state.specs.Standing.{runner_waits}
-use Rattle.kept_state.specs.KeptTick.{alarm_acts_in, alarms_act_in}
+use Rattle.kept_state.specs.KeptTick.{alarm_acts_in, alarms_act_in, advanced_in}
 use Rattle.blocking_laws.specs.Restamping.{StampLists, alarm_restamped, alarm_phase_restamped, alarms_restamped}
 use Rattle.kernel.specs.declared.stamping.Look.{Look}
-use Rattle.kernel.specs.Does.{Becomes, Does, advanced_in}
+use Rattle.kernel.specs.Does.{Becomes, Does}
 use Rattle.kernel.specs.Stamping.{AreCounted, acts_on, restamped_between, seen}
 use Rattle.kernel.specs.Processor.{IsBefore, Processor, at_tick, clocked, picture, system_of}
 use Rattle.kernel.specs.Watches.{Blocking, MayAct, Watched, Watches, acting, all_acting, phase_of_alarms, watched_at}

@@ -2,9 +2,10 @@
 use Rattle.std.specs.Prelude.{ℕ, ◌≡◌, ◌<◌, ◌≤◌, ◌+◌, List, ◌++◌, [], Option, IfSome, length}
 use Rattle.osek_base.specs.declared.trace_event.TraceEvent.{TraceEvent}
 use Rattle.osek_base.specs.System.{System}
-use Rattle.osek_base.specs.Alarm.{alarms_advanced, due_alarms}
+use Rattle.osek_base.specs.Alarm.{due_alarms}
 use Rattle.kept_state.specs.Kept.{Kept}
 use Rattle.kept_state.specs.KeptService.{bare}
+use Rattle.kept_state.specs.KeptTick.{advanced_in}
 use Rattle.kept_state.specs.Moves.{KeptRecorded, contender, rescheduled}
 use Rattle.kernel.specs.Processor.{Processor, clocked, picture, system_of}
 
@@ -33,10 +34,6 @@ pub record PutsFirst (old new records : List TraceEvent) : Type 0 where
 pub record Becomes (f : System → Kept → Kept) (old new : Processor) : Type 0 where
   pub system : system_of new ≡ system_of old
   pub kept : picture new ≡ f (system_of old) (picture old)
-
--- the alarms that are due expire
-abbrev pub advanced_in : System → Kept → Kept
-advanced_in S o = record o { alarms = alarms_advanced S (bare o) }
 
 -- the next tick begins: the alarms that are due in it expire
 pub record Advances (old new : Processor) (alarms : List ℕ) : Type 0 where

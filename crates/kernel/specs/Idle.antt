@@ -3,8 +3,8 @@ use Rattle.std.specs.Prelude.{ℕ, ◌≡◌, ◌<◌, ◌≤◌, ◌+◌, Bool,
 use Rattle.osek_base.specs.declared.arrivals.Arrival.{Arrival}
 use Rattle.osek_base.specs.Alarm.{due_alarms}
 use Rattle.osek_base.specs.Trace.{arriving}
-use Rattle.kept_state.specs.KeptService.{bare}
-use Rattle.kept_state.specs.KeptTick.{tick_in}
+use Rattle.kept_state.specs.KeptService.{ByNobody, bare, caller_in}
+use Rattle.kept_state.specs.KeptTick.{before_execution_in, silent_in, tick_in}
 use Rattle.kept_state.specs.Quiet.{idle_step, later}
 use Rattle.kernel.specs.Machine.{IsOfRun, IsRun, Machine, next_tick, picture, system_of}
 use Rattle.kernel.specs.Processor.{Processor, at_tick, picture as picture_of, system_of as system_in}
@@ -38,8 +38,12 @@ pub record StaysIdle (counted : Bool) (most n : ℕ) (old new : Machine) : Type 
   pub few : n ≤ most
   pub system : system_of new ≡ system_of old
   pub after : picture new ≡ later n (picture old)
+  pub none_due : (k : ℕ) → k < n → due_alarms (system_of old) (bare (later k (picture old))) ≡ []
+  pub before : (k : ℕ) → k < n → before_execution_in (system_of old) [] (later k (picture old)) ≡ silent_in (later k (picture old))
+  pub nobody : 0 < n → caller_in (picture old) ≡ ByNobody
   pub idle : (k : ℕ) → k < n → tick_in (system_of old) [] (later k (picture old)) ≡ idle_step (later k (picture old))
   pub on : 0 < n → (picture old).over ≡ false
+  pub not_first : 0 < n → 1 ≤ next_tick old
   pub begun : 0 < n → old.unwritten ≡ []
   pub next : next_tick new ≡ next_tick old + n
   pub goes_on : PassesOn counted n old new

@@ -4,6 +4,8 @@ use Rattle.std.specs.List.{All}
 use Rattle.osek_base.specs.declared.limits.TheConstants.{MAX_RECORDS, MAX_TICKS}
 use Rattle.osek_base.specs.declared.executed.Executed.{Executed}
 use Rattle.osek_base.specs.declared.trace_event.TraceEvent.{TraceEvent}
+use Rattle.osek_base.specs.Alarm.{due_alarms}
+use Rattle.osek_base.specs.BlockingText.{blockers_at}
 use Rattle.osek_base.specs.Executed.{StandsIn, idle_or_executed}
 use Rattle.osek_base.specs.Proper.{IsProper}
 use Rattle.osek_base.specs.declared.arrivals.Arrival.{Arrival}
@@ -11,7 +13,9 @@ use Rattle.osek_base.specs.System.{System}
 use Rattle.osek_base.specs.ArrivalList.{are_in_order}
 use Rattle.osek_base.specs.Laws.{StartsSingly, Excludes, BlocksOnce, Protects}
 use Rattle.kernel.specs.declared.boot.BootFault.{BootFault}
-use Rattle.blocking_laws.specs.Steps.{record_at}
+use Rattle.blocking_laws.specs.Steps.{record_at, step_at}
+use Rattle.kept_state.specs.Kept.{Kept, kept}
+use Rattle.kept_state.specs.Quiet.{later}
 use Rattle.osek_base.specs.Trace.{Run, arriving, run}
 
 -- the system, the mode, all arrivals, and the ticks done
@@ -54,6 +58,11 @@ pub record HaveArrived (arrivals : List Arrival) (tick first next : ℕ) : Type 
   pub left : AreLeft arrivals next (tick + 1)
   pub forward : first ≤ next
 
+-- in no tick but that one does another interrupt arrive, where those left stand in order from it on
+abbrev pub IsNextArrival : List Arrival → ℕ → ℕ → Type 0
+IsNextArrival arrivals cursor next =
+    (tick : ℕ) → (next ≡ tick → ⊥) → AreLeft arrivals cursor tick → HaveArrived arrivals tick cursor cursor
+
 -- in none of so many ticks from one on, at most some, does an interrupt arrive; those left stand in order behind them
 pub record AreFree (arrivals : List Arrival) (cursor tick most n : ℕ) : Type 0 where
   pub few : n ≤ most
@@ -75,11 +84,24 @@ pub record HasRunApart (old new : Progress) (before : List TraceEvent) (executed
   pub few : length before + length behind < MAX_RECORDS
   pub proper : IsProper old.system
 
--- so many ticks were done, at most some, in each of which nothing happened but that nobody executed
+-- in a tick of a run nothing comes and nothing changes: no interrupt arrives, no alarm is due, no job has blockers, and what
+-- is kept of the state is the same before it, at its instruction and, but for the tick, behind it
+pub record LeavesAll (S : System) (mode : ℕ) (arrivals : List Arrival) (t : ℕ) (o : Kept) : Type 0 where
+  pub none_arrive : arriving arrivals t ≡ []
+  pub none_due : due_alarms S (run S mode arrivals t).state ≡ []
+  pub no_blockers : blockers_at S mode arrivals t ≡ None
+  pub before : kept S (run S mode arrivals t).state ≡ o
+  pub at : kept S (step_at S mode arrivals t).executing ≡ o
+  pub behind : kept S (step_at S mode arrivals t).after ≡ later 1 o
+
+-- so many ticks were done, at most some and none of them the first, in each of which nothing happened but that nobody
+-- executed
 pub record HasIdled (most : ℕ) (old new : Progress) (n : ℕ) : Type 0 where
   pub few : n ≤ most
+  pub not_first : 0 < n → 1 ≤ old.ticks
   pub records : (k : ℕ) → k < n → record_at old.system old.mode old.arrivals (old.ticks + k) ≡ TraceEvent.Idle ∷ []
   pub going : (k : ℕ) → k < n → (run old.system old.mode old.arrivals (old.ticks + k)).state.over ≡ false
+  pub stays : (k : ℕ) → k < n → LeavesAll old.system old.mode old.arrivals (old.ticks + k) (later k (kept old.system (run_of old).state))
   pub next : new ≡ record old { ticks = old.ticks + n }
   pub lawful : IsLawful new
 

@@ -16,7 +16,8 @@ use Rattle.blocking_laws.specs.Restamping.{StampLists, alarm_restamped, alarm_ph
 use Rattle.kernel.specs.Processor.{IsBefore, IsNext, MayExecute, MayFetch, Processor, at_tick, picture, system_of}
 use Rattle.kernel.specs.declared.acted.Acted.{Acted}
 use Rattle.kernel.specs.declared.next.Next.{Next}
-use Rattle.kernel.specs.Told.{acted_in, acting_in, refused_of_in}
+use Rattle.seen_ticks.specs.Told.{acting_in, refused_of_in}
+use Rattle.kernel.specs.Told.{acted_in}
 use Rattle.std.specs.List.{AllByRecursion}
 use Rattle.kernel.specs.Does.{Does}
 use Rattle.kernel.specs.Stamping.{AreBegun, AreCounted, IsSpent, Told, executed_restamped}

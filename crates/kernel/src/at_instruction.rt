@@ -2,9 +2,9 @@
 
 ghost use Rattle.std.specs.Prelude.{◌≡◌, []};
 
-use crate::task_at::TaskAt;
 use arrayvec::ArrayVec;
 use osek_base::MAX_TASKS;
+use seen_ticks::TaskAt;
 
 /// Of each task by number what it is when a tick's instruction is executed.
 #[derive(Drop)]

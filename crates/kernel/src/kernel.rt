@@ -1,16 +1,15 @@
 //! OSEK/VDX OS: system start-up; application modes. The kernel: a machine with all interrupts that arrive.
 
-ghost use Rattle.std.specs.Prelude.{◌≡◌, ◌<◌, ◌≤◌, ◌+◌, ◌-◌, ◌++◌, [], false, IfOk, MatchOption, Some, map, slice_index, length};
+ghost use Rattle.std.specs.Prelude.{◌≡◌, ◌<◌, ◌≤◌, ◌+◌, ◌-◌, ◌++◌, [], false, IfOk, MatchOption, Some, map, length};
 ghost use Rattle.osek_base.specs.BlockingText.{blockers_at};
 ghost use Rattle.osek_base.specs.Names.{number_of};
 ghost use Rattle.ready_queues.specs.LevelLists.{level_lists, by_level};
-ghost use Rattle.osek_base.specs.State.{shared_window};
 ghost use Rattle.kept_state.specs.Kept.{kept};
 ghost use Rattle.kernel.specs.Stamping.{IsNumber};
-ghost use Rattle.kernel.specs.Machine.{HasCome, IsSharedWord};
-ghost use Rattle.kernel.specs.Progress.{AreFree, AreKnown, AreLeft, Boots, HasIdled, HasRun, HasRunApart, HaveArrived, is_over, run_of};
+ghost use Rattle.kernel.specs.Machine.{HasCome};
+ghost use Rattle.kernel.specs.Progress.{AreFree, AreKnown, AreLeft, Boots, HasIdled, HasRun, HasRunApart, HaveArrived, IsNextArrival, is_over, run_of};
 ghost use Rattle.blocking_laws.specs.Steps.{step_at};
-ghost use Rattle.kernel.specs.Told.{task_at};
+ghost use Rattle.seen_ticks.specs.Told.{task_at};
 ghost use Rattle.osek_base.specs.Lists.{below};
 
 use crate::at_instruction::AtInstruction;
@@ -19,8 +18,8 @@ use crate::boot::BootFault;
 use crate::looker::{Looker, Unseen};
 use crate::ticking::Machine;
 use osek_base::{
-    Arrival, Arrivals, Executed, IsrId, MAX_RECORDS, MAX_TICKS, ModeId, Owner, ResourceNumber,
-    System, TickRecord, TraceEvent, WINDOW_WORDS,
+    Arrival, Arrivals, Executed, IsrId, MAX_RECORDS, MAX_TICKS, ModeId, System, TickRecord,
+    TraceEvent,
 };
 use ready_queues::ReadyQueues;
 use std::alloc::{AllocError, Global};
@@ -39,6 +38,8 @@ pub struct Kernel<'s, Q: ReadyQueues, B: Blockers = Counted> {
     /// How many had arrived before the last tick.
     pub(crate) earlier: usize,
     pub(crate) arrived: usize,
+    /// The tick of the next arrival, or the greatest number where none is left.
+    next: u32,
     pub(crate) machine: Machine<'s, Q, B>,
 }
 
@@ -57,7 +58,7 @@ impl<'s, Q: ReadyQueues, B: Blockers> Model for Kernel<'s, Q, B> {
     } };
 
     ghost invariant = { λ k. IsKernel B.are_counted k.system.now k.mode k.arrivals k.routines.items
-        k.earlier k.arrived k.machine };
+        k.earlier k.arrived k.next k.machine };
 }
 
 /// The routines of some arrivals.
@@ -88,6 +89,7 @@ impl<'s, Q: ReadyQueues, B: Blockers> Kernel<'s, Q, B> {
         };
         let routines = routines_of(alloc, arrivals.list())?;
         let machine = Machine::boot(alloc, system, mode)?;
+        let next = next_arrival(arrivals.list(), 0);
         Ok(Kernel {
             system,
             mode,
@@ -95,6 +97,7 @@ impl<'s, Q: ReadyQueues, B: Blockers> Kernel<'s, Q, B> {
             routines,
             earlier: 0,
             arrived: 0,
+            next,
             machine,
         })
     }
@@ -129,23 +132,6 @@ impl<'s, Q: ReadyQueues, B: Blockers> Kernel<'s, Q, B> {
         ensures { result ≡ is_over self.now }
     {
         MAX_TICKS <= self.ticks() || self.is_shut_down()
-    }
-
-    /// The word of a task's or routine's window.
-    pub fn word(&self, owner: Owner, index: u32) -> u32
-        requires { index < WINDOW_WORDS }
-        ensures { result ≡ (run_of self.now).state.words owner index }
-    {
-        self.machine.word(owner, index)
-    }
-
-    /// The word of a standard resource's window.
-    pub fn shared_word(&self, resource: ResourceNumber, index: u32) -> u32
-        requires { IsSharedWord self.now.system resource index }
-        ensures { result
-            ≡ slice_index (shared_window (run_of self.now).state.shared resource) index }
-    {
-        self.machine.shared_word(resource, index)
     }
 
     /// The ready queues: for each level the tasks that are ready and don't run, oldest first.
@@ -249,9 +235,7 @@ impl<'s, Q: ReadyQueues, B: Blockers> Kernel<'s, Q, B> {
         ensures { MatchOption result (self.new ≡ self.old)
             (λ e. HasRunApart self.old self.new [] (Some e) behind.new) }
     {
-        let tick = self.machine.next_tick();
-        let end = arrived_by(self.arrivals.list(), self.arrived, tick);
-        if end != self.arrived {
+        if self.next == self.machine.next_tick() {
             return None;
         }
         let executed = self.machine.tick_steady(behind)?;
@@ -297,6 +281,7 @@ impl<'s, Q: ReadyQueues, B: Blockers> Kernel<'s, Q, B> {
         let arrived = &self.routines.as_slice()[self.arrived..end];
         self.earlier = self.arrived;
         self.arrived = end;
+        self.next = next_arrival(self.arrivals.list(), end);
         self.machine.tick_with(arrived, looker, before, behind)
     }
 }
@@ -312,6 +297,18 @@ fn arrived_by(list: &[Arrival], arrived: usize, tick: u32) -> usize
         next += 1;
     }
     next
+}
+
+/// The tick of the next arrival, where so many have arrived; the greatest number where none is left.
+#[inline(always)]
+fn next_arrival(list: &[Arrival], arrived: usize) -> u32
+    ensures { IsNextArrival list.now arrived result }
+{
+    if arrived < list.len() {
+        list[arrived].tick
+    } else {
+        u32::MAX
+    }
 }
 
 /// How many of the ticks from one on, at most some, come before the next arrival, where so many have arrived.

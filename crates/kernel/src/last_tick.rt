@@ -2,7 +2,7 @@
 
 ghost use Rattle.std.specs.Prelude.{◌≡◌, ◌≤◌, ◌-◌};
 ghost use Rattle.osek_base.specs.Trace.{arriving};
-ghost use Rattle.kernel.specs.Told.{due_in, refused_in};
+ghost use Rattle.seen_ticks.specs.Told.{due_in, refused_in};
 
 use crate::blockers::Blockers;
 use crate::kernel::Kernel;

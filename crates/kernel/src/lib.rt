@@ -21,7 +21,6 @@ mod places;
 mod processor;
 mod seen;
 mod stamping;
-mod task_at;
 mod ticking;
 mod watched;
 
@@ -30,5 +29,4 @@ pub use blockers::{Blockers, Counted, NotCounted};
 pub use boot::BootFault;
 pub use kernel::Kernel;
 pub use places::give_places;
-pub use task_at::TaskAt;
 pub use ticking::Machine;

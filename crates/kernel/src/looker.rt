@@ -5,15 +5,15 @@ ghost use Rattle.osek_base.specs.Lists.{below};
 ghost use Rattle.osek_base.specs.System.{System};
 ghost use Rattle.kept_state.specs.Kept.{Kept};
 ghost use Rattle.kernel.specs.Processor.{picture, system_of};
-ghost use Rattle.kernel.specs.Told.{task_at_in};
+ghost use Rattle.seen_ticks.specs.Told.{task_at_in};
 
 use crate::at_instruction::AtInstruction;
 use crate::places::give_places;
 use crate::processor::Processor;
-use crate::task_at::TaskAt;
 use arrayvec::ArrayVec;
 use osek_base::{MAX_TASKS, TaskId};
 use ready_queues::ReadyQueues;
+use seen_ticks::TaskAt;
 
 /// What looks at a system behind the first four phases of a tick.
 pub(crate) trait Looker {

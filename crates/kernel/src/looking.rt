@@ -7,13 +7,13 @@ ghost use Rattle.kept_state.specs.Moves.{rescheduled};
 ghost use Rattle.services.specs.Calls.{calling_task};
 ghost use Rattle.kernel.specs.Stamping.{IsActedOn, IsLevel, IsLook, IsStand, IsTask, IsTaskCount};
 ghost use Rattle.kernel.specs.Processor.{MayFetch, picture, system_of};
-ghost use Rattle.kernel.specs.Told.{task_at_in};
+ghost use Rattle.seen_ticks.specs.Told.{task_at_in};
 
 use crate::processor::Processor;
 use crate::stamping::{Look, Stand};
-use crate::task_at::TaskAt;
 use osek_base::{Action, AlarmId, Owner, TaskId};
 use ready_queues::ReadyQueues;
+use seen_ticks::TaskAt;
 
 impl<'s, Q: ReadyQueues> Processor<'s, Q> {
     /// The task on which an alarm acts.

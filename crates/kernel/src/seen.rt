@@ -5,15 +5,17 @@ ghost use Rattle.std.specs.Prelude.{◌≡◌, ◌<◌, false, slice_index_or, l
 ghost use Rattle.std.specs.Option.{option_map};
 ghost use Rattle.osek_base.specs.State.{jobs_of};
 ghost use Rattle.osek_base.specs.Service.{task_state};
-ghost use Rattle.services.specs.Seen.{routine_of};
+ghost use Rattle.kept_state.specs.Seen.{routine_of};
 ghost use Rattle.kernel.specs.Stamping.{IsTask};
 ghost use Rattle.kernel.specs.Progress.{run_of};
-ghost use Rattle.kernel.specs.Shown.{holder};
+ghost use Rattle.seen_ticks.specs.Shown.{holder};
+ghost use Rattle.seen_ticks.specs.Told.{task_at};
 
 use crate::blockers::Blockers;
 use crate::kernel::Kernel;
 use osek_base::{IsrId, ResId, TaskId, TaskState};
 use ready_queues::ReadyQueues;
+use seen_ticks::TaskAt;
 
 impl<'s, Q: ReadyQueues, B: Blockers> Kernel<'s, Q, B> {
     /// The state of a task, as GetTaskState answers it (task management, task state model).
@@ -30,6 +32,19 @@ impl<'s, Q: ReadyQueues, B: Blockers> Kernel<'s, Q, B> {
         ensures { result ≡ length (jobs_of task (run_of self.now).state.jobs) }
     {
         self.machine.core().job_count(task)
+    }
+
+    /// What a task is: its state, the dynamic priority of its oldest job, and how many jobs it has.
+    pub fn task_at(&self, task: TaskId) -> TaskAt
+        requires { task < length self.now.system.tasks }
+        ensures { result ≡ task_at self.now.system (run_of self.now).state task }
+    {
+        let core = self.machine.core();
+        TaskAt {
+            state: core.objects().task_state(task),
+            priority: core.objects().dynamic_priority(task),
+            jobs: core.job_count(task),
+        }
     }
 
     /// The first task whose oldest job holds a resource (resource management, GetResource). All tasks are asked, so that it

@@ -10,7 +10,7 @@ ghost use Rattle.kernel.specs.Does.{PutsFirst};
 ghost use Rattle.kernel.specs.Idle.{StaysIdle};
 ghost use Rattle.kernel.specs.Stamping.{IsNumber, number_told};
 ghost use Rattle.kernel.specs.Machine.{HasTicked, IsBooted, IsCore, IsNextTick, IsSharedWord, MayTick, ShowsObjects, next_tick, picture, system_of};
-ghost use Rattle.kernel.specs.Told.{task_at_in};
+ghost use Rattle.seen_ticks.specs.Told.{task_at_in};
 
 use crate::acted::Acted;
 use crate::at_instruction::AtInstruction;

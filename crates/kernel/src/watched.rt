@@ -7,7 +7,7 @@ ghost use Rattle.kernel.specs.Does.{Adds};
 ghost use Rattle.kernel.specs.Idle.{Passes};
 ghost use Rattle.kernel.specs.Processor.{picture, system_of};
 ghost use Rattle.kernel.specs.Steady.{BeginsSteady};
-ghost use Rattle.kernel.specs.Told.{if_refused};
+ghost use Rattle.seen_ticks.specs.Told.{if_refused};
 ghost use Rattle.kernel.specs.Watches.{AlarmActs, AllAct, MayActAll, MayActNow, MayStart, Starts, WatchesWithin, early, last, phase_of_alarms, rescheduling};
 
 use crate::acted::Acted;

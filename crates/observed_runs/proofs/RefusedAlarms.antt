@@ -12,7 +12,7 @@ use Rattle.osek_base.specs.Tick.{action_call}
 use Rattle.osek_base.specs.Trace.{run}
 use Rattle.run_laws.proofs.Lists.{all_append, all_kept}
 use Rattle.run_laws.proofs.Known.{all_below}
-use Rattle.kernel.specs.Told.{if_refused, refused_in, refused_of}
+use Rattle.seen_ticks.specs.Told.{if_refused, refused_in, refused_of}
 
 module _ (S : System) where
   abbrev Exists : ℕ → Type 0

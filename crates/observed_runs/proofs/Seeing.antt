@@ -10,7 +10,7 @@ use Rattle.osek_base.specs.Trace.{Run, arriving}
 use Rattle.blocking_laws.proofs.StepLemmas.{run_more}
 use Rattle.kernel.proofs.RunLemmas.{going}
 use Rattle.kernel.specs.Progress.{Progress, is_over, run_of}
-use Rattle.observed_runs.specs.Observed.{tick_at}
+use Rattle.seen_ticks.specs.Observed.{tick_at}
 use Rattle.std.specs.Prelude.{◌==◌}
 use Rattle.std.specs.List.{filter}
 use Rattle.observed_runs.proofs.SeenSteps.{seen_count}

@@ -31,8 +31,8 @@ use Rattle.kept_state.specs.Moves.{KeptRecorded, chosen, contender, dispatched, 
 use Rattle.kept_state.proofs.InRuns.{before_alike}
 use Rattle.osek_base.specs.Ceiling.{top_priority}
 use Rattle.blocking_laws.specs.Steps.{step_at}
-use Rattle.kernel.specs.Shown.{holder, is_held_by, oldest_job}
-use Rattle.observed_runs.specs.Observed.{holders_seen}
+use Rattle.seen_ticks.specs.Shown.{holder, is_held_by, oldest_job}
+use Rattle.seen_ticks.specs.Observed.{holders_seen}
 
 -- ---- pending routines
 
@@ -171,7 +171,7 @@ before_same S arrived o =
     then_same o acted (start_phase_in S ready) (alarm_phase_same S o)
     (then_same acted ready (start_phase_in S ready) (rescheduled_same S (arrival_phase_in arrived acted)) (start_same S ready))
 
-holding : (r : ResId) (js : List Job) → holds_in r (slot_of js) ≡ is_held_by r (first_of_list js)
+pub holding : (r : ResId) (js : List Job) → holds_in r (slot_of js) ≡ is_held_by r (first_of_list js)
 holding r [] = refl
 holding r (j ∷ js) = refl
 

@@ -26,7 +26,7 @@ use Rattle.osek_base.specs.Tick.{at_values, error_record, alarm_acts, alarms_act
 use Rattle.osek_base.specs.Trace.{Run, all_activated, arriving, boot, one_more, run, starting_tasks}
 use Rattle.run_laws.proofs.RunSteps.{one_more-going, one_more-over, run_suc}
 use Rattle.blocking_laws.specs.Steps.{record_at}
-use Rattle.observed_runs.specs.Observed.{executed_in}
+use Rattle.seen_ticks.specs.Observed.{executed_in}
 
 -- what a record tells to be executed, or that nothing was
 abbrev told_by : TraceEvent → List (Option Executed)

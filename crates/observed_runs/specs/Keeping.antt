@@ -9,11 +9,11 @@ use Rattle.osek_base.specs.System.{System}
 use Rattle.observations.specs.declared.observation.Observation.{Observation}
 use Rattle.blocking_laws.specs.Steps.{record_at}
 use Rattle.kernel.specs.Progress.{Progress, run_of}
-use Rattle.kernel.specs.Told.{task_at}
+use Rattle.seen_ticks.specs.Told.{task_at}
 use Rattle.observed_runs.specs.declared.before.Before.{Before}
 use Rattle.observed_runs.specs.declared.execution.Execution.{Execution}
-use Rattle.kernel.specs.declared.task_at.TaskAt.{TaskAt}
-use Rattle.observed_runs.specs.Observed.{IsObserved, Ticked, active_routine, ending, is_pending, jobs_before, refusing, tick_at}
+use Rattle.seen_ticks.specs.declared.task_at.TaskAt.{TaskAt}
+use Rattle.seen_ticks.specs.Observed.{IsObserved, Ticked, active_routine, ending, is_pending, jobs_before, refusing, tick_at}
 
 -- the tick of a run that was done last
 abbrev pub last_tick : Progress → Ticked

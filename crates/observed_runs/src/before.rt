@@ -3,7 +3,7 @@
 ghost use Rattle.std.specs.Prelude.{◌≡◌, ◌<◌, ◌==◌, map, length};
 ghost use Rattle.osek_base.specs.Lists.{below};
 ghost use Rattle.kernel.specs.Progress.{run_of};
-ghost use Rattle.observed_runs.specs.Observed.{active_routine, is_pending, jobs_before};
+ghost use Rattle.seen_ticks.specs.Observed.{active_routine, is_pending, jobs_before};
 
 use arrayvec::ArrayVec;
 use kernel::{Blockers, Kernel};

@@ -5,7 +5,7 @@ ghost use Rattle.std.specs.Option.{option_map};
 ghost use Rattle.osek_base.specs.declared.ids.Owner.{Owner};
 ghost use Rattle.osek_base.specs.Executed.{StandsIn};
 ghost use Rattle.osek_base.specs.Lists.{same_owner};
-ghost use Rattle.observed_runs.specs.Observed.{
+ghost use Rattle.seen_ticks.specs.Observed.{
   activates,
   answered,
   ending,

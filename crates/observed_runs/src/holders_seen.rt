@@ -3,7 +3,7 @@
 ghost use Rattle.std.specs.Prelude.{◌≡◌};
 ghost use Rattle.osek_base.specs.Proper.{IsProper};
 ghost use Rattle.kernel.specs.Progress.{run_of};
-ghost use Rattle.observed_runs.specs.Observed.{holders_seen};
+ghost use Rattle.seen_ticks.specs.Observed.{holders_seen};
 
 use arrayvec::ArrayVec;
 use kernel::{Blockers, Kernel};
@@ -13,6 +13,7 @@ use ready_queues::LevelQueues;
 
 /// Leaves who holds each declared resource, and behind them RES_SCHEDULER where the system has it.
 #[tactic(auto, using(crate::proofs::SeenSteps::seen_more, crate::proofs::SeenSteps::seen_count))]
+#[inline(always)]
 pub(crate) fn see_holders<B: Blockers>(
     kernel: &Kernel<'_, LevelQueues, B>,
     system: &System,

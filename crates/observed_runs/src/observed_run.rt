@@ -7,14 +7,16 @@ ghost use Rattle.kernel.specs.declared.boot.BootFault.{BootFault};
 ghost use Rattle.kernel.specs.Progress.{AreKnown, is_over};
 ghost use Rattle.blocking_laws.specs.Steps.{record_at, step_at};
 ghost use Rattle.observed_runs.specs.Keeping.{last_tick};
-ghost use Rattle.observed_runs.specs.Observed.{IsObserved, IsSeen, holders_seen};
+ghost use Rattle.observed_runs.specs.Passing.{PassesAlike};
+ghost use Rattle.seen_ticks.specs.Observed.{IsObserved, IsSeen, holders_seen};
 
 use crate::execution::{answered, executor, failure};
 use crate::told_run::ToldRun;
 use kernel::{Blockers, BootFault};
 use observations::Observation;
-use osek_base::{Arrivals, System, TickRecord};
+use osek_base::{Arrivals, MAX_TICKS, System, TickRecord};
 use std::alloc::Global;
+use std::cmp;
 use std::marker::Model;
 
 /// A run of a system, tick by tick, beside what is seen of the tick that was done last. `B` says whether the blockers of jobs
@@ -38,6 +40,7 @@ impl<'s, B: Blockers> Model for ObservedRun<'s, B> {
 
 impl<'s, B: Blockers> ToldRun<'s, B> {
     /// Leaves what is seen of the tick that was done last, where its holders stand already.
+    #[inline(always)]
     fn see(&self, seen: &mut Observation)
         requires ticked { 1 ≤ self.now.ticks }
         requires holders { seen.old.holders.items
@@ -97,6 +100,39 @@ impl<'s, B: Blockers> ObservedRun<'s, B> {
         self.told.advance();
         self.told.see(&mut self.seen);
         true
+    }
+
+    /// Does the ticks that follow at once, at most some, as long as nothing happens in them but that
+    /// nobody executes, and sees the last of them: of the others the same is seen, but for the
+    /// number. Answers how many were done: none where somebody executed in the last tick, and the
+    /// first tick is none of these.
+    #[inline(always)]
+    pub fn pass_idle(&mut self, most: u32) -> u32
+        ensures { PassesAlike B.are_counted most self.old self.new result }
+    {
+        if self.seen.executor.is_none() {
+            self.pass_more(most)
+        } else {
+            0
+        }
+    }
+
+    /// As `pass_idle`, and doesn't ask who executed in the last tick.
+    #[inline(never)]
+    fn pass_more(&mut self, most: u32) -> u32
+        ensures { PassesAlike B.are_counted most self.old self.new result }
+    {
+        if self.told.is_over() {
+            return 0;
+        }
+        let left = MAX_TICKS - self.told.ticks();
+        let passed = self.told.pass_idle(cmp::min(most, left));
+        if passed == 0 {
+            return 0;
+        }
+        self.told.see_holders(&mut self.seen.holders);
+        self.told.see(&mut self.seen);
+        passed
     }
 
     /// What is seen of the tick that was done last; nothing before the first.

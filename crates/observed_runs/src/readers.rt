@@ -7,8 +7,8 @@ ghost use Rattle.osek_base.specs.State.{jobs_of};
 ghost use Rattle.osek_base.specs.System.{alarm};
 ghost use Rattle.kernel.specs.Progress.{run_of};
 ghost use Rattle.observed_runs.specs.Keeping.{last_tick};
-ghost use Rattle.kernel.specs.Told.{task_at};
-ghost use Rattle.observed_runs.specs.Observed.{
+ghost use Rattle.seen_ticks.specs.Told.{task_at};
+ghost use Rattle.seen_ticks.specs.Observed.{
   active_routine,
   activations_by,
   ending,
@@ -25,12 +25,13 @@ ghost use Rattle.observed_runs.specs.Observed.{
 use crate::execution::is_by;
 use crate::told_run::ToldRun;
 use alarms::DueList;
-use kernel::{Blockers, Kernel, TaskAt};
+use kernel::{Blockers, Kernel};
 use osek_base::{
     Action, AlarmId, Executed, IsrId, MAX_ACTIVATION, MAX_ALARMS, MAX_ARRIVALS, Owner, System,
     TaskId, TaskState,
 };
 use ready_queues::LevelQueues;
+use seen_ticks::TaskAt;
 
 /// Whether there is another task, and it is that one.
 pub fn is_task(task: TaskId, other: Option<TaskId>) -> bool

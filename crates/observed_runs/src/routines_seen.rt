@@ -3,7 +3,7 @@
 ghost use Rattle.std.specs.Prelude.{◌≡◌, ◌<◌, ◌≤◌, map, length};
 ghost use Rattle.osek_base.specs.Lists.{below};
 ghost use Rattle.observed_runs.specs.Keeping.{last_tick};
-ghost use Rattle.observed_runs.specs.Observed.{lost_of, routine_seen};
+ghost use Rattle.seen_ticks.specs.Observed.{lost_of, routine_seen};
 
 use crate::told_run::ToldRun;
 use arrayvec::ArrayVec;

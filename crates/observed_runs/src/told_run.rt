@@ -5,17 +5,18 @@ ghost use Rattle.osek_base.specs.Executed.{StandsIn, idle_or_executed};
 ghost use Rattle.osek_base.specs.Names.{number_of};
 ghost use Rattle.osek_base.specs.Proper.{IsProper};
 ghost use Rattle.kernel.specs.declared.boot.BootFault.{BootFault};
-ghost use Rattle.kernel.specs.Progress.{AreKnown, is_over, run_of};
+ghost use Rattle.kernel.specs.Progress.{AreKnown, HasIdled, is_over, run_of};
 ghost use Rattle.blocking_laws.specs.Steps.{record_at};
-ghost use Rattle.observed_runs.specs.Observed.{executed_in, holders_seen};
+ghost use Rattle.seen_ticks.specs.Observed.{executed_in, holders_seen};
 
 use crate::before::Before;
 use crate::execution::Execution;
 use crate::holders_seen::see_holders;
+use crate::tasks_between::see_tasks_between;
 use arrayvec::ArrayVec;
 use kernel::{AtInstruction, Blockers, BootFault, Kernel};
 use observations::{Holder, MAX_HELD};
-use osek_base::{Arrivals, Executed, MAX_RECORDS, System, TickRecord, TraceEvent};
+use osek_base::{Arrivals, Executed, MAX_RECORDS, MAX_TICKS, System, TickRecord, TraceEvent};
 use ready_queues::LevelQueues;
 use std::alloc::Global;
 use std::marker::Model;
@@ -106,7 +107,26 @@ impl<'s, B: Blockers> ToldRun<'s, B> {
         self.execution = Execution::of(self.system, executed);
     }
 
+    /// Does the ticks that follow at once, at most some, as long as nothing happens in them but that
+    /// nobody executes. Answers how many were done. The first tick is none of these.
+    pub(crate) fn pass_idle(&mut self, most: u32) -> u32
+        requires { self.old.ticks + most ≤ MAX_TICKS }
+        ensures { HasIdled most self.old self.new result }
+    {
+        let passed = self.kernel.pass_idle(most);
+        if passed == 0 {
+            return 0;
+        }
+        self.before.note(&self.kernel, self.system);
+        see_tasks_between(&self.kernel, self.system, &mut self.at.tasks);
+        self.execution = Execution::of(self.system, None);
+        self.records.clear();
+        self.records.push(TraceEvent::Idle);
+        passed
+    }
+
     /// Leaves who holds each resource.
+    #[inline(always)]
     pub(crate) fn see_holders(&self, holders: &mut ArrayVec<Holder, MAX_HELD>)
         ensures holders { holders.new.items ≡ holders_seen self.now.system (run_of self.now).state }
         ensures proper { IsProper self.now.system }

@@ -78,6 +78,7 @@ impl Held {
 
     /// ReleaseResource: the resource that was got last isn't held any more. E_OS_NOFUNC where it is another one or isn't
     /// held; then nothing changes.
+    #[inline(always)]
     pub fn release(&mut self, resource: ResId) -> Status
         ensures status { result ≡ (if is_last resource self.old then Status.Ok else Status.NoFunc) }
         ensures held { self.new
@@ -102,10 +103,9 @@ impl Held {
         } else {
             0
         };
-        let declared = if self.resources.is_empty() {
-            0
-        } else {
-            highest_ceiling(system, self.resources.as_slice())
+        let declared = match self.resources.as_slice().split_first() {
+            None => 0,
+            Some((first, rest)) => highest_from(system, *first, rest),
         };
         system.priority_of(task).max(declared.max(internal))
     }
@@ -134,6 +134,7 @@ impl Held {
     }
 
     /// Whether a resource is the one that was got last.
+    #[inline(always)]
     fn is_last(&self, resource: ResId) -> bool
         ensures { result ≡ is_last resource self.now }
     {
@@ -169,7 +170,21 @@ fn highest_ceiling(system: &System, resources: &[ResId]) -> u8
     }
 }
 
+/// The greater of a resource's ceiling and the greatest of others. Most jobs hold one resource.
+#[inline(always)]
+fn highest_from(system: &System, first: ResId, rest: &[ResId]) -> u8
+    ensures { result ≡ greatest (map (ceiling system.now) (first ∷ rest.now)) }
+{
+    let highest = system.ceiling(first);
+    if rest.is_empty() {
+        highest
+    } else {
+        highest_ceiling(system, rest).max(highest)
+    }
+}
+
 /// Whether two resources are the same.
+#[inline(always)]
 fn is_same(a: ResId, b: ResId) -> bool
     ensures { result ≡ same_resource a b }
 {

@@ -8,7 +8,7 @@ use Rattle.osek_base.specs.Proper.{IsProper}
 use Rattle.osek_base.specs.System.{System}
 use Rattle.osek_base.specs.Trace.{arriving}
 use Rattle.kept_state.specs.KeptTick.{before_execution_in, tick_in}
-use Rattle.observed_runs.specs.Observed.{times}
+use Rattle.seen_ticks.specs.Observed.{times}
 use Rattle.same_future.specs.Alike.{kept_after}
 use Rattle.same_future.specs.Shown.{arrives, chosen_of}
 use Rattle.same_future.proofs.Arrivals.{before_chosen, tick_chosen}

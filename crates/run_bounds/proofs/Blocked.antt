@@ -6,7 +6,7 @@ use Rattle.osek_base.specs.Proper.{IsProper}
 use Rattle.osek_base.specs.System.{System}
 use Rattle.osek_base.specs.Trace.{run}
 use Rattle.run_laws.proofs.RunSteps.{going_before}
-use Rattle.observed_runs.specs.Observed.{owner_of, tick_at}
+use Rattle.seen_ticks.specs.Observed.{owner_of, tick_at}
 use Rattle.same_future.specs.Alike.{kept_after}
 use Rattle.shown_ticks.specs.Shown.{ShowTheSame, kept_tick_at}
 use Rattle.shown_ticks.proofs.Shown.{runs_show}

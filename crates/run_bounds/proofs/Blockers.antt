@@ -25,7 +25,7 @@ use Rattle.blocking_laws.specs.Steps.{step_at}
 use Rattle.blocking_laws.proofs.StampLemmas.{last_step}
 use Rattle.blocking_laws.proofs.StepLemmas.{steps_more}
 use Rattle.observations.specs.declared.observation.Observation.{Observation}
-use Rattle.observed_runs.specs.Observed.{owner_of, tick_at}
+use Rattle.seen_ticks.specs.Observed.{owner_of, tick_at}
 use Rattle.figures.specs.declared.task_figures.TaskFigures.{TaskFigures}
 use Rattle.figures.specs.declared.task_tick.TaskTick.{TaskTick}
 use Rattle.figures.specs.FigureSums.{RunFigures, is_task, levels_of, task_figures, task_tick}

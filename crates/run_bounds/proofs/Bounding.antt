@@ -15,7 +15,7 @@ use Rattle.observations.specs.declared.alarm_seen.AlarmSeen.{AlarmSeen}
 use Rattle.observations.specs.declared.failure.Failure.{Failure}
 use Rattle.observations.specs.declared.observation.Observation.{Observation}
 use Rattle.observations.specs.declared.task_seen.TaskSeen.{TaskSeen}
-use Rattle.observed_runs.specs.Observed.{failure_of, task_seen, tick_at}
+use Rattle.seen_ticks.specs.Observed.{failure_of, task_seen, tick_at}
 use Rattle.same_future.specs.Alike.{kept_after}
 use Rattle.same_future.proofs.Covered.{none_waits}
 use Rattle.same_future.proofs.Futures.{kept_more}

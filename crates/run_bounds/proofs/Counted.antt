@@ -7,7 +7,7 @@ use Rattle.std.proofs.lemmas.List.{length-append}
 use Rattle.std.proofs.lemmas.List.Elements.{filter-append}
 use Rattle.osek_base.specs.Lists.{below, is_in}
 use Rattle.osek_base.specs.System.{System}
-use Rattle.observed_runs.specs.Observed.{one_if, times}
+use Rattle.seen_ticks.specs.Observed.{one_if, times}
 use Rattle.same_future.specs.Shown.{chosen_of}
 use Rattle.same_future.proofs.Arrivals.{below_low, in_chosen}
 

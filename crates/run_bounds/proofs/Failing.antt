@@ -13,7 +13,7 @@ use Rattle.osek_base.specs.System.{System}
 use Rattle.osek_base.specs.Tick.{status_number}
 use Rattle.kept_state.specs.Kept.{Kept}
 use Rattle.observations.specs.declared.failure.Failure.{Failure}
-use Rattle.observed_runs.specs.Observed.{answered, executed_in, failure_by, failure_of, owner_of, status_of}
+use Rattle.seen_ticks.specs.Observed.{answered, executed_in, failure_by, failure_of, owner_of, status_of}
 use Rattle.same_future.specs.Alike.{kept_after}
 use Rattle.shown_ticks.specs.Seen.{failure_in}
 use Rattle.shown_ticks.specs.Shown.{kept_tick_at}

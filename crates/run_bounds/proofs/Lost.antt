@@ -7,9 +7,11 @@ use Rattle.std.specs.Option.{option_map}
 use Rattle.std.proofs.lemmas.Bool.{cases_lt, eqb-true}
 use Rattle.std.proofs.lemmas.List.{ext_get_or, get_or_past}
 use Rattle.std.proofs.lemmas.Nat.Bits.{bit_at_above}
+use Rattle.osek_base.specs.Alarm.{due_alarms}
 use Rattle.osek_base.specs.Lists.{below, is_in}
 use Rattle.osek_base.specs.Tick.{flagged}
 use Rattle.kept_state.specs.Kept.{Kept}
+use Rattle.kept_state.specs.KeptService.{bare}
 use Rattle.kept_state.specs.KeptTick.{KeptStep, alarm_phase_in, before_execution_in, start_phase_in, tick_in}
 use Rattle.kept_state.specs.Moves.{rescheduled}
 use Rattle.same_future.specs.Shown.{chosen_of}
@@ -17,8 +19,8 @@ use Rattle.same_future.specs.Spans.{is_pending_in}
 use Rattle.same_future.proofs.Arrivals.{below_low, flag_at, flagged_length, in_chosen, in_filter, phase_pending, tick_by_flags}
 use Rattle.same_future.proofs.Tables.{length-table, table_at}
 use Rattle.observations.specs.declared.routine_seen.RoutineSeen.{RoutineSeen}
-use Rattle.observed_runs.specs.Observed.{executed_in, failure_of, lost_of, one_if, owner_of, times}
-use Rattle.kernel.specs.Told.{acted_in}
+use Rattle.seen_ticks.specs.Observed.{executed_in, failure_of, lost_of, one_if, owner_of, times}
+use Rattle.seen_ticks.specs.Told.{refused_by}
 use Rattle.shown_ticks.specs.Seen.{executor_in, failure_in, seen_by, seen_in}
 use Rattle.shown_ticks.specs.Shown.{KeptTicked, routine_seen_in, ticked_in}
 use Rattle.figures.specs.declared.routine_figures.RoutineTick.{RoutineTick}
@@ -129,7 +131,8 @@ module _ (s : Setting) (set fewer : ℕ) (o : Kept) (without : IsWithoutLost s s
     at = (before_same i).state;
     after = (tick_same i).after;
     executed = executed_in (tick_same i).events;
-    acted = acted_in s.system o;
+    due = due_alarms s.system (bare o);
+    refused = refused_by s.system o;
     arrived = few;
   }
 

@@ -36,7 +36,7 @@ use Rattle.run_laws.proofs.Watched.{HasReadyJob, ready_all}
 use Rattle.kept_state.specs.KeptTick.{KeptStep}
 use Rattle.kept_state.proofs.Ticked.{ticks}
 use Rattle.blocking_laws.specs.Steps.{step_at}
-use Rattle.observed_runs.specs.Observed.{executed_in, is_by, owner_of, state_seen, tick_at}
+use Rattle.seen_ticks.specs.Observed.{executed_in, is_by, owner_of, state_seen, tick_at}
 use Rattle.shown_ticks.proofs.Shown.{runs_show}
 use Rattle.figures.specs.FigureSums.{levels_of, lower_executes}
 use Rattle.figure_laws.specs.Blocking.{is_blocked_in, stands_ready}

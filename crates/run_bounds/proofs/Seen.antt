@@ -12,12 +12,12 @@ use Rattle.kept_state.specs.Kept.{Kept}
 use Rattle.kept_state.specs.KeptService.{task_state_in}
 use Rattle.kept_state.specs.KeptTick.{before_execution_in}
 use Rattle.kept_state.specs.Moves.{KeptRecorded}
-use Rattle.services.specs.Seen.{holder_in, routine_of}
-use Rattle.kernel.specs.Told.{acted_in, task_at_in}
+use Rattle.kept_state.specs.Seen.{holder_in, routine_of}
+use Rattle.seen_ticks.specs.Told.{refused_by, task_at_in}
 use Rattle.observations.specs.Seen.{Seen}
 use Rattle.observations.specs.declared.routine_seen.RoutineSeen.{RoutineSeen}
 use Rattle.observations.specs.declared.task_seen.TaskSeen.{TaskSeen}
-use Rattle.observed_runs.specs.Observed.{activations_by, ending, executed_in, is_by, is_number, is_waiting, lost_of, one_if, owner_of, refusing, state_seen}
+use Rattle.seen_ticks.specs.Observed.{activations_by, ending, executed_in, is_by, is_number, is_waiting, lost_of, one_if, owner_of, refusing, state_seen}
 use Rattle.same_future.specs.Alike.{kept_after}
 use Rattle.same_future.specs.Spans.{is_pending_in}
 use Rattle.same_future.proofs.Tables.{length-table, table_at}
@@ -119,7 +119,7 @@ module _ (S : System) (mode : ℕ) (arrivals : List Arrival) (n : ℕ) (chosen :
         made = (task_seen_in S told k).made;
         refused =
             one_if (is_number k (refusing S (executed_in (stand.tick i).events)))
-            + activations_by S k (acted_in S here).refused;
+            + activations_by S k (refused_by S here);
         ended = is_number k (ending S (executed_in (stand.tick i).events));
         waits =
             is_by (Owner.Task k) (executed_in (stand.tick i).events)

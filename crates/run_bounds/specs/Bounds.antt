@@ -11,7 +11,7 @@ use Rattle.run_laws.specs.Arrived.{AreArrivals}
 use Rattle.needed_data.specs.Need.{Suffices}
 use Rattle.same_future.specs.Covering.{AreSpaced}
 use Rattle.observations.specs.declared.observation.Observation.{Observation}
-use Rattle.observed_runs.specs.Observed.{failure_of, owner_of, task_seen, tick_at, times}
+use Rattle.seen_ticks.specs.Observed.{failure_of, owner_of, task_seen, tick_at, times}
 use Rattle.figures.specs.declared.task_tick.TaskTick.{TaskTick}
 use Rattle.figures.specs.AlarmSums.{alarm_figures}
 use Rattle.figures.specs.FigureSums.{RunFigures, held_count, levels_of, lower_executes, task_figures}

@@ -8,7 +8,7 @@ use Rattle.osek_base.specs.Proper.{IsProper}
 use Rattle.osek_base.specs.System.{System}
 use Rattle.osek_base.specs.Trace.{run}
 use Rattle.observations.specs.declared.observation.Observation.{Observation}
-use Rattle.observed_runs.specs.Observed.{IsSeen, answered, owner_of, tick_at}
+use Rattle.seen_ticks.specs.Observed.{IsSeen, answered, owner_of, tick_at}
 use Rattle.shown_ticks.specs.Shown.{alarm_seen_in, holders_seen_in, kept_tick_at, routine_seen_in, task_seen_in}
 use Rattle.figures.specs.declared.task_tick.TaskTick.{TaskTick}
 use Rattle.figures.specs.declared.routine_figures.RoutineTick.{RoutineTick}

@@ -33,15 +33,30 @@ pub fn write_stats<O: Write, E: Write>(
 ) -> Result<String, RunFault> {
     let mut run: ObservedRun<'_, Counted> = begin(alloc, system, input.irqs, input.mode)?;
     let mut figures = Figures::new(system);
-    for tick in 0..input.ticks {
-        if !run.advance() {
-            break;
-        }
-        if asked.from <= tick {
-            figures.observe(run.observation());
-        }
-        progress.note(run.ticks_done(), input.ticks);
-    }
+    count_run(&mut run, &mut figures, input.ticks, asked.from, progress);
     out.write_all(figures.text(alloc, system, asked.form)?.as_slice())?;
     Ok(figures.broken(alloc, system, &asked.limits)?)
+}
+
+/// Counts the ticks of a run that has just begun, as many as asked for, or up to a shutdown; those before `from` don't count.
+fn count_run<E: Write>(
+    run: &mut ObservedRun<'_, Counted>,
+    figures: &mut Figures,
+    ticks: u32,
+    from: u32,
+    progress: &mut Progress<'_, E>,
+) {
+    for _tick in 0..ticks {
+        if ticks <= run.ticks_done() || !run.advance() {
+            break;
+        }
+        let done = run.ticks_done();
+        if from < done {
+            figures.observe(run.observation());
+        }
+        if 0 < run.pass_idle(ticks.saturating_sub(done)) {
+            figures.observe_alike(run.observation(), done.max(from), run.ticks_done());
+        }
+        progress.note(run.ticks_done(), ticks);
+    }
 }

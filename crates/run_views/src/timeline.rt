@@ -3,6 +3,7 @@
 use crate::beginning::{RunInput, begin};
 use crate::progress::Progress;
 use kernel::NotCounted;
+use observed_runs::ObservedRun;
 use osek_base::System;
 use std::alloc::Global;
 use std::io::Write;
@@ -25,12 +26,29 @@ pub fn write_timeline<O: Write, E: Write>(
     if let Some(list) = rows {
         timeline.choose_rows(system, list);
     }
-    for _tick in 0..input.ticks {
-        if !run.advance() {
+    draw_run(&mut run, &mut timeline, system, input.ticks, progress)?;
+    Ok(timeline.write(system, out)?)
+}
+
+/// Draws a run that has just begun, as many ticks as asked for, or up to a shutdown.
+fn draw_run<E: Write>(
+    run: &mut ObservedRun<'_, NotCounted>,
+    timeline: &mut Timeline,
+    system: &System,
+    ticks: u32,
+    progress: &mut Progress<'_, E>,
+) -> Result<(), RunFault> {
+    for _tick in 0..ticks {
+        if ticks <= run.ticks_done() || !run.advance() {
             break;
         }
         timeline.observe(system, run.observation(), run.records())?;
-        progress.note(run.ticks_done(), input.ticks);
+        let done = run.ticks_done();
+        if 0 < run.pass_idle(ticks.saturating_sub(done)) {
+            let (seen, records) = (run.observation(), run.records());
+            timeline.observe_alike(system, seen, records, done, run.ticks_done())?;
+        }
+        progress.note(run.ticks_done(), ticks);
     }
-    Ok(timeline.write(system, out)?)
+    Ok(())
 }

@@ -3,6 +3,7 @@
 use crate::beginning::{RunInput, begin};
 use crate::progress::Progress;
 use kernel::NotCounted;
+use observed_runs::ObservedRun;
 use osek_base::System;
 use std::alloc::Global;
 use std::io::Write;
@@ -21,13 +22,28 @@ pub fn write_vcd<O: Write, E: Write>(
 ) -> Result<(), RunFault> {
     let mut run = begin::<NotCounted>(alloc, system, input.irqs, input.mode)?;
     let mut dump = ValueChanges::new(system, from);
+    dump_run(&mut run, &mut dump, input.ticks, progress, out)
+}
+
+/// Writes the dump of a run that has just begun, as many ticks as asked for, or up to a shutdown.
+fn dump_run<O: Write, E: Write>(
+    run: &mut ObservedRun<'_, NotCounted>,
+    dump: &mut ValueChanges<'_>,
+    ticks: u32,
+    progress: &mut Progress<'_, E>,
+    out: &mut O,
+) -> Result<(), RunFault> {
     dump.begin(out)?;
-    for _tick in 0..input.ticks {
-        if !run.advance() {
+    for _tick in 0..ticks {
+        if ticks <= run.ticks_done() || !run.advance() {
             break;
         }
         dump.observe(run.observation(), run.records(), out)?;
-        progress.note(run.ticks_done(), input.ticks);
+        let done = run.ticks_done();
+        if 0 < run.pass_idle(ticks.saturating_sub(done)) {
+            dump.observe_idle(run.observation(), done, run.ticks_done(), out)?;
+        }
+        progress.note(run.ticks_done(), ticks);
     }
     Ok(dump.end(out)?)
 }

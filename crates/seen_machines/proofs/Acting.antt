@@ -9,8 +9,9 @@ use Rattle.run_laws.proofs.Known.{all_below}
 use Rattle.run_laws.proofs.Lists.{all_append, all_kept}
 use Rattle.kept_state.specs.Kept.{Kept}
 use Rattle.kept_state.specs.KeptService.{bare}
-use Rattle.kernel.specs.Does.{advanced_in}
-use Rattle.kernel.specs.Told.{acted_in, acting_in, if_refused, refused_of_in}
+use Rattle.kept_state.specs.KeptTick.{advanced_in}
+use Rattle.seen_ticks.specs.Told.{acting_in, if_refused, refused_of_in}
+use Rattle.kernel.specs.Told.{acted_in}
 
 module _ (S : System) where
   abbrev Exists : ℕ → Type 0

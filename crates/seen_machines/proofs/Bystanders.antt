@@ -10,8 +10,8 @@ use Rattle.osek_base.specs.System.{System}
 use Rattle.kept_state.specs.Kept.{Kept}
 use Rattle.kept_state.specs.KeptService.{task_state_in}
 use Rattle.kernel.specs.declared.acted.Acted.{Acted}
-use Rattle.kernel.specs.declared.task_at.TaskAt.{TaskAt}
-use Rattle.observed_runs.specs.Observed.{activations_by, is_among, is_by, is_number, is_waiting, one_if, state_seen, task_of}
+use Rattle.seen_ticks.specs.declared.task_at.TaskAt.{TaskAt}
+use Rattle.seen_ticks.specs.Observed.{activations_by, is_among, is_by, is_number, is_waiting, one_if, state_seen, task_of}
 use Rattle.seen_machines.specs.declared.told.Told.{Told}
 use Rattle.seen_machines.specs.Told.{NoneActed, NoneIsRefused, alarm_seen_by, bystander, executing, jobs_told, not_due, number_or_none, task_at_told, task_seen_by}
 

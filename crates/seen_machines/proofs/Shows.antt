@@ -11,10 +11,11 @@ use Rattle.kept_state.specs.Kept.{Kept}
 use Rattle.kept_state.specs.KeptService.{task_state_in}
 use Rattle.same_future.specs.Spans.{is_pending_in}
 use Rattle.kernel.specs.declared.acted.Acted.{Acted}
-use Rattle.kernel.specs.Told.{task_at_in}
+use Rattle.kernel.specs.Told.{acted_in}
+use Rattle.seen_ticks.specs.Told.{task_at_in}
 use Rattle.observations.specs.declared.observation.Observation.{Observation}
 use Rattle.observations.specs.Seen.{seen_of}
-use Rattle.observed_runs.specs.Observed.{activations_by, answered, failure_of, is_by, is_number, is_waiting, lost_of, one_if, owner_of, state_seen, times}
+use Rattle.seen_ticks.specs.Observed.{activations_by, answered, failure_of, is_by, is_number, is_waiting, lost_of, one_if, owner_of, state_seen, times}
 use Rattle.observed_runs.proofs.Seeing.{read_at}
 use Rattle.observed_runs.proofs.SeenSteps.{seen_count}
 use Rattle.shown_ticks.specs.Seen.{answered_in, executor_in, failure_in, seen_in}
@@ -43,7 +44,7 @@ of_all S k w told = record {
 module _ (S : System) (arrived : List ℕ) (o : Kept) (w : Told) (behind : Kept) (acted : Acted)
     (told : IsTold S (ticked_in S false arrived o) w)
     (after : behind ≡ (ticked_in S false arrived o).after)
-    (acts : acted ≡ (ticked_in S false arrived o).acted)
+    (acts : acted ≡ acted_in S o)
     (stays : behind.pending ≡ (ticked_in S false arrived o).at.pending) where
   abbrev k : KeptTicked
   k = ticked_in S false arrived o

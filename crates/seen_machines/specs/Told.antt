@@ -14,11 +14,11 @@ use Rattle.osek_base.specs.System.{System}
 use Rattle.kept_state.specs.Kept.{Kept}
 use Rattle.kept_state.specs.KeptService.{task_state_in}
 use Rattle.same_future.specs.Spans.{is_pending_in}
-use Rattle.services.specs.Seen.{holder_in, routine_of}
+use Rattle.kept_state.specs.Seen.{holder_in, routine_of}
 use Rattle.kernel.specs.declared.acted.Acted.{Acted}
-use Rattle.kernel.specs.declared.task_at.TaskAt.{TaskAt}
-use Rattle.kernel.specs.Told.{task_at_in}
-use Rattle.observed_runs.specs.Observed.{activations_by, ending, is_among, is_by, is_number, is_waiting, lost_of, one_if, refusing, state_seen, task_of, times}
+use Rattle.seen_ticks.specs.declared.task_at.TaskAt.{TaskAt}
+use Rattle.seen_ticks.specs.Told.{task_at_in}
+use Rattle.seen_ticks.specs.Observed.{activations_by, ending, is_among, is_by, is_number, is_waiting, lost_of, one_if, refusing, state_seen, task_of, times}
 use Rattle.shown_ticks.specs.Shown.{KeptTicked}
 use Rattle.seen_machines.specs.declared.told.Told.{Told}
 

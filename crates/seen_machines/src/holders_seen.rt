@@ -1,7 +1,7 @@
 //! OSEK/VDX OS: resource management. Who holds each resource.
 
 ghost use Rattle.std.specs.Prelude.{◌≡◌, false};
-ghost use Rattle.services.specs.Seen.{holder_in};
+ghost use Rattle.kept_state.specs.Seen.{holder_in};
 ghost use Rattle.kernel.specs.Machine.{picture, system_of};
 ghost use Rattle.seen_machines.specs.Told.{NoneIsHeld};
 ghost use Rattle.shown_ticks.specs.Shown.{holders_seen_in};

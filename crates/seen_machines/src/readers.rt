@@ -6,7 +6,7 @@ ghost use Rattle.kept_state.specs.KeptService.{task_state_in};
 ghost use Rattle.same_future.specs.Spans.{is_pending_in};
 ghost use Rattle.osek_base.specs.Lists.{is_empty};
 ghost use Rattle.services.specs.Objects.{by_task};
-ghost use Rattle.services.specs.Seen.{holder_in, routine_of};
+ghost use Rattle.kept_state.specs.Seen.{holder_in, routine_of};
 ghost use Rattle.kernel.specs.Machine.{picture, system_of};
 
 use kernel::{Blockers, Machine};

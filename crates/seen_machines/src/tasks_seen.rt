@@ -5,18 +5,19 @@ ghost use Rattle.std.specs.List.{AllByRecursion};
 ghost use Rattle.osek_base.specs.declared.ids.Owner.{Owner};
 ghost use Rattle.osek_base.specs.Lists.{below};
 ghost use Rattle.kernel.specs.Machine.{picture, system_of};
-ghost use Rattle.observed_runs.specs.Observed.{is_number, task_of};
+ghost use Rattle.seen_ticks.specs.Observed.{is_number, task_of};
 ghost use Rattle.seen_machines.specs.Told.{IsOfAll, NoneIsRefused, bystander, executing, number_or_none, task_seen_by};
 
 use crate::places::give_places;
 use crate::readers::{job_count, system, task_state};
 use crate::told::Told;
 use arrayvec::ArrayVec;
-use kernel::{Blockers, Machine, TaskAt};
+use kernel::{Blockers, Machine};
 use observations::TaskSeen;
 use observed_runs::{activations_by, is_by, is_task, is_waiting, made, state_seen};
 use osek_base::{Executed, MAX_TASKS, Owner, TaskId};
 use ready_queues::ReadyQueues;
+use seen_ticks::TaskAt;
 
 /// The number of no task.
 const NOBODY: u8 = 255;

@@ -7,7 +7,7 @@ ghost use Rattle.osek_base.specs.Lists.{below};
 ghost use Rattle.kept_state.specs.KeptTick.{tick_in};
 ghost use Rattle.kernel.specs.Machine.{IsOfRun, next_tick, picture, system_of};
 ghost use Rattle.observations.specs.Seen.{seen_of};
-ghost use Rattle.observed_runs.specs.Observed.{answered, failure_of, owner_of};
+ghost use Rattle.seen_ticks.specs.Observed.{answered, failure_of, owner_of};
 ghost use Rattle.shown_ticks.specs.Seen.{answered_in, executor_in, failure_in, seen_in};
 ghost use Rattle.seen_machines.specs.Told.{IsOfAll, alarm_seen_by, routine_seen_by, task_seen_by};
 

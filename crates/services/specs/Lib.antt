@@ -4,7 +4,6 @@ pub mod Steps
 pub mod PlainSteps
 pub mod AsDefined
 pub mod Dispatched
-pub mod Seen
 pub mod CompactQueues
 pub mod Quiet
 pub mod Pending

@@ -1,5 +1,5 @@
 -- OSEK/VDX OS: task management, alarms. Where nothing happens until an alarm is due, and the ticks that pass at once.
-use Rattle.std.specs.Prelude.{ℕ, ◌+◌, ◌≡◌, ◌<◌, true, false, List, [], Some, None, is_some}
+use Rattle.std.specs.Prelude.{ℕ, ◌+◌, ◌≡◌, ◌<◌, ◌≤◌, Bool, true, false, IsTrue, IsFalse, List, [], Some, None, is_some}
 use Rattle.osek_base.specs.System.{System}
 use Rattle.osek_base.specs.Alarm.{due_alarms}
 use Rattle.osek_base.specs.Tick.{routine_choice}
@@ -41,3 +41,14 @@ due_next n o = due_alarms o.system (bare (record (kept_in o) { tick = o.tick + (
 pub record HasPassed (n : ℕ) (old new : Objects) : Type 0 where
   pub none : (k : ℕ) → k < n → due_next k old ≡ []
   pub after : new ≡ record old { tick = old.tick + n }
+
+-- the next tick begins, where it is known that no alarm is due in it; else nothing changes
+pub record BeginsQuiet (is_known : Bool) (old new : Objects) : Type 0 where
+  pub begins : IsTrue is_known → HasPassed 1 old new
+  pub stays : IsFalse is_known → new ≡ old
+
+-- of the ticks that follow so many passed, at most some, up to the one before the first in which an alarm is due
+pub record PassesUpTo (most n : ℕ) (old new : Objects) : Type 0 where
+  pub few : n ≤ most
+  pub passed : HasPassed n old new
+  pub last : n < most → due_next n old ≡ [] → ⊥

@@ -1,9 +1,9 @@
 //! OSEK/VDX OS: task management, alarms. Ticks in which nothing happens.
 
-ghost use Rattle.std.specs.Prelude.{◌≡◌, ◌<◌, ◌≤◌, ◌+◌, [], true, IfSome, IsTrue, IsFalse};
+ghost use Rattle.std.specs.Prelude.{◌≡◌, ◌<◌, ◌+◌, true, IfSome};
 ghost use Rattle.kept_state.specs.Quiet.{IsQuiet};
 ghost use Rattle.services.specs.Objects.{kept_in};
-ghost use Rattle.services.specs.Quiet.{HasPassed, IsIdle, IsSettled, IsSteady, due_next};
+ghost use Rattle.services.specs.Quiet.{BeginsQuiet, IsIdle, IsSettled, IsSteady, PassesUpTo};
 
 use crate::objects::Objects;
 use crate::os_core::Core;
@@ -37,8 +37,7 @@ impl<'s, Q: ReadyQueues> Objects<'s, Q> {
     #[inline(always)]
     fn begin_quiet(&mut self) -> bool
         requires { self.old.tick + 1 < MAX_TICKS }
-        ensures begins { IsTrue result → HasPassed 1 self.old self.new }
-        ensures stays { IsFalse result → self.new ≡ self.old }
+        ensures { BeginsQuiet result self.old self.new }
     {
         self.alarms.pass_quiet()
     }
@@ -48,9 +47,7 @@ impl<'s, Q: ReadyQueues> Objects<'s, Q> {
     #[inline(always)]
     fn pass(&mut self, most: u32) -> u32
         requires { self.old.tick + most < MAX_TICKS }
-        ensures few { result ≤ most }
-        ensures passed { HasPassed result self.old self.new }
-        ensures last { result < most → due_next result self.old ≡ [] → ⊥ }
+        ensures { PassesUpTo most result self.old self.new }
     {
         self.alarms.pass(most)
     }
@@ -83,8 +80,7 @@ impl<'s, Q: ReadyQueues> Core<'s, Q> {
     #[inline(always)]
     pub fn begin_quiet(&mut self) -> bool
         requires { self.old.tick + 1 < MAX_TICKS }
-        ensures begins { IsTrue result → HasPassed 1 self.old self.new }
-        ensures stays { IsFalse result → self.new ≡ self.old }
+        ensures { BeginsQuiet result self.old self.new }
     {
         self.objects.begin_quiet()
     }
@@ -93,9 +89,7 @@ impl<'s, Q: ReadyQueues> Core<'s, Q> {
     /// passed.
     pub fn pass(&mut self, most: u32) -> u32
         requires { self.old.tick + most < MAX_TICKS }
-        ensures few { result ≤ most }
-        ensures passed { HasPassed result self.old self.new }
-        ensures last { result < most → due_next result self.old ≡ [] → ⊥ }
+        ensures { PassesUpTo most result self.old self.new }
     {
         self.objects.pass(most)
     }

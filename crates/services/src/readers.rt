@@ -6,7 +6,7 @@ ghost use Rattle.alarms.specs.Alarms.{cycle_of};
 ghost use Rattle.kept_state.specs.KeptService.{bare};
 ghost use Rattle.ready_queues.specs.LevelLists.{level_lists};
 ghost use Rattle.services.specs.Objects.{by_task, kept_in};
-ghost use Rattle.services.specs.Seen.{counts_left, holder_in, priority_in, routine_of};
+ghost use Rattle.kept_state.specs.Seen.{counts_left, holder_in, priority_in, routine_of};
 
 use crate::interrupts::Active;
 use crate::objects::Objects;

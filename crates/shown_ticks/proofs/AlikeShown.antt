@@ -13,16 +13,16 @@ use Rattle.osek_base.specs.Tick.{action_call}
 use Rattle.kept_state.specs.Kept.{Kept}
 use Rattle.kept_state.specs.KeptService.{ByNobody, bare, task_state_in, unasked_in}
 use Rattle.kept_state.specs.Moves.{KeptRecorded}
-use Rattle.services.specs.Seen.{routine_of}
-use Rattle.kernel.specs.Does.{advanced_in}
-use Rattle.kernel.specs.Told.{acted_in, acting_in, if_refused, refused_of_in, task_at_in}
+use Rattle.kept_state.specs.Seen.{routine_of}
+use Rattle.kept_state.specs.KeptTick.{advanced_in}
+use Rattle.seen_ticks.specs.Told.{acting_in, if_refused, refused_by, refused_of_in, task_at_in}
 use Rattle.needed_data.specs.Need.{HaveAsked}
 use Rattle.same_future.specs.Alike.{AreAlikeBy, TicksAreAlikeBy, untimed}
 use Rattle.same_future.proofs.Commutes.{alarms_act}
 use Rattle.same_future.proofs.Tables.{filter_same, one_due}
 use Rattle.same_future.proofs.Ticks.{ticks_alike}
 use Rattle.same_future.proofs.Timed.{as_retimed, retimed}
-use Rattle.observed_runs.specs.Observed.{activations_by, answered, ending, executed_in, failure_of, is_among, is_by, is_number, is_waiting, lost_of, one_if, owner_of, refusing, state_seen, times}
+use Rattle.seen_ticks.specs.Observed.{activations_by, answered, ending, executed_in, failure_of, is_among, is_by, is_number, is_waiting, lost_of, one_if, owner_of, refusing, state_seen, times}
 use Rattle.shown_ticks.specs.Shown.{KeptTicked, ticked_in, jobs_before_in, task_seen_in, routine_seen_in, holders_seen_in, alarm_seen_in}
 use Rattle.shown_ticks.specs.ShownAlike.{AreShownAlike, AlikeShow}
 
@@ -63,11 +63,10 @@ module _ (S : System) (valued : ℕ → Bool) (o p : Kept) (alike : AreAlikeBy S
       (record x { tick = p.tick; alarms = alarms_advanced S (bare p) }))
       (as_retimed o p alike.rest))
 
-  acted_same : acted_in S o ≡ acted_in S p
-  acted_same =
-      (λ i. record { due = due_same i; refused = refused_of_in S (due_same i) (advanced_in S o) })
-      ∙ ap (λ v. record { due = due_alarms S (bare p); refused = v })
-      (refused_same (due_alarms S (bare p)))
+  refusing_same : refused_by S o ≡ refused_by S p
+  refusing_same =
+      ap (λ v. refused_of_in S v (advanced_in S o)) due_same
+      ∙ refused_same (due_alarms S (bare p))
 
 -- ---- a tick
 
@@ -85,8 +84,11 @@ module _ (S : System) (proper : IsProper S) (valued : ℕ → Bool) (asked : Hav
   executed : one.executed ≡ other.executed
   executed = ap executed_in both.events
 
-  acted : one.acted ≡ other.acted
-  acted = acted_same S valued o p alike
+  due : one.due ≡ other.due
+  due = due_same S valued o p alike
+
+  refused : one.refused ≡ other.refused
+  refused = refusing_same S valued o p alike
 
   at : untimed one.at ≡ untimed other.at
   at = both.executing
@@ -102,7 +104,7 @@ module _ (S : System) (proper : IsProper S) (valued : ℕ → Bool) (asked : Hav
     made =
         ((after i).slots t).count + one_if (is_number t (ending S (executed i)))
         - jobs_before_in first (alike.rest i) t;
-    refused = one_if (is_number t (refusing S (executed i))) + activations_by S t (acted i).refused;
+    refused = one_if (is_number t (refusing S (executed i))) + activations_by S t (refused i);
     ended = is_number t (ending S (executed i));
     waits = is_by (Owner.Task t) (executed i) && is_waiting (task_state_in (after i) t);
   }
@@ -120,9 +122,8 @@ module _ (S : System) (proper : IsProper S) (valued : ℕ → Bool) (asked : Hav
 
   alarms : (a : ℕ) → alarm_seen_in one a ≡ alarm_seen_in other a
   alarms a = λ i. record {
-    has_expired = is_among (acted i).due a;
-    is_refused =
-        is_among (acted i).refused a;
+    has_expired = is_among (due i) a;
+    is_refused = is_among (refused i) a;
   }
 
   pub shown : AreShownAlike S one other

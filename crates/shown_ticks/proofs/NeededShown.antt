@@ -14,17 +14,16 @@ use Rattle.osek_base.specs.System.{System, alarm}
 use Rattle.osek_base.specs.Tick.{action_call}
 use Rattle.kept_state.specs.Kept.{Kept}
 use Rattle.kept_state.specs.KeptService.{ByNobody, KeptReply, bare, task_state_in}
-use Rattle.kept_state.specs.KeptTick.{before_execution_in, tick_in}
+use Rattle.kept_state.specs.KeptTick.{before_execution_in, tick_in, advanced_in}
 use Rattle.kept_state.specs.Moves.{KeptRecorded}
-use Rattle.services.specs.Seen.{routine_of}
-use Rattle.kernel.specs.Does.{advanced_in}
-use Rattle.kernel.specs.Told.{acted_in, acting_in, if_refused, refused_of_in, task_at_in}
+use Rattle.kept_state.specs.Seen.{routine_of}
+use Rattle.seen_ticks.specs.Told.{acting_in, if_refused, refused_by, refused_of_in, task_at_in}
 use Rattle.needed_data.specs.Need.{Need, Suffices}
 use Rattle.needed_data.specs.Same.{AreStepsOfSame, HasAllowedIndices, HaveSameNeeded, blanked, blanked_outcome, cleaned, cleaned_routine, cleaned_shared, cleaned_words}
 use Rattle.needed_data.proofs.Executed.{cleaning, fresh_clean}
 use Rattle.needed_data.proofs.Steps.{before_clean, leaves_shared, unasked_clean}
 use Rattle.needed_data.proofs.Ticks.{ticks_keep_same}
-use Rattle.observed_runs.specs.Observed.{activates, activations_by, answered, ending, executed_in, failure_by, failure_of, instruction, is_accepted, is_among, is_by, is_end, is_limit, is_number, is_waiting, lost_of, one_if, owner_of, refusing, state_seen, status_of, task_of, times}
+use Rattle.seen_ticks.specs.Observed.{activates, activations_by, answered, ending, executed_in, failure_by, failure_of, instruction, is_accepted, is_among, is_by, is_end, is_limit, is_number, is_waiting, lost_of, one_if, owner_of, refusing, state_seen, status_of, task_of, times}
 use Rattle.shown_ticks.specs.Shown.{KeptTicked, ticked_in, jobs_before_in, task_seen_in, routine_seen_in, holders_seen_in, alarm_seen_in}
 use Rattle.shown_ticks.specs.ShownAlike.{AreShownAlike, SameNeededShow}
 
@@ -105,10 +104,8 @@ module _ (S : System) (need : Need) where
       ∙ ap (λ v. if_refused a (acting_in S a o).status ++ v)
       (refused_cleaned due (acting_in S a o).state)
 
-  acted_cleaned : (o : Kept) → acted_in S (cleaned need o) ≡ acted_in S o
-  acted_cleaned o =
-      ap (λ v. record { due = due_alarms S (bare o); refused = v })
-      (refused_cleaned (due_alarms S (bare o)) (advanced_in S o))
+  refused_same : (o : Kept) → refused_by S (cleaned need o) ≡ refused_by S o
+  refused_same o = refused_cleaned (due_alarms S (bare o)) (advanced_in S o)
 
   -- ---- a tick
 
@@ -140,8 +137,11 @@ module _ (S : System) (need : Need) where
     refuses = refusing_blank S one.executed ∙ ap (refusing S) executed
         ∙ sym (refusing_blank S other.executed)
 
-    acted : one.acted ≡ other.acted
-    acted = sym (acted_cleaned o) ∙ ap (acted_in S) same ∙ acted_cleaned p
+    due : one.due ≡ other.due
+    due = ap (λ (x : Kept). due_alarms S (bare x)) same
+
+    refused : one.refused ≡ other.refused
+    refused = sym (refused_same o) ∙ ap (refused_by S) same ∙ refused_same p
 
     at_cleaned : (x : Kept) → cleaned need (before_execution_in S arrived x).state
         ≡ (before_execution_in S arrived (cleaned need x)).state
@@ -175,7 +175,7 @@ module _ (S : System) (need : Need) where
       made =
           ((after i).slots t).count + one_if (is_number t (ends i))
           - jobs_before_in first (same i) t;
-      refused = one_if (is_number t (refuses i)) + activations_by S t (acted i).refused;
+      refused = one_if (is_number t (refuses i)) + activations_by S t (refused i);
       ended = is_number t (ends i);
       waits = by (Owner.Task t) i && is_waiting (task_state_in (after i) t);
     }
@@ -191,9 +191,8 @@ module _ (S : System) (need : Need) where
 
     alarms : (a : ℕ) → alarm_seen_in one a ≡ alarm_seen_in other a
     alarms a = λ i. record {
-      has_expired = is_among (acted i).due a;
-      is_refused =
-          is_among (acted i).refused a;
+      has_expired = is_among (due i) a;
+      is_refused = is_among (refused i) a;
     }
 
     pub shown : AreShownAlike S one other

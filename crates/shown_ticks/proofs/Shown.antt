@@ -2,7 +2,6 @@
 use Rattle.std.proofs.Common.{◌≡◌, ℕ, zero, suc, ◌+◌, ◌-◌, true, false, cond, not, ◌&&◌, List, [], ◌∷◌, ◌++◌, map, length, refl, sym, ◌∙◌, ap, subst}
 use Rattle.std.specs.Prelude.{Option, ◌==◌, slice_index_or}
 use Rattle.std.specs.Option.{option_map}
-use Rattle.std.specs.List.{find}
 use Rattle.std.proofs.Math.Numerals.{add-one}
 use Rattle.std.proofs.Math.Path.{fun_ext}
 use Rattle.osek_base.specs.declared.arrivals.Arrival.{Arrival}
@@ -11,9 +10,8 @@ use Rattle.osek_base.specs.declared.ids.ResId.{ResId}
 use Rattle.osek_base.specs.declared.trace_event.TraceEvent.{TraceEvent}
 use Rattle.osek_base.specs.Lists.{below}
 use Rattle.osek_base.specs.Proper.{IsProper}
-use Rattle.osek_base.specs.Separable.{first_of_list}
 use Rattle.osek_base.specs.Service.{task_state}
-use Rattle.osek_base.specs.State.{Job, State, jobs_of}
+use Rattle.osek_base.specs.State.{State, jobs_of}
 use Rattle.osek_base.specs.System.{System}
 use Rattle.osek_base.specs.Tick.{before_execution, tick}
 use Rattle.osek_base.specs.Trace.{Run, arriving, run}
@@ -22,21 +20,18 @@ use Rattle.run_laws.proofs.FormedTick.{run_form}
 use Rattle.run_laws.proofs.Further.{going_earlier, run_more, run_tick}
 use Rattle.run_laws.proofs.RankedTick.{IsExecuting, IsRunState, before_executing, run_ordered}
 use Rattle.run_laws.proofs.Records.{NoneExecuted, none_boot}
-use Rattle.kept_state.specs.Kept.{Kept, kept, slot_of}
-use Rattle.kept_state.specs.KeptService.{holds_in, task_state_in}
+use Rattle.kept_state.specs.Kept.{Kept, kept}
+use Rattle.kept_state.specs.KeptService.{task_state_in}
 use Rattle.kept_state.specs.KeptTick.{KeptStep, kept_step, tick_in}
 use Rattle.kept_state.specs.Moves.{KeptRecorded}
 use Rattle.kept_state.proofs.InRuns.{before_alike}
-use Rattle.kept_state.proofs.Settled.{AreKnown, IsSettled}
 use Rattle.kept_state.proofs.Ticked.{known_of, settled_of, ticks}
-use Rattle.services.specs.Seen.{holder_in, routine_of}
-use Rattle.kernel.specs.Shown.{holder, is_held_by}
-use Rattle.kernel.specs.Told.{acted_at, task_at, task_at_in}
-use Rattle.kernel.proofs.KeepingLemmas.{step_is}
-use Rattle.kernel.proofs.RunLemmas.{unwritten_more}
-use Rattle.kernel.proofs.SeenLemmas.{counted, own, raised, state_is}
-use Rattle.kernel.proofs.ToldLemmas.{acted_told}
-use Rattle.observed_runs.specs.Observed.{Ticked, activations_by, alarm_seen, answered, ending, executed_in, failure_of, holders_seen, is_among, is_by, is_number, is_waiting, lost_of, one_if, owner_of, refusing, routine_seen, state_seen, task_seen, tick_at, times}
+use Rattle.kept_state.specs.Seen.{routine_of}
+use Rattle.blocking_laws.proofs.StepLemmas.{executing_is as instruction_is, unwritten_more}
+use Rattle.seen_ticks.specs.Told.{task_at, task_at_in}
+use Rattle.seen_ticks.proofs.SeenLemmas.{counted, holder_is, state_is, task_is}
+use Rattle.seen_ticks.proofs.ToldLemmas.{refused_told}
+use Rattle.seen_ticks.specs.Observed.{Ticked, activations_by, alarm_seen, answered, ending, executed_in, failure_of, holders_seen, is_among, is_by, is_number, is_waiting, lost_of, one_if, owner_of, refusing, routine_seen, state_seen, task_seen, tick_at, times}
 use Rattle.shown_ticks.specs.Shown.{KeptTicked, task_seen_in, routine_seen_in, holders_seen_in, alarm_seen_in, ShowTheSame, kept_tick_at, RunsShow, SeenIsShown}
 
 -- ---- the tick's instruction
@@ -70,28 +65,10 @@ none_unwritten S mode arrivals (suc n) going =
 
 -- ---- holders
 
-holding : (r : ResId) (js : List Job) → is_held_by r (first_of_list js) ≡ holds_in r (slot_of js)
-holding r [] = refl
-holding r (j ∷ js) = refl
-
-holder_is : (S : System) (s : State) (r : ResId) → holder S s r ≡ holder_in S (kept S s) r
-holder_is S s r = ap (λ p. find p (below (length S.tasks)))
-    (fun_ext (λ t. holding r (jobs_of t s.jobs)))
-
 holders_are : (S : System) (s : State) → holders_seen S s ≡ holders_seen_in S (kept S s)
 holders_are S s =
     ap (λ (h : ResId → Option ℕ). map (λ r. h (ResId.Declared r)) (below (length S.resources))
-    ++ cond S.use_res_scheduler (h ResId.Scheduler ∷ []) []) (fun_ext (holder_is S s))
-
--- ---- a task in a state
-
-task_is : (S : System) (s : State) → IsSettled S s → AreKnown S s → (t : ℕ)
-    → task_at S s t ≡ task_at_in S (kept S s) t
-task_is S s settled known t = λ i. record {
-  state = sym (state_is S s settled known t) i;
-  priority = sym (raised S t (jobs_of t s.jobs) (own t s.jobs)) i;
-  jobs = sym (counted (jobs_of t s.jobs)) i;
-}
+    ++ cond S.use_res_scheduler (h ResId.Scheduler ∷ []) []) (fun_ext (λ r. sym (holder_is S s r)))
 
 -- ---- a tick of a run
 
@@ -126,7 +103,7 @@ module _ (S : System) (proper : IsProper S) (mode : ℕ) (arrivals : List Arriva
   executing = (before_execution S (arriving arrivals n) here).state
 
   executing_is : executing ≡ seen.at
-  executing_is = step_is S proper mode arrivals n (kept S here) refl going
+  executing_is = instruction_is S mode arrivals n going
 
   at_is : kept S seen.at ≡ shown.at
   at_is =
@@ -134,8 +111,8 @@ module _ (S : System) (proper : IsProper S) (mode : ℕ) (arrivals : List Arriva
       ∙ ap (λ (r : KeptRecorded). r.state)
       (before_alike S mode arrivals n (arriving arrivals n) proper)
 
-  acted_is : acted_at S mode arrivals n ≡ shown.acted
-  acted_is = sym (acted_told S proper mode arrivals n)
+  refused_is : seen.refused ≡ shown.refused
+  refused_is = sym (refused_told S proper mode arrivals n)
 
   task_at_is : (t : ℕ) → task_at S seen.at t ≡ task_at_in S shown.at t
   task_at_is t =
@@ -143,9 +120,10 @@ module _ (S : System) (proper : IsProper S) (mode : ℕ) (arrivals : List Arriva
       before_executing S proper (arriving arrivals n) here
       (run_ordered S proper mode arrivals n) in
       ap (λ s. task_at S s t) (sym executing_is)
-      ∙ task_is S executing (settled_of S executing good.good.single good.good.ordered.ranked)
+      ∙ sym (task_is S executing
+      (settled_of S executing good.good.single good.good.ordered.ranked)
       (known_of S executing (before_form S proper (arriving arrivals n) here
-      (run_form S proper mode arrivals n))) t
+      (run_form S proper mode arrivals n))) t)
       ∙ ap (λ (r : KeptRecorded). task_at_in S r.state t)
       (before_alike S mode arrivals n (arriving arrivals n) proper)
 
@@ -174,7 +152,7 @@ module _ (S : System) (proper : IsProper S) (mode : ℕ) (arrivals : List Arriva
         - cond (n == 0) 0 (sym (counted (jobs_of t here.jobs)) i);
     refused =
         one_if (is_number t (refusing S (executed_is i)))
-        + activations_by S t (acted_is i).refused;
+        + activations_by S t (refused_is i);
     ended = is_number t (ending S (executed_is i));
     waits = is_by (Owner.Task t) (executed_is i) && is_waiting (state_after_is t i);
   }
@@ -192,9 +170,8 @@ module _ (S : System) (proper : IsProper S) (mode : ℕ) (arrivals : List Arriva
 
   alarm_seen_is : (a : ℕ) → alarm_seen seen a ≡ alarm_seen_in shown a
   alarm_seen_is a = λ i. record {
-    has_expired = is_among (acted_is i).due a;
-    is_refused =
-        is_among (acted_is i).refused a;
+    has_expired = is_among seen.due a;
+    is_refused = is_among (refused_is i) a;
   }
 
   pub show_the_same : ShowTheSame S seen shown

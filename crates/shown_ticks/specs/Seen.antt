@@ -8,7 +8,7 @@ use Rattle.osek_base.specs.System.{System}
 use Rattle.kept_state.specs.Kept.{Kept}
 use Rattle.observations.specs.Seen.{Seen}
 use Rattle.observations.specs.declared.failure.Failure.{Failure}
-use Rattle.observed_runs.specs.Observed.{answered, failure_of, owner_of}
+use Rattle.seen_ticks.specs.Observed.{answered, failure_of, owner_of}
 use Rattle.shown_ticks.specs.Shown.{KeptTicked, alarm_seen_in, holders_seen_in, routine_seen_in, task_seen_in, ticked_in}
 
 abbrev pub seen_by : System → KeptTicked → Seen

@@ -9,28 +9,30 @@ use Rattle.osek_base.specs.declared.arrivals.Arrival.{Arrival}
 use Rattle.osek_base.specs.declared.executed.Executed.{Executed}
 use Rattle.osek_base.specs.declared.ids.Owner.{Owner}
 use Rattle.osek_base.specs.declared.ids.ResId.{ResId}
+use Rattle.osek_base.specs.Alarm.{due_alarms}
 use Rattle.osek_base.specs.Lists.{below}
 use Rattle.osek_base.specs.Proper.{IsProper}
 use Rattle.osek_base.specs.System.{System}
 use Rattle.osek_base.specs.Trace.{arriving, run}
 use Rattle.kept_state.specs.Kept.{Kept, kept}
-use Rattle.kept_state.specs.KeptService.{task_state_in}
+use Rattle.kept_state.specs.KeptService.{bare, task_state_in}
 use Rattle.kept_state.specs.KeptTick.{before_execution_in, tick_in}
 use Rattle.same_future.specs.Spans.{is_pending_in}
-use Rattle.services.specs.Seen.{holder_in, routine_of}
-use Rattle.kernel.specs.declared.acted.Acted.{Acted}
-use Rattle.kernel.specs.Told.{acted_in, task_at_in}
-use Rattle.observed_runs.specs.Observed.{Ticked, IsSeen, activations_by, alarm_seen, answered, ending, executed_in, failure_of, holders_seen, is_among, is_by, is_number, is_waiting, lost_of, one_if, owner_of, refusing, routine_seen, state_seen, task_seen, tick_at, times}
+use Rattle.kept_state.specs.Seen.{holder_in, routine_of}
+use Rattle.seen_ticks.specs.Told.{refused_by, task_at_in}
+use Rattle.seen_ticks.specs.Observed.{Ticked, IsSeen, activations_by, alarm_seen, answered, ending, executed_in, failure_of, holders_seen, is_among, is_by, is_number, is_waiting, lost_of, one_if, owner_of, refusing, routine_seen, state_seen, task_seen, tick_at, times}
 
 -- whether a tick is the first; what is kept before it, where its instruction is executed, and after
--- it; what it executed; the alarms that act; the routines of the interrupts that arrive
+-- it; what it executed; the alarms that are due, and those of them whose action is refused; the
+-- routines of the interrupts that arrive
 pub record KeptTicked : Type 0 where
   pub first : Bool
   pub before : Kept
   pub at : Kept
   pub after : Kept
   pub executed : Option Executed
-  pub acted : Acted
+  pub due : List ℕ
+  pub refused : List ℕ
   pub arrived : List ℕ
 
 abbrev pub ticked_in : System → Bool → List ℕ → Kept → KeptTicked
@@ -41,7 +43,8 @@ ticked_in S first arrived o =
       at = (before_execution_in S arrived o).state;
       after = (tick_in S arrived o).after;
       executed = executed_in (tick_in S arrived o).events;
-      acted = acted_in S o;
+      due = due_alarms S (bare o);
+      refused = refused_by S o;
       arrived = arrived;
     }
 
@@ -59,7 +62,7 @@ task_seen_in S k t =
       made =
           (k.after.slots t).count + one_if (is_number t (ending S k.executed))
           - jobs_before_in k.first k.before t;
-      refused = one_if (is_number t (refusing S k.executed)) + activations_by S t k.acted.refused;
+      refused = one_if (is_number t (refusing S k.executed)) + activations_by S t k.refused;
       ended = is_number t (ending S k.executed);
       waits = is_by (Owner.Task t) k.executed && is_waiting (task_state_in k.after t);
     }
@@ -86,7 +89,7 @@ holders_seen_in S o =
 
 abbrev pub alarm_seen_in : KeptTicked → ℕ → AlarmSeen
 alarm_seen_in k a =
-    record { has_expired = is_among k.acted.due a; is_refused = is_among k.acted.refused a }
+    record { has_expired = is_among k.due a; is_refused = is_among k.refused a }
 
 pub record IsShown (S : System) (k : KeptTicked) (o : Observation) : Type 0 where
   pub executor : o.executor ≡ option_map owner_of k.executed

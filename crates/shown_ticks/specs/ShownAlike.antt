@@ -8,7 +8,7 @@ use Rattle.same_future.specs.Alike.{AreAlikeBy}
 use Rattle.needed_data.specs.Need.{HaveAsked, Need, Suffices}
 use Rattle.needed_data.specs.Same.{HasAllowedIndices, HaveSameNeeded}
 use Rattle.observations.specs.declared.observation.Observation.{Observation}
-use Rattle.observed_runs.specs.Observed.{answered, failure_of, owner_of}
+use Rattle.seen_ticks.specs.Observed.{answered, failure_of, owner_of}
 use Rattle.shown_ticks.specs.Shown.{KeptTicked, IsShown, alarm_seen_in, holders_seen_in, routine_seen_in, task_seen_in, ticked_in}
 
 -- two ticks show the same

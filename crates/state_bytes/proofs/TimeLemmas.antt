@@ -7,7 +7,7 @@ use Rattle.osek_base.specs.State.{Expiry}
 use Rattle.alarms.specs.Alarms.{cycle_of}
 use Rattle.kept_state.specs.Kept.{Kept}
 use Rattle.kept_state.specs.KeptService.{bare}
-use Rattle.services.specs.Seen.{counts_from, counts_left}
+use Rattle.kept_state.specs.Seen.{counts_from, counts_left}
 use Rattle.same_future.specs.Relative.{counted_from, left_of}
 use Rattle.state_keys.specs.Bytes.{optional}
 use Rattle.state_keys.specs.Key.{alarm_key, expiry_key}

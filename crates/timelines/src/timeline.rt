@@ -53,21 +53,42 @@ impl Timeline {
     ) -> Result<(), AllocError> {
         let tick = observation.tick;
         if self.from <= tick && tick < self.to {
-            self.end = tick + 1;
-            self.observe_drawn(system, observation, records)?;
+            self.observe_drawn(system, tick, observation, records)?;
         }
         keep_begun(observation.tasks.as_slice(), self.tasks.as_mut_slice());
+        Ok(())
+    }
+
+    /// The same of the ticks from one on and before another, in each of which all but the number is
+    /// as in an observation.
+    pub fn observe_alike(
+        &mut self,
+        system: &System,
+        observation: &Observation,
+        records: &TickRecord,
+        first: u32,
+        end: u32,
+    ) -> Result<(), AllocError> {
+        // What a tick leaves of what tasks have begun, another such tick leaves as it is.
+        if first < self.from {
+            keep_begun(observation.tasks.as_slice(), self.tasks.as_mut_slice());
+        }
+        for tick in first.max(self.from)..end.min(self.to) {
+            self.observe_drawn(system, tick, observation, records)?;
+            keep_begun(observation.tasks.as_slice(), self.tasks.as_mut_slice());
+        }
         Ok(())
     }
 
     fn observe_drawn(
         &mut self,
         system: &System,
+        tick: u32,
         observation: &Observation,
         records: &TickRecord,
     ) -> Result<(), AllocError> {
-        let tick = observation.tick;
-        observe_tasks(system, observation, self.tasks.as_mut_slice())?;
+        self.end = tick.saturating_add(1);
+        observe_tasks(system, tick, observation, self.tasks.as_mut_slice())?;
         observe_routines(
             system,
             tick,
@@ -155,10 +176,10 @@ fn processor(system: &System, executor: &Option<Owner>) -> Processor {
 
 fn observe_tasks(
     system: &System,
+    tick: u32,
     observation: &Observation,
     tracks: &mut [Track],
 ) -> Result<(), AllocError> {
-    let tick = observation.tick;
     let processor = processor(system, &observation.executor);
     let holders = observation.holders.as_slice();
     let seen = observation.tasks.as_slice();

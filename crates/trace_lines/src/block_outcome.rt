@@ -59,7 +59,7 @@ fn push_stored(text: &mut Block, index: u32, value: u32)
 
 /// Appends what a plain instruction did to a block.
 #[inline(always)]
-fn push_effect(text: &mut Block, effect: Effect)
+pub(crate) fn push_effect(text: &mut Block, effect: Effect)
     requires { length text.old + 48 ≤ BLOCK_SIZE }
     ensures same { text.new ≡ text.old ++ outcome_text (Outcome.Plain effect) }
     ensures short { length text.new ≤ length text.old + 48 }

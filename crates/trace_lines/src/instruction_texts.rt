@@ -7,12 +7,12 @@ ghost use Rattle.osek_base.specs.declared.ids.Owner.{Owner};
 ghost use Rattle.trace_lines.specs.Programs.{AreAllTexts, IsOfProgram, IsTextAt};
 
 use crate::block::{BLOCK_SIZE, Block, RECORD_SIZE};
-use crate::block_outcome::push_outcome;
+use crate::block_outcome::{push_effect, push_outcome};
 use crate::kept_text::KeptText;
 use crate::line::push_event;
 use crate::program_texts::ProgramTexts;
 use crate::tick_text::TickText;
-use osek_base::{Executed, IsrId, Owner, Place, System, TaskId, TraceEvent};
+use osek_base::{Executed, IsrId, Outcome, Owner, Place, System, TaskId, TraceEvent};
 use std::alloc::{AllocError, Global};
 use std::marker::Model;
 
@@ -134,9 +134,17 @@ impl<'s> InstructionTexts<'s> {
             ≡ text.old ++ line self.now.names tick.now (executed_record self.now executed.now) }
         ensures short { length text.new ≤ length text.old + 238 }
     {
-        tick.push_to(text);
-        self.executed_text(executed).push_to(text);
-        push_outcome(text, &executed.outcome);
+        // The line of a plain instruction and that of a service don't meet before their end, so that what was executed is
+        // asked once for its kind.
+        if let Outcome::Plain(effect) = &executed.outcome {
+            tick.push_to(text);
+            self.executed_text(executed).push_to(text);
+            push_effect(text, *effect);
+        } else {
+            tick.push_to(text);
+            self.executed_text(executed).push_to(text);
+            push_outcome(text, &executed.outcome);
+        }
     }
 
     /// Appends the line of a record of that tick, without the line's end; an instruction isn't spelled again.

@@ -11,8 +11,8 @@ use Rattle.osek_base.specs.State.{State}
 use Rattle.osek_base.specs.System.{System, alarm}
 use Rattle.osek_base.specs.Tick.{action_call, alarm_acts}
 use Rattle.osek_base.specs.Upper.{action_task, is_upper_alarm, is_upper_task}
-use Rattle.kernel.specs.Told.{if_refused, refused_of}
-use Rattle.observed_runs.specs.Observed.{activations_by, is_activation, is_among}
+use Rattle.seen_ticks.specs.Told.{if_refused, refused_of}
+use Rattle.seen_ticks.specs.Observed.{activations_by, is_activation, is_among}
 use Rattle.upper_bounds.specs.AlarmsAbove.{AlarmAnswer, upper_answers}
 use Rattle.partition_check.proofs.Ranks.{rank_same}
 

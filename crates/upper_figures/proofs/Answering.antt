@@ -11,7 +11,7 @@ use Rattle.osek_base.specs.declared.trace_event.TraceEvent.{TraceEvent}
 use Rattle.osek_base.specs.System.{System, instruction_at}
 use Rattle.osek_base.specs.Upper.{is_upper_owner}
 use Rattle.run_laws.proofs.Records.{is_executed}
-use Rattle.observed_runs.specs.Observed.{answered, executed_in, owner_of, status_of}
+use Rattle.seen_ticks.specs.Observed.{answered, executed_in, owner_of, status_of}
 use Rattle.figures.specs.FigureSums.{is_error}
 use Rattle.upper_bounds.specs.ExecutedAbove.{upper_execution, upper_executions}
 use Rattle.upper_figures.proofs.Executing.{TellsOne, executed_of_one, record_of, told_of_one}

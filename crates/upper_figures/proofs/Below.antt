@@ -26,7 +26,7 @@ use Rattle.partition_check.proofs.ResultsUp.{task_state_up}
 use Rattle.partition_check.proofs.Shared.{IsCounterpart, IsLayered, IsLow}
 use Rattle.partition_check.proofs.TickUp.{before_alike}
 use Rattle.partition_check.proofs.UpperState.{is_ready_job, is_upper_id, up, upper_count}
-use Rattle.observed_runs.specs.Observed.{state_seen}
+use Rattle.seen_ticks.specs.Observed.{state_seen}
 use Rattle.upper_bounds.specs.StatesAbove.{executes, is_caller}
 use Rattle.figure_laws.specs.Blocking.{stands_ready}
 

@@ -8,12 +8,12 @@ use Rattle.osek_base.specs.declared.ids.ResId.{ResId}
 use Rattle.osek_base.specs.Lists.{below}
 use Rattle.osek_base.specs.State.{State}
 use Rattle.osek_base.specs.System.{System}
-use Rattle.kernel.specs.Shown.{holder}
+use Rattle.seen_ticks.specs.Shown.{holder}
 use Rattle.observations.specs.declared.alarm_seen.AlarmSeen.{AlarmSeen}
 use Rattle.observations.specs.declared.observation.Observation.{Observation}
 use Rattle.observations.specs.declared.routine_seen.RoutineSeen.{RoutineSeen}
 use Rattle.observations.specs.declared.task_seen.TaskSeen.{TaskSeen}
-use Rattle.observed_runs.specs.Observed.{Ticked, alarm_seen, holders_seen, routine_seen, scheduler_seen, task_seen, tick_at}
+use Rattle.seen_ticks.specs.Observed.{Ticked, alarm_seen, holders_seen, routine_seen, scheduler_seen, task_seen, tick_at}
 use Rattle.same_future.proofs.Tables.{length-table, table_at}
 use Rattle.figures.specs.FigureSums.{alarm_tick, holder_tick, is_error, is_routine, is_task, last_tick, levels_of, routine_tick, task_tick, unseen_alarm, unseen_routine, unseen_task}
 use Rattle.run_figures.specs.RunFigures.{AreTicksOf, IsTickOf}

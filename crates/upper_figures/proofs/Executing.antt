@@ -15,7 +15,7 @@ use Rattle.osek_base.specs.State.{State}
 use Rattle.osek_base.specs.System.{System, instruction_at}
 use Rattle.osek_base.specs.Tick.{at_values, before_execution, caller_executes, error_record, execute_phase, executed, executor, last_phase, shutdown_record, tick}
 use Rattle.run_laws.proofs.Records.{NoneExecuted, is_executed, none_append, none_before, none_error, none_last, none_shutdown}
-use Rattle.observed_runs.specs.Observed.{executed_in, is_by}
+use Rattle.seen_ticks.specs.Observed.{executed_in, is_by}
 use Rattle.upper_bounds.specs.StatesAbove.{executes, is_caller}
 
 -- ---- records with one instruction at most

@@ -8,7 +8,7 @@ use Rattle.osek_base.specs.System.{System}
 use Rattle.osek_base.specs.Tick.{status_number}
 use Rattle.osek_base.specs.Upper.{is_upper_owner}
 use Rattle.observations.specs.declared.failure.Failure.{Failure}
-use Rattle.observed_runs.specs.Observed.{executed_in, failure_by, failure_of, status_of}
+use Rattle.seen_ticks.specs.Observed.{executed_in, failure_by, failure_of, status_of}
 use Rattle.upper_bounds.specs.ExecutedAbove.{upper_execution, upper_executions}
 use Rattle.upper_figures.specs.ShownAbove.{if_upper}
 use Rattle.upper_figures.proofs.Answering.{of_executions}

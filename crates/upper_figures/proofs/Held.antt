@@ -10,7 +10,7 @@ use Rattle.osek_base.specs.State.{Job, State, jobs_of}
 use Rattle.osek_base.specs.System.{System}
 use Rattle.kept_state.specs.Kept.{slot_of}
 use Rattle.kept_state.specs.KeptService.{holds_in}
-use Rattle.kernel.specs.Shown.{holder as holder_of, is_held_by}
+use Rattle.seen_ticks.specs.Shown.{holder as holder_of, is_held_by}
 use Rattle.same_future.specs.Spans.{resource_of}
 use Rattle.upper_bounds.specs.StatesAbove.{holder}
 

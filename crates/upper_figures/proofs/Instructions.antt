@@ -15,7 +15,7 @@ use Rattle.osek_base.specs.System.{System, instruction_at}
 use Rattle.osek_base.specs.Upper.{is_upper_owner, is_upper_task}
 use Rattle.run_laws.proofs.Records.{is_executed}
 use Rattle.same_future.specs.Incidents.{activates as activates_it, tells_limit}
-use Rattle.observed_runs.specs.Observed.{activates, ending, executed_in, is_accepted, is_end, is_limit, is_number, refusing, task_of}
+use Rattle.seen_ticks.specs.Observed.{activates, ending, executed_in, is_accepted, is_end, is_limit, is_number, refusing, task_of}
 use Rattle.upper_bounds.specs.ExecutedAbove.{refusals_of, refused_to, upper_execution, upper_executions}
 use Rattle.upper_figures.proofs.Executing.{TellsOne, executed_of_one, record_of, told_of_one}
 

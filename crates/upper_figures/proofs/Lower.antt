@@ -16,7 +16,7 @@ use Rattle.osek_base.specs.Upper.{is_upper_task}
 use Rattle.run_laws.proofs.Foremost.{equal, self_equal}
 use Rattle.partition_check.proofs.Shared.{IsLayered}
 use Rattle.observations.specs.declared.task_seen.TaskSeen.{TaskSeen}
-use Rattle.observed_runs.specs.Observed.{Ticked, is_by, owner_of, state_seen, task_seen, tick_at}
+use Rattle.seen_ticks.specs.Observed.{Ticked, is_by, owner_of, state_seen, task_seen, tick_at}
 use Rattle.figures.specs.FigureSums.{levels_of, lower_executes}
 use Rattle.figure_laws.specs.Blocking.{stands_ready}
 use Rattle.upper_bounds.specs.Above.{AreOneAbove, IsUpperTask}

@@ -8,7 +8,7 @@ use Rattle.osek_base.specs.Proper.{IsProper}
 use Rattle.osek_base.specs.System.{System}
 use Rattle.osek_base.specs.Trace.{run}
 use Rattle.observations.specs.declared.observation.Observation.{Observation}
-use Rattle.observed_runs.specs.Observed.{Ticked, alarm_seen, answered, failure_of, holders_seen, owner_of, routine_seen, task_seen, tick_at}
+use Rattle.seen_ticks.specs.Observed.{Ticked, alarm_seen, answered, failure_of, holders_seen, owner_of, routine_seen, task_seen, tick_at}
 use Rattle.same_future.proofs.Tables.{length-table, table_at}
 use Rattle.figures.specs.AlarmSums.{alarm_figures}
 use Rattle.figures.specs.Counts.{capped}

@@ -12,7 +12,7 @@ use Rattle.kept_state.specs.KeptTick.{KeptStep}
 use Rattle.kept_state.proofs.Ticked.{ticks}
 use Rattle.same_future.specs.Alike.{records_at}
 use Rattle.shown_ticks.proofs.Shown.{runs_show}
-use Rattle.observed_runs.specs.Observed.{executed_in, is_by, tick_at}
+use Rattle.seen_ticks.specs.Observed.{executed_in, is_by, tick_at}
 use Rattle.upper_bounds.specs.StatesAbove.{executes, executing_at}
 use Rattle.upper_figures.proofs.Executing.{TickTells, executed_of_one, tick_tells_one}
 

@@ -14,10 +14,10 @@ use Rattle.osek_base.specs.State.{State, jobs_of}
 use Rattle.osek_base.specs.System.{System}
 use Rattle.osek_base.specs.Trace.{arriving, run}
 use Rattle.osek_base.specs.Upper.{is_upper_owner, is_upper_task}
-use Rattle.services.specs.Seen.{routine_of}
-use Rattle.kernel.specs.Shown.{holder, oldest_job}
+use Rattle.kept_state.specs.Seen.{routine_of}
+use Rattle.seen_ticks.specs.Shown.{holder, oldest_job}
 use Rattle.same_future.specs.Alike.{records_at}
-use Rattle.observed_runs.specs.Observed.{Ticked, activations_by, alarm_seen, ending, failure_of, is_among, is_by, is_number, is_waiting, lost_of, one_if, refusing, routine_seen, state_seen, task_seen, tick_at, times}
+use Rattle.seen_ticks.specs.Observed.{Ticked, activations_by, alarm_seen, ending, failure_of, is_among, is_by, is_number, is_waiting, lost_of, one_if, refusing, routine_seen, state_seen, task_seen, tick_at, times}
 use Rattle.figures.specs.FigureSums.{is_routine, is_task}
 use Rattle.upper_bounds.specs.Above.{IsUpperTask, IsTheSameAlarm, IsTheSameResource, AreOneAbove}
 use Rattle.upper_bounds.specs.AlarmsAbove.{AlarmsAreAnsweredTheSame}

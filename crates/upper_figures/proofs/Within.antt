@@ -12,7 +12,7 @@ use Rattle.osek_base.specs.Upper.{is_upper_alarm, is_upper_owner}
 use Rattle.observations.specs.declared.failure.Failure.{Failure}
 use Rattle.observations.specs.declared.observation.Observation.{Observation}
 use Rattle.observations.specs.declared.task_seen.TaskSeen.{TaskSeen}
-use Rattle.observed_runs.specs.Observed.{failure_of, task_seen, tick_at}
+use Rattle.seen_ticks.specs.Observed.{failure_of, task_seen, tick_at}
 use Rattle.figures.specs.declared.alarm_figures.AlarmFigures.{AlarmFigures}
 use Rattle.figures.specs.declared.resource_figures.ResourceFigures.{ResourceFigures}
 use Rattle.figures.specs.declared.routine_figures.RoutineFigures.{RoutineFigures}

@@ -8,7 +8,7 @@ use Rattle.osek_base.specs.Agree.{is_upper_declared, rank, upper_part}
 use Rattle.osek_base.specs.Proper.{IsProper}
 use Rattle.osek_base.specs.Separable.{Separable}
 use Rattle.osek_base.specs.Upper.{is_upper_alarm}
-use Rattle.observed_runs.specs.Observed.{failure_of, task_seen, tick_at}
+use Rattle.seen_ticks.specs.Observed.{failure_of, task_seen, tick_at}
 use Rattle.figures.specs.AlarmSums.{alarm_figures}
 use Rattle.figures.specs.FigureSums.{RunFigures, task_figures}
 use Rattle.figures.specs.ResourceSums.{resource_figures}

@@ -7,9 +7,9 @@ use Rattle.osek_base.specs.declared.ids.ResId.{ResId}
 use Rattle.osek_base.specs.System.{System}
 use Rattle.osek_base.specs.Trace.{run}
 use Rattle.osek_base.specs.Upper.{is_upper_owner}
-use Rattle.kernel.specs.Shown.{holder}
+use Rattle.seen_ticks.specs.Shown.{holder}
 use Rattle.observations.specs.declared.failure.Failure.{Failure}
-use Rattle.observed_runs.specs.Observed.{Ticked, alarm_seen, answered, failure_of, owner_of, routine_seen, task_seen, tick_at}
+use Rattle.seen_ticks.specs.Observed.{Ticked, alarm_seen, answered, failure_of, owner_of, routine_seen, task_seen, tick_at}
 use Rattle.figures.specs.FigureSums.{is_error, is_routine, is_task, levels_of, lower_executes}
 use Rattle.figure_laws.specs.Blocking.{stands_ready}
 use Rattle.upper_bounds.specs.Above.{IsUpperTask, IsTheSameResource, IsTheSameAlarm, IsThatOfTheUpperPart}

@@ -114,6 +114,27 @@ impl<'s> ValueChanges<'s> {
         write_holders(&mut self.holders, self.system, &seen.holders, changes)
     }
 
+    /// Writes what changes in a tick, of the first tick that is written all values.
+    fn observe_at<W: Write>(
+        &mut self,
+        tick: u32,
+        seen: &Observation,
+        out: &mut W,
+    ) -> io::Result<()> {
+        let mut changes = TickChanges::new(tick, out);
+        if self.is_begun {
+            self.write_values(seen, &mut changes)?;
+        } else {
+            changes.begin_initial_values()?;
+            self.write_values(seen, &mut changes)?;
+            changes.end_initial_values()?;
+        }
+        self.is_begun = true;
+        self.ticks = u64::from(tick) + 1;
+        write_losses(&seen.routines, &mut changes)?;
+        write_expiries(&seen.alarms, &mut changes)
+    }
+
     /// Writes what changes in the next tick that is seen, of the first tick that is written all values. The tick's records,
     /// which each view of a run is given, aren't looked at. An error is a failed write, and ends the dump.
     pub fn observe<W: Write>(
@@ -125,18 +146,26 @@ impl<'s> ValueChanges<'s> {
         if seen.tick < self.from {
             return Ok(());
         }
-        let mut changes = TickChanges::new(seen.tick, out);
-        if self.is_begun {
-            self.write_values(seen, &mut changes)?;
-        } else {
-            changes.begin_initial_values()?;
-            self.write_values(seen, &mut changes)?;
-            changes.end_initial_values()?;
+        self.observe_at(seen.tick, seen, out)
+    }
+
+    /// The same of the ticks from one on and before another, in each of which the same is seen, and
+    /// nothing happens: what changes does so in the first of them. An error is a failed write, and
+    /// ends the dump.
+    pub fn observe_idle<W: Write>(
+        &mut self,
+        seen: &Observation,
+        first: u32,
+        end: u32,
+        out: &mut W,
+    ) -> io::Result<()> {
+        let first = first.max(self.from);
+        if end <= first {
+            return Ok(());
         }
-        self.is_begun = true;
-        self.ticks = u64::from(seen.tick) + 1;
-        write_losses(&seen.routines, &mut changes)?;
-        write_expiries(&seen.alarms, &mut changes)
+        self.observe_at(first, seen, out)?;
+        self.ticks = u64::from(end);
+        Ok(())
     }
 
     /// Writes the time behind the last tick, so that this one has its width. An error is a failed

@@ -5,7 +5,7 @@ use Rattle.osek_base.specs.declared.arrivals.Arrival.{Arrival}
 use Rattle.osek_base.specs.System.{System}
 use Rattle.needs.specs.declared.table.Needs.{Needs}
 use Rattle.needs.specs.Table.{need_of}
-use Rattle.bounds.specs.Exploring.{IsGround}
+use Rattle.bound_nodes.specs.Ground.{IsGround}
 use Rattle.run_bounds.specs.Bounds.{KeepDistances}
 use Rattle.endless_runs.specs.Unending.{Keep}
 use Rattle.endless_runs.specs.Lassos.{LassosAreEndless, again}

@@ -9,7 +9,7 @@ use Rattle.osek_base.specs.Proper.{IsProper}
 use Rattle.osek_base.specs.System.{System}
 use Rattle.osek_base.specs.Trace.{run}
 use Rattle.observations.specs.declared.observation.Observation.{Observation}
-use Rattle.observed_runs.specs.Observed.{IsObserved}
+use Rattle.seen_ticks.specs.Observed.{IsObserved}
 use Rattle.kernel.specs.Progress.{Progress, is_over, run_of}
 use Rattle.figures.specs.declared.alarm_figures.AlarmFigures.{AlarmFigures}
 use Rattle.figures.specs.declared.resource_figures.ResourceFigures.{ResourceFigures}
@@ -22,9 +22,9 @@ use Rattle.figures.specs.TaskSums.{more_blockers, most_blockers, task_counts}
 use Rattle.figure_laws.specs.Times.{response_time, routine_time}
 use Rattle.upper_figures.proofs.Bare.{bare_task, task_errors_bare, task_refused_bare, task_responses_bare}
 use Rattle.upper_figures.proofs.Observed.{are_figures, figures_of}
-use Rattle.bounds.specs.declared.figure.Figure.{Figure}
-use Rattle.bounds.specs.declared.figure.Figure.TheVariants.{Blocked, Blockers, Errors, Hold, Jobs, Latency, Loss, Refusal, RefusedAction, Response, RoutineErrors, Shutdown}
-use Rattle.bounds.specs.Figures.{one_if}
+use Rattle.bound_nodes.specs.declared.figure.Figure.{Figure}
+use Rattle.bound_nodes.specs.declared.figure.Figure.TheVariants.{Blocked, Blockers, Errors, Hold, Jobs, Latency, Loss, Refusal, RefusedAction, Response, RoutineErrors, Shutdown}
+use Rattle.bound_nodes.specs.Figures.{one_if}
 use Rattle.witnesses.specs.declared.blocked.BlockedTicks.{BlockedTicks}
 use Rattle.witnesses.specs.declared.watched.Watched.{Watched}
 use Rattle.witnesses.specs.Blocked.{blocked_ticks, most_blocked}

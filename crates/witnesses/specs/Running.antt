@@ -8,8 +8,8 @@ use Rattle.observations.specs.declared.observation.Observation.{Observation}
 use Rattle.figures.specs.FigureSums.{levels_of}
 use Rattle.run_figures.specs.RunFigures.{AreTicksOf}
 use Rattle.run_bounds.specs.Bounds.{TellBlockers}
-use Rattle.bounds.specs.declared.figure.Figure.{Figure}
-use Rattle.bounds.specs.declared.figure.Figure.TheVariants.{Blocked, Blockers, Errors, Hold, Jobs, Latency, Loss, Refusal, RefusedAction, Response, RoutineErrors, Shutdown}
+use Rattle.bound_nodes.specs.declared.figure.Figure.{Figure}
+use Rattle.bound_nodes.specs.declared.figure.Figure.TheVariants.{Blocked, Blockers, Errors, Hold, Jobs, Latency, Loss, Refusal, RefusedAction, Response, RoutineErrors, Shutdown}
 use Rattle.witnesses.specs.declared.watched.Watched.{Watched}
 use Rattle.witnesses.specs.Watched.{AreWatched}
 

@@ -12,10 +12,10 @@ use Rattle.figure_laws.specs.Times.{response_time, routine_time}
 use Rattle.run_figures.specs.RunFigures.{AreRunFigures}
 use Rattle.run_bounds.specs.Bounds.{KeepDistances, TellBlockers}
 use Rattle.bound_peaks.specs.Peaks.{Peaks}
-use Rattle.bounds.specs.declared.figure.Figure.{Figure}
-use Rattle.bounds.specs.declared.figure.Figure.TheVariants.{Blocked, Blockers, Errors, Hold, Jobs, Latency, Loss, Refusal, RefusedAction, Response, RoutineErrors, Shutdown}
-use Rattle.bounds.specs.declared.finding.Bounds.{Bounds}
-use Rattle.bounds.specs.Figures.{one_if, told}
+use Rattle.bound_nodes.specs.declared.figure.Figure.{Figure}
+use Rattle.bound_nodes.specs.declared.figure.Figure.TheVariants.{Blocked, Blockers, Errors, Hold, Jobs, Latency, Loss, Refusal, RefusedAction, Response, RoutineErrors, Shutdown}
+use Rattle.bound_nodes.specs.declared.found.Bounds.{Bounds}
+use Rattle.bound_nodes.specs.Figures.{one_if, told}
 use Rattle.witnesses.specs.declared.witness.Witness.{Witness}
 use Rattle.witnesses.specs.Blocked.{most_blocked}
 use Rattle.witnesses.specs.Watched.{most_jobs, number_or_none, ticks_of}

@@ -8,9 +8,9 @@ use Rattle.figures.specs.FigureSums.{alarm_tick, holder_tick, is_error, is_task,
 use Rattle.figures.specs.ResourceSums.{resource_figures}
 use Rattle.figures.specs.RoutineSums.{routine_figures}
 use Rattle.figure_laws.specs.Times.{response_time, routine_time}
-use Rattle.bounds.specs.declared.figure.Figure.{Figure}
-use Rattle.bounds.specs.declared.figure.Figure.TheVariants.{Blocked, Blockers, Errors, Hold, Jobs, Latency, Loss, Refusal, RefusedAction, Response, RoutineErrors, Shutdown}
-use Rattle.bounds.specs.Figures.{one_if}
+use Rattle.bound_nodes.specs.declared.figure.Figure.{Figure}
+use Rattle.bound_nodes.specs.declared.figure.Figure.TheVariants.{Blocked, Blockers, Errors, Hold, Jobs, Latency, Loss, Refusal, RefusedAction, Response, RoutineErrors, Shutdown}
+use Rattle.bound_nodes.specs.Figures.{one_if}
 use Rattle.witnesses.specs.declared.watched.Watched.{Watched}
 use Rattle.witnesses.specs.Blocked.{blocked_ticks, ticks_seen}
 use Rattle.witnesses.specs.Failing.{last_failure}

@@ -2,7 +2,7 @@
 
 ghost use Rattle.std.specs.Prelude.{◌≤◌, IfOk, IfSome, IsTrue};
 ghost use Rattle.std.specs.List.{All};
-ghost use Rattle.bounds.specs.Exploring.{IsGround};
+ghost use Rattle.bound_nodes.specs.Ground.{IsGround};
 ghost use Rattle.endless_runs.specs.Unending.{NeedNotEnd};
 ghost use Rattle.endless_runs.specs.Lassos.{again};
 ghost use Rattle.kernel.specs.Progress.{AreKnown};
@@ -15,7 +15,7 @@ use crate::candidate::arrivals_of;
 use crate::going_on::{GoingOn, go_on};
 use crate::lasso::comes_twice;
 use crate::suspect::suspected;
-use bounds::{Bounds, Figure};
+use bound_nodes::{Bounds, Figure};
 use endless_runs::lassos_are_endless;
 use needs::{Needs, needed_data};
 use osek_base::{Arrival, Arrivals, MAX_ARRIVALS, MAX_TICKS, ModeId, System};

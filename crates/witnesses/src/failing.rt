@@ -9,7 +9,7 @@ ghost use Rattle.witnesses.specs.Failing.{Fails, FailsAtEnd, IsFailing};
 use crate::candidate::arrivals_of;
 use crate::running::{begin, watch};
 use crate::witness::{Witness, kept_apart};
-use bounds::Bounds;
+use bound_nodes::Bounds;
 use observations::Failure;
 use osek_base::{Arrival, Arrivals, ModeId, System};
 use std::alloc::{AllocError, Global};

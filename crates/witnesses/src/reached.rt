@@ -5,7 +5,7 @@ ghost use Rattle.std.specs.List.{All};
 ghost use Rattle.witnesses.specs.Shown.{IsBelow, IsReached};
 
 use crate::witness::find_witness;
-use bounds::{Bounds, Figure, figures_of};
+use bound_nodes::{Bounds, Figure, figures_of};
 use osek_base::{ModeId, System};
 use std::alloc::{AllocError, Global};
 

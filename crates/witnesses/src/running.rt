@@ -8,7 +8,7 @@ ghost use Rattle.witnesses.specs.Running.{IsWatched, Watches, number_of};
 ghost use Rattle.witnesses.specs.Shown.{IsOf, Shows};
 
 use crate::watched::Watched;
-use bounds::Figure;
+use bound_nodes::Figure;
 use kernel::{BootFault, Counted};
 use observed_runs::ObservedRun;
 use osek_base::{Arrivals, MAX_TICKS, ModeId, System};

@@ -15,7 +15,7 @@ ghost use Rattle.figures.specs.FigureSums.{
 };
 ghost use Rattle.figures.specs.declared.reached.Reached.{Reached};
 ghost use Rattle.observations.specs.declared.observation.Observation.{Observation};
-ghost use Rattle.bounds.specs.Figures.{one_if};
+ghost use Rattle.bound_nodes.specs.Figures.{one_if};
 ghost use Rattle.witnesses.specs.Watched.{
   AreWatched,
   bare_task_tick,
@@ -26,7 +26,7 @@ ghost use Rattle.witnesses.specs.Watched.{
 
 use crate::blocked::BlockedTicks;
 use bound_labels::blocked_tick;
-use bounds::Figure;
+use bound_nodes::Figure;
 use figures::{
     AlarmFigures, AlarmTick, HolderTick, Reached, ResourceFigures, RoutineFigures, RoutineTick,
     TaskFigures, TaskTick,

@@ -7,7 +7,7 @@ ghost use Rattle.witnesses.specs.Shown.{IsWitness, Shows};
 use crate::apart::keep_distances;
 use crate::candidate::arrivals_of;
 use crate::running::shown_in_run;
-use bounds::{Bounds, Figure};
+use bound_nodes::{Bounds, Figure};
 use osek_base::{Arrival, Arrivals, ModeId, System};
 use std::alloc::{AllocError, Global};
 

@@ -1,5 +1,6 @@
 use Rattle.std.proofs.Common.{sym, subst}
-use Rattle.bounds.specs.Exploring.{Explorer, IsGround}
+use Rattle.bound_nodes.specs.Ground.{IsGround}
+use Rattle.bounds.specs.Exploring.{Explorer}
 use Rattle.bounds.proofs.Deciding.{found, found_at}
 use Rattle.bounds.proofs.finding.find_bounds.Goals as goal
 

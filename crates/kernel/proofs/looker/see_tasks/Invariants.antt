@@ -1,7 +1,7 @@
 use Rattle.std.proofs.Common.{◌≡◌, length, map, take}
 use Rattle.osek_base.specs.Lists.{below}
 use Rattle.kernel.specs.Processor.{picture, system_of}
-use Rattle.kernel.specs.Told.{task_at_in}
+use Rattle.seen_ticks.specs.Told.{task_at_in}
 use Rattle.kernel.proofs.looker.see_tasks.Given as goal
 
 -- what those gone over are

@@ -2,7 +2,7 @@ use Rattle.std.proofs.Common.{◌≡◌, map}
 use Rattle.std.specs.Prelude.{◌==◌}
 use Rattle.osek_base.specs.Lists.{below}
 use Rattle.kernel.specs.Progress.{run_of}
-use Rattle.observed_runs.specs.Observed.{jobs_before}
+use Rattle.seen_ticks.specs.Observed.{jobs_before}
 use Rattle.observed_runs.proofs.before.see_jobs.Given as goal
 
 -- what is seen of those gone over

@@ -1,7 +1,7 @@
 use Rattle.std.proofs.Common.{◌≡◌, map}
 use Rattle.osek_base.specs.Lists.{below}
 use Rattle.kernel.specs.Progress.{run_of}
-use Rattle.observed_runs.specs.Observed.{is_pending}
+use Rattle.seen_ticks.specs.Observed.{is_pending}
 use Rattle.observed_runs.proofs.before.see_pending.Given as goal
 
 -- what is seen of those gone over

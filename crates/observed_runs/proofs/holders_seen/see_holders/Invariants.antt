@@ -1,7 +1,7 @@
 use Rattle.std.proofs.Common.{◌≡◌, map}
 use Rattle.osek_base.specs.Lists.{below}
 use Rattle.osek_base.specs.declared.ids.ResId.{ResId}
-use Rattle.kernel.specs.Shown.{holder}
+use Rattle.seen_ticks.specs.Shown.{holder}
 use Rattle.kernel.specs.Progress.{run_of}
 use Rattle.observed_runs.proofs.holders_seen.see_holders.Given as goal
 

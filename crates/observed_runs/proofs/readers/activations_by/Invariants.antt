@@ -1,5 +1,5 @@
 use Rattle.osek_base.specs.System.{alarm}
-use Rattle.observed_runs.specs.Observed.{is_activation}
+use Rattle.seen_ticks.specs.Observed.{is_activation}
 use Rattle.observed_runs.proofs.Counting.{AreCounted}
 use Rattle.observed_runs.proofs.readers.activations_by.Given as goal
 

@@ -1,5 +1,5 @@
 use Rattle.std.proofs.Common.{◌≡◌, drop}
-use Rattle.observed_runs.specs.Observed.{is_among}
+use Rattle.seen_ticks.specs.Observed.{is_among}
 use Rattle.observed_runs.proofs.readers.is_among.Given as goal
 
 -- whether it is among those left

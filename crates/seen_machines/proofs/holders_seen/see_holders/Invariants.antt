@@ -1,7 +1,7 @@
 use Rattle.std.proofs.Common.{◌≡◌, length, map, take}
 use Rattle.osek_base.specs.Lists.{below}
 use Rattle.osek_base.specs.declared.ids.ResId.{ResId}
-use Rattle.services.specs.Seen.{holder_in}
+use Rattle.kept_state.specs.Seen.{holder_in}
 use Rattle.kernel.specs.Machine.{picture, system_of}
 use Rattle.seen_machines.proofs.holders_seen.see_holders.Given as goal
 

@@ -3,7 +3,7 @@ use Rattle.osek_base.specs.declared.arrivals.Arrival.{Arrival}
 use Rattle.osek_base.specs.ArrivalList.{is_arrival_list}
 use Rattle.osek_base.specs.System.{System}
 use Rattle.kernel.specs.Machine.{HasCome, next_tick}
-use Rattle.kernel.specs.Progress.{AreLeft}
+use Rattle.kernel.specs.Progress.{AreLeft, IsNextArrival}
 use Rattle.kernel.proofs.ArrivalLemmas.{all_left}
 use Rattle.kernel.proofs.kernel.Kernel.boot.Goals as goal
 
@@ -18,6 +18,7 @@ invariant_of-result g c =
       left =
           subst (λ n. AreLeft c.args.arrivals 0 n) (sym b.first)
           (all_left c.args.arrivals (sym (ap is_arrival_list c.arrivals.view_is) ∙ c.arrivals.invariant));
+      ahead = subst (λ (xs : List Arrival). IsNextArrival xs 0 c.next_arrival-next.result) c.list-2.ensures.value c.next_arrival-next.ensures;
       last = λ later. let none : next_tick m ≡ 0 = b.first in absurd (omega (arith, later, none));
       forward = omega arith;
       come = subst (λ (T : System). HasCome g.B.Blockers.are_counted T c.in-Some.mode c.args.arrivals (next_tick m) m) b.system (b.begins c.args.arrivals);

@@ -1,7 +1,7 @@
 use Rattle.std.proofs.Common.{◌-◌, ◌≤◌, sym, ◌∙◌, ap, subst}
 use Rattle.kernel.specs.declared.acted.Acted.{Acted}
 use Rattle.kernel.specs.Progress.{Progress}
-use Rattle.kernel.specs.Told.{due_in}
+use Rattle.seen_ticks.specs.Told.{due_in}
 use Rattle.kernel.proofs.kernel.Kernel.last_due.Goals as goal
 
 pub returns : goal.returns

@@ -1,6 +1,6 @@
 use Rattle.std.proofs.Common.{◌∙◌}
 use Rattle.kernel.proofs.RunLemmas.{going}
-use Rattle.kernel.proofs.ToldLemmas.{tasks_told}
+use Rattle.seen_ticks.proofs.ToldLemmas.{tasks_told}
 use Rattle.kernel.proofs.kernel.Kernel.tick_seen.Goals as goal
 
 pub returns-clause-seen : goal.returns-clause-seen

@@ -1,9 +1,9 @@
 use Rattle.std.proofs.Common.{◌∙◌, ap}
 use Rattle.kept_state.specs.KeptService.{task_state_in}
 use Rattle.services.specs.Objects.{Objects, by_task, kept_in}
-use Rattle.services.specs.Seen.{priority_in}
+use Rattle.kept_state.specs.Seen.{priority_in}
 use Rattle.kernel.specs.Processor.{Processor, picture, system_of}
-use Rattle.kernel.specs.Told.{task_at_in}
+use Rattle.seen_ticks.specs.Told.{task_at_in}
 use Rattle.kernel.proofs.processor.Processor.task_at.Goals as goal
 
 pub returns : goal.returns

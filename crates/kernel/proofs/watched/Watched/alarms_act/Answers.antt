@@ -1,7 +1,7 @@
 use Rattle.std.proofs.Common.{◌≡◌, ◌<◌, ◌++◌, length, ◌∙◌, ap, arith, subst}
 use Rattle.kernel.specs.Watches.{Watches, acting}
 use Rattle.kernel.specs.Processor.{picture, system_of}
-use Rattle.kernel.specs.Told.{acting_in, if_refused}
+use Rattle.seen_ticks.specs.Told.{acting_in, if_refused}
 use Rattle.kernel.proofs.ToldLemmas.{refused_more}
 use Rattle.kernel.proofs.WatchLemmas.{watched_more}
 use Rattle.kernel.proofs.watched.Watched.alarms_act.Goals as goal

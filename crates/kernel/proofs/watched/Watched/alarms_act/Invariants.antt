@@ -1,6 +1,6 @@
 use Rattle.std.proofs.Common.{◌≡◌, [], ◌≤◌, take, length}
 use Rattle.kernel.specs.Processor.{picture, system_of}
-use Rattle.kernel.specs.Told.{refused_of_in}
+use Rattle.seen_ticks.specs.Told.{refused_of_in}
 use Rattle.kernel.specs.Watches.{MayAct, Watches, all_acting}
 use Rattle.kernel.proofs.watched.Watched.alarms_act.Given as goal
 

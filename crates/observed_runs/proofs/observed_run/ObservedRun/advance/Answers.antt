@@ -1,6 +1,6 @@
 use Rattle.std.proofs.Common.{◌≡◌, ◌∙◌}
 use Rattle.kernel.specs.Progress.{Progress}
-use Rattle.observed_runs.specs.Observed.{holders_seen, tick_at}
+use Rattle.seen_ticks.specs.Observed.{holders_seen, tick_at}
 use Rattle.observed_runs.proofs.Seeing.{one_on}
 use Rattle.observed_runs.proofs.Staying.{holders_stay}
 use Rattle.observed_runs.proofs.observed_run.ObservedRun.advance.Goals as goal

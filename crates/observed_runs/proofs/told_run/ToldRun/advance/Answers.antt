@@ -6,7 +6,7 @@ use Rattle.osek_base.specs.Lists.{below}
 use Rattle.osek_base.specs.System.{System}
 use Rattle.kernel.specs.Progress.{Progress, is_over, run_of}
 use Rattle.observed_runs.specs.Keeping.{IsTold}
-use Rattle.observed_runs.specs.Observed.{ending, is_pending, jobs_before, refusing}
+use Rattle.seen_ticks.specs.Observed.{ending, is_pending, jobs_before, refusing}
 use Rattle.observed_runs.proofs.Seeing.{one_on, state_more}
 use Rattle.observed_runs.proofs.Telling.{executed_told}
 use Rattle.observed_runs.proofs.told_run.ToldRun.advance.Goals as goal

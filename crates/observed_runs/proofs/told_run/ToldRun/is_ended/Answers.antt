@@ -1,7 +1,7 @@
 use Rattle.std.proofs.Common.{◌≤◌, sym, ◌∙◌, ap, subst}
 use Rattle.kernel.specs.Progress.{Progress}
 use Rattle.observed_runs.specs.Keeping.{last_tick}
-use Rattle.observed_runs.specs.Observed.{ending, is_number}
+use Rattle.seen_ticks.specs.Observed.{ending, is_number}
 use Rattle.observed_runs.proofs.told_run.ToldRun.is_ended.Goals as goal
 
 pub returns : goal.returns

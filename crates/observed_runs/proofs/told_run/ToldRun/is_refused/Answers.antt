@@ -1,7 +1,7 @@
 use Rattle.std.proofs.Common.{◌≤◌, sym, ◌∙◌, ap, subst}
 use Rattle.kernel.specs.Progress.{Progress}
 use Rattle.observed_runs.specs.Keeping.{last_tick}
-use Rattle.observed_runs.specs.Observed.{is_number, refusing}
+use Rattle.seen_ticks.specs.Observed.{is_number, refusing}
 use Rattle.observed_runs.proofs.told_run.ToldRun.is_refused.Goals as goal
 
 pub returns : goal.returns

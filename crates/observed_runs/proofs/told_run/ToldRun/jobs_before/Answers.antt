@@ -1,7 +1,7 @@
 use Rattle.std.proofs.Common.{◌<◌, ◌≤◌, length, sym, ◌∙◌, ap, subst}
 use Rattle.kernel.specs.Progress.{Progress}
 use Rattle.observed_runs.specs.Keeping.{last_tick}
-use Rattle.observed_runs.specs.Observed.{jobs_before}
+use Rattle.seen_ticks.specs.Observed.{jobs_before}
 use Rattle.observed_runs.proofs.Seeing.{inside, read_at}
 use Rattle.observed_runs.proofs.told_run.ToldRun.jobs_before.Goals as goal
 

@@ -2,7 +2,7 @@ use Rattle.std.proofs.Common.{◌<◌, ◌-◌, length, sym, subst}
 use Rattle.std.specs.List.{AllByRecursion}
 use Rattle.osek_base.specs.System.{System}
 use Rattle.kernel.specs.Progress.{Progress}
-use Rattle.kernel.specs.Told.{refused_in}
+use Rattle.seen_ticks.specs.Told.{refused_in}
 use Rattle.observed_runs.proofs.RefusedAlarms.{refused_known}
 use Rattle.observed_runs.proofs.told_run.ToldRun.refused_by_alarms.Goals as goal
 

@@ -1,7 +1,7 @@
 use Rattle.std.proofs.Common.{◌≡◌, map}
 use Rattle.osek_base.specs.Lists.{below}
 use Rattle.observed_runs.specs.Keeping.{last_tick}
-use Rattle.observed_runs.specs.Observed.{routine_seen}
+use Rattle.seen_ticks.specs.Observed.{routine_seen}
 use Rattle.observed_runs.proofs.told_run.ToldRun.see_routines.Given as goal
 
 -- what is seen of those gone over

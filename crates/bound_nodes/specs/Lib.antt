@@ -1,0 +1,3 @@
+pub mod Ground
+pub mod Figures
+pub mod Found
