@@ -1,6 +1,13 @@
 pub mod AddLemmas
+pub mod AlikeLemmas
+pub mod CalmLemmas
+pub mod EnterLemmas
 pub mod FigureLemmas
+pub mod HoldLemmas
 pub mod ListLemmas
+pub mod PendLemmas
 pub mod QuietLemmas
+pub mod RowLemmas
 pub mod StepLemmas
 pub mod SumLemmas
+pub mod TimeLemmas

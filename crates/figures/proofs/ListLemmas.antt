@@ -20,7 +20,7 @@ list_more n kind seen now old new are step = record {
 }
 
 -- what stands in a list after its elements were changed through a slice
-refilled : {X : Type 0} (xs ws : List X) → length ws ≡ length xs → refill (length xs) xs ws ≡ ws
+pub refilled : {X : Type 0} (xs ws : List X) → length ws ≡ length xs → refill (length xs) xs ws ≡ ws
 refilled xs ws e =
     let none : drop (length ws) xs ≡ [] = drop_all (length ws) xs (omega arith) in
     rw (none, append-nil) (take_all (length xs) ws (omega arith))

@@ -1,8 +1,7 @@
 -- In a quiet tick figures stay as they are, but for jobs that were unfinished and holds that went on.
-use Rattle.std.proofs.Common.{ℕ, ◌≡◌, ◌+◌, ◌-◌, Bool, true, false, not, ◌&&◌, List, [], ◌∷◌, cond, nat_lt, Option, Some, None, get_or, length, refl, ◌∙◌, ap, ap₂, arith, eqb-true}
+use Rattle.std.proofs.Common.{ℕ, ◌≡◌, ◌+◌, ◌-◌, Bool, true, false, not, ◌&&◌, List, ◌∷◌, cond, nat_lt, Option, Some, None, get_or, length, refl, ◌∙◌, ap, ap₂, arith, eqb-true}
 use Rattle.std.specs.Prelude.{is_none, is_some, ◌==◌, ◌||◌}
 use Rattle.std.proofs.lemmas.Bool.{and_parts, false≢true, not-true}
-use Rattle.osek_base.specs.declared.ids.Owner.{Owner}
 use Rattle.osek_base.specs.declared.status.TaskState.{TaskState}
 use Rattle.osek_base.specs.declared.status.TaskState.TheVariants.{Running, Waiting, Ready, Suspended}
 use Rattle.observations.specs.declared.observation.Observation.{Observation}
@@ -24,19 +23,19 @@ use Rattle.figures.specs.Reaching.{first_tick, worse_of}
 use Rattle.figures.specs.TaskSums.{task_counts, left_jobs, more_blockers}
 use Rattle.figures.specs.declared.task_time.TaskTime.TheVariants.{Executed, Waits, HasNoJob}
 use Rattle.figures.specs.StateSums.{task_times, time_of, begun, leaves, is_executed, is_ready, is_preempted, is_blocked, is_waited, is_running, ready_time}
-use Rattle.figures.specs.ResponseSums.{Responses, response_figures, entered, standing, some_more, ready_since, responses}
+use Rattle.figures.specs.ResponseSums.{Responses, response_figures, entered, standing, some_more, ready_since}
 use Rattle.figures.specs.RoutineSums.{routine_figures, since, still, latency}
 use Rattle.figures.specs.ResourceSums.{resource_figures, is_got, hold_on, hold_at}
 use Rattle.figures.specs.AlarmSums.{alarm_figures}
 use Rattle.figures.specs.FigureSums.{task_figures, task_tick, routine_tick, holder_tick, alarm_tick, is_task, is_routine, is_error, unseen_task, unseen_routine, unseen_alarm}
-use Rattle.figures.specs.Quiet.{is_suspended, has_nothing, gets_nothing, is_quiet_task, is_unasked, is_quiet_routine, is_free, is_unexpired, is_quiet_alarm}
+use Rattle.figures.specs.Quiet.{is_suspended, has_nothing, gets_nothing, is_quiet_task, is_unasked, is_quiet_routine, is_free, is_quiet_alarm}
 use Rattle.figures.proofs.StepLemmas.{task_more, times_more, alarm_more, routine_more, resource_more}
 
 -- a count to which nothing comes
-kept_count : (old n m : ℕ) → old ≡ capped n → m ≡ 0 → capped (old + m) ≡ old
+pub kept_count : (old n m : ℕ) → old ≡ capped n → m ≡ 0 → capped (old + m) ≡ old
 kept_count old n m e none = omega (arith, e, none)
 
-first_stays : (tick : ℕ) (first : Option ℕ) → first_tick false tick first ≡ first
+pub first_stays : (tick : ℕ) (first : Option ℕ) → first_tick false tick first ≡ first
 first_stays tick None = refl
 first_stays tick (Some u) = refl
 
@@ -147,7 +146,7 @@ quiet_task levels o k before old new quiet is e =
     let r = responses_stay t before old.responses (ap (λ (f : TaskFigures). f.responses) e) q in
     cc
 
-no_latency : (r : RoutineTick) (flag : Option ℕ) → r.seen.is_started ≡ false → latency r flag ≡ None
+pub no_latency : (r : RoutineTick) (flag : Option ℕ) → r.seen.is_started ≡ false → latency r flag ≡ None
 no_latency r None h = refl
 no_latency r (Some u) h = ap (λ b. cond b (Some (record { ticks = r.tick - u; at = r.tick })) None) h
 

@@ -1,4 +1,5 @@
 pub mod AlarmSums
+pub mod Calm
 pub mod Counts
 pub mod FigureSums
 pub mod Quiet

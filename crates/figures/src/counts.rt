@@ -20,3 +20,14 @@ pub fn added(count: u32, more: u32) -> u32
 {
     count.saturating_add(more)
 }
+
+/// A count, some more where something holds.
+pub fn added_where(count: u32, more: u32, holds: bool) -> u32
+    ensures { result ≡ capped (count + cond holds more 0) }
+{
+    if holds {
+        count.saturating_add(more)
+    } else {
+        count
+    }
+}

@@ -1,16 +1,19 @@
 //! Figures of a run.
 
-ghost use Rattle.std.specs.Prelude.{List, [], ◌∷◌, ◌≡◌, ◌-◌};
+ghost use Rattle.std.specs.Prelude.{List, [], ◌∷◌, ◌≡◌, ◌-◌, ◌<◌};
 ghost use Rattle.osek_base.specs.System.{System};
 ghost use Rattle.observations.specs.declared.observation.Observation.{Observation};
 ghost use Rattle.figures.specs.FigureSums.{AreFigures, alike, numbered};
 
 use crate::alarm_figures::AlarmFigures;
+use crate::alike::{
+    observe_alarms_alike, observe_resources_alike, observe_routines_alike, observe_tasks_alike,
+};
 use crate::broken::{
     number_of, push_alarm_refusals, push_losses, push_task_refusals, push_time, routine_time,
     task_time,
 };
-use crate::counts::counted;
+use crate::counts::{added, added_where, counted};
 use crate::csv_text::csv_text;
 use crate::form::Form;
 use crate::json_text::json_text;
@@ -96,9 +99,26 @@ impl Figures {
         ensures { (S : System) (before : List Observation) → AreFigures S before self.old
             → AreFigures S (alike observation.now first (end - first) before) self.new }
     {
-        for number in 0..end.saturating_sub(first) {
-            self.observe_at(first + number, observation);
+        if first < end {
+            self.observe_row(observation, first, end);
         }
+    }
+
+    // All ticks from one on and before another are seen at once.
+    fn observe_row(&mut self, observation: &Observation, first: u32, end: u32)
+        requires { first < end }
+        ensures { (S : System) (before : List Observation) → AreFigures S before self.old
+            → AreFigures S (alike observation.now first (end - first) before) self.new }
+    {
+        let count = end - first;
+        self.ticks = added(self.ticks, count);
+        self.last = end - 1;
+        self.idle = added_where(self.idle, count, is_idle(observation));
+        let levels = self.levels.as_slice();
+        observe_tasks_alike(self.tasks.as_mut_slice(), levels, first, end, observation);
+        observe_routines_alike(self.routines.as_mut_slice(), first, end, observation);
+        observe_resources_alike(self.resources.as_mut_slice(), first, end, observation);
+        observe_alarms_alike(self.alarms.as_mut_slice(), first, end, observation);
     }
 
     /// A tick more is seen, of that number; else all is as in an observation.

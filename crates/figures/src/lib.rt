@@ -2,7 +2,9 @@
 #![tactic(auto)]
 
 mod alarm_figures;
+mod alike;
 mod broken;
+mod calm;
 mod cells;
 mod counts;
 mod csv_text;

@@ -47,9 +47,9 @@ fn observe_task(
     }
 }
 
-// A tick more of a task that has a job, or to which something comes.
+// A tick more of a task, in which anything may come to it.
 #[inline(never)]
-fn note_task(
+fn count_task(
     figures: &mut TaskFigures,
     levels: &[u8],
     tick: u32,
@@ -62,6 +62,29 @@ fn note_task(
         ≡ task_figures (task_tick levels.now (numbered tick observation.now) number ∷ before) }
 {
     figures.observe(&task_tick(levels, tick, observation, number));
+}
+
+/// A tick more of a task that has a job, or to which something comes. In most of them its times
+/// alone grow.
+#[inline(always)]
+pub fn note_task(
+    figures: &mut TaskFigures,
+    levels: &[u8],
+    tick: u32,
+    observation: &Observation,
+    number: usize,
+)
+    requires { number < length levels.now }
+    ensures { (before : List TaskTick) → figures.old ≡ task_figures before
+        → figures.new
+        ≡ task_figures (task_tick levels.now (numbered tick observation.now) number ∷ before) }
+{
+    let seen = task_tick(levels, tick, observation, number);
+    if figures.is_calm(&seen) {
+        figures.observe_calm(&seen);
+    } else {
+        count_task(figures, levels, tick, observation, number);
+    }
 }
 
 // A tick more of a routine. In a quiet one nothing has to be counted.
@@ -82,9 +105,14 @@ fn observe_routine(
     note_routine(figures, tick, observation, number);
 }
 
-// A tick more of a routine that is asked for.
+/// A tick more of a routine that is asked for.
 #[inline(never)]
-fn note_routine(figures: &mut RoutineFigures, tick: u32, observation: &Observation, number: usize)
+pub fn note_routine(
+    figures: &mut RoutineFigures,
+    tick: u32,
+    observation: &Observation,
+    number: usize,
+)
     ensures { (before : List RoutineTick) → figures.old ≡ routine_figures before
         → figures.new
         ≡ routine_figures (routine_tick (numbered tick observation.now) number ∷ before) }
@@ -111,9 +139,14 @@ fn observe_resource(
     }
 }
 
-// A tick more of a resource that is held.
-#[inline(never)]
-fn note_resource(figures: &mut ResourceFigures, tick: u32, observation: &Observation, number: usize)
+/// A tick more of a resource that is held.
+#[inline(always)]
+pub fn note_resource(
+    figures: &mut ResourceFigures,
+    tick: u32,
+    observation: &Observation,
+    number: usize,
+)
     ensures { (before : List HolderTick) → figures.old ≡ resource_figures before
         → figures.new
         ≡ resource_figures (holder_tick (numbered tick observation.now) number ∷ before) }
@@ -134,9 +167,9 @@ fn observe_alarm(figures: &mut AlarmFigures, tick: u32, observation: &Observatio
     note_alarm(figures, tick, observation, number);
 }
 
-// A tick more of an alarm that expires.
+/// A tick more of an alarm that expires.
 #[inline(never)]
-fn note_alarm(figures: &mut AlarmFigures, tick: u32, observation: &Observation, number: usize)
+pub fn note_alarm(figures: &mut AlarmFigures, tick: u32, observation: &Observation, number: usize)
     ensures { (before : List AlarmTick) → figures.old ≡ alarm_figures before
         → figures.new
         ≡ alarm_figures (alarm_tick (numbered tick observation.now) number ∷ before) }

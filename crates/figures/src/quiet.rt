@@ -13,7 +13,7 @@ ghost use Rattle.figures.specs.Quiet.{
   is_quiet_alarm,
 };
 
-use crate::seen::{alarm_seen, holder_seen, is_routine, is_task, routine_seen, task_seen};
+use crate::seen::{alarm_seen, holder_seen, is_routine, is_task};
 use observations::{AlarmSeen, Observation, RoutineSeen, TaskSeen};
 use osek_base::TaskState;
 
@@ -32,9 +32,9 @@ fn has_nothing(seen: TaskSeen) -> bool
     is_suspended(seen.state) && seen.jobs == 0
 }
 
-// Whether no job of a task is made, refused or left.
+/// Whether no job of a task is made, refused or left.
 #[inline(always)]
-fn gets_nothing(seen: TaskSeen) -> bool
+pub fn gets_nothing(seen: TaskSeen) -> bool
     ensures { result ≡ gets_nothing seen }
 {
     seen.made == 0 && seen.refused == 0 && !seen.ended && !seen.waits
@@ -45,8 +45,13 @@ fn gets_nothing(seen: TaskSeen) -> bool
 pub fn is_quiet_task(observation: &Observation, number: usize) -> bool
     ensures { result ≡ is_quiet_task observation.now number }
 {
-    let seen = task_seen(observation.tasks.as_slice(), number);
-    has_nothing(seen) && gets_nothing(seen) && !is_task(&observation.executor, number)
+    match observation.tasks.as_slice().get(number) {
+        Some(seen) => {
+            let rests = has_nothing(*seen) && gets_nothing(*seen);
+            rests && !is_task(&observation.executor, number)
+        }
+        None => !is_task(&observation.executor, number),
+    }
 }
 
 // Whether no interrupt of a routine arrives or is pending, and it isn't started.
@@ -62,8 +67,10 @@ fn is_unasked(seen: RoutineSeen) -> bool
 pub fn is_quiet_routine(observation: &Observation, number: usize) -> bool
     ensures { result ≡ is_quiet_routine observation.now number }
 {
-    let seen = routine_seen(observation.routines.as_slice(), number);
-    is_unasked(seen) && !is_routine(&observation.executor, number)
+    match observation.routines.as_slice().get(number) {
+        Some(seen) => is_unasked(*seen) && !is_routine(&observation.executor, number),
+        None => !is_routine(&observation.executor, number),
+    }
 }
 
 /// Whether nobody holds a resource in a tick.

@@ -1,8 +1,9 @@
 //! OSEK/VDX OS: resource management. Figures of a resource.
 
-ghost use Rattle.std.specs.Prelude.{List, [], ◌∷◌, ◌≡◌, None};
+ghost use Rattle.std.specs.Prelude.{List, [], ◌∷◌, ◌≡◌, ◌+◌, ◌<◌, ◌^◌, None, true};
 ghost use Rattle.figures.specs.declared.resource_figures.HolderTick.{HolderTick};
 ghost use Rattle.figures.specs.ResourceSums.{resource_figures, is_same, is_got, hold_on, hold_at};
+ghost use Rattle.figures.specs.Calm.{can_hold_on, held_on};
 
 use crate::counts::counted;
 use crate::reached::{Reached, worse_of};
@@ -99,6 +100,7 @@ impl ResourceFigures {
     }
 
     /// A tick more is seen.
+    #[inline(always)]
     pub fn observe(&mut self, tick: &HolderTick)
         ensures { (before : List HolderTick) → self.old ≡ resource_figures before
             → self.new ≡ resource_figures (tick.now ∷ before) }
@@ -106,6 +108,30 @@ impl ResourceFigures {
         self.gets = counted(self.gets, is_got(tick.holder, self.holder));
         self.held = self.hold_on(tick.holder);
         self.longest = worse_of(self.longest, tick.hold(self.held));
+        self.holder = tick.holder;
+    }
+
+    /// Whether a task holds it in a tick, and so many ticks more of its hold can be counted.
+    pub(crate) fn can_hold_on(&self, tick: &HolderTick, more: u32) -> bool
+        ensures { result ≡ can_hold_on tick.now more self.now }
+    {
+        tick.holder.task().is_some() && self.hold_on(tick.holder) <= u32::MAX - more
+    }
+
+    /// A tick and some more are seen, in all of which one task holds it: each finds a longer hold
+    /// than the one before, so the last one tells how long it is.
+    pub(crate) fn hold(&mut self, tick: &HolderTick, more: u32)
+        requires ends { tick.now.tick + more < 2 ^ 32 }
+        requires fits { can_hold_on tick.now more self.old ≡ true }
+        ensures { self.new ≡ held_on tick.now more self.old }
+    {
+        self.gets = counted(self.gets, is_got(tick.holder, self.holder));
+        self.held = self.hold_on(tick.holder) + more;
+        let last = HolderTick {
+            tick: tick.tick + more,
+            holder: tick.holder,
+        };
+        self.longest = worse_of(self.longest, last.hold(self.held));
         self.holder = tick.holder;
     }
 }

@@ -1,11 +1,12 @@
 //! OSEK/VDX OS: task management. Responses of a task's jobs.
 
-ghost use Rattle.std.specs.Prelude.{List, [], ◌∷◌, ◌≡◌, None, cond};
+ghost use Rattle.std.specs.Prelude.{List, [], ◌∷◌, ◌≡◌, None, cond, nat_le, length};
 ghost use Rattle.figures.specs.declared.task_tick.TaskTick.{TaskTick};
 ghost use Rattle.figures.specs.ResponseSums.{
   response_figures,
   response,
   oldest_response,
+  standing,
   later,
   entered,
   some_more,
@@ -68,6 +69,14 @@ impl ResponseFigures {
         ensures { result ≡ oldest_response tick self.now.ready_since }
     {
         oldest(&self.ready_since, tick)
+    }
+
+    /// Whether all jobs that stand in a tick were followed before.
+    #[inline(always)]
+    pub fn follows(&self, tick: &TaskTick) -> bool
+        ensures { result ≡ nat_le (standing tick.now) (length self.now.ready_since) }
+    {
+        usize::from(tick.standing()) <= self.ready_since.len()
     }
 
     /// A tick more is seen.

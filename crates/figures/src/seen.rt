@@ -153,6 +153,7 @@ fn lower_executes(levels: &[u8], executor: &Option<Owner>, number: usize) -> boo
 
 /// What an observation has of a task, as of a tick of that number, by the static priorities of all
 /// tasks.
+#[inline(always)]
 pub fn task_tick(levels: &[u8], tick: u32, observation: &Observation, number: usize) -> TaskTick
     requires { number < length levels.now }
     ensures { result ≡ task_tick levels.now (numbered tick observation.now) number }

@@ -1,11 +1,13 @@
 //! OSEK/VDX OS: task management. Figures of a task.
 
-ghost use Rattle.std.specs.Prelude.{List, [], ◌∷◌, ◌≡◌};
+ghost use Rattle.std.specs.Prelude.{List, [], ◌∷◌, ◌≡◌, true};
 ghost use Rattle.figures.specs.declared.task_tick.TaskTick.{TaskTick};
 ghost use Rattle.figures.specs.FigureSums.{task_figures};
 ghost use Rattle.figures.specs.ResponseSums.{oldest_response};
 ghost use Rattle.figures.specs.Reaching.{worse_of};
+ghost use Rattle.figures.specs.Calm.{is_calm_next, times_on};
 
+use crate::calm::is_calm_task;
 use crate::reached::{Reached, worse_of};
 use crate::response_figures::ResponseFigures;
 use crate::task_counts::TaskCounts;
@@ -61,6 +63,34 @@ impl TaskFigures {
         self.counts.observe(tick);
         self.times.observe(tick);
         self.responses.observe(tick);
+    }
+
+    /// Whether nothing comes to the task in a tick, and its jobs that stand were followed before.
+    #[inline(always)]
+    pub(crate) fn is_calm(&self, tick: &TaskTick) -> bool
+        ensures { result ≡ is_calm_next tick.now self.now }
+    {
+        is_calm_task(tick) && self.responses.follows(tick)
+    }
+
+    /// A tick more is seen, in which nothing comes to the task, and its jobs that stand were
+    /// followed before: its times alone grow.
+    #[inline(always)]
+    pub(crate) fn observe_calm(&mut self, tick: &TaskTick)
+        requires { is_calm_next tick.now self.old ≡ true }
+        ensures { (before : List TaskTick) → self.old ≡ task_figures before
+            → self.new ≡ task_figures (tick.now ∷ before) }
+    {
+        self.counts.unfinished = u32::from(tick.left_jobs());
+        self.times.observe(tick);
+    }
+
+    /// Some ticks more are seen that are like the last one, in which nothing came to the task. Its
+    /// times alone grow: the jobs that stand have been followed since that one.
+    pub(crate) fn go_on(&mut self, tick: &TaskTick, more: u32)
+        ensures { self.new ≡ record self.old { times = times_on tick.now more self.old.times } }
+    {
+        self.times.go_on(tick, more);
     }
 
     /// The greatest response, or the age of the oldest job behind a last tick, if that is greater.

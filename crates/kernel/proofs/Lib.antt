@@ -26,6 +26,8 @@ pub mod IdleLemmas
 pub mod IdleRuns
 pub mod SteadyLemmas
 pub mod SteadyRuns
+pub mod WorkLemmas
+pub mod WorkRuns
 pub mod BootStamps
 pub mod BootLemmas
 pub mod LawLemmas

@@ -26,12 +26,15 @@ use Rattle.kept_state.proofs.Fitting.{fits_where_standing}
 use Rattle.kept_state.proofs.Quiet.{alarm_phase_silent}
 use Rattle.blocking_laws.specs.Restamping.{StampLists, alarm_phase_restamped, alarms_restamped, before_restamped, preempted_by, reschedule_restamped}
 use Rattle.services.specs.Objects.{Objects, kept_in}
-use Rattle.services.specs.Quiet.{HasPassed as PassesByObjects, IsSteady}
+use Rattle.services.specs.Quiet.{HasPassed as PassesByObjects}
+use Rattle.services.specs.Steady.{IsSteady}
 use Rattle.kernel.specs.declared.acted.Acted.{Acted}
 use Rattle.kernel.specs.Machine.{HasTicked, IsMachine, Machine, MayTick, Ticks, between, next_tick, picture as picture_in}
 use Rattle.kernel.specs.Processor.{MayFetch, Processor, at_tick, picture, system_of}
 use Rattle.kernel.specs.Steady.{BeginsSteady, PassesSteady}
+use Rattle.kernel.specs.Stamping.{number_for, number_told}
 use Rattle.kernel.specs.Told.{acted_in}
+use Rattle.kernel.specs.Working.{HasTickedSteady}
 use Rattle.kernel.specs.Watches.{Begins, Finishes, HasBegun, Watched, Watches, early, watched_at}
 use Rattle.kernel.proofs.DoesLemmas.{does_nothing, nothing_by_objects, processor_of}
 use Rattle.kernel.proofs.IdleLemmas.{none_acted, unacted}
@@ -64,30 +67,38 @@ module _ (S : System) (n : ℕ) where
       ∙ either_at (may_dispatch_in o) _ _
 
   -- it is so at another tick too
-  steady_at : (o : Kept) (t : ℕ) → IsSteady S o t → IsSteady S (at n o) t
+  pub steady_at : (o : Kept) (t : ℕ) → IsSteady S o t → IsSteady S (at n o) t
   steady_at o t steady = record {
     on = steady.on;
     runs = steady.runs;
     stands = steady.stands;
     no_routine = steady.no_routine;
     none_pending = steady.none_pending;
+    known = steady.known;
     dispatched = rescheduled_at o ∙ ap (recorded_at n) steady.dispatched;
   }
 
 -- the words of windows aside
+pub steady_of_objects : (m : Processor) (o : Objects) (words : List ℕ) (t : ℕ) → processor_of o words ≡ m
+    → IsSteady o.system (kept_in o) t → IsSteady (system_of m) (picture m) t
+steady_of_objects m o words t is steady =
+    subst (λ (x : Processor). IsSteady (system_of x) (picture x) t) is
+    (record {
+      on = steady.on;
+      runs = steady.runs;
+      stands = steady.stands;
+      no_routine = steady.no_routine;
+      none_pending = steady.none_pending;
+      known = steady.known;
+      dispatched = nothing_by_objects (processor_of o words) o words refl steady.dispatched;
+    })
+
 pub steady_by_objects : (m : Processor) (o n : Objects) (words : List ℕ) (t : ℕ) → processor_of o words ≡ m
     → IsSteady o.system (kept_in o) t → PassesByObjects 1 o n → PassesSteady m (processor_of n words) t
 steady_by_objects m o n words t is steady passed =
     subst (λ x. PassesSteady x (processor_of n words) t) is
     (record {
-      steady = record {
-        on = steady.on;
-        runs = steady.runs;
-        stands = steady.stands;
-        no_routine = steady.no_routine;
-        none_pending = steady.none_pending;
-        dispatched = nothing_by_objects (processor_of o words) o words refl steady.dispatched;
-      };
+      steady = steady_of_objects (processor_of o words) o words t refl steady;
       passed = record { none = λ k low. passed.none k low; after = ap (λ x. processor_of x words) passed.after };
     })
 
@@ -119,11 +130,11 @@ module _ (S : System) (o : Kept) (t : ℕ) (steady : IsSteady S o t) where
       go true = ap (λ c. routine_started_in c o) steady.none_pending
       go false = refl
 
-  calls : caller_in o ≡ ByTask t
+  pub calls : caller_in o ≡ ByTask t
   calls = λ i. caller_by (is_some (steady.no_routine i)) (steady.runs i) (steady.stands i)
 
   module _ (size : length o.alarms ≡ length S.alarms) (none : due_alarms S (bare o) ≡ []) where
-    before_silent : before_execution_in S [] o ≡ silent_in o
+    pub before_silent : before_execution_in S [] o ≡ silent_in o
     before_silent =
         ap (λ (r : KeptRecorded). begun (and_then_in r (λ a. rescheduled S (arrival_phase_in [] a)))) (alarm_phase_silent S o size none)
         ∙ ap (λ (r : KeptRecorded). begun (record { events = [] ++ r.events; state = r.state })) steady.dispatched
@@ -140,7 +151,7 @@ module _ (S : System) (o : Kept) (t : ℕ) (steady : IsSteady S o t) where
         ∙ ap (λ due. alarms_restamped S u due (advanced_in S o) xs) none
 
 -- the task stands at a place of its program
-placed_in_run : (S : System) (proper : IsProper S) (mode : ℕ) (arrivals : List Arrival) (n : ℕ) (o : Kept) (t : ℕ)
+pub placed_in_run : (S : System) (proper : IsProper S) (mode : ℕ) (arrivals : List Arrival) (n : ℕ) (o : Kept) (t : ℕ)
     → o ≡ kept S (run S mode arrivals n).state → IsSteady S o t → IsPlaced S (Owner.Task t) (o.slots t).context
 placed_in_run S proper mode arrivals n o t same steady =
     let good : IsRunState S (run S mode arrivals n).state = run_ordered S proper mode arrivals n in
@@ -162,7 +173,7 @@ module _ (counted : Bool) (n : ℕ) (w : Watched) (opening : List TraceEvent) (a
   abbrev o : Kept
   o = picture (at_tick w.processor n)
 
-  size : length o.alarms ≡ length S.alarms
+  pub size : length o.alarms ≡ length S.alarms
   size = (may_start counted w n opening acted h low opening refl).before.alarms
 
   clock_is : n ≡ w.processor.objects.tick + 1
@@ -171,11 +182,11 @@ module _ (counted : Bool) (n : ℕ) (w : Watched) (opening : List TraceEvent) (a
   steady : IsSteady S o t
   steady = steady_at S n (picture w.processor) t begins.passes.steady
 
-  none_due : due_alarms S (bare o) ≡ []
+  pub none_due : due_alarms S (bare o) ≡ []
   none_due =
       ap (λ k. due_alarms S (bare (picture (at_tick w.processor k)))) clock_is ∙ begins.passes.passed.none 0 (omega arith)
 
-  after : st ≡ watched_at w n
+  pub after : st ≡ watched_at w n
   after = λ i. record {
     processor = (begins.passes.passed.after ∙ ap (at_tick w.processor) (sym clock_is)) i;
     blocking = begins.same i;
@@ -205,10 +216,20 @@ module _ (counted : Bool) (n : ℕ) (w : Watched) (opening : List TraceEvent) (a
   pub has_begun_steady : (bg : Watched) → Begins counted n st bg → o.over ≡ false → HasBegun counted bg
   has_begun_steady bg two on = has_begun counted w n opening acted h low [] st bg [] [] on begins_tick two
 
+  -- the number that is told behind it is that of the task that executes
+  pub number_told_so : (bg la : Watched) (e : Executed) (behind : List TraceEvent) → Begins counted n st bg
+      → Finishes counted (n + 1) bg la (Some e) behind → counted ≡ true
+      → number_told la.blocking.told ≡ number_for S (caller_in o) w.blocking.told.last w.blocking.stamps
+  number_told_so bg la e behind two r counting =
+      ap number_told (r.reschedules.told ∙ r.executes.does.told)
+      ∙ subst (λ (x : Watched). number_told bg.blocking.told
+      ≡ number_for (system_of x.processor) (caller_in (picture x.processor)) x.blocking.told.last x.blocking.stamps) after
+      (two.blocking.spent counting).number
+
 -- the tick is done, and the machine keeps its run
 pub record IsSteadyTick (counted : Bool) (clock : ℕ) (old new : Machine) (executed : Executed) (behind : List TraceEvent) : Type 0 where
   pub keeps : IsMachine counted clock new
-  pub ticked : HasTicked counted [] old new [] (Some executed) behind
+  pub ticked : HasTickedSteady counted old new executed behind
 
 pub steady_ticked : (counted : Bool) (n : ℕ) (w st bg la : Watched) (opening behind : List TraceEvent) (acted now : Acted) (t : ℕ)
     (e : Executed) (m : Machine) → between w n opening acted ≡ m
@@ -232,12 +253,19 @@ steady_ticked counted n w st bg la opening behind acted now t e m is h begun may
     (record {
       keeps = all.keeps;
       ticked = record {
-        ticks = subst (λ T. Ticks [] (between w n opening acted) new (idle_or_executed T (Some e) ∷ behind)) system all.ticks;
-        goes_on = all.goes_on;
-        was_of_run = h.of_run;
-        of_run = all.keeps.of_run;
-        there = subst (λ T. IfSome (Some e) (StandsIn T)) system r.executes.there;
-        few = let few = r.few in omega (arith, few);
-        acted = acted_is;
+        ticked = record {
+          ticks = subst (λ T. Ticks [] (between w n opening acted) new (idle_or_executed T (Some e) ∷ behind)) system all.ticks;
+          goes_on = all.goes_on;
+          was_of_run = h.of_run;
+          of_run = all.keeps.of_run;
+          there = subst (λ T. IfSome (Some e) (StandsIn T)) system r.executes.there;
+          few = let few = r.few in omega (arith, few);
+          acted = acted_is;
+        };
+        begun = begun;
+        unwritten = none;
+        size = size counted n w opening acted h begun low st t begins;
+        none_due = none_due counted n w opening acted h begun low st t begins;
+        number = number_told_so counted n w opening acted h begun low st t begins bg la e behind two r;
       };
     })

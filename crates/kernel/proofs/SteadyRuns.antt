@@ -11,6 +11,7 @@ use Rattle.osek_base.specs.Trace.{arriving}
 use Rattle.kept_state.specs.Kept.{Kept}
 use Rattle.kernel.specs.Keeping.{IsKernel}
 use Rattle.kernel.specs.Machine.{HasCome, HasTicked, Machine, MayTick, next_tick, system_of}
+use Rattle.kernel.specs.Working.{HasTickedSteady}
 use Rattle.kernel.specs.Progress.{AreLeft, HasRunApart, HaveArrived, Progress, is_over}
 use Rattle.kernel.proofs.ArrivalLemmas.{none_between}
 use Rattle.kernel.proofs.IdleRuns.{progress}
@@ -37,8 +38,9 @@ module _ (counted : Bool) (S : System) (mode : ℕ) (arrivals : List Arrival) (l
     pub ran : HasRunApart old (progress S mode arrivals new) [] (Some executed) behind
 
   pub kernel_ticks : (coming ≡ next_tick m → ⊥) → (new : Machine) (e : Executed) (behind : List TraceEvent)
-      → HasTicked counted [] m new [] (Some e) behind → KernelTicks new e behind
-  kernel_ticks not_now new e behind done =
+      → HasTickedSteady counted m new e behind → KernelTicks new e behind
+  kernel_ticks not_now new e behind steady =
+      let done : HasTicked counted [] m new [] (Some e) behind = steady.ticked in
       let next = done.ticks.next in
       let here : HaveArrived arrivals (next_tick m) cursor cursor = v.ahead (next_tick m) not_now v.left in
       let none : arriving arrivals (next_tick m) ≡ [] =

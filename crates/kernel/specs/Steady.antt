@@ -1,6 +1,6 @@
 -- OSEK/VDX OS: task management; alarms. Ticks in which nothing comes before the instruction of the running task.
 use Rattle.std.specs.Prelude.{ℕ, ◌≡◌}
-use Rattle.services.specs.Quiet.{IsSteady}
+use Rattle.services.specs.Steady.{IsSteady}
 use Rattle.kernel.specs.Idle.{HasPassed}
 use Rattle.kernel.specs.Processor.{Processor, picture, system_of}
 use Rattle.kernel.specs.Watches.{Watched}

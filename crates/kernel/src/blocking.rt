@@ -20,7 +20,7 @@ use std::marker::{Model, PhantomData};
 /// number of blockers of who executed last. They are followed where blockers are counted, and else there are no stamps.
 #[derive(Drop)]
 pub struct Blocking<B: Blockers> {
-    stamps: JobStamps,
+    pub(crate) stamps: JobStamps,
     last: LastTicks,
     begun: Begun,
     blockers: PhantomData<B>,

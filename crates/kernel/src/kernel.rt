@@ -3,7 +3,6 @@
 ghost use Rattle.std.specs.Prelude.{◌≡◌, ◌<◌, ◌≤◌, ◌+◌, ◌-◌, ◌++◌, [], false, IfOk, MatchOption, Some, map, length};
 ghost use Rattle.osek_base.specs.BlockingText.{blockers_at};
 ghost use Rattle.osek_base.specs.Names.{number_of};
-ghost use Rattle.ready_queues.specs.LevelLists.{level_lists, by_level};
 ghost use Rattle.kept_state.specs.Kept.{kept};
 ghost use Rattle.kernel.specs.Stamping.{IsNumber};
 ghost use Rattle.kernel.specs.Machine.{HasCome};
@@ -39,7 +38,7 @@ pub struct Kernel<'s, Q: ReadyQueues, B: Blockers = Counted> {
     pub(crate) earlier: usize,
     pub(crate) arrived: usize,
     /// The tick of the next arrival, or the greatest number where none is left.
-    next: u32,
+    pub(crate) next: u32,
     pub(crate) machine: Machine<'s, Q, B>,
 }
 
@@ -132,14 +131,6 @@ impl<'s, Q: ReadyQueues, B: Blockers> Kernel<'s, Q, B> {
         ensures { result ≡ is_over self.now }
     {
         MAX_TICKS <= self.ticks() || self.is_shut_down()
-    }
-
-    /// The ready queues: for each level the tasks that are ready and don't run, oldest first.
-    pub fn queues(&self) -> &Q
-        ensures { by_level (level_lists (Q.queues result.now))
-            ≡ (kept self.now.system (run_of self.now).state).queues }
-    {
-        self.machine.queues()
     }
 
     /// The number of blockers of the job that executed in the last tick, where that was its first instruction since it became

@@ -23,6 +23,7 @@ mod seen;
 mod stamping;
 mod ticking;
 mod watched;
+mod working;
 
 pub use at_instruction::AtInstruction;
 pub use blockers::{Blockers, Counted, NotCounted};
@@ -30,3 +31,4 @@ pub use boot::BootFault;
 pub use kernel::Kernel;
 pub use places::give_places;
 pub use ticking::Machine;
+pub use working::Worked;

@@ -4,7 +4,6 @@
 ghost use Rattle.std.specs.Prelude.{◌≡◌, ◌<◌, false, slice_index_or, length};
 ghost use Rattle.std.specs.Option.{option_map};
 ghost use Rattle.osek_base.specs.State.{jobs_of};
-ghost use Rattle.osek_base.specs.Service.{task_state};
 ghost use Rattle.kept_state.specs.Seen.{routine_of};
 ghost use Rattle.kernel.specs.Stamping.{IsTask};
 ghost use Rattle.kernel.specs.Progress.{run_of};
@@ -13,19 +12,11 @@ ghost use Rattle.seen_ticks.specs.Told.{task_at};
 
 use crate::blockers::Blockers;
 use crate::kernel::Kernel;
-use osek_base::{IsrId, ResId, TaskId, TaskState};
+use osek_base::{IsrId, ResId, TaskId};
 use ready_queues::ReadyQueues;
 use seen_ticks::TaskAt;
 
 impl<'s, Q: ReadyQueues, B: Blockers> Kernel<'s, Q, B> {
-    /// The state of a task, as GetTaskState answers it (task management, task state model).
-    pub fn task_state(&self, task: TaskId) -> TaskState
-        requires { task < length self.now.system.tasks }
-        ensures { result ≡ task_state (run_of self.now).state task }
-    {
-        self.machine.core().objects().task_state(task)
-    }
-
     /// How many jobs a task has: those that were activated and have not ended (task management, activating a task).
     pub fn job_count(&self, task: TaskId) -> u8
         requires { task < length self.now.system.tasks }

@@ -10,6 +10,7 @@ ghost use Rattle.kernel.specs.Does.{PutsFirst};
 ghost use Rattle.kernel.specs.Idle.{StaysIdle};
 ghost use Rattle.kernel.specs.Stamping.{IsNumber, number_told};
 ghost use Rattle.kernel.specs.Machine.{HasTicked, IsBooted, IsCore, IsNextTick, IsSharedWord, MayTick, ShowsObjects, next_tick, picture, system_of};
+ghost use Rattle.kernel.specs.Working.{HasTickedSteady};
 ghost use Rattle.seen_ticks.specs.Told.{task_at_in};
 
 use crate::acted::Acted;
@@ -35,8 +36,8 @@ use std::mem;
 /// blockers of jobs, if it isn't told not to.
 #[derive(Drop)]
 pub struct Machine<'s, Q: ReadyQueues, B: Blockers = Counted> {
-    watched: Watched<'s, Q, B>,
-    ticks: u32,
+    pub(crate) watched: Watched<'s, Q, B>,
+    pub(crate) ticks: u32,
     /// The records of boot, until the first tick.
     opening: TickRecord,
     /// The alarms that were due in the last tick.
@@ -219,7 +220,7 @@ impl<'s, Q: ReadyQueues, B: Blockers> Machine<'s, Q, B> {
     pub fn tick_steady(&mut self, behind: &mut TickRecord) -> Option<Executed>
         requires { MayTick [] self.old }
         ensures { MatchOption result (self.new ≡ self.old)
-            (λ e. HasTicked B.are_counted [] self.old self.new [] (Some e) behind.new) }
+            (λ e. HasTickedSteady B.are_counted self.old self.new e behind.new) }
     {
         if self.ticks == 0 {
             return None;

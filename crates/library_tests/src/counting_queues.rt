@@ -65,7 +65,7 @@ fn calls_of(alloc: Global, system: &System) -> Result<[u32; 3], Fail> {
             let _records = kernel.tick();
         }
     }
-    let queues = kernel.queues();
+    let queues = kernel.machine().queues();
     Ok([queues.newest, queues.oldest, queues.taken])
 }
 

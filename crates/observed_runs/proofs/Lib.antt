@@ -1,8 +1,9 @@
 pub mod Bounds
 pub mod Counting
 pub mod RefusedAlarms
+pub mod Refusals
 pub mod SeenSteps
-pub mod Idling
+pub mod Alike
 pub mod Seeing
 pub mod Staying
 pub mod Telling

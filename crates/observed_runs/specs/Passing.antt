@@ -1,17 +1,59 @@
--- Ticks of an observed run in which nothing happens, no part of the standards.
-use Rattle.std.specs.Prelude.{ℕ, ◌≡◌, ◌<◌, ◌≤◌, ◌+◌, ◌-◌, Bool, [], ◌∷◌}
-use Rattle.osek_base.specs.declared.trace_event.TraceEvent.{TraceEvent}
+-- Ticks of an observed run in which the same is seen, no part of the standards.
+use Rattle.std.specs.Prelude.{ℕ, ◌≡◌, ◌<◌, ◌≤◌, ◌+◌, ◌-◌, Bool, true, false, List, [], ◌∷◌, Option, None, IfSome}
+use Rattle.std.specs.Option.{option_map}
+use Rattle.osek_base.specs.declared.arrivals.Arrival.{Arrival}
+use Rattle.osek_base.specs.declared.executed.Executed.{Executed}
+use Rattle.osek_base.specs.declared.ids.Owner.{Owner}
+use Rattle.osek_base.specs.Alarm.{due_alarms}
+use Rattle.osek_base.specs.BlockingText.{blockers_at}
+use Rattle.osek_base.specs.Executed.{StandsIn, idle_or_executed}
+use Rattle.osek_base.specs.System.{System}
+use Rattle.osek_base.specs.Trace.{arriving, run}
 use Rattle.observations.specs.declared.observation.Observation.{Observation}
-use Rattle.blocking_laws.specs.Steps.{record_at}
-use Rattle.kernel.specs.Progress.{Progress}
-use Rattle.seen_ticks.specs.Observed.{IsObserved}
+use Rattle.blocking_laws.specs.Steps.{record_at, step_at}
+use Rattle.kept_state.specs.Kept.{Kept, kept}
+use Rattle.kernel.specs.Progress.{Progress, run_of}
+use Rattle.kernel.specs.Working.{at_rest}
+use Rattle.seen_ticks.specs.Observed.{IsObserved, answered, ending, failure_of, owner_of, refusing}
 
--- so many ticks were done, at most some, each of which recorded Idle alone: what is seen of the last is, but for its number,
--- what is seen of each
+-- in a tick of a run nothing comes to a task, routine, resource or alarm: no interrupt arrives, no alarm is due, no number of
+-- blockers is told where they are counted, who executes, if anybody does, is answered nothing and neither ends a job nor makes
+-- one, and at rest what is kept of the state is the same before the tick, at its instruction and behind it
+pub record StaysAlike (counted : Bool) (S : System) (mode : ℕ) (arrivals : List Arrival) (t : ℕ) (o : Kept) (who : Option Owner) : Type 0 where
+  pub none_arrive : arriving arrivals t ≡ []
+  pub none_due : due_alarms S (run S mode arrivals t).state ≡ []
+  pub no_blockers : counted ≡ true → blockers_at S mode arrivals t ≡ None
+  pub executed : Option Executed
+  pub recorded : record_at S mode arrivals t ≡ idle_or_executed S executed ∷ []
+  pub owner : option_map owner_of executed ≡ who
+  pub answer : answered executed ≡ None
+  pub failure : failure_of executed ≡ None
+  pub ends : ending S executed ≡ None
+  pub refuses : refusing S executed ≡ None
+  pub before : at_rest (kept S (run S mode arrivals t).state) ≡ at_rest o
+  pub at : at_rest (kept S (step_at S mode arrivals t).executing) ≡ at_rest o
+  pub behind : at_rest (kept S (step_at S mode arrivals t).after) ≡ at_rest o
+
+-- so many ticks were done, at most some and none of them the first, each of which is such a tick; who executes is the same in
+-- each, and the last of them executed that
+pub record HasStayed (counted : Bool) (most : ℕ) (old new : Progress) (n : ℕ) (last : Option Executed) : Type 0 where
+  pub few : n ≤ most
+  pub not_first : 0 < n → 1 ≤ old.ticks
+  pub going : (k : ℕ) → k < n → (run old.system old.mode old.arrivals (old.ticks + k)).state.over ≡ false
+  pub who : Option Owner
+  pub stays : (k : ℕ) → k < n
+      → StaysAlike counted old.system old.mode old.arrivals (old.ticks + k) (kept old.system (run_of old).state) who
+  pub recorded : 0 < n → record_at old.system old.mode old.arrivals (old.ticks + (n - 1)) ≡ idle_or_executed old.system last ∷ []
+  pub next : new ≡ record old { ticks = old.ticks + n }
+
+pub record StaysOn (counted : Bool) (most : ℕ) (old new : Progress) (n : ℕ) : Type 0 where
+  pub last : Option Executed
+  pub stayed : HasStayed counted most old new n last
+
+-- so many ticks were done, at most some: what is seen of the last is, but for its number, what is seen of each
 pub record PassesAlike (counted : Bool) (most : ℕ) (old new : Progress) (n : ℕ) : Type 0 where
   pub few : n ≤ most
   pub next : new ≡ record old { ticks = old.ticks + n }
-  pub records : (k : ℕ) → k < n → record_at old.system old.mode old.arrivals (old.ticks + k) ≡ TraceEvent.Idle ∷ []
   pub alike : (k : ℕ) → k < n → (o : Observation)
       → IsObserved counted old.system old.mode old.arrivals (new.ticks - 1) o
       → IsObserved counted old.system old.mode old.arrivals (old.ticks + k) (record o { tick = old.ticks + k })

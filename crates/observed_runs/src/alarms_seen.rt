@@ -7,7 +7,7 @@ ghost use Rattle.seen_ticks.specs.Observed.{alarm_seen};
 
 use crate::told_run::ToldRun;
 use arrayvec::ArrayVec;
-use kernel::Blockers;
+use kernel::{Blockers, give_places};
 use observations::AlarmSeen;
 use osek_base::{AlarmId, MAX_ALARMS};
 
@@ -24,15 +24,17 @@ impl<'s, B: Blockers> ToldRun<'s, B> {
     }
 
     /// Leaves what is seen of the alarms in the tick that was done last.
-    #[tactic(auto, using(crate::proofs::SeenSteps::seen_more, crate::proofs::SeenSteps::seen_count))]
+    #[tactic(auto, using(kernel::proofs::Filled::one_more, kernel::proofs::Filled::all_of))]
     pub(crate) fn see_alarms(&self, alarms: &mut ArrayVec<AlarmSeen, MAX_ALARMS>)
         requires { 1 ≤ self.now.ticks }
         ensures { alarms.new.items
             ≡ map (alarm_seen (last_tick self.now)) (below (length self.now.system.alarms)) }
     {
-        alarms.clear();
-        for number in 0..self.system().alarm_count() {
-            alarms.push(self.alarm_seen(AlarmId::new(number as u8)));
+        let count = self.system().alarm_count();
+        give_places(alarms, count);
+        let places = alarms.as_mut_slice();
+        for number in 0..count {
+            places[number] = self.alarm_seen(AlarmId::new(number as u8));
         }
     }
 }

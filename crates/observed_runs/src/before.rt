@@ -6,7 +6,7 @@ ghost use Rattle.kernel.specs.Progress.{run_of};
 ghost use Rattle.seen_ticks.specs.Observed.{active_routine, is_pending, jobs_before};
 
 use arrayvec::ArrayVec;
-use kernel::{Blockers, Kernel};
+use kernel::{Blockers, Kernel, give_places};
 use osek_base::{IsrId, MAX_ROUTINES, MAX_TASKS, System, TaskId};
 use ready_queues::LevelQueues;
 
@@ -48,19 +48,17 @@ impl Before {
 }
 
 /// How many jobs a task has, and none before the first tick.
-fn jobs_before<B: Blockers>(kernel: &Kernel<'_, LevelQueues, B>, task: TaskId) -> u8
-    requires { task < length kernel.now.system.tasks }
+#[inline(always)]
+fn jobs_before<B: Blockers>(kernel: &Kernel<'_, LevelQueues, B>, is_first: bool, task: TaskId) -> u8
+    requires first { is_first ≡ (kernel.now.ticks == 0) }
+    requires task { task < length kernel.now.system.tasks }
     ensures { result ≡ jobs_before (kernel.now.ticks == 0) (run_of kernel.now).state task }
 {
-    if kernel.ticks() == 0 {
-        0
-    } else {
-        kernel.job_count(task)
-    }
+    if is_first { 0 } else { kernel.job_count(task) }
 }
 
 /// Leaves how many jobs each task has before the tick that a kernel does next.
-#[tactic(auto, using(crate::proofs::SeenSteps::seen_more, crate::proofs::SeenSteps::seen_count))]
+#[tactic(auto, using(kernel::proofs::Filled::one_more, kernel::proofs::Filled::all_of))]
 fn see_jobs<B: Blockers>(
     kernel: &Kernel<'_, LevelQueues, B>,
     system: &System,
@@ -71,14 +69,17 @@ fn see_jobs<B: Blockers>(
         ≡ map (jobs_before (kernel.now.ticks == 0) (run_of kernel.now).state)
         (below (length system.now.tasks)) }
 {
-    jobs.clear();
-    for number in 0..system.task_count() {
-        jobs.push(jobs_before(kernel, TaskId::new(number as u8)));
+    let count = system.task_count();
+    give_places(jobs, count);
+    let places = jobs.as_mut_slice();
+    let is_first = kernel.ticks() == 0;
+    for number in 0..count {
+        places[number] = jobs_before(kernel, is_first, TaskId::new(number as u8));
     }
 }
 
 /// Leaves which routines are pending.
-#[tactic(auto, using(crate::proofs::SeenSteps::seen_more, crate::proofs::SeenSteps::seen_count))]
+#[tactic(auto, using(kernel::proofs::Filled::one_more, kernel::proofs::Filled::all_of))]
 fn see_pending<B: Blockers>(
     kernel: &Kernel<'_, LevelQueues, B>,
     system: &System,
@@ -88,8 +89,10 @@ fn see_pending<B: Blockers>(
     ensures { pending.new.items
         ≡ map (is_pending (run_of kernel.now).state) (below (length system.now.routines)) }
 {
-    pending.clear();
-    for number in 0..system.routine_count() {
-        pending.push(kernel.is_pending(IsrId::new(number as u8)));
+    let count = system.routine_count();
+    give_places(pending, count);
+    let places = pending.as_mut_slice();
+    for number in 0..count {
+        places[number] = kernel.is_pending(IsrId::new(number as u8));
     }
 }

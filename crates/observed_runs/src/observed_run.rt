@@ -102,31 +102,20 @@ impl<'s, B: Blockers> ObservedRun<'s, B> {
         true
     }
 
-    /// Does the ticks that follow at once, at most some, as long as nothing happens in them but that
-    /// nobody executes, and sees the last of them: of the others the same is seen, but for the
-    /// number. Answers how many were done: none where somebody executed in the last tick, and the
-    /// first tick is none of these.
-    #[inline(always)]
-    pub fn pass_idle(&mut self, most: u32) -> u32
-        ensures { PassesAlike B.are_counted most self.old self.new result }
-    {
-        if self.seen.executor.is_none() {
-            self.pass_more(most)
-        } else {
-            0
-        }
-    }
-
-    /// As `pass_idle`, and doesn't ask who executed in the last tick.
+    /// Does the ticks that follow, at most some, as long as the same is seen of each, and sees the last
+    /// of them: of the others the same is seen, but for the number. Such are ticks in which nobody
+    /// executes, and those in which the running task executes plain instructions, where nothing else
+    /// happens. Answers how many were done. The first tick is none of these.
     #[inline(never)]
-    fn pass_more(&mut self, most: u32) -> u32
+    pub fn pass_alike(&mut self, most: u32) -> u32
         ensures { PassesAlike B.are_counted most self.old self.new result }
     {
         if self.told.is_over() {
             return 0;
         }
         let left = MAX_TICKS - self.told.ticks();
-        let passed = self.told.pass_idle(cmp::min(most, left));
+        let is_idle = self.seen.executor.is_none();
+        let passed = self.told.pass_alike(is_idle, cmp::min(most, left));
         if passed == 0 {
             return 0;
         }

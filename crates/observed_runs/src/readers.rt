@@ -1,6 +1,6 @@
 //! OSEK/VDX OS: task management; interrupt processing; alarms. What a run tells of the tick that was done last.
 
-ghost use Rattle.std.specs.Prelude.{◌≡◌, ◌<◌, ◌≤◌, ◌-◌, length};
+ghost use Rattle.std.specs.Prelude.{◌≡◌, ◌<◌, ◌≤◌, ◌-◌, [], false, None, length};
 ghost use Rattle.std.specs.List.{AllByRecursion};
 ghost use Rattle.osek_base.specs.Service.{task_state};
 ghost use Rattle.osek_base.specs.State.{jobs_of};
@@ -151,7 +151,7 @@ impl<'s, B: Blockers> ToldRun<'s, B> {
         requires task { task < length self.now.system.tasks }
         ensures { result ≡ task_state (last_tick self.now).after task }
     {
-        self.kernel.task_state(task)
+        self.kernel.task_at(task).state
     }
 
     /// What was executed.
@@ -186,13 +186,43 @@ impl<'s, B: Blockers> ToldRun<'s, B> {
         is_task(task, self.execution.refusing)
     }
 
+    /// The alarms that were due, in declaration order.
+    fn last_due(&self) -> &DueList
+        requires { 1 ≤ self.now.ticks }
+        ensures { result.now ≡ (last_tick self.now).due }
+    {
+        self.kernel.machine().last_due()
+    }
+
+    /// Those of them whose action was refused.
+    fn last_refused(&self) -> &DueList
+        requires { 1 ≤ self.now.ticks }
+        ensures { result.now ≡ (last_tick self.now).refused }
+    {
+        self.kernel.machine().last_refused()
+    }
+
+    /// Whether the instruction was an activation that was refused, or one of the alarms' was.
+    pub(crate) fn is_any_refused(&self) -> bool
+        requires { 1 ≤ self.now.ticks }
+        ensures instruction { result ≡ false
+            → refusing self.now.system (last_tick self.now).executed ≡ None }
+        ensures alarms { result ≡ false → (last_tick self.now).refused ≡ [] }
+    {
+        if self.last_refused().len() != 0 {
+            return true;
+        }
+        self.execution.refusing.is_some()
+    }
+
     /// How many activations of a task by alarms were refused.
     pub(crate) fn refused_by_alarms(&self, task: TaskId) -> u8
         requires { 1 ≤ self.now.ticks }
         ensures value { result ≡ activations_by self.now.system task (last_tick self.now).refused }
         ensures few { result ≤ MAX_ALARMS }
     {
-        activations_by(self.system, task, self.kernel.last_refused())
+        let refused = self.last_refused();
+        activations_by(self.system, task, refused)
     }
 
     /// Whether a routine was pending before the tick.
@@ -234,7 +264,7 @@ impl<'s, B: Blockers> ToldRun<'s, B> {
         requires { 1 ≤ self.now.ticks }
         ensures { result ≡ is_among (last_tick self.now).due alarm }
     {
-        is_among(self.kernel.last_due(), alarm)
+        is_among(self.last_due(), alarm)
     }
 
     /// Whether its action was refused.
@@ -242,6 +272,6 @@ impl<'s, B: Blockers> ToldRun<'s, B> {
         requires { 1 ≤ self.now.ticks }
         ensures { result ≡ is_among (last_tick self.now).refused alarm }
     {
-        is_among(self.kernel.last_refused(), alarm)
+        is_among(self.last_refused(), alarm)
     }
 }

@@ -7,7 +7,7 @@ ghost use Rattle.seen_ticks.specs.Observed.{lost_of, routine_seen};
 
 use crate::told_run::ToldRun;
 use arrayvec::ArrayVec;
-use kernel::Blockers;
+use kernel::{Blockers, give_places};
 use observations::RoutineSeen;
 use osek_base::{IsrId, MAX_ROUTINES, Owner};
 
@@ -41,15 +41,17 @@ impl<'s, B: Blockers> ToldRun<'s, B> {
     }
 
     /// Leaves what is seen of the routines in the tick that was done last.
-    #[tactic(auto, using(crate::proofs::SeenSteps::seen_more, crate::proofs::SeenSteps::seen_count))]
+    #[tactic(auto, using(kernel::proofs::Filled::one_more, kernel::proofs::Filled::all_of))]
     pub(crate) fn see_routines(&self, routines: &mut ArrayVec<RoutineSeen, MAX_ROUTINES>)
         requires { 1 ≤ self.now.ticks }
         ensures { routines.new.items
             ≡ map (routine_seen (last_tick self.now)) (below (length self.now.system.routines)) }
     {
-        routines.clear();
-        for number in 0..self.system().routine_count() {
-            routines.push(self.routine_seen(IsrId::new(number as u8)));
+        let count = self.system().routine_count();
+        give_places(routines, count);
+        let places = routines.as_mut_slice();
+        for number in 0..count {
+            places[number] = self.routine_seen(IsrId::new(number as u8));
         }
     }
 }

@@ -1,15 +1,26 @@
 //! OSEK/VDX OS: task management, task state model. What is seen of the tasks.
 
-ghost use Rattle.std.specs.Prelude.{◌≡◌, ◌<◌, ◌≤◌, ◌+◌, ◌-◌, map, length};
+ghost use Rattle.std.specs.Prelude.{ℕ, ◌≡◌, ◌<◌, ◌≤◌, ◌+◌, ◌-◌, [], false, None, map, length};
+ghost use Rattle.osek_base.specs.declared.ids.Owner.{Owner};
 ghost use Rattle.osek_base.specs.Lists.{below};
 ghost use Rattle.observed_runs.specs.Keeping.{last_tick};
-ghost use Rattle.seen_ticks.specs.Observed.{is_waiting, one_if, state_seen, task_seen};
+ghost use Rattle.seen_ticks.specs.Observed.{
+  activations_by,
+  is_by,
+  is_number,
+  is_waiting,
+  one_if,
+  refusing,
+  state_seen,
+  task_seen,
+};
 
+use crate::readers::is_task;
 use crate::told_run::ToldRun;
 use arrayvec::ArrayVec;
-use kernel::Blockers;
+use kernel::{Blockers, give_places};
 use observations::TaskSeen;
-use osek_base::{MAX_ACTIVATION, MAX_TASKS, Owner, TaskId, TaskState};
+use osek_base::{Executed, MAX_ACTIVATION, MAX_TASKS, Owner, TaskId, TaskState};
 
 /// RUNNING for a task that executes, and READY for one that a routine interrupts.
 pub fn state_seen(executes: bool, state: TaskState) -> TaskState
@@ -38,38 +49,81 @@ pub fn made(jobs: u8, ended: bool, before: u8) -> u8
     (jobs + u8::from(ended)).saturating_sub(before)
 }
 
+/// The task of which an instruction was.
+#[tactic(auto, using(crate::proofs::Refusals::same_number))]
+fn executing_task(executed: &Option<Executed>) -> Option<TaskId>
+    ensures { (t : ℕ) → is_number t result ≡ is_by (Owner.Task t) executed.now }
+{
+    match executed {
+        None => None,
+        Some(executed) => match executed.owner {
+            Owner::Task(task) => Some(task),
+            Owner::Routine(_) => None,
+        },
+    }
+}
+
 impl<'s, B: Blockers> ToldRun<'s, B> {
-    /// What is seen of a task in the tick that was done last.
-    fn task_seen(&self, task: TaskId) -> TaskSeen
+    /// How many activations of a task were refused, where any was.
+    #[inline(always)]
+    #[tactic(auto, using(crate::proofs::Refusals::none_refused))]
+    fn refused(&self, task: TaskId, is_any_refused: bool) -> u8
+        requires ticked { 1 ≤ self.now.ticks }
+        requires instruction { is_any_refused ≡ false
+            → refusing self.now.system (last_tick self.now).executed ≡ None }
+        requires alarms { is_any_refused ≡ false → (last_tick self.now).refused ≡ [] }
+        ensures { result
+            ≡ one_if (is_number task (refusing self.now.system (last_tick self.now).executed))
+            + activations_by self.now.system task (last_tick self.now).refused }
+    {
+        if is_any_refused {
+            u8::from(self.is_refused(task)) + self.refused_by_alarms(task)
+        } else {
+            0
+        }
+    }
+
+    /// What is seen of a task in the tick that was done last, of which that task executed the
+    /// instruction, and in which maybe activations were refused.
+    fn task_seen(&self, task: TaskId, by: &Option<TaskId>, is_any_refused: bool) -> TaskSeen
         requires ticked { 1 ≤ self.now.ticks }
         requires task { task < length self.now.system.tasks }
+        requires by { (t : ℕ) → is_number t by.now
+            ≡ is_by (Owner.Task t) (last_tick self.now).executed }
+        requires instruction { is_any_refused ≡ false
+            → refusing self.now.system (last_tick self.now).executed ≡ None }
+        requires alarms { is_any_refused ≡ false → (last_tick self.now).refused ≡ [] }
         ensures { result ≡ task_seen self.now.system (last_tick self.now) task }
     {
         let at = self.task_at(task);
-        let is_own = self.is_by(Owner::Task(task));
+        let is_own = is_task(task, *by);
         let ended = self.is_ended(task);
         TaskSeen {
             state: state_seen(is_own, at.state),
             priority: at.priority,
             jobs: at.jobs,
             made: made(self.jobs_behind(task), ended, self.jobs_before(task)),
-            refused: u8::from(self.is_refused(task)) + self.refused_by_alarms(task),
+            refused: self.refused(task, is_any_refused),
             ended,
             waits: is_own && is_waiting(self.state_behind(task)),
         }
     }
 
     /// Leaves what is seen of the tasks in the tick that was done last.
-    #[tactic(auto, using(crate::proofs::SeenSteps::seen_more, crate::proofs::SeenSteps::seen_count))]
+    #[tactic(auto, using(kernel::proofs::Filled::one_more, kernel::proofs::Filled::all_of))]
     pub(crate) fn see_tasks(&self, tasks: &mut ArrayVec<TaskSeen, MAX_TASKS>)
         requires { 1 ≤ self.now.ticks }
         ensures { tasks.new.items
             ≡ map (task_seen self.now.system (last_tick self.now))
             (below (length self.now.system.tasks)) }
     {
-        tasks.clear();
-        for number in 0..self.system().task_count() {
-            tasks.push(self.task_seen(TaskId::new(number as u8)));
+        let count = self.system().task_count();
+        give_places(tasks, count);
+        let places = tasks.as_mut_slice();
+        let by = executing_task(&self.executed());
+        let is_any_refused = self.is_any_refused();
+        for number in 0..count {
+            places[number] = self.task_seen(TaskId::new(number as u8), &by, is_any_refused);
         }
     }
 }

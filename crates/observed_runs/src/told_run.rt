@@ -7,6 +7,7 @@ ghost use Rattle.osek_base.specs.Proper.{IsProper};
 ghost use Rattle.kernel.specs.declared.boot.BootFault.{BootFault};
 ghost use Rattle.kernel.specs.Progress.{AreKnown, HasIdled, is_over, run_of};
 ghost use Rattle.blocking_laws.specs.Steps.{record_at};
+ghost use Rattle.observed_runs.specs.Passing.{StaysOn};
 ghost use Rattle.seen_ticks.specs.Observed.{executed_in, holders_seen};
 
 use crate::before::Before;
@@ -123,6 +124,39 @@ impl<'s, B: Blockers> ToldRun<'s, B> {
         self.records.clear();
         self.records.push(TraceEvent::Idle);
         passed
+    }
+
+    /// Does the ticks that follow, at most some, as long as it is known that in each the running task
+    /// executes a plain instruction and nothing else happens. Answers how many were done. The first
+    /// tick is none of these.
+    fn pass_plain(&mut self, most: u32) -> u32
+        requires { self.old.ticks + most ≤ MAX_TICKS }
+        ensures { StaysOn B.are_counted most self.old self.new result }
+    {
+        let worked = self.kernel.pass_plain(most, &mut self.behind);
+        if worked.ticks == 0 {
+            return 0;
+        }
+        self.before.note(&self.kernel, self.system);
+        see_tasks_between(&self.kernel, self.system, &mut self.at.tasks);
+        self.execution = Execution::of(self.system, worked.last);
+        self.records.clear();
+        self.records.push(event_of(self.system, &worked.last));
+        worked.ticks
+    }
+
+    /// Does the ticks that follow, at most some, as long as the same is seen of each: while nobody
+    /// executes, where nobody did last, and else while the running task executes plain instructions.
+    /// Answers how many were done.
+    pub(crate) fn pass_alike(&mut self, is_idle: bool, most: u32) -> u32
+        requires { self.old.ticks + most ≤ MAX_TICKS }
+        ensures { StaysOn B.are_counted most self.old self.new result }
+    {
+        if is_idle {
+            self.pass_idle(most)
+        } else {
+            self.pass_plain(most)
+        }
     }
 
     /// Leaves who holds each resource.

@@ -1,6 +1,6 @@
 //! Since which tick each job is ready, by task.
 
-ghost use Rattle.std.specs.Prelude.{◌≡◌, ◌<◌, ◌≤◌, [], ◌∷◌, ◌++◌, Some, length, replicate, slice_set, slice_index_or};
+ghost use Rattle.std.specs.Prelude.{◌≡◌, ◌<◌, ◌≤◌, [], ◌∷◌, ◌++◌, Some, length, replicate, slice_set, slice_index_or, is_none};
 ghost use Rattle.readiness.specs.Stamps.{stamp_oldest, stamp_of_oldest, spent_oldest, without_oldest};
 
 use crate::task_stamps::TaskStamps;
@@ -95,6 +95,17 @@ impl JobStamps {
             ≡ slice_set self.old task (stamp_oldest tick (slice_index_or self.old task [])) }
     {
         self.tasks[task.number() as usize].stamp(tick);
+    }
+
+    /// Whether the oldest job of a task has no stamp any more, or the task has no job.
+    #[inline(always)]
+    pub fn is_spent(&self, task: TaskId) -> bool
+        ensures { result ≡ is_none (stamp_of_oldest (slice_index_or self.now task [])) }
+    {
+        match self.tasks.as_slice().get(task.number() as usize) {
+            None => true,
+            Some(stamps) => stamps.is_spent(),
+        }
     }
 
     /// The oldest job of a task executes: its stamp is taken.

@@ -1,6 +1,6 @@
 //! Since which tick each job of a task is ready.
 
-ghost use Rattle.std.specs.Prelude.{◌≡◌, ◌<◌, [], ◌∷◌, ◌++◌, Some, length};
+ghost use Rattle.std.specs.Prelude.{◌≡◌, ◌<◌, [], ◌∷◌, ◌++◌, Some, length, is_none};
 ghost use Rattle.readiness.specs.Stamps.{stamp_oldest, stamp_of_oldest, spent_oldest, without_oldest};
 
 use arrayvec::ArrayVec;
@@ -83,6 +83,17 @@ impl TaskStamps {
     {
         if !self.stamps.is_empty() && self.stamps[0].is_none() {
             self.stamps[0] = Some(tick);
+        }
+    }
+
+    /// Whether the oldest job has no stamp any more, or there is no job.
+    #[inline(always)]
+    pub fn is_spent(&self) -> bool
+        ensures { result ≡ is_none (stamp_of_oldest self.now) }
+    {
+        match self.stamps.as_slice().first() {
+            None => true,
+            Some(stamp) => stamp.is_none(),
         }
     }
 

@@ -54,7 +54,7 @@ fn count_run<E: Write>(
         if from < done {
             figures.observe(run.observation());
         }
-        if 0 < run.pass_idle(ticks.saturating_sub(done)) {
+        if 0 < run.pass_alike(ticks.saturating_sub(done)) {
             figures.observe_alike(run.observation(), done.max(from), run.ticks_done());
         }
         progress.note(run.ticks_done(), ticks);

@@ -44,7 +44,7 @@ fn draw_run<E: Write>(
         }
         timeline.observe(system, run.observation(), run.records())?;
         let done = run.ticks_done();
-        if 0 < run.pass_idle(ticks.saturating_sub(done)) {
+        if 0 < run.pass_alike(ticks.saturating_sub(done)) {
             let (seen, records) = (run.observation(), run.records());
             timeline.observe_alike(system, seen, records, done, run.ticks_done())?;
         }

@@ -40,8 +40,8 @@ fn dump_run<O: Write, E: Write>(
         }
         dump.observe(run.observation(), run.records(), out)?;
         let done = run.ticks_done();
-        if 0 < run.pass_idle(ticks.saturating_sub(done)) {
-            dump.observe_idle(run.observation(), done, run.ticks_done(), out)?;
+        if 0 < run.pass_alike(ticks.saturating_sub(done)) {
+            dump.observe_alike(run.observation(), done, run.ticks_done(), out)?;
         }
         progress.note(run.ticks_done(), ticks);
     }

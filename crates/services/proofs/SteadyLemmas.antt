@@ -15,7 +15,8 @@ use Rattle.kept_state.specs.KeptTick.{routine_started_in, start_phase_in, with_c
 use Rattle.services.specs.Objects.{Objects, kept_in}
 use Rattle.ready_queues.specs.QueueMoves.{highest}
 use Rattle.services.specs.Dispatched.{is_dispatched_by, is_dispatched_in, runs_on}
-use Rattle.services.specs.Quiet.{IsSettled, IsSteady}
+use Rattle.services.specs.Quiet.{IsSettled}
+use Rattle.services.specs.Steady.{IsSteady}
 use Rattle.services.proofs.DispatchedLemmas.{rescheduled_again}
 
 module _ (S : System) (o : Kept) (known : is_dispatched_in S o ≡ true) (settled : IsSettled S o) where
@@ -34,6 +35,7 @@ module _ (S : System) (o : Kept) (known : is_dispatched_in S o ≡ true) (settle
     stands = stands_so t (sym is);
     no_routine = settled.no_routine;
     none_pending = settled.none_pending;
+    known = known;
     dispatched = rescheduled_again S o known;
   }
 

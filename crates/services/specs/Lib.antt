@@ -6,5 +6,6 @@ pub mod AsDefined
 pub mod Dispatched
 pub mod CompactQueues
 pub mod Quiet
+pub mod Steady
 pub mod Pending
 pub mod Lending

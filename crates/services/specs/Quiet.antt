@@ -5,8 +5,6 @@ use Rattle.osek_base.specs.Alarm.{due_alarms}
 use Rattle.osek_base.specs.Tick.{routine_choice}
 use Rattle.kept_state.specs.Kept.{Kept}
 use Rattle.kept_state.specs.KeptService.{bare}
-use Rattle.kept_state.specs.KeptTick.{silent_in}
-use Rattle.kept_state.specs.Moves.{rescheduled}
 use Rattle.services.specs.Objects.{Objects, kept_in}
 
 -- quiet but for tasks that are ready: no ShutdownOS ended the run, no task runs, and no routine is active or pending
@@ -22,16 +20,6 @@ pub record IsSettled (S : System) (o : Kept) : Type 0 where
   pub runs : is_some o.running ≡ true
   pub no_routine : o.active ≡ None
   pub none_pending : routine_choice S (bare o) ≡ None
-
--- a task executes next, where no alarm is due and no interrupt arrives: a reschedule changes nothing, and nothing else comes
--- before its instruction
-pub record IsSteady (S : System) (o : Kept) (t : ℕ) : Type 0 where
-  pub on : o.over ≡ false
-  pub runs : o.running ≡ Some t
-  pub stands : o.gone ≡ false
-  pub no_routine : o.active ≡ None
-  pub none_pending : routine_choice S (bare o) ≡ None
-  pub dispatched : rescheduled S o ≡ silent_in o
 
 -- the alarms that are due in the tick after so many
 abbrev pub due_next : ℕ → Objects → List ℕ

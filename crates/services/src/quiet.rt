@@ -3,7 +3,8 @@
 ghost use Rattle.std.specs.Prelude.{◌≡◌, ◌<◌, ◌+◌, true, IfSome};
 ghost use Rattle.kept_state.specs.Quiet.{IsQuiet};
 ghost use Rattle.services.specs.Objects.{kept_in};
-ghost use Rattle.services.specs.Quiet.{BeginsQuiet, IsIdle, IsSettled, IsSteady, PassesUpTo};
+ghost use Rattle.services.specs.Quiet.{BeginsQuiet, IsIdle, IsSettled, PassesUpTo};
+ghost use Rattle.services.specs.Steady.{IsSteady};
 
 use crate::objects::Objects;
 use crate::os_core::Core;

@@ -5,6 +5,7 @@
 mod definitions;
 mod events;
 mod last_value;
+mod line;
 mod routine_values;
 mod shown_names;
 mod task_values;

@@ -1,19 +1,11 @@
 //! Value change dumps: the variables of a task.
 
 use crate::last_value::LastValue;
-use crate::tick_changes::{Change, TickChanges};
+use crate::tick_changes::TickChanges;
 use crate::variable::Variable;
 use observations::TaskSeen;
 use osek_base::{TaskId, TaskState};
-use std::io::{self, Write};
-
-/// A priority, which has no value where the task has no job.
-fn priority_change(priority: Option<u8>) -> Change<'static> {
-    match priority {
-        None => Change::Unknown,
-        Some(priority) => Change::Vector(priority),
-    }
-}
+use std::io::Write;
 
 /// The values with which the variables of a task were last written.
 #[derive(Clone, Copy, Debug, Default)]
@@ -24,22 +16,36 @@ pub(crate) struct TaskValues {
 }
 
 impl TaskValues {
+    /// Whether nothing changes with what is seen of the task.
+    #[inline(always)]
+    pub(crate) fn are_as(&self, seen: &TaskSeen) -> bool {
+        self.state.is(seen.state) && self.priority.is(seen.priority) && self.jobs.is(seen.jobs)
+    }
+
     /// Writes what changes with what is seen of the task.
+    #[inline(never)]
     pub(crate) fn write_changes<W: Write>(
         &mut self,
         task: TaskId,
         seen: &TaskSeen,
         changes: &mut TickChanges<'_, W>,
-    ) -> io::Result<()> {
+    ) {
         if let Some(state) = self.state.change_to(seen.state) {
-            changes.write(Variable::State(task), Change::Vector(state.number()))?;
+            changes.write_number(Variable::State(task), state.number());
         }
         if let Some(priority) = self.priority.change_to(seen.priority) {
-            changes.write(Variable::Priority(task), priority_change(priority))?;
+            write_priority(task, priority, changes);
         }
         if let Some(jobs) = self.jobs.change_to(seen.jobs) {
-            changes.write(Variable::Jobs(task), Change::Vector(jobs))?;
+            changes.write_number(Variable::Jobs(task), jobs);
         }
-        Ok(())
+    }
+}
+
+/// A priority, which has no value where the task has no job.
+fn write_priority<W: Write>(task: TaskId, priority: Option<u8>, changes: &mut TickChanges<'_, W>) {
+    match priority {
+        None => changes.write_unknown(Variable::Priority(task)),
+        Some(priority) => changes.write_number(Variable::Priority(task), priority),
     }
 }

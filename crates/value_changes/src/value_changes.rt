@@ -1,13 +1,12 @@
 //! Value change dumps, IEEE 1364: of each tick what changes in it.
 
 use crate::definitions::write_definitions;
-use crate::events::{write_expiries, write_losses};
+use crate::events::{has_any_expired, is_any_lost, write_expiries, write_losses};
 use crate::last_value::LastValue;
 use crate::routine_values::RoutineValues;
-use crate::shown_names::{executor_name, holder_name};
+use crate::shown_names::{write_executor, write_holder};
 use crate::task_values::TaskValues;
-use crate::tick_changes::{Change, TickChanges};
-use crate::variable::Variable;
+use crate::tick_changes::TickChanges;
 use arrayvec::ArrayVec;
 use observations::{Holder, MAX_HELD, Observation, RoutineSeen, TaskSeen};
 use osek_base::{
@@ -24,28 +23,66 @@ fn resource_at(system: &System, number: usize) -> ResId {
     }
 }
 
+/// Whether nothing changes with what is seen of the tasks.
+fn are_tasks_as(values: &[TaskValues; MAX_TASKS], seen: &ArrayVec<TaskSeen, MAX_TASKS>) -> bool {
+    for number in 0..seen.len() {
+        if !values[number].are_as(&seen[number]) {
+            return false;
+        }
+    }
+    true
+}
+
+/// The same of the routines.
+fn are_routines_as(
+    values: &[RoutineValues; MAX_ROUTINES],
+    seen: &ArrayVec<RoutineSeen, MAX_ROUTINES>,
+) -> bool {
+    for number in 0..seen.len() {
+        if !values[number].are_as(&seen[number]) {
+            return false;
+        }
+    }
+    true
+}
+
+/// The same of the resources.
+fn are_holders_as(
+    values: &[LastValue<Holder>; MAX_HELD],
+    seen: &ArrayVec<Holder, MAX_HELD>,
+) -> bool {
+    for number in 0..seen.len() {
+        if !values[number].is(seen[number]) {
+            return false;
+        }
+    }
+    true
+}
+
 fn write_tasks<W: Write>(
     values: &mut [TaskValues; MAX_TASKS],
     seen: &ArrayVec<TaskSeen, MAX_TASKS>,
     changes: &mut TickChanges<'_, W>,
-) -> io::Result<()> {
+) {
     for number in 0..seen.len() {
-        let task = TaskId::new(number as u8);
-        values[number].write_changes(task, &seen[number], changes)?;
+        if !values[number].are_as(&seen[number]) {
+            let task = TaskId::new(number as u8);
+            values[number].write_changes(task, &seen[number], changes);
+        }
     }
-    Ok(())
 }
 
 fn write_routines<W: Write>(
     values: &mut [RoutineValues; MAX_ROUTINES],
     seen: &ArrayVec<RoutineSeen, MAX_ROUTINES>,
     changes: &mut TickChanges<'_, W>,
-) -> io::Result<()> {
+) {
     for number in 0..seen.len() {
-        let routine = IsrId::new(number as u8);
-        values[number].write_changes(routine, &seen[number], changes)?;
+        if !values[number].are_as(&seen[number]) {
+            let routine = IsrId::new(number as u8);
+            values[number].write_changes(routine, &seen[number], changes);
+        }
     }
-    Ok(())
 }
 
 fn write_holders<W: Write>(
@@ -53,15 +90,13 @@ fn write_holders<W: Write>(
     system: &System,
     seen: &ArrayVec<Holder, MAX_HELD>,
     changes: &mut TickChanges<'_, W>,
-) -> io::Result<()> {
+) {
     for number in 0..seen.len() {
         if let Some(holder) = values[number].change_to(seen[number]) {
             let resource = resource_at(system, number);
-            let name = holder_name(system.names(), holder);
-            changes.write(Variable::Holder(resource), Change::String(name))?;
+            write_holder(system.names(), resource, holder, changes);
         }
     }
-    Ok(())
 }
 
 /// A value change dump of a run that is being written: what each variable was last written with.
@@ -81,7 +116,8 @@ pub struct ValueChanges<'s> {
 }
 
 impl<'s> ValueChanges<'s> {
-    /// The dump of the ticks from `from` on of a run of that system, of which nothing is written yet.
+    /// The dump of the ticks from `from` on of a run of that system, of which nothing is written
+    /// yet.
     pub fn new(system: &'s System, from: u32) -> Self {
         ValueChanges {
             system,
@@ -100,22 +136,30 @@ impl<'s> ValueChanges<'s> {
         write_definitions(self.system, out)
     }
 
-    fn write_values<W: Write>(
-        &mut self,
-        seen: &Observation,
-        changes: &mut TickChanges<'_, W>,
-    ) -> io::Result<()> {
+    fn write_values<W: Write>(&mut self, seen: &Observation, changes: &mut TickChanges<'_, W>) {
         if let Some(executor) = self.executor.change_to(seen.executor) {
-            let name = executor_name(self.system.names(), &executor);
-            changes.write(Variable::Executor, name)?;
+            write_executor(self.system.names(), &executor, changes);
         }
-        write_tasks(&mut self.tasks, &seen.tasks, changes)?;
-        write_routines(&mut self.routines, &seen.routines, changes)?;
-        write_holders(&mut self.holders, self.system, &seen.holders, changes)
+        write_tasks(&mut self.tasks, &seen.tasks, changes);
+        write_routines(&mut self.routines, &seen.routines, changes);
+        write_holders(&mut self.holders, self.system, &seen.holders, changes);
+    }
+
+    /// Whether something is to be written of a tick: a variable has another value than it was last
+    /// written with, or an event fires. Before the first tick nothing was written.
+    #[inline(never)]
+    fn has_changes(&self, seen: &Observation) -> bool {
+        !self.executor.is(seen.executor)
+            || !are_tasks_as(&self.tasks, &seen.tasks)
+            || !are_routines_as(&self.routines, &seen.routines)
+            || !are_holders_as(&self.holders, &seen.holders)
+            || is_any_lost(&seen.routines)
+            || has_any_expired(&seen.alarms)
     }
 
     /// Writes what changes in a tick, of the first tick that is written all values.
-    fn observe_at<W: Write>(
+    #[inline(never)]
+    fn write_tick<W: Write>(
         &mut self,
         tick: u32,
         seen: &Observation,
@@ -123,20 +167,37 @@ impl<'s> ValueChanges<'s> {
     ) -> io::Result<()> {
         let mut changes = TickChanges::new(tick, out);
         if self.is_begun {
-            self.write_values(seen, &mut changes)?;
+            self.write_values(seen, &mut changes);
         } else {
-            changes.begin_initial_values()?;
-            self.write_values(seen, &mut changes)?;
-            changes.end_initial_values()?;
+            self.is_begun = true;
+            changes.begin_initial_values();
+            self.write_values(seen, &mut changes);
+            changes.end_initial_values();
         }
-        self.is_begun = true;
-        self.ticks = u64::from(tick) + 1;
-        write_losses(&seen.routines, &mut changes)?;
-        write_expiries(&seen.alarms, &mut changes)
+        write_losses(&seen.routines, &mut changes);
+        write_expiries(&seen.alarms, &mut changes);
+        changes.end()
     }
 
-    /// Writes what changes in the next tick that is seen, of the first tick that is written all values. The tick's records,
-    /// which each view of a run is given, aren't looked at. An error is a failed write, and ends the dump.
+    /// Writes what changes in a tick, if anything does. That is asked first, as the room for an error
+    /// is filled with zeros before the first write, also where none comes.
+    #[inline(always)]
+    fn observe_at<W: Write>(
+        &mut self,
+        tick: u32,
+        seen: &Observation,
+        out: &mut W,
+    ) -> io::Result<()> {
+        if !self.has_changes(seen) {
+            return Ok(());
+        }
+        self.write_tick(tick, seen, out)
+    }
+
+    /// Writes what changes in the next tick that is seen, of the first tick that is written all
+    /// values. The tick's records, which each view of a run is given, aren't looked at. An error is
+    /// a failed write, and ends the dump.
+    #[inline(always)]
     pub fn observe<W: Write>(
         &mut self,
         seen: &Observation,
@@ -146,13 +207,14 @@ impl<'s> ValueChanges<'s> {
         if seen.tick < self.from {
             return Ok(());
         }
+        self.ticks = u64::from(seen.tick) + 1;
         self.observe_at(seen.tick, seen, out)
     }
 
-    /// The same of the ticks from one on and before another, in each of which the same is seen, and
-    /// nothing happens: what changes does so in the first of them. An error is a failed write, and
-    /// ends the dump.
-    pub fn observe_idle<W: Write>(
+    /// The same of the ticks from one on and before another, in each of which the same is seen: no
+    /// interrupt is lost in them and no alarm expires, so what changes does so in the first of them.
+    /// An error is a failed write, and ends the dump.
+    pub fn observe_alike<W: Write>(
         &mut self,
         seen: &Observation,
         first: u32,
@@ -163,9 +225,8 @@ impl<'s> ValueChanges<'s> {
         if end <= first {
             return Ok(());
         }
-        self.observe_at(first, seen, out)?;
         self.ticks = u64::from(end);
-        Ok(())
+        self.observe_at(first, seen, out)
     }
 
     /// Writes the time behind the last tick, so that this one has its width. An error is a failed

@@ -1,7 +1,8 @@
 //! Value change dumps: variables and their identifier codes.
 
-ghost use Rattle.std.specs.Prelude.{◌<◌, ◌*◌};
+ghost use Rattle.std.specs.Prelude.{◌+◌, ◌<◌, ◌≤◌, ◌*◌, length};
 
+use crate::line::{LINE_SIZE, Line};
 use observations::MAX_HELD;
 use osek_base::{AlarmId, IsrId, MAX_ROUTINES, MAX_TASKS, ResId, TaskId};
 use std::fmt;
@@ -69,10 +70,10 @@ fn of_resource(resource: &ResId) -> u16
     }
 }
 
-fn digit(value: u16) -> char
+fn digit(value: u16) -> u8
     requires { value < DIGITS }
 {
-    char::from(b'!' + value as u8)
+    b'!' + value as u8
 }
 
 impl Variable {
@@ -92,17 +93,31 @@ impl Variable {
             Variable::Expiry(alarm) => ALARMS + u16::from(alarm.number()),
         }
     }
+
+    /// Appends the identifier code: the number in digits, the lowest first; a second digit counts
+    /// from 1.
+    #[inline(always)]
+    pub(crate) fn push_code(&self, line: &mut Line)
+        requires { length line.old + 2 ≤ LINE_SIZE }
+        ensures { length line.new ≤ length line.old + 2 }
+    {
+        let number = self.number();
+        line.push(digit(number % DIGITS));
+        if number >= DIGITS {
+            line.push(digit(number / DIGITS - 1));
+        }
+    }
 }
 
-/// The number in digits, the lowest first; a second digit counts from 1.
+/// The identifier code.
 impl fmt::Display for Variable {
     fn fmt<W: fmt::Write>(&self, f: &mut fmt::Formatter<W>) -> fmt::Result {
         let number = self.number();
-        let first = digit(number % DIGITS);
+        let first = char::from(digit(number % DIGITS));
         if number < DIGITS {
             write!(f, "{first}")
         } else {
-            let second = digit(number / DIGITS - 1);
+            let second = char::from(digit(number / DIGITS - 1));
             write!(f, "{first}{second}")
         }
     }

@@ -1,4 +1,4 @@
-use Rattle.std.proofs.Common.{◌≡◌, map}
+use Rattle.std.proofs.Common.{◌≡◌, length, map, take}
 use Rattle.std.specs.Prelude.{◌==◌}
 use Rattle.osek_base.specs.Lists.{below}
 use Rattle.kernel.specs.Progress.{run_of}
@@ -7,4 +7,6 @@ use Rattle.observed_runs.proofs.before.see_jobs.Given as goal
 
 -- what is seen of those gone over
 abbrev pub invariant-loop-number : goal.invariant-loop-number
-invariant-loop-number g l = l.jobs.items ≡ map (jobs_before (l.kernel.ticks == 0) (run_of l.kernel).state) (below l.number)
+invariant-loop-number g l =
+    (length l.places ≡ length l.system.tasks) × (
+    take l.number l.places ≡ map (jobs_before (l.kernel.ticks == 0) (run_of l.kernel).state) (below l.number))

@@ -1,5 +1,5 @@
 use Rattle.std.proofs.Common.{◌≡◌, ◌≤◌, ◌<◌, ◌∷◌, ◌++◌, [], map, length, sym, ◌∙◌, ap, subst, arith}
-use Rattle.std.specs.Prelude.{◌==◌}
+use Rattle.std.specs.Prelude.{None, ◌==◌}
 use Rattle.osek_base.specs.declared.limits.TheConstants.{MAX_ARRIVALS}
 use Rattle.osek_base.specs.declared.trace_event.TraceEvent.{TraceEvent}
 use Rattle.osek_base.specs.Lists.{below}
@@ -8,7 +8,7 @@ use Rattle.osek_base.specs.System.{System}
 use Rattle.kernel.specs.Progress.{Progress, run_of}
 use Rattle.seen_ticks.specs.Told.{task_at}
 use Rattle.seen_ticks.specs.Observed.{is_pending, jobs_before}
-use Rattle.observed_runs.proofs.Idling.{idled_told}
+use Rattle.observed_runs.proofs.Alike.{idle_stays, stayed_told}
 use Rattle.observed_runs.proofs.told_run.ToldRun.pass_idle.Goals as goal
 
 pub invariant_of-self-2 : goal.invariant_of-self-2
@@ -26,7 +26,8 @@ invariant_of-self-2 g c =
       system = system;
       few = subst (λ (r : Progress). length r.arrivals ≤ MAX_ARRIVALS) (sym p.ensures.next) v.few;
       told = λ later.
-          idled_told c.args.most p.result k new p.ensures some proper c.note.new.self e.result c.see_tasks_between.new.tasks.items c.push.new.self
+          stayed_told g.B.Blockers.are_counted c.args.most p.result k new None
+          (idle_stays g.B.Blockers.are_counted c.args.most p.result k new p.ensures) some proper c.note.new.self e.result c.see_tasks_between.new.tasks.items c.push.new.self
           (record {
             jobs =
                 c.note.ensures.jobs
@@ -41,6 +42,6 @@ invariant_of-self-2 g c =
             each =
                 c.see_tasks_between.ensures.tasks
                 ∙ ap (λ (S : System). map (task_at S (run_of new).state) (below (length S.tasks))) here;
-            idle = c.push.ensures ∙ ap (λ v. v ++ TraceEvent.Idle ∷ []) c.clear.ensures;
+            recorded = c.push.ensures ∙ ap (λ v. v ++ TraceEvent.Idle ∷ []) c.clear.ensures;
           });
     }

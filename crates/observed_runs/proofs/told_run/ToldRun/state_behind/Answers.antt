@@ -1,5 +1,6 @@
 use Rattle.std.proofs.Common.{◌≤◌, sym, ◌∙◌, ap, subst}
 use Rattle.kernel.specs.Progress.{Progress}
+use Rattle.seen_ticks.specs.declared.task_at.TaskAt.{TaskAt}
 use Rattle.observed_runs.specs.Keeping.{last_tick}
 use Rattle.osek_base.specs.Service.{task_state}
 use Rattle.osek_base.specs.State.{State}
@@ -9,5 +10,5 @@ pub returns : goal.returns
 returns g c =
     let r : Progress = c.self.inside.kernel in
     let told = c.self.invariant.told (subst (λ (x : Progress). 1 ≤ x.ticks) (sym c.self.view_is) c.requires.ticked) in
-    c.task_state.ensures ∙ ap (λ (s : State). task_state s c.args.task) told.behind
+    ap (λ (x : TaskAt). x.state) c.task_at.ensures ∙ ap (λ (s : State). task_state s c.args.task) told.behind
     ∙ ap (λ (x : Progress). task_state (last_tick x).after c.args.task) c.self.view_is

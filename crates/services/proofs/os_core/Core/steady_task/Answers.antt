@@ -1,7 +1,7 @@
 use Rattle.std.proofs.Common.{◌≡◌, subst}
 use Rattle.std.specs.Prelude.{IfSome}
 use Rattle.services.specs.Objects.{Objects, kept_in}
-use Rattle.services.specs.Quiet.{IsSteady}
+use Rattle.services.specs.Steady.{IsSteady}
 use Rattle.services.proofs.SteadyLemmas.{steady}
 use Rattle.services.proofs.os_core.Core.steady_task.Goals as goal
 

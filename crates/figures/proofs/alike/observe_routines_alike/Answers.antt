@@ -1,0 +1,18 @@
+use Rattle.std.proofs.Common.{◌-◌, rules}
+use Rattle.figures.specs.FigureSums.{numbered, routine_tick}
+use Rattle.figures.specs.RoutineSums.{routine_figures}
+use Rattle.figures.proofs.RowLemmas.{below_more, below_all}
+use Rattle.figures.proofs.alike.observe_routines_alike.Goals as goal
+
+-- one thing more
+pub loop-number-preserved : goal.loop-number-preserved
+loop-number-preserved c =
+    below_more c.loop-number.number routine_figures (λ t. routine_tick (numbered t c.args.observation.now)) c.args.first (c.args.end - c.args.first)
+    c.args.figures.now c.loop-number.figures _ c.observe_routine_alike.new.figures c.loop-number.invariant (search rules)
+    c.observe_routine_alike.ensures
+
+-- all of them
+pub returns : goal.returns
+returns c =
+    below_all c.loop-number.number routine_figures (λ t. routine_tick (numbered t c.args.observation.now)) c.args.first (c.args.end - c.args.first)
+    c.args.figures.now c.loop-number.figures c.loop-number.invariant (search rules)

@@ -1,0 +1,10 @@
+use Rattle.figures.specs.FigureSums.{numbered, routine_tick}
+use Rattle.figures.specs.RoutineSums.{routine_figures}
+use Rattle.std.proofs.Common.{◌-◌}
+use Rattle.figures.proofs.RowLemmas.{IsRowBelow}
+use Rattle.figures.proofs.alike.observe_routines_alike.Given as goal
+
+-- the first ones have seen the ticks, the others haven't
+abbrev pub invariant-loop-number : goal.invariant-loop-number
+invariant-loop-number l =
+    IsRowBelow l.number routine_figures (λ t. routine_tick (numbered t l.observation)) l.first (l.end - l.first) l.initial.figures l.figures

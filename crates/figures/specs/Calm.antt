@@ -1,0 +1,74 @@
+-- Ticks in a row in which the same is seen, and what of them is counted at once.
+use Rattle.std.specs.Prelude.{ℕ, zero, suc, ◌≡◌, ◌<◌, Bool, not, ◌&&◌, ◌==◌, ◌+◌, ◌-◌, ◌^◌, cond, is_none, is_some, nat_le, List, [], ◌∷◌, length, slice_index_or}
+use Rattle.figures.specs.declared.task_tick.TaskTick.{TaskTick}
+use Rattle.figures.specs.declared.task_time.TaskTime.{TaskTime}
+use Rattle.figures.specs.declared.task_time.TaskTime.TheVariants.{Executed, StandsReady, Preempted, Blocked, Waits, HasNoJob}
+use Rattle.figures.specs.declared.task_times.TaskTimes.{TaskTimes}
+use Rattle.figures.specs.declared.task_figures.TaskFigures.{TaskFigures}
+use Rattle.figures.specs.declared.routine_figures.RoutineTick.{RoutineTick}
+use Rattle.figures.specs.declared.resource_figures.HolderTick.{HolderTick}
+use Rattle.figures.specs.declared.resource_figures.ResourceFigures.{ResourceFigures}
+use Rattle.figures.specs.Counts.{capped}
+use Rattle.figures.specs.Reaching.{worse_of}
+use Rattle.figures.specs.StateSums.{time_of, is_executed, is_ready, is_preempted, is_blocked, is_waited}
+use Rattle.figures.specs.ResponseSums.{standing}
+use Rattle.figures.specs.ResourceSums.{is_got, hold_on, hold_at}
+use Rattle.figures.specs.Quiet.{gets_nothing}
+
+-- so many ticks of a thing from one on, newest first, where `now t` is seen of it in tick t
+abbrev pub ticks_from : {T : Type 0} (now : ℕ → T) (first : ℕ) → ℕ → List T → List T
+ticks_from now first zero before = before
+ticks_from now first (suc n) before = now (first + n) ∷ ticks_from now first n before
+
+-- a list of figures before and after n ticks from one on, where `now t k` is seen in tick t of the thing of number k
+pub record IsListRow {T X : Type 0} (kind : List T → X) (now : ℕ → ℕ → T) (first n : ℕ) (old new : List X) : Type 0 where
+  pub count : length new ≡ length old
+  pub each : (k : ℕ) → k < length old → (before : List T) → slice_index_or old k (kind []) ≡ kind before
+      → slice_index_or new k (kind []) ≡ kind (ticks_from (λ t. now t k) first n before)
+
+-- nothing comes to a task: no job of it is made, refused or left, it isn't answered an error, and no blockers are told
+abbrev pub is_calm_task : TaskTick → Bool
+is_calm_task t = gets_nothing t.seen && (not t.has_failed && is_none t.blockers)
+
+-- so it is in a tick, and the jobs that stand in it were followed before
+abbrev pub is_calm_next : TaskTick → TaskFigures → Bool
+is_calm_next t f = is_calm_task t && nat_le (standing t) (length f.responses.ready_since)
+
+-- no interrupt of a routine arrives, it isn't started, and it isn't answered an error
+abbrev pub is_calm_routine : RoutineTick → Bool
+is_calm_routine r = (not r.seen.is_started && not r.has_failed) && ((r.seen.arrived == 0) && (r.seen.lost == 0))
+
+-- a task holds a resource in a tick, and so many ticks more of its hold can be counted
+abbrev pub can_hold_on : HolderTick → ℕ → ResourceFigures → Bool
+can_hold_on h more f = is_some h.holder && nat_le (hold_on h.holder f.holder f.held) (2 ^ 32 - 1 - more)
+
+-- a tick and so many more in a row, with one holder
+abbrev pub held_on : HolderTick → ℕ → ResourceFigures → ResourceFigures
+held_on h more f = record {
+  gets = capped (f.gets + cond (is_got h.holder f.holder) 1 0);
+  longest = worse_of f.longest (hold_at (record h { tick = h.tick + more }) (hold_on h.holder f.holder f.held + more));
+  holder = h.holder;
+  held = hold_on h.holder f.holder f.held + more;
+}
+
+-- a tick more, by what it is for a task
+abbrev pub time_on : TaskTime → TaskTimes → TaskTimes
+time_on time f = elim time [
+  | Executed ↦ record f { executed = capped (f.executed + 1) }
+  | StandsReady ↦ record f { ready = capped (f.ready + 1) }
+  | Preempted ↦ record f { preempted = capped (f.preempted + 1) }
+  | Blocked ↦ record f { blocked = capped (f.blocked + 1) }
+  | Waits ↦ record f { waiting = capped (f.waiting + 1) }
+  | HasNoJob ↦ f
+]
+
+-- so many ticks more, each of which is the same for a task
+abbrev pub times_on : TaskTick → ℕ → TaskTimes → TaskTimes
+times_on t more f = record {
+  executed = capped (f.executed + cond (is_executed (time_of t f.has_begun)) more 0);
+  ready = capped (f.ready + cond (is_ready (time_of t f.has_begun)) more 0);
+  preempted = capped (f.preempted + cond (is_preempted (time_of t f.has_begun)) more 0);
+  blocked = capped (f.blocked + cond (is_blocked (time_of t f.has_begun)) more 0);
+  waiting = capped (f.waiting + cond (is_waited (time_of t f.has_begun)) more 0);
+  has_begun = f.has_begun;
+}

@@ -1,0 +1,464 @@
+-- What is seen of a tick in which nothing comes to anything, by what is kept of the state at rest, which stays the same.
+use Rattle.std.proofs.Common.{◌≡◌, ℕ, ◌+◌, ◌-◌, ◌<◌, ◌≤◌, Bool, true, false, cond, List, [], ◌∷◌, ◌++◌, map, length, refl, sym, ◌∙◌, ap, ap₂, subst, arith}
+use Rattle.std.specs.Prelude.{Option, Some, None, not, ◌&&◌, ◌==◌, slice_index_or}
+use Rattle.std.specs.Option.{option_map}
+use Rattle.std.specs.List.{find}
+use Rattle.std.proofs.Math.Path.{fun_ext}
+use Rattle.observations.specs.declared.alarm_seen.AlarmSeen.{AlarmSeen}
+use Rattle.observations.specs.declared.observation.Observation.{Observation}
+use Rattle.observations.specs.declared.routine_seen.RoutineSeen.{RoutineSeen}
+use Rattle.observations.specs.declared.task_seen.TaskSeen.{TaskSeen}
+use Rattle.osek_base.specs.declared.arrivals.Arrival.{Arrival}
+use Rattle.osek_base.specs.declared.executed.Executed.{Executed}
+use Rattle.osek_base.specs.declared.ids.Owner.{Owner}
+use Rattle.osek_base.specs.declared.ids.ResId.{ResId}
+use Rattle.osek_base.specs.declared.trace_event.TraceEvent.{TraceEvent}
+use Rattle.osek_base.specs.Alarm.{alarms_advanced}
+use Rattle.osek_base.specs.Executed.{idle_or_executed}
+use Rattle.osek_base.specs.Lists.{below, same_owner}
+use Rattle.osek_base.specs.Proper.{IsProper}
+use Rattle.osek_base.specs.State.{State, jobs_of}
+use Rattle.osek_base.specs.System.{System}
+use Rattle.osek_base.specs.Tick.{before_execution}
+use Rattle.osek_base.specs.Trace.{Run, arriving, run}
+use Rattle.run_laws.proofs.FormedPhases.{before_form}
+use Rattle.run_laws.proofs.FormedTick.{run_form}
+use Rattle.run_laws.proofs.RankedTick.{IsExecuting, IsRunState, before_executing, run_ordered}
+use Rattle.blocking_laws.specs.Steps.{record_at, step_at}
+use Rattle.blocking_laws.proofs.StampLemmas.{Going}
+use Rattle.blocking_laws.proofs.StepLemmas.{executing_is, run_more}
+use Rattle.kept_state.specs.Kept.{Kept, kept}
+use Rattle.kept_state.specs.KeptService.{holds_in}
+use Rattle.kept_state.specs.Seen.{holder_in, routine_of}
+use Rattle.kept_state.proofs.Ticked.{known_of, settled_of}
+use Rattle.seen_ticks.specs.declared.task_at.TaskAt.{TaskAt}
+use Rattle.kernel.specs.Progress.{HasIdled, Progress, run_of}
+use Rattle.kernel.specs.Working.{HasWorked, at_rest}
+use Rattle.seen_ticks.specs.Told.{refused_of, task_at, task_at_in}
+use Rattle.seen_ticks.proofs.SeenLemmas.{counted as counted_jobs, task_is}
+use Rattle.observed_runs.specs.declared.before.Before.{Before}
+use Rattle.observed_runs.specs.declared.execution.Execution.{Execution}
+use Rattle.observed_runs.specs.Keeping.{IsTold}
+use Rattle.seen_ticks.specs.Observed.{IsObserved, IsSeen, Ticked, activates, active_routine, alarm_seen, answered, ending, executed_in, failure_by, failure_of, holders_seen, instruction, is_accepted, is_by, is_end, is_limit, is_number, is_pending, is_waiting, jobs_before, lost_of, one_if, owner_of, refusing, routine_seen, state_seen, status_of, task_of, task_seen, tick_at}
+use Rattle.observed_runs.specs.Passing.{HasStayed, PassesAlike, StaysAlike}
+use Rattle.observed_runs.proofs.Staying.{holding}
+
+-- ---- a task, between two ticks and at the instruction of one
+
+module _ (S : System) (proper : IsProper S) (mode : ℕ) (arrivals : List Arrival) (n : ℕ) where
+  task_between : (t : ℕ) → task_at_in S (kept S (run S mode arrivals n).state) t ≡ task_at S (run S mode arrivals n).state t
+  task_between =
+      let s : State = (run S mode arrivals n).state in
+      let good : IsRunState S s = run_ordered S proper mode arrivals n in
+      task_is S s (settled_of S s good.single good.ordered.ranked) (known_of S s (run_form S proper mode arrivals n))
+
+  task_executing : Going S mode arrivals n → (t : ℕ)
+      → task_at_in S (kept S (step_at S mode arrivals n).executing) t ≡ task_at S (step_at S mode arrivals n).executing t
+  task_executing going t =
+      let s : State = (run S mode arrivals n).state in
+      let e : State = (before_execution S (arriving arrivals n) s).state in
+      let executing : IsExecuting S proper e = before_executing S proper (arriving arrivals n) s (run_ordered S proper mode arrivals n) in
+      let settled = settled_of S e executing.good.single executing.good.ordered.ranked in
+      let known = known_of S e (before_form S proper (arriving arrivals n) s (run_form S proper mode arrivals n)) in
+      subst (λ s. task_at_in S (kept S s) t ≡ task_at S s t) (executing_is S mode arrivals n going) (task_is S e settled known t)
+
+-- ---- by what is kept, and who executes
+
+abbrev by_owner : Owner → Option Owner → Bool
+by_owner w None = false
+by_owner w (Some who) = same_owner w who
+
+abbrev pub alike_task : System → Kept → Option Owner → ℕ → TaskSeen
+alike_task S o who t =
+    record {
+      state = state_seen (by_owner (Owner.Task t) who) (task_at_in S o t).state;
+      priority = (task_at_in S o t).priority;
+      jobs = (task_at_in S o t).jobs;
+      made = 0;
+      refused = 0;
+      ended = false;
+      waits = by_owner (Owner.Task t) who && is_waiting (task_at_in S o t).state;
+    }
+
+abbrev active_of : Kept → Option ℕ
+active_of x = option_map routine_of x.active
+
+abbrev pub alike_routine : Kept → Option Owner → ℕ → RoutineSeen
+alike_routine o who i =
+    record {
+      executes = by_owner (Owner.Routine i) who;
+      is_pending = slice_index_or o.pending i false;
+      is_started = by_owner (Owner.Routine i) who && not (is_number i (active_of o));
+      arrived = 0;
+      lost = 0;
+    }
+
+abbrev pub quiet_alarm : ℕ → AlarmSeen
+quiet_alarm a = record { has_expired = false; is_refused = false }
+
+abbrev pub holders_by : System → (ResId → Option ℕ) → List (Option ℕ)
+holders_by S h =
+    map (λ r. h (ResId.Declared r)) (below (length S.resources)) ++ cond S.use_res_scheduler (h ResId.Scheduler ∷ []) []
+
+pub record IsAlike (S : System) (o : Kept) (who : Option Owner) (seen : Observation) : Type 0 where
+  pub executor : seen.executor ≡ who
+  pub answered : seen.answered ≡ None
+  pub failure : seen.failure ≡ None
+  pub tasks : seen.tasks.items ≡ map (alike_task S o who) (below (length S.tasks))
+  pub routines : seen.routines.items ≡ map (alike_routine o who) (below (length S.routines))
+  pub holders : seen.holders.items ≡ holders_by S (holder_in S o)
+  pub alarms : seen.alarms.items ≡ map quiet_alarm (below (length S.alarms))
+
+-- who holds what, by what is kept of a state at rest
+pub holders_kept : (S : System) (s : State) (o : Kept) → at_rest (kept S s) ≡ at_rest o
+    → holders_seen S s ≡ holders_by S (holder_in S o)
+holders_kept S s o same =
+    ap (holders_by S) (fun_ext (λ r.
+    ap (λ p. find p (below (length S.tasks))) (fun_ext (λ t.
+    sym (holding r (jobs_of t s.jobs)) ∙ ap (λ (k : Kept). holds_in r (k.slots t)) same))))
+
+none_lost : (was_pending : Bool) → lost_of was_pending 0 ≡ 0
+none_lost true = refl
+none_lost false = refl
+
+-- who executes, by whom the instruction is
+by_same : (w : Owner) (e : Option Executed) (who : Option Owner) → option_map owner_of e ≡ who → is_by w e ≡ by_owner w who
+by_same w None who same = ap (by_owner w) same
+by_same w (Some e) who same = ap (by_owner w) same
+
+-- a record tells what was executed
+executed_again : (S : System) (e : Option Executed) → executed_in (idle_or_executed S e ∷ []) ≡ e
+executed_again S None = refl
+executed_again S (Some e) = refl
+
+-- ---- such a tick
+
+abbrev alike_tick : State → State → State → Option Executed → Ticked
+alike_tick before at after e =
+    record { first = false; before = before; at = at; after = after; executed = e; due = []; refused = []; arrived = [] }
+
+-- tick n, where this was kept at rest, and who executes
+module _ (counted : Bool) (S : System) (proper : IsProper S) (mode : ℕ) (arrivals : List Arrival) (n : ℕ) (o : Kept)
+    (who : Option Owner) (not_first : 1 ≤ n) (going : (run S mode arrivals n).state.over ≡ false)
+    (stays : StaysAlike counted S mode arrivals n o who) where
+  abbrev before : State
+  before = (run S mode arrivals n).state
+
+  abbrev at : State
+  at = (step_at S mode arrivals n).executing
+
+  abbrev after : State
+  after = (step_at S mode arrivals n).after
+
+  abbrev e : Option Executed
+  e = stays.executed
+
+  later_on : (n == 0) ≡ false
+  later_on = grind (arith, not_first)
+
+  executed_is : executed_in (record_at S mode arrivals n) ≡ e
+  executed_is = ap executed_in stays.recorded ∙ executed_again S e
+
+  tick_is : tick_at S mode arrivals n ≡ alike_tick before at after e
+  tick_is = λ i. record {
+    first = later_on i;
+    before = before;
+    at = at;
+    after = after;
+    executed = executed_is i;
+    due = stays.none_due i;
+    refused = ap (λ due. refused_of S due (record before { alarms = alarms_advanced S before })) stays.none_due i;
+    arrived = stays.none_arrive i;
+  }
+
+  -- as many jobs
+  same_count : (t : ℕ) → length (jobs_of t after.jobs) ≡ length (jobs_of t before.jobs)
+  same_count t =
+      sym (counted_jobs (jobs_of t after.jobs)) ∙ ap (λ (x : Kept). (x.slots t).count) stays.behind
+      ∙ sym (ap (λ (x : Kept). (x.slots t).count) stays.before) ∙ counted_jobs (jobs_of t before.jobs)
+
+  task_at_is : (t : ℕ) → task_at S at t ≡ task_at_in S o t
+  task_at_is t = sym (task_executing S proper mode arrivals n going t) ∙ ap (λ x. task_at_in S x t) stays.at
+
+  after_is : (run S mode arrivals (n + 1)).state ≡ after
+  after_is = ap (λ (r : Run). r.state) (run_more S mode arrivals n going)
+
+  task_behind : (t : ℕ) → task_at S after t ≡ task_at_in S o t
+  task_behind t =
+      ap (λ (s : State). task_at S s t) (sym after_is) ∙ sym (task_between S proper mode arrivals (n + 1) t)
+      ∙ ap (λ (s : State). task_at_in S (kept S s) t) after_is ∙ ap (λ x. task_at_in S x t) stays.behind
+
+  one_task : (t : ℕ) → task_seen S (alike_tick before at after e) t ≡ alike_task S o who t
+  one_task t =
+      let same = same_count t in
+      let none_made : length (jobs_of t after.jobs) + 0 - length (jobs_of t before.jobs) ≡ 0 = omega (arith, same) in
+      let own : is_by (Owner.Task t) e ≡ by_owner (Owner.Task t) who = by_same (Owner.Task t) e who stays.owner in
+      let made : length (jobs_of t after.jobs) + one_if (is_number t (ending S e)) - length (jobs_of t before.jobs) ≡ 0 =
+      ap (λ x. length (jobs_of t after.jobs) + one_if (is_number t x) - length (jobs_of t before.jobs)) stays.ends ∙ none_made in
+      λ i. record {
+        state = state_seen (own i) (task_at_is t i).state;
+        priority = (task_at_is t i).priority;
+        jobs = (task_at_is t i).jobs;
+        made = made i;
+        refused = ap (λ x. one_if (is_number t x) + 0) stays.refuses i;
+        ended = ap (is_number t) stays.ends i;
+        waits = own i && is_waiting (task_behind t i).state;
+      }
+
+  one_routine : (i : ℕ) → routine_seen (alike_tick before at after e) i ≡ alike_routine o who i
+  one_routine i =
+      let pending : is_pending at i ≡ slice_index_or o.pending i false =
+      ap (λ (x : Kept). slice_index_or x.pending i false) stays.at in
+      let active : active_routine before ≡ active_of o = ap (λ (x : Kept). active_of x) stays.before in
+      let own : is_by (Owner.Routine i) e ≡ by_owner (Owner.Routine i) who = by_same (Owner.Routine i) e who stays.owner in
+      λ j. record {
+        executes = own j;
+        is_pending = pending j;
+        is_started = own j && not (is_number i (active j));
+        arrived = 0;
+        lost = none_lost (is_pending before i) j;
+      }
+
+  tasks_are : map (task_seen S (tick_at S mode arrivals n)) (below (length S.tasks)) ≡ map (alike_task S o who) (below (length S.tasks))
+  tasks_are =
+      ap (λ k. map (task_seen S k) (below (length S.tasks))) tick_is
+      ∙ ap (λ (f : ℕ → TaskSeen). map f (below (length S.tasks))) (fun_ext one_task)
+
+  routines_are : map (routine_seen (tick_at S mode arrivals n)) (below (length S.routines))
+      ≡ map (alike_routine o who) (below (length S.routines))
+  routines_are =
+      ap (λ k. map (routine_seen k) (below (length S.routines))) tick_is
+      ∙ ap (λ (f : ℕ → RoutineSeen). map f (below (length S.routines))) (fun_ext one_routine)
+
+  alarms_are : map (alarm_seen (tick_at S mode arrivals n)) (below (length S.alarms)) ≡ map quiet_alarm (below (length S.alarms))
+  alarms_are = ap (λ k. map (alarm_seen k) (below (length S.alarms))) tick_is
+
+  pub alike_seen : (seen : Observation) → IsSeen S (tick_at S mode arrivals n) seen → IsAlike S o who seen
+  alike_seen seen is = record {
+    executor = is.executor ∙ ap (option_map owner_of) executed_is ∙ stays.owner;
+    answered = is.answered ∙ ap answered executed_is ∙ stays.answer;
+    failure = is.failure ∙ ap failure_of executed_is ∙ stays.failure;
+    tasks = is.tasks ∙ tasks_are;
+    routines = is.routines ∙ routines_are;
+    holders = is.holders ∙ holders_kept S at o stays.at;
+    alarms = is.alarms ∙ alarms_are;
+  }
+
+  pub seen_alike : (seen : Observation) (tick : ℕ) → IsAlike S o who seen
+      → IsSeen S (tick_at S mode arrivals n) (record seen { tick = tick })
+  seen_alike seen tick is = record {
+    executor = is.executor ∙ sym (ap (option_map owner_of) executed_is ∙ stays.owner);
+    answered = is.answered ∙ sym (ap answered executed_is ∙ stays.answer);
+    failure = is.failure ∙ sym (ap failure_of executed_is ∙ stays.failure);
+    tasks = is.tasks ∙ sym tasks_are;
+    routines = is.routines ∙ sym routines_are;
+    holders = is.holders ∙ sym (holders_kept S at o stays.at);
+    alarms = is.alarms ∙ sym alarms_are;
+  }
+
+  -- ---- what is told of it, by the state behind it
+
+  module _ (ticks : ℕ) (now : State) (behind : now ≡ after) (some : 1 ≤ ticks) where
+    later_still : (ticks == 0) ≡ false
+    later_still = grind (arith, some)
+
+    jobs_known : (t : ℕ) → jobs_before (ticks == 0) now t ≡ jobs_before (n == 0) before t
+    jobs_known t =
+        ap₂ (λ first (s : State). jobs_before first s t) later_still behind ∙ same_count t
+        ∙ sym (ap (λ first. jobs_before first before t) later_on)
+
+    pending_known : now.pending ≡ before.pending
+    pending_known =
+        ap (λ (s : State). s.pending) behind ∙ ap (λ (x : Kept). x.pending) stays.behind
+        ∙ sym (ap (λ (x : Kept). x.pending) stays.before)
+
+    active_known : active_routine now ≡ active_routine before
+    active_known =
+        ap active_routine behind ∙ ap (λ (x : Kept). active_of x) stays.behind
+        ∙ sym (ap (λ (x : Kept). active_of x) stays.before)
+
+    task_now : (t : ℕ) → task_at S now t ≡ task_at S at t
+    task_now t = ap (λ (s : State). task_at S s t) behind ∙ task_behind t ∙ sym (task_at_is t)
+
+    pub alike_told : (known : Before) (x : Execution) (tasks : List TaskAt) (records : List TraceEvent) (last : Option Executed)
+        → known.jobs.items ≡ map (jobs_before (ticks == 0) now) (below (length S.tasks))
+        → known.pending.items ≡ map (is_pending now) (below (length S.routines)) → known.active ≡ active_routine now
+        → x.executed ≡ last → x.ending ≡ ending S last → x.refusing ≡ refusing S last
+        → tasks ≡ map (task_at S now) (below (length S.tasks)) → records ≡ idle_or_executed S last ∷ []
+        → record_at S mode arrivals n ≡ idle_or_executed S last ∷ []
+        → IsTold S mode arrivals n now known x tasks records
+    alike_told known x tasks records last jobs pending active executed ends refuses each told recorded =
+        let last_is : executed_in (record_at S mode arrivals n) ≡ last = ap executed_in recorded ∙ executed_again S last in
+        record {
+          behind = behind;
+          known = record {
+            jobs = jobs ∙ ap (λ (f : ℕ → ℕ). map f (below (length S.tasks))) (fun_ext jobs_known);
+            pending =
+                pending
+                ∙ ap (λ (v : List Bool). map (λ i. slice_index_or v i false) (below (length S.routines))) pending_known;
+            active = active ∙ active_known;
+          };
+          done = record {
+            executed = executed ∙ sym last_is;
+            ending = ends ∙ sym (ap (ending S) last_is);
+            refusing = refuses ∙ sym (ap (refusing S) last_is);
+          };
+          each = each ∙ ap (λ (f : ℕ → TaskAt). map f (below (length S.tasks))) (fun_ext task_now);
+          recorded = told ∙ sym recorded;
+        }
+
+-- ---- ticks of a kernel
+
+-- in which nobody executes
+pub idle_stays : (counted : Bool) (most n : ℕ) (old new : Progress) → HasIdled most old new n
+    → HasStayed counted most old new n None
+idle_stays counted most n old new idled = record {
+  few = idled.few;
+  not_first = idled.not_first;
+  going = idled.going;
+  who = None;
+  stays = λ k low.
+      let leaves = idled.stays k low in
+      record {
+        none_arrive = leaves.none_arrive;
+        none_due = leaves.none_due;
+        no_blockers = λ _. leaves.no_blockers;
+        executed = None;
+        recorded = idled.records k low;
+        owner = refl;
+        answer = refl;
+        failure = refl;
+        ends = refl;
+        refuses = refl;
+        before = ap at_rest leaves.before;
+        at = ap at_rest leaves.at;
+        behind = ap at_rest leaves.behind;
+      };
+  recorded = λ some. idled.records (n - 1) (omega (arith, some));
+  next = idled.next;
+}
+
+-- in which the running task works
+pub work_stays : (counted : Bool) (most n : ℕ) (old new : Progress) (last : Option Executed)
+    → HasWorked counted most old new n last → HasStayed counted most old new n last
+work_stays counted most n old new last worked = record {
+  few = worked.few;
+  not_first = worked.not_first;
+  going = worked.going;
+  who = option_map Owner.Task (kept old.system (run_of old).state).running;
+  stays = λ k low.
+      let leaves = worked.stays k low in
+      let e : Executed = leaves.executed in
+      let plain = leaves.work.plain in
+      record {
+        none_arrive = leaves.none_arrive;
+        none_due = leaves.none_due;
+        no_blockers = leaves.no_blockers;
+        executed = Some e;
+        recorded = leaves.work.recorded;
+        owner = leaves.work.who;
+        answer = ap status_of plain;
+        failure = ap (λ x. failure_by e (status_of x)) plain;
+        ends = ap (λ x. cond (is_accepted x && is_end (instruction old.system e)) (task_of e.owner) None) plain;
+        refuses = ap (λ x. cond (is_limit x) (activates (instruction old.system e)) None) plain;
+        before = leaves.before;
+        at = leaves.at;
+        behind = leaves.behind;
+      };
+  recorded = worked.recorded;
+  next = worked.next;
+}
+
+-- ---- a kernel that passes such ticks
+
+-- what is noted behind a run's last tick, in which that was executed
+pub record IsNoted (r : Progress) (last : Option Executed) (known : Before) (e : Execution) (tasks : List TaskAt)
+    (records : List TraceEvent) : Type 0 where
+  pub jobs : known.jobs.items ≡ map (jobs_before (r.ticks == 0) (run_of r).state) (below (length r.system.tasks))
+  pub pending : known.pending.items ≡ map (is_pending (run_of r).state) (below (length r.system.routines))
+  pub active : known.active ≡ active_routine (run_of r).state
+  pub executed : e.executed ≡ last
+  pub ending : e.ending ≡ ending r.system last
+  pub refusing : e.refusing ≡ refusing r.system last
+  pub each : tasks ≡ map (task_at r.system (run_of r).state) (below (length r.system.tasks))
+  pub recorded : records ≡ idle_or_executed r.system last ∷ []
+
+-- what is said of the last of so many ticks is said of the last one behind them
+last_on : (k new : Progress) (n : ℕ) (P : System → ℕ → List Arrival → ℕ → Type 0) → new ≡ record k { ticks = k.ticks + n } → 0 < n
+    → P k.system k.mode k.arrivals (k.ticks + (n - 1)) → P new.system new.mode new.arrivals (new.ticks - 1)
+last_on k new n P next some h =
+    let last : k.ticks + n - 1 ≡ k.ticks + (n - 1) = omega (arith, some) in
+    subst (λ (r : Progress). P r.system r.mode r.arrivals (r.ticks - 1)) (sym next)
+    (subst (λ m. P k.system k.mode k.arrivals m) (sym last) h)
+
+module _ (counted : Bool) (most n : ℕ) (k new : Progress) (last : Option Executed) (stayed : HasStayed counted most k new n last)
+    (some : 0 < n) where
+  abbrev kept_then : Kept
+  kept_then = kept k.system (run_of k).state
+
+  last_low : n - 1 < n
+  last_low = omega (arith, some)
+
+  -- the state behind the last of them
+  state_behind : (run k.system k.mode k.arrivals (k.ticks + n)).state ≡ (step_at k.system k.mode k.arrivals (k.ticks + (n - 1))).after
+  state_behind =
+      let one_more : k.ticks + n ≡ k.ticks + (n - 1) + 1 = omega (arith, some) in
+      ap (λ m. (run k.system k.mode k.arrivals m).state) one_more
+      ∙ ap (λ (r : Run). r.state) (run_more k.system k.mode k.arrivals (k.ticks + (n - 1)) (stayed.going (n - 1) last_low))
+
+  not_first_at : (i : ℕ) → 1 ≤ k.ticks + i
+  not_first_at i = let begun = stayed.not_first some in omega (arith, begun)
+
+  pub stayed_told : IsProper k.system → (known : Before) (e : Execution) (tasks : List TaskAt) (records : List TraceEvent)
+      → IsNoted new last known e tasks records
+      → IsTold new.system new.mode new.arrivals (new.ticks - 1) (run_of new).state known e tasks records
+  stayed_told proper known e tasks records noted =
+      let is : IsNoted (record k { ticks = k.ticks + n }) last known e tasks records =
+      subst (λ r. IsNoted r last known e tasks records) stayed.next noted in
+      let state_is : (run_of new).state ≡ (run k.system k.mode k.arrivals (k.ticks + n)).state =
+      ap (λ (r : Progress). (run_of r).state) stayed.next in
+      last_on k new n (λ S mode arrivals m. IsTold S mode arrivals m (run_of new).state known e tasks records) stayed.next some
+      (subst (λ s. IsTold k.system k.mode k.arrivals (k.ticks + (n - 1)) s known e tasks records) (sym state_is)
+      (alike_told counted k.system proper k.mode k.arrivals (k.ticks + (n - 1)) kept_then stayed.who (not_first_at (n - 1))
+      (stayed.going (n - 1) last_low) (stayed.stays (n - 1) last_low)
+      (k.ticks + n) (run k.system k.mode k.arrivals (k.ticks + n)).state state_behind (not_first_at n)
+      known e tasks records last is.jobs is.pending is.active
+      is.executed is.ending is.refusing is.each is.recorded (stayed.recorded some)))
+
+  pub stayed_holders : holders_seen new.system (run_of new).state
+      ≡ holders_seen new.system (tick_at new.system new.mode new.arrivals (new.ticks - 1)).at
+  stayed_holders =
+      let stays = stayed.stays (n - 1) last_low in
+      let state_is : (run_of new).state ≡ (step_at k.system k.mode k.arrivals (k.ticks + (n - 1))).after =
+      ap (λ (r : Progress). (run_of r).state) stayed.next ∙ state_behind in
+      last_on k new n (λ S mode arrivals m. holders_seen S (run_of new).state ≡ holders_seen S (tick_at S mode arrivals m).at)
+      stayed.next some
+      (ap (holders_seen k.system) state_is
+      ∙ holders_kept k.system (step_at k.system k.mode k.arrivals (k.ticks + (n - 1))).after kept_then stays.behind
+      ∙ sym (holders_kept k.system (step_at k.system k.mode k.arrivals (k.ticks + (n - 1))).executing kept_then stays.at))
+
+  pub passes_alike : (more : ℕ) → most ≤ more → IsProper new.system → PassesAlike counted more k new n
+  passes_alike more less proper_now =
+      let few = stayed.few in
+      let ticks_are : new.ticks ≡ k.ticks + n = ap (λ (r : Progress). r.ticks) stayed.next in
+      let last_is : new.ticks - 1 ≡ k.ticks + (n - 1) = omega (arith, ticks_are, some) in
+      let proper : IsProper k.system = subst IsProper (ap (λ (r : Progress). r.system) stayed.next) proper_now in
+      record {
+        few = omega (arith, few, less);
+        next = stayed.next;
+        alike = λ i low seen is.
+            let was = subst (λ m. IsObserved counted k.system k.mode k.arrivals m seen) last_is is in
+            let alike =
+            alike_seen counted k.system proper k.mode k.arrivals (k.ticks + (n - 1)) kept_then stayed.who (not_first_at (n - 1))
+            (stayed.going (n - 1) last_low) (stayed.stays (n - 1) last_low) seen was.seen in
+            record {
+              number = refl;
+              seen =
+                  seen_alike counted k.system proper k.mode k.arrivals (k.ticks + i) kept_then stayed.who (not_first_at i)
+                  (stayed.going i low) (stayed.stays i low) seen (k.ticks + i) alike;
+              blockers = λ counting.
+                  was.blockers counting ∙ (stayed.stays (n - 1) last_low).no_blockers counting
+                  ∙ sym ((stayed.stays i low).no_blockers counting);
+              uncounted = was.uncounted;
+            };
+      }

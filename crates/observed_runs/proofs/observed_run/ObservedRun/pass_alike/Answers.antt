@@ -1,0 +1,22 @@
+use Rattle.std.proofs.Common.{◌≤◌, ◌<◌, ◌∙◌, subst, arith}
+use Rattle.kernel.specs.Progress.{Progress}
+use Rattle.observed_runs.specs.Passing.{PassesAlike}
+use Rattle.observed_runs.proofs.Alike.{passes_alike, stayed_holders}
+use Rattle.observed_runs.proofs.observed_run.ObservedRun.pass_alike.Goals as goal
+
+pub see-requires-clause-holders : goal.see-requires-clause-holders
+see-requires-clause-holders g c =
+    let p = c.pass_alike-passed in
+    let some : 0 < p.result = omega (arith, c.if-passed-eq0.false) in
+    c.see_holders.ensures.holders
+    ∙ stayed_holders g.B.Blockers.are_counted c.min.result p.result c.self.inside.told p.new.self p.ensures.last p.ensures.stayed some
+
+pub returns : goal.returns
+returns g c =
+    let p = c.pass_alike-passed in
+    let counted = g.B.Blockers.are_counted in
+    let some : 0 < p.result = omega (arith, c.if-passed-eq0.false) in
+    let less : c.min.result ≤ c.args.most = grind (arith, c.min.ensures) in
+    subst (λ (r : Progress). PassesAlike counted c.args.most r p.new.self p.result) c.self.view_is
+    (passes_alike counted c.min.result p.result c.self.inside.told p.new.self p.ensures.last p.ensures.stayed some c.args.most less
+    c.see_holders.ensures.proper)

@@ -1,0 +1,60 @@
+use Rattle.std.proofs.Common.{◌≡◌, ◌≤◌, ◌<◌, ◌∷◌, ◌++◌, [], map, length, sym, ◌∙◌, ap, subst, arith}
+use Rattle.std.specs.Prelude.{◌==◌}
+use Rattle.osek_base.specs.declared.limits.TheConstants.{MAX_ARRIVALS}
+use Rattle.osek_base.specs.Executed.{idle_or_executed}
+use Rattle.osek_base.specs.Lists.{below}
+use Rattle.osek_base.specs.Proper.{IsProper}
+use Rattle.osek_base.specs.System.{System}
+use Rattle.kernel.specs.Progress.{Progress, run_of}
+use Rattle.seen_ticks.specs.Told.{task_at}
+use Rattle.seen_ticks.specs.Observed.{ending, is_pending, jobs_before, refusing}
+use Rattle.observed_runs.specs.Passing.{StaysOn}
+use Rattle.observed_runs.proofs.Alike.{stayed_told, work_stays}
+use Rattle.observed_runs.proofs.told_run.ToldRun.pass_plain.Goals as goal
+
+pub invariant_of-self-2 : goal.invariant_of-self-2
+invariant_of-self-2 g c =
+    let k : Progress = c.self.inside.kernel in
+    let p = c.pass_plain-worked in
+    let new : Progress = p.new.self in
+    let e = c.of-self-inside in
+    let v = c.self.invariant in
+    let system : new.system ≡ c.self.inside.system.now = ap (λ (r : Progress). r.system) p.ensures.next ∙ v.system in
+    let here = sym system in
+    let some : 0 < p.result.ticks = omega (arith, c.if-worked-eq0.false) in
+    let proper : IsProper k.system = subst IsProper (sym v.system) c.see_tasks_between.ensures.proper in
+    record {
+      system = system;
+      few = subst (λ (r : Progress). length r.arrivals ≤ MAX_ARRIVALS) (sym p.ensures.next) v.few;
+      told = λ later.
+          stayed_told g.B.Blockers.are_counted c.args.most p.result.ticks k new p.result.last
+          (work_stays g.B.Blockers.are_counted c.args.most p.result.ticks k new p.result.last p.ensures) some proper c.note.new.self e.result c.see_tasks_between.new.tasks.items c.push.new.self
+          (record {
+            jobs =
+                c.note.ensures.jobs
+                ∙ ap (λ (S : System). map (jobs_before (new.ticks == 0) (run_of new).state) (below (length S.tasks))) here;
+            pending =
+                c.note.ensures.pending
+                ∙ ap (λ (S : System). map (is_pending (run_of new).state) (below (length S.routines))) here;
+            active = c.note.ensures.active;
+            executed = e.ensures.executed;
+            ending = e.ensures.ending ∙ ap (λ (S : System). ending S p.result.last) here;
+            refusing = e.ensures.refusing ∙ ap (λ (S : System). refusing S p.result.last) here;
+            each =
+                c.see_tasks_between.ensures.tasks
+                ∙ ap (λ (S : System). map (task_at S (run_of new).state) (below (length S.tasks))) here;
+            recorded =
+                c.push.ensures ∙ ap (λ v. v ++ c.event_of.result ∷ []) c.clear.ensures
+                ∙ ap (λ x. x ∷ []) c.event_of.ensures
+                ∙ ap (λ (S : System). idle_or_executed S p.result.last ∷ []) here;
+          });
+    }
+
+pub returns : goal.returns
+returns g c =
+    let p = c.pass_plain-worked in
+    subst (λ (r : Progress). StaysOn g.B.Blockers.are_counted c.args.most r p.new.self p.result.ticks) c.self.view_is
+    (record {
+      last = p.result.last;
+      stayed = work_stays g.B.Blockers.are_counted c.args.most p.result.ticks c.self.inside.kernel p.new.self p.result.last p.ensures;
+    })
