@@ -194,7 +194,7 @@ pub(crate) const STATUSES: &str = "Exit status:
 pub(crate) const VERSION: &str = "0.1.0";
 
 pub(crate) const LONG_VERSION: &str = "0.1.0
-Proofs: rattle-kit-13b logic dac8208d650f15bf checks them, and `rt run` builds what is proved alone.
+Proofs: a Rattle kit with the logic dac8208d650f15bf checks them, and `rt run` builds what is proved alone.
 Proved: what `trace` writes is the schedule that the definitions give the system read; where `check`
 accepts two systems that agree from P upward, their upper parts have equal views in every run.
 Not proved: a program that was built in another way, as by `rt try`, and its command line.";
