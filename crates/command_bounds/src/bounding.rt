@@ -11,7 +11,7 @@ use bounds::find_bounds;
 use bounds_above::find_upper_bounds;
 use command_answers::{DistanceFault, Texts, Verdict, mode_of, system_of, write_denial};
 use command_requests::{BoundsLine, Distance, Wanted};
-use figures::Form;
+use figure_texts::Form;
 use isolation::check_isolation;
 use kernel::BootFault;
 use osek_base::{ModeId, System};

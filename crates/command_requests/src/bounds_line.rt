@@ -6,7 +6,7 @@ use crate::reading::form;
 use bound_kinds::{is_column, place_of};
 use clap::ArgMatches;
 use clap::error::ErrorKind;
-use figures::Form;
+use figure_texts::Form;
 use osek_base::MAX_TICKS;
 use std::alloc::Global;
 use std::fmt;

@@ -7,7 +7,7 @@ use crate::lines::lines;
 use crate::request::{Asked, Lines, MakeLine, Question, Request, RunLine, StatsLine, View};
 use clap::error::ErrorKind;
 use clap::{ArgMatches, Command, Error};
-use figures::{Form, Limit};
+use figure_texts::{Form, Limit};
 use osek_base::MAX_TICKS;
 use std::alloc::{AllocError, Global};
 use std::convert::AsStr;

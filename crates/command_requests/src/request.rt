@@ -2,7 +2,7 @@
 
 use crate::bounds_line::{BoundsLine, Distance};
 use crate::help;
-use figures::{Form, Limit};
+use figure_texts::{Form, Limit};
 use timelines::MAX_DRAWN;
 
 /// What a run is of besides its system: the name of its arrival list, the mode, and how many ticks, 0 to 1,000,000.

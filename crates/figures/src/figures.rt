@@ -9,30 +9,16 @@ use crate::alarm_figures::AlarmFigures;
 use crate::alike::{
     observe_alarms_alike, observe_resources_alike, observe_routines_alike, observe_tasks_alike,
 };
-use crate::broken::{
-    number_of, push_alarm_refusals, push_losses, push_task_refusals, push_time, routine_time,
-    task_time,
-};
 use crate::counts::{added, added_where, counted};
-use crate::csv_text::csv_text;
-use crate::form::Form;
-use crate::json_text::json_text;
-use crate::limits::{Limit, Limits};
-use crate::line::Group;
 use crate::lists::{observe_alarms, observe_resources, observe_routines, observe_tasks};
 use crate::new_lists::{held_count, levels_of, new_alarms, new_resources, new_routines, new_tasks};
 use crate::resource_figures::ResourceFigures;
 use crate::routine_figures::RoutineFigures;
-use crate::sections::{
-    alarm_group, job_group, resource_group, response_group, routine_group, run_group, time_group,
-};
 use crate::seen::is_idle;
-use crate::table::table_text;
 use crate::task_figures::TaskFigures;
 use arrayvec::ArrayVec;
 use observations::{MAX_HELD, Observation};
-use osek_base::{MAX_ALARMS, MAX_ROUTINES, MAX_TASKS, Name, Names, System};
-use std::alloc::{AllocError, Global};
+use osek_base::{MAX_ALARMS, MAX_ROUTINES, MAX_TASKS, System};
 use std::marker::Model;
 
 /// Figures of a run over the ticks that were observed. They take no memory but their own.
@@ -136,101 +122,53 @@ impl Figures {
         observe_alarms(self.alarms.as_mut_slice(), tick, observation);
     }
 
-    fn task_groups<'a>(
-        &self,
-        alloc: Global,
-        names: &'a [Name],
-    ) -> Result<Vec<Group<'a>>, AllocError> {
-        let tasks = self.tasks.as_slice();
-        let mut groups = Vec::new(alloc);
-        groups.push(run_group(alloc, self.ticks, self.idle)?)?;
-        groups.push(job_group(alloc, tasks, names)?)?;
-        groups.push(response_group(alloc, tasks, self.last, names)?)?;
-        groups.push(time_group(alloc, tasks, self.ticks, names)?)?;
-        Ok(groups)
+    /// How many ticks were seen.
+    pub fn ticks(&self) -> u32
+        ensures { result ≡ self.now.ticks }
+    {
+        self.ticks
     }
 
-    fn groups<'a>(&self, alloc: Global, names: &'a Names) -> Result<Vec<Group<'a>>, AllocError> {
-        let mut groups = self.task_groups(alloc, names.tasks.as_slice())?;
-        let routines = routine_group(alloc, self.routines.as_slice(), names.routines.as_slice())?;
-        groups.push(routines)?;
-        let resources = resource_group(
-            alloc,
-            self.resources.as_slice(),
-            names.resources.as_slice(),
-        )?;
-        groups.push(resources)?;
-        groups.push(alarm_group(alloc, self.alarms.as_slice(), names.alarms.as_slice())?)?;
-        Ok(groups)
+    /// The number of the last tick that was seen, 0 where none was.
+    pub fn last(&self) -> u32
+        ensures { result ≡ self.now.last }
+    {
+        self.last
     }
 
-    /// The text of the figures in a form, with the names of the system that they are of.
-    pub fn text(&self, alloc: Global, system: &System, form: Form) -> Result<Vec<u8>, AllocError> {
-        let groups = self.groups(alloc, system.names())?;
-        match form {
-            Form::Table => table_text(alloc, groups.as_slice()),
-            Form::Csv => csv_text(alloc, groups.as_slice()),
-            Form::Json => json_text(alloc, groups.as_slice()),
-        }
+    /// In how many of the ticks nobody executed.
+    pub fn idle(&self) -> u32
+        ensures { result ≡ self.now.idle }
+    {
+        self.idle
     }
 
-    fn push_times(
-        &self,
-        names: &Names,
-        limits: &[Limit<'_>],
-        lines: &mut String,
-    ) -> Result<(), AllocError> {
-        for limit in limits {
-            let tasks = names.tasks.as_slice();
-            let time = task_time(self.tasks.as_slice(), tasks, limit.name, self.last);
-            push_time(*limit, time, lines)?;
-            let routines = names.routines.as_slice();
-            let time = routine_time(self.routines.as_slice(), routines, limit.name, self.last);
-            push_time(*limit, time, lines)?;
-        }
-        Ok(())
+    /// The figures of each task, by number.
+    pub fn tasks(&self) -> &[TaskFigures]
+        ensures { result.now ≡ self.now.tasks }
+    {
+        self.tasks.as_slice()
     }
 
-    fn push_counts(
-        &self,
-        names: &Names,
-        limits: &Limits<'_>,
-        lines: &mut String,
-    ) -> Result<(), AllocError> {
-        if limits.no_loss {
-            push_losses(self.routines.as_slice(), names.routines.as_slice(), lines)?;
-        }
-        if limits.no_refusal {
-            push_task_refusals(self.tasks.as_slice(), names.tasks.as_slice(), lines)?;
-            push_alarm_refusals(self.alarms.as_slice(), names.alarms.as_slice(), lines)?;
-        }
-        Ok(())
+    /// The figures of each routine, by number.
+    pub fn routines(&self) -> &[RoutineFigures]
+        ensures { result.now ≡ self.now.routines }
+    {
+        self.routines.as_slice()
     }
 
-    /// A line for each limit that is broken, with the tick at which it was. A job that neither ended nor waits, and an
-    /// interrupt that is pending, count as if they ended and started in the last tick and behind it.
-    pub fn broken(
-        &self,
-        alloc: Global,
-        system: &System,
-        limits: &Limits<'_>,
-    ) -> Result<String, AllocError> {
-        let mut lines = String::new(alloc);
-        self.push_times(system.names(), limits.times, &mut lines)?;
-        self.push_counts(system.names(), limits, &mut lines)?;
-        Ok(lines)
+    /// The figures of each resource that can be held, by number; behind the declared ones
+    /// RES_SCHEDULER, where the system has it.
+    pub fn resources(&self) -> &[ResourceFigures]
+        ensures { result.now ≡ self.now.resources }
+    {
+        self.resources.as_slice()
     }
-}
 
-/// The first limit that is on neither a task nor a routine of a system.
-pub fn unknown_limit<'a>(system: &System, limits: &[Limit<'a>]) -> Option<&'a str> {
-    let names = system.names();
-    for limit in limits {
-        let is_known = number_of(names.tasks.as_slice(), limit.name).is_some()
-            || number_of(names.routines.as_slice(), limit.name).is_some();
-        if !is_known {
-            return Some(limit.name);
-        }
+    /// The figures of each alarm, by number.
+    pub fn alarms(&self) -> &[AlarmFigures]
+        ensures { result.now ≡ self.now.alarms }
+    {
+        self.alarms.as_slice()
     }
-    None
 }

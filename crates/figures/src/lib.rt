@@ -1,19 +1,12 @@
-//! Figures of a run, no part of the standards: counts and times over what was seen of its ticks, and their texts.
+//! Figures of a run, no part of the standards: counts and times over what was seen of its ticks.
 #![tactic(auto)]
 
 mod alarm_figures;
 mod alike;
-mod broken;
 mod calm;
-mod cells;
 mod counts;
-mod csv_text;
 mod figures;
-mod form;
-mod json_text;
 mod laws;
-mod limits;
-mod line;
 mod lists;
 mod new_lists;
 mod quiet;
@@ -21,11 +14,8 @@ mod reached;
 mod resource_figures;
 mod response_figures;
 mod routine_figures;
-mod rows;
-mod sections;
 mod seen;
 mod spread;
-mod table;
 mod task_counts;
 mod task_figures;
 mod task_tick;
@@ -33,10 +23,8 @@ mod task_time;
 mod task_times;
 
 pub use alarm_figures::{AlarmFigures, AlarmTick};
-pub use figures::{Figures, unknown_limit};
-pub use form::Form;
+pub use figures::Figures;
 pub use laws::add_up;
-pub use limits::{Limit, Limits};
 pub use reached::Reached;
 pub use resource_figures::{HolderTick, ResourceFigures};
 pub use response_figures::{MAX_UNFINISHED, ResponseFigures};

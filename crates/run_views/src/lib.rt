@@ -8,7 +8,7 @@ mod timeline;
 mod vcd;
 
 pub use beginning::RunInput;
-pub use figures::{Form, Limit, Limits, unknown_limit};
+pub use figure_texts::{Form, Limit, Limits, unknown_limit};
 pub use progress::Progress;
 pub use stats::{StatsInput, write_stats};
 pub use timeline::write_timeline;

@@ -2,7 +2,8 @@
 
 use crate::beginning::{RunInput, begin};
 use crate::progress::Progress;
-use figures::{Figures, Form, Limits};
+use figure_texts::{Form, Limits, broken_limits, figures_text};
+use figures::Figures;
 use kernel::Counted;
 use observed_runs::ObservedRun;
 use osek_base::System;
@@ -34,8 +35,8 @@ pub fn write_stats<O: Write, E: Write>(
     let mut run: ObservedRun<'_, Counted> = begin(alloc, system, input.irqs, input.mode)?;
     let mut figures = Figures::new(system);
     count_run(&mut run, &mut figures, input.ticks, asked.from, progress);
-    out.write_all(figures.text(alloc, system, asked.form)?.as_slice())?;
-    Ok(figures.broken(alloc, system, &asked.limits)?)
+    out.write_all(figures_text(alloc, system, &figures, asked.form)?.as_slice())?;
+    Ok(broken_limits(alloc, system, &figures, &asked.limits)?)
 }
 
 /// Counts the ticks of a run that has just begun, as many as asked for, or up to a shutdown; those before `from` don't count.

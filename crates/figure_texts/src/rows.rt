@@ -1,14 +1,10 @@
 //! The lines of each kind of figures.
 
-use crate::alarm_figures::AlarmFigures;
 use crate::cells::{Cell, quotient};
 use crate::line::Section;
-use crate::reached::Reached;
-use crate::resource_figures::ResourceFigures;
-use crate::response_figures::ResponseFigures;
-use crate::routine_figures::RoutineFigures;
-use crate::task_counts::TaskCounts;
-use crate::task_times::TaskTimes;
+use figures::{
+    AlarmFigures, Reached, ResourceFigures, ResponseFigures, RoutineFigures, TaskCounts, TaskTimes,
+};
 
 /// The whole run.
 pub const RUN: Section = Section {

@@ -1,13 +1,10 @@
 //! The limits that a run breaks, a line each.
 
-use crate::alarm_figures::AlarmFigures;
-use crate::limits::Limit;
-use crate::reached::Reached;
-use crate::routine_figures::RoutineFigures;
+use crate::limits::{Limit, Limits};
 use crate::sections::name_at;
-use crate::task_figures::TaskFigures;
-use osek_base::Name;
-use std::alloc::AllocError;
+use figures::{AlarmFigures, Figures, Reached, RoutineFigures, TaskFigures};
+use osek_base::{Name, Names, System};
+use std::alloc::{AllocError, Global};
 
 /// The number of a name, if it has one.
 pub fn number_of(names: &[Name], name: &str) -> Option<usize> {
@@ -110,4 +107,65 @@ pub fn push_alarm_refusals(
         )?;
     }
     Ok(())
+}
+
+fn push_times(
+    figures: &Figures,
+    names: &Names,
+    limits: &[Limit<'_>],
+    lines: &mut String,
+) -> Result<(), AllocError> {
+    for limit in limits {
+        let tasks = names.tasks.as_slice();
+        let time = task_time(figures.tasks(), tasks, limit.name, figures.last());
+        push_time(*limit, time, lines)?;
+        let routines = names.routines.as_slice();
+        let time = routine_time(figures.routines(), routines, limit.name, figures.last());
+        push_time(*limit, time, lines)?;
+    }
+    Ok(())
+}
+
+fn push_counts(
+    figures: &Figures,
+    names: &Names,
+    limits: &Limits<'_>,
+    lines: &mut String,
+) -> Result<(), AllocError> {
+    if limits.no_loss {
+        push_losses(figures.routines(), names.routines.as_slice(), lines)?;
+    }
+    if limits.no_refusal {
+        push_task_refusals(figures.tasks(), names.tasks.as_slice(), lines)?;
+        push_alarm_refusals(figures.alarms(), names.alarms.as_slice(), lines)?;
+    }
+    Ok(())
+}
+
+/// A line for each limit that is broken, with the tick at which it was. A job that neither ended
+/// nor waits, and an interrupt that is pending, count as if they ended and started in the last tick
+/// and behind it. The system is that of the figures.
+pub fn broken_limits(
+    alloc: Global,
+    system: &System,
+    figures: &Figures,
+    limits: &Limits<'_>,
+) -> Result<String, AllocError> {
+    let mut lines = String::new(alloc);
+    push_times(figures, system.names(), limits.times, &mut lines)?;
+    push_counts(figures, system.names(), limits, &mut lines)?;
+    Ok(lines)
+}
+
+/// The first limit that is on neither a task nor a routine of a system.
+pub fn unknown_limit<'a>(system: &System, limits: &[Limit<'a>]) -> Option<&'a str> {
+    let names = system.names();
+    for limit in limits {
+        let is_known = number_of(names.tasks.as_slice(), limit.name).is_some()
+            || number_of(names.routines.as_slice(), limit.name).is_some();
+        if !is_known {
+            return Some(limit.name);
+        }
+    }
+    None
 }

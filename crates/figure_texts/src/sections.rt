@@ -1,15 +1,12 @@
 //! The sections of the figures, each with the lines of one kind of objects.
 
-use crate::alarm_figures::AlarmFigures;
 use crate::line::{Group, Line};
-use crate::resource_figures::ResourceFigures;
-use crate::routine_figures::RoutineFigures;
 use crate::rows::{
     ALARMS, JOBS, RESOURCES, RESPONSES, ROUTINES, RUN, TIMES, alarm_cells, job_cells,
     resource_cells, response_cells, routine_cells, run_cells, time_cells,
 };
-use crate::task_figures::TaskFigures;
-use osek_base::Name;
+use figures::{AlarmFigures, Figures, ResourceFigures, RoutineFigures, TaskFigures};
+use osek_base::{Name, Names};
 use std::alloc::{AllocError, Global};
 
 const RES_SCHEDULER: &str = "RES_SCHEDULER";
@@ -145,4 +142,33 @@ pub fn alarm_group<'a>(
         section: ALARMS,
         lines,
     })
+}
+
+fn task_groups<'a>(
+    alloc: Global,
+    figures: &Figures,
+    names: &'a [Name],
+) -> Result<Vec<Group<'a>>, AllocError> {
+    let tasks = figures.tasks();
+    let mut groups = Vec::new(alloc);
+    groups.push(run_group(alloc, figures.ticks(), figures.idle())?)?;
+    groups.push(job_group(alloc, tasks, names)?)?;
+    groups.push(response_group(alloc, tasks, figures.last(), names)?)?;
+    groups.push(time_group(alloc, tasks, figures.ticks(), names)?)?;
+    Ok(groups)
+}
+
+/// All sections.
+pub fn groups<'a>(
+    alloc: Global,
+    figures: &Figures,
+    names: &'a Names,
+) -> Result<Vec<Group<'a>>, AllocError> {
+    let mut groups = task_groups(alloc, figures, names.tasks.as_slice())?;
+    let routines = routine_group(alloc, figures.routines(), names.routines.as_slice())?;
+    groups.push(routines)?;
+    let resources = resource_group(alloc, figures.resources(), names.resources.as_slice())?;
+    groups.push(resources)?;
+    groups.push(alarm_group(alloc, figures.alarms(), names.alarms.as_slice())?)?;
+    Ok(groups)
 }

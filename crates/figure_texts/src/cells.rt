@@ -1,7 +1,7 @@
 //! The figures of a line, and their texts.
 
 ghost use Rattle.std.specs.Prelude.{◌≡◌};
-ghost use Rattle.figures.specs.Counts.{rounded};
+ghost use Rattle.figure_texts.specs.Rounding.{rounded};
 
 use std::fmt;
 use std::io::{self, Write};
