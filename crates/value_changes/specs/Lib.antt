@@ -1,1 +1,6 @@
 pub mod Changes
+pub mod Codes
+pub mod Dumps
+pub mod Lines
+pub mod Ticks
+pub mod Writing

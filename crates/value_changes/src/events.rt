@@ -1,54 +1,56 @@
 //! Value change dumps: variables of the kind event, which fire in a tick and have no value.
 
-use crate::tick_changes::TickChanges;
+ghost use Rattle.std.specs.Prelude.{◌≡◌, ◌+◌, ◌*◌, ◌≤◌, ◌++◌, length};
+ghost use Rattle.value_changes.specs.Ticks.{events_from, expiry_text, loss_text};
+
+use crate::tick_text::{TEXT_SIZE, TickText};
 use crate::variable::Variable;
 use arrayvec::ArrayVec;
 use observations::{AlarmSeen, RoutineSeen};
 use osek_base::{AlarmId, IsrId, MAX_ALARMS, MAX_ROUTINES};
-use std::io::Write;
 
-/// Whether an interrupt is lost in the tick.
-pub(crate) fn is_any_lost(seen: &ArrayVec<RoutineSeen, MAX_ROUTINES>) -> bool {
-    for number in 0..seen.len() {
-        if seen[number].lost > 0 {
-            return true;
-        }
-    }
-    false
-}
-
-/// Whether an alarm expires in the tick.
-pub(crate) fn has_any_expired(seen: &ArrayVec<AlarmSeen, MAX_ALARMS>) -> bool {
-    for number in 0..seen.len() {
-        if seen[number].has_expired {
-            return true;
-        }
-    }
-    false
-}
-
-/// The losses of interrupts in the tick.
-pub(crate) fn write_losses<W: Write>(
-    seen: &ArrayVec<RoutineSeen, MAX_ROUTINES>,
-    changes: &mut TickChanges<'_, W>,
-) {
-    for number in 0..seen.len() {
-        if seen[number].lost > 0 {
-            let routine = IsrId::new(number as u8);
-            changes.write_event(Variable::Lost(routine));
-        }
+/// Appends the loss of an interrupt of a routine, where there is one.
+#[inline(always)]
+fn push_loss(routine: IsrId, seen: &RoutineSeen, text: &mut TickText)
+    requires { length text.old + 4 ≤ TEXT_SIZE }
+    ensures same { text.new ≡ text.old ++ loss_text routine seen.now }
+    ensures short { length text.new ≤ length text.old + 4 }
+{
+    if seen.lost > 0 {
+        text.push_event(Variable::Lost(routine));
     }
 }
 
-/// The expiries of alarms in the tick.
-pub(crate) fn write_expiries<W: Write>(
-    seen: &ArrayVec<AlarmSeen, MAX_ALARMS>,
-    changes: &mut TickChanges<'_, W>,
-) {
+/// Appends the expiry of an alarm, where it expires.
+#[inline(always)]
+fn push_expiry(alarm: AlarmId, seen: &AlarmSeen, text: &mut TickText)
+    requires { length text.old + 4 ≤ TEXT_SIZE }
+    ensures same { text.new ≡ text.old ++ expiry_text alarm seen.now }
+    ensures short { length text.new ≤ length text.old + 4 }
+{
+    if seen.has_expired {
+        text.push_event(Variable::Expiry(alarm));
+    }
+}
+
+/// Appends the losses of interrupts in the tick.
+pub(crate) fn push_losses(seen: &ArrayVec<RoutineSeen, MAX_ROUTINES>, text: &mut TickText)
+    requires { length text.old + 4 * MAX_ROUTINES ≤ TEXT_SIZE }
+    ensures same { text.new ≡ text.old ++ events_from loss_text 0 seen.now.items }
+    ensures short { length text.new ≤ length text.old + 4 * MAX_ROUTINES }
+{
     for number in 0..seen.len() {
-        if seen[number].has_expired {
-            let alarm = AlarmId::new(number as u8);
-            changes.write_event(Variable::Expiry(alarm));
-        }
+        push_loss(IsrId::new(number as u8), &seen[number], text);
+    }
+}
+
+/// Appends the expiries of alarms in the tick.
+pub(crate) fn push_expiries(seen: &ArrayVec<AlarmSeen, MAX_ALARMS>, text: &mut TickText)
+    requires { length text.old + 4 * MAX_ALARMS ≤ TEXT_SIZE }
+    ensures same { text.new ≡ text.old ++ events_from expiry_text 0 seen.now.items }
+    ensures short { length text.new ≤ length text.old + 4 * MAX_ALARMS }
+{
+    for number in 0..seen.len() {
+        push_expiry(AlarmId::new(number as u8), &seen[number], text);
     }
 }

@@ -5,14 +5,18 @@
 mod definitions;
 mod events;
 mod last_value;
-mod line;
+mod last_values;
+mod names;
 mod routine_values;
-mod shown_names;
 mod task_values;
-mod tick_changes;
+mod tick_text;
 mod value_changes;
 mod variable;
+mod writing;
 
 pub use last_value::LastValue;
+pub use last_values::LastValues;
+pub use routine_values::RoutineValues;
+pub use task_values::TaskValues;
 pub use value_changes::ValueChanges;
 pub use variable::Variable;

@@ -1,39 +1,47 @@
 //! Value change dumps: the variables of an interrupt routine.
 
+ghost use Rattle.std.specs.Prelude.{◌≡◌, ◌+◌, ◌≤◌, ◌++◌, length};
+ghost use Rattle.value_changes.specs.Ticks.{no_routine_values, routine_after, routine_text};
+
 use crate::last_value::LastValue;
-use crate::tick_changes::TickChanges;
+use crate::tick_text::{TEXT_SIZE, TickText};
 use crate::variable::Variable;
 use observations::RoutineSeen;
 use osek_base::IsrId;
-use std::io::Write;
 
 /// The values with which the wires of a routine were last written.
-#[derive(Clone, Copy, Debug, Default)]
-pub(crate) struct RoutineValues {
-    pending: LastValue<bool>,
-    active: LastValue<bool>,
+#[derive(Clone, Copy, Debug)]
+pub struct RoutineValues {
+    pub pending: LastValue<bool>,
+    pub active: LastValue<bool>,
+}
+
+/// Nothing was written yet.
+impl Default for RoutineValues {
+    fn default() -> Self
+        ensures { result ≡ no_routine_values }
+    {
+        RoutineValues {
+            pending: LastValue::default(),
+            active: LastValue::default(),
+        }
+    }
 }
 
 impl RoutineValues {
-    /// Whether nothing changes with what is seen of the routine.
+    /// Appends what changes with what is seen of the routine.
     #[inline(always)]
-    pub(crate) fn are_as(&self, seen: &RoutineSeen) -> bool {
-        self.pending.is(seen.is_pending) && self.active.is(seen.executes)
-    }
-
-    /// Writes what changes with what is seen of the routine.
-    #[inline(never)]
-    pub(crate) fn write_changes<W: Write>(
-        &mut self,
-        routine: IsrId,
-        seen: &RoutineSeen,
-        changes: &mut TickChanges<'_, W>,
-    ) {
+    pub(crate) fn push_changes(&mut self, routine: IsrId, seen: &RoutineSeen, text: &mut TickText)
+        requires { length text.old + 8 ≤ TEXT_SIZE }
+        ensures same { text.new ≡ text.old ++ routine_text routine self.old seen.now }
+        ensures after { self.new ≡ routine_after self.old seen.now }
+        ensures short { length text.new ≤ length text.old + 8 }
+    {
         if let Some(is_pending) = self.pending.change_to(seen.is_pending) {
-            changes.write_wire(Variable::Pending(routine), is_pending);
+            text.push_wire(Variable::Pending(routine), is_pending);
         }
         if let Some(is_active) = self.active.change_to(seen.executes) {
-            changes.write_wire(Variable::Active(routine), is_active);
+            text.push_wire(Variable::Active(routine), is_active);
         }
     }
 }

@@ -1,51 +1,100 @@
 //! Value change dumps: the variables of a task.
 
+ghost use Rattle.std.specs.Prelude.{◌≡◌, ◌+◌, ◌≤◌, ◌++◌, length, nat_eq};
+ghost use Rattle.value_changes.specs.Changes.{shown, written};
+ghost use Rattle.value_changes.specs.Ticks.{
+  jobs_text,
+  no_task_values,
+  priority_text,
+  same_option,
+  same_state,
+  state_text,
+  task_after,
+  task_text,
+};
+
 use crate::last_value::LastValue;
-use crate::tick_changes::TickChanges;
+use crate::tick_text::{TEXT_SIZE, TickText};
 use crate::variable::Variable;
 use observations::TaskSeen;
 use osek_base::{TaskId, TaskState};
-use std::io::Write;
 
 /// The values with which the variables of a task were last written.
-#[derive(Clone, Copy, Debug, Default)]
-pub(crate) struct TaskValues {
-    state: LastValue<TaskState>,
-    priority: LastValue<Option<u8>>,
-    jobs: LastValue<u8>,
+#[derive(Clone, Copy, Debug)]
+pub struct TaskValues {
+    pub state: LastValue<TaskState>,
+    pub priority: LastValue<Option<u8>>,
+    pub jobs: LastValue<u8>,
+}
+
+/// Nothing was written yet.
+impl Default for TaskValues {
+    fn default() -> Self
+        ensures { result ≡ no_task_values }
+    {
+        TaskValues {
+            state: LastValue::default(),
+            priority: LastValue::default(),
+            jobs: LastValue::default(),
+        }
+    }
+}
+
+/// Appends the state, where it changes.
+#[inline(always)]
+fn push_state(last: &mut LastValue<TaskState>, task: TaskId, state: TaskState, text: &mut TickText)
+    requires { length text.old + 13 ≤ TEXT_SIZE }
+    ensures same { text.new ≡ text.old ++ state_text task last.old state }
+    ensures after { last.new ≡ shown last.old (written same_state last.old state) }
+    ensures short { length text.new ≤ length text.old + 13 }
+{
+    if let Some(state) = last.change_to(state) {
+        text.push_number(Variable::State(task), state.number());
+    }
+}
+
+/// Appends the priority, where it changes. It has no value where the task has no job.
+#[inline(always)]
+fn push_priority(
+    last: &mut LastValue<Option<u8>>,
+    task: TaskId,
+    priority: Option<u8>,
+    text: &mut TickText,
+)
+    requires { length text.old + 13 ≤ TEXT_SIZE }
+    ensures same { text.new ≡ text.old ++ priority_text task last.old priority }
+    ensures after { last.new ≡ shown last.old (written (same_option nat_eq) last.old priority) }
+    ensures short { length text.new ≤ length text.old + 13 }
+{
+    if let Some(priority) = last.change_to(priority) {
+        text.push_vector(Variable::Priority(task), priority);
+    }
+}
+
+/// Appends the number of jobs, where it changes.
+#[inline(always)]
+fn push_jobs(last: &mut LastValue<u8>, task: TaskId, jobs: u8, text: &mut TickText)
+    requires { length text.old + 13 ≤ TEXT_SIZE }
+    ensures same { text.new ≡ text.old ++ jobs_text task last.old jobs }
+    ensures after { last.new ≡ shown last.old (written nat_eq last.old jobs) }
+    ensures short { length text.new ≤ length text.old + 13 }
+{
+    if let Some(jobs) = last.change_to(jobs) {
+        text.push_number(Variable::Jobs(task), jobs);
+    }
 }
 
 impl TaskValues {
-    /// Whether nothing changes with what is seen of the task.
+    /// Appends what changes with what is seen of the task.
     #[inline(always)]
-    pub(crate) fn are_as(&self, seen: &TaskSeen) -> bool {
-        self.state.is(seen.state) && self.priority.is(seen.priority) && self.jobs.is(seen.jobs)
-    }
-
-    /// Writes what changes with what is seen of the task.
-    #[inline(never)]
-    pub(crate) fn write_changes<W: Write>(
-        &mut self,
-        task: TaskId,
-        seen: &TaskSeen,
-        changes: &mut TickChanges<'_, W>,
-    ) {
-        if let Some(state) = self.state.change_to(seen.state) {
-            changes.write_number(Variable::State(task), state.number());
-        }
-        if let Some(priority) = self.priority.change_to(seen.priority) {
-            write_priority(task, priority, changes);
-        }
-        if let Some(jobs) = self.jobs.change_to(seen.jobs) {
-            changes.write_number(Variable::Jobs(task), jobs);
-        }
-    }
-}
-
-/// A priority, which has no value where the task has no job.
-fn write_priority<W: Write>(task: TaskId, priority: Option<u8>, changes: &mut TickChanges<'_, W>) {
-    match priority {
-        None => changes.write_unknown(Variable::Priority(task)),
-        Some(priority) => changes.write_number(Variable::Priority(task), priority),
+    pub(crate) fn push_changes(&mut self, task: TaskId, seen: &TaskSeen, text: &mut TickText)
+        requires { length text.old + 39 ≤ TEXT_SIZE }
+        ensures same { text.new ≡ text.old ++ task_text task self.old seen.now }
+        ensures after { self.new ≡ task_after self.old seen.now }
+        ensures short { length text.new ≤ length text.old + 39 }
+    {
+        push_state(&mut self.state, task, seen.state, text);
+        push_priority(&mut self.priority, task, seen.priority, text);
+        push_jobs(&mut self.jobs, task, seen.jobs, text);
     }
 }

@@ -1,8 +1,9 @@
 //! Value change dumps: variables and their identifier codes.
 
-ghost use Rattle.std.specs.Prelude.{◌+◌, ◌<◌, ◌≤◌, ◌*◌, length};
+ghost use Rattle.std.specs.Prelude.{◌≡◌, ◌+◌, ◌-◌, ◌<◌, ◌≤◌, ◌*◌, ◌++◌, length};
+ghost use Rattle.value_changes.specs.Codes.{code, code_of, number_of};
 
-use crate::line::{LINE_SIZE, Line};
+use crate::tick_text::{TEXT_SIZE, TickText};
 use observations::MAX_HELD;
 use osek_base::{AlarmId, IsrId, MAX_ROUTINES, MAX_TASKS, ResId, TaskId};
 use std::fmt;
@@ -49,20 +50,23 @@ pub enum Variable {
 
 fn of_task(task: TaskId, which: u16) -> u16
     requires { which < OF_TASK }
-    ensures { result < ROUTINES }
+    ensures value { result ≡ 1 + 3 * task + which }
+    ensures within { result < ROUTINES }
 {
     TASKS + OF_TASK * u16::from(task.number()) + which
 }
 
 fn of_routine(routine: IsrId, which: u16) -> u16
     requires { which < OF_ROUTINE }
-    ensures { result < RESOURCES }
+    ensures value { result ≡ 193 + 3 * routine + which }
+    ensures within { result < RESOURCES }
 {
     ROUTINES + OF_ROUTINE * u16::from(routine.number()) + which
 }
 
 fn of_resource(resource: &ResId) -> u16
-    ensures { result < ALARMS }
+    ensures value { result ≡ number_of (Variable.Holder resource.now) }
+    ensures within { result < ALARMS }
 {
     match resource {
         ResId::Declared(number) => RESOURCES + u16::from(number.number()),
@@ -72,14 +76,32 @@ fn of_resource(resource: &ResId) -> u16
 
 fn digit(value: u16) -> u8
     requires { value < DIGITS }
+    ensures { result ≡ 33 + value }
 {
     b'!' + value as u8
+}
+
+/// Appends a number in digits, the lowest first.
+#[inline(always)]
+fn push_code_of(number: u16, text: &mut TickText)
+    requires small { number < DIGITS * DIGITS }
+    requires room { length text.old + 2 ≤ TEXT_SIZE }
+    ensures same { text.new ≡ text.old ++ code_of number }
+    ensures short { length text.new ≤ length text.old + 2 }
+{
+    if number < DIGITS {
+        text.push(digit(number));
+    } else {
+        text.push(digit(number % DIGITS));
+        text.push(digit(number / DIGITS - 1));
+    }
 }
 
 impl Variable {
     /// The number of the variable, the same in every dump.
     fn number(&self) -> u16
-        ensures { result < DIGITS * DIGITS }
+        ensures value { result ≡ number_of self.now }
+        ensures within { result < DIGITS * DIGITS }
     {
         match self {
             Variable::Executor => 0,
@@ -97,15 +119,12 @@ impl Variable {
     /// Appends the identifier code: the number in digits, the lowest first; a second digit counts
     /// from 1.
     #[inline(always)]
-    pub(crate) fn push_code(&self, line: &mut Line)
-        requires { length line.old + 2 ≤ LINE_SIZE }
-        ensures { length line.new ≤ length line.old + 2 }
+    pub(crate) fn push_code(&self, text: &mut TickText)
+        requires { length text.old + 2 ≤ TEXT_SIZE }
+        ensures same { text.new ≡ text.old ++ code self.now }
+        ensures short { length text.new ≤ length text.old + 2 }
     {
-        let number = self.number();
-        line.push(digit(number % DIGITS));
-        if number >= DIGITS {
-            line.push(digit(number / DIGITS - 1));
-        }
+        push_code_of(self.number(), text);
     }
 }
 

@@ -1,0 +1,3 @@
+pub mod BinaryLemmas
+pub mod EachLemmas
+pub mod WriteLemmas

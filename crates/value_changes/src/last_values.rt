@@ -1,0 +1,235 @@
+//! Value change dumps: what all variables of a system were last written with.
+
+ghost use Rattle.std.specs.Prelude.{◌≡◌, ◌+◌, ◌*◌, ◌<◌, ◌≤◌, [], ◌++◌, length, true, false};
+ghost use Rattle.value_changes.specs.Changes.{shown, written};
+ghost use Rattle.value_changes.specs.Ticks.{
+  after_tick,
+  changes_from,
+  events_text,
+  executor_text,
+  holder_after,
+  holder_text,
+  resource_at,
+  nothing_written,
+  routine_after,
+  routine_text,
+  same_option,
+  same_owner,
+  task_after,
+  task_text,
+  tick_text,
+  values_after,
+  values_text,
+};
+
+use crate::events::{push_expiries, push_losses};
+use crate::last_value::LastValue;
+use crate::names::{push_executor, push_holder};
+use crate::routine_values::RoutineValues;
+use crate::task_values::TaskValues;
+use crate::tick_text::{TEXT_SIZE, TickText};
+use crate::variable::Variable;
+use arrayvec::ArrayVec;
+use observations::{Holder, MAX_HELD, Observation, RoutineSeen, TaskSeen};
+use osek_base::{IsrId, MAX_ROUTINES, MAX_TASKS, Owner, ResId, ResourceNumber, System, TaskId};
+
+/// How many bytes the values of a tick have at most.
+const VALUES_SIZE: usize = 3886;
+
+/// What all variables of a system that aren't events were last written with, each by the number of
+/// its task, routine or resource.
+#[derive(Debug, Drop)]
+pub struct LastValues {
+    pub executor: LastValue<Option<Owner>>,
+    pub tasks: [TaskValues; MAX_TASKS],
+    pub routines: [RoutineValues; MAX_ROUTINES],
+    pub holders: [LastValue<Holder>; MAX_HELD],
+}
+
+/// The resource of that number; RES_SCHEDULER stands behind those that are declared.
+fn resource_at(system: &System, number: usize) -> ResId
+    ensures { result ≡ resource_at system.now number }
+{
+    if number < system.resource_count() {
+        ResId::Declared(ResourceNumber::new(number as u8))
+    } else {
+        ResId::Scheduler
+    }
+}
+
+fn push_tasks(
+    values: &mut [TaskValues; MAX_TASKS],
+    seen: &ArrayVec<TaskSeen, MAX_TASKS>,
+    text: &mut TickText,
+)
+    requires { length text.old + 39 * MAX_TASKS ≤ TEXT_SIZE }
+    ensures same { text.new ≡ text.old ++ changes_from task_text 0 values.old seen.now.items }
+    ensures after { values.new ≡ values_after task_after values.old seen.now.items }
+    ensures short { length text.new ≤ length text.old + 39 * MAX_TASKS }
+{
+    for number in 0..seen.len() {
+        let task = TaskId::new(number as u8);
+        let mut last = values[number];
+        last.push_changes(task, &seen[number], text);
+        values[number] = last;
+    }
+}
+
+fn push_routines(
+    values: &mut [RoutineValues; MAX_ROUTINES],
+    seen: &ArrayVec<RoutineSeen, MAX_ROUTINES>,
+    text: &mut TickText,
+)
+    requires { length text.old + 8 * MAX_ROUTINES ≤ TEXT_SIZE }
+    ensures same { text.new ≡ text.old ++ changes_from routine_text 0 values.old seen.now.items }
+    ensures after { values.new ≡ values_after routine_after values.old seen.now.items }
+    ensures short { length text.new ≤ length text.old + 8 * MAX_ROUTINES }
+{
+    for number in 0..seen.len() {
+        let routine = IsrId::new(number as u8);
+        let mut last = values[number];
+        last.push_changes(routine, &seen[number], text);
+        values[number] = last;
+    }
+}
+
+/// Appends who holds a resource, where that changes.
+#[inline(always)]
+fn push_holder_change(
+    system: &System,
+    number: usize,
+    last: &mut LastValue<Holder>,
+    holder: Holder,
+    text: &mut TickText,
+)
+    requires { length text.old + 41 ≤ TEXT_SIZE }
+    ensures same { text.new ≡ text.old ++ holder_text system.now number last.old holder }
+    ensures after { last.new ≡ holder_after last.old holder }
+    ensures short { length text.new ≤ length text.old + 37 }
+{
+    if let Some(holder) = last.change_to(holder) {
+        let variable = Variable::Holder(resource_at(system, number));
+        push_holder(system.names(), variable, holder, text);
+    }
+}
+
+fn push_holders(
+    system: &System,
+    values: &mut [LastValue<Holder>; MAX_HELD],
+    seen: &ArrayVec<Holder, MAX_HELD>,
+    text: &mut TickText,
+)
+    requires { length text.old + 37 * MAX_HELD + 4 ≤ TEXT_SIZE }
+    ensures same { text.new
+        ≡ text.old ++ changes_from (holder_text system.now) 0 values.old seen.now.items }
+    ensures after { values.new ≡ values_after holder_after values.old seen.now.items }
+    ensures short { length text.new ≤ length text.old + 37 * MAX_HELD }
+{
+    for number in 0..seen.len() {
+        let mut last = values[number];
+        push_holder_change(system, number, &mut last, seen[number], text);
+        values[number] = last;
+    }
+}
+
+/// Appends who executes, where that changes.
+#[inline(always)]
+fn push_executor_change(
+    system: &System,
+    last: &mut LastValue<Option<Owner>>,
+    executor: Option<Owner>,
+    text: &mut TickText,
+)
+    requires { length text.old + 41 ≤ TEXT_SIZE }
+    ensures same { text.new ≡ text.old ++ executor_text system.now last.old executor }
+    ensures after { last.new ≡ shown last.old (written (same_option same_owner) last.old executor) }
+    ensures short { length text.new ≤ length text.old + 41 }
+{
+    if let Some(executor) = last.change_to(executor) {
+        push_executor(system.names(), &executor, text);
+    }
+}
+
+/// Appends the events that fire.
+fn push_events(seen: &Observation, text: &mut TickText)
+    requires { length text.old + 320 ≤ TEXT_SIZE }
+    ensures { text.new ≡ text.old ++ events_text seen.now }
+{
+    push_losses(&seen.routines, text);
+    push_expiries(&seen.alarms, text);
+}
+
+impl LastValues {
+    /// Nothing was written yet.
+    pub(crate) fn new() -> Self
+        ensures { result ≡ nothing_written }
+    {
+        LastValues {
+            executor: LastValue::default(),
+            tasks: [TaskValues::default(); MAX_TASKS],
+            routines: [RoutineValues::default(); MAX_ROUTINES],
+            holders: [LastValue::default(); MAX_HELD],
+        }
+    }
+
+    /// Appends the values that change with what is seen.
+    fn push_values(&mut self, system: &System, seen: &Observation, text: &mut TickText)
+        requires { length text.old + VALUES_SIZE + 4 ≤ TEXT_SIZE }
+        ensures same { text.new ≡ text.old ++ values_text system.now self.old seen.now }
+        ensures after { self.new ≡ after_tick self.old seen.now }
+        ensures short { length text.new ≤ length text.old + VALUES_SIZE }
+    {
+        push_executor_change(system, &mut self.executor, seen.executor, text);
+        push_tasks(&mut self.tasks, &seen.tasks, text);
+        push_routines(&mut self.routines, &seen.routines, text);
+        push_holders(system, &mut self.holders, &seen.holders, text);
+    }
+
+    /// Puts together what is written of a tick behind the first that is written.
+    fn push_later(&mut self, system: &System, tick: u32, seen: &Observation, text: &mut TickText)
+        requires { text.old ≡ [] }
+        ensures same { text.new ≡ tick_text system.now true tick self.old seen.now }
+        ensures after { self.new ≡ after_tick self.old seen.now }
+    {
+        text.push_time(u64::from(tick));
+        let told = text.len();
+        self.push_values(system, seen, text);
+        push_events(seen, text);
+        if text.len() == told {
+            text.clear();
+        }
+    }
+
+    /// Puts together what is written of the first tick that is written.
+    fn push_first(&mut self, system: &System, tick: u32, seen: &Observation, text: &mut TickText)
+        requires { text.old ≡ [] }
+        ensures same { text.new ≡ tick_text system.now false tick self.old seen.now }
+        ensures after { self.new ≡ after_tick self.old seen.now }
+    {
+        text.push_time(u64::from(tick));
+        text.push_bytes(b"$dumpvars\n");
+        self.push_values(system, seen, text);
+        text.push_bytes(b"$end\n");
+        push_events(seen, text);
+    }
+
+    /// Puts together what is written of a tick, the first of those that are written or a later one.
+    pub(crate) fn push_tick(
+        &mut self,
+        system: &System,
+        is_later: bool,
+        tick: u32,
+        seen: &Observation,
+        text: &mut TickText,
+    )
+        ensures same { text.new ≡ tick_text system.now is_later tick self.old seen.now }
+        ensures after { self.new ≡ after_tick self.old seen.now }
+    {
+        text.clear();
+        if is_later {
+            self.push_later(system, tick, seen, text);
+        } else {
+            self.push_first(system, tick, seen, text);
+        }
+    }
+}

@@ -1,0 +1,68 @@
+//! Value change dumps: names as the values of variables.
+
+ghost use Rattle.std.specs.Prelude.{◌≡◌, ◌+◌, ◌≤◌, ◌++◌, length};
+ghost use Rattle.osek_base.specs.Names.{name_at};
+ghost use Rattle.value_changes.specs.Lines.{executor_name, holder_name, string_line};
+
+use crate::tick_text::{TEXT_SIZE, TickText};
+use crate::variable::Variable;
+use observations::Holder;
+use osek_base::{Name, Names, Owner};
+
+/// What stands for a name where nobody executes, or a resource is free. No task has this name.
+const NOBODY: &str = "-";
+
+/// What stands before the name of a routine that executes. No task's name begins with it.
+const ROUTINE: &str = "ISR.";
+
+/// The name of that number, empty where there is none.
+fn name_at(names: &[Name], number: u8) -> &str
+    ensures same { result.now ≡ name_at names.now number }
+    ensures short { length result.now ≤ 32 }
+{
+    match names.get(number as usize) {
+        Some(name) => name.as_str(),
+        None => "",
+    }
+}
+
+/// Appends who executes: the name of a task or routine, so marked that it says which of the two,
+/// `-` where nobody does.
+#[inline(never)]
+pub(crate) fn push_executor(names: &Names, executor: &Option<Owner>, text: &mut TickText)
+    requires { length text.old + 41 ≤ TEXT_SIZE }
+    ensures same { text.new
+        ≡ text.old ++ string_line Variable.Executor (executor_name names.now executor.now) }
+    ensures short { length text.new ≤ length text.old + 41 }
+{
+    let Some(owner) = executor else {
+        return text.push_string(Variable::Executor, "", NOBODY);
+    };
+    match owner {
+        Owner::Task(task) => {
+            let name = name_at(names.tasks.as_slice(), task.number());
+            text.push_string(Variable::Executor, "", name);
+        }
+        Owner::Routine(routine) => {
+            let name = name_at(names.routines.as_slice(), routine.number());
+            text.push_string(Variable::Executor, ROUTINE, name);
+        }
+    }
+}
+
+/// Appends the name of the task that holds a resource, `-` where the resource is free.
+#[inline(never)]
+pub(crate) fn push_holder(names: &Names, variable: Variable, holder: Holder, text: &mut TickText)
+    requires { length text.old + 41 ≤ TEXT_SIZE }
+    ensures same { text.new
+        ≡ text.old ++ string_line variable (holder_name names.now holder) }
+    ensures short { length text.new ≤ length text.old + 37 }
+{
+    match holder.task() {
+        None => text.push_string(variable, "", NOBODY),
+        Some(task) => {
+            let name = name_at(names.tasks.as_slice(), task.number());
+            text.push_string(variable, "", name);
+        }
+    }
+}
