@@ -1,3 +1,4 @@
 pub mod BinaryLemmas
 pub mod EachLemmas
 pub mod WriteLemmas
+pub mod DeclarationLemmas

@@ -1,5 +1,6 @@
 pub mod Changes
 pub mod Codes
+pub mod Declarations
 pub mod Dumps
 pub mod Lines
 pub mod Ticks

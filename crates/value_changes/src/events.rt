@@ -3,7 +3,7 @@
 ghost use Rattle.std.specs.Prelude.{◌≡◌, ◌+◌, ◌*◌, ◌≤◌, ◌++◌, length};
 ghost use Rattle.value_changes.specs.Ticks.{events_from, expiry_text, loss_text};
 
-use crate::tick_text::{TEXT_SIZE, TickText};
+use crate::dump_text::{TEXT_SIZE, DumpText};
 use crate::variable::Variable;
 use arrayvec::ArrayVec;
 use observations::{AlarmSeen, RoutineSeen};
@@ -11,7 +11,7 @@ use osek_base::{AlarmId, IsrId, MAX_ALARMS, MAX_ROUTINES};
 
 /// Appends the loss of an interrupt of a routine, where there is one.
 #[inline(always)]
-fn push_loss(routine: IsrId, seen: &RoutineSeen, text: &mut TickText)
+fn push_loss(routine: IsrId, seen: &RoutineSeen, text: &mut DumpText)
     requires { length text.old + 4 ≤ TEXT_SIZE }
     ensures same { text.new ≡ text.old ++ loss_text routine seen.now }
     ensures short { length text.new ≤ length text.old + 4 }
@@ -23,7 +23,7 @@ fn push_loss(routine: IsrId, seen: &RoutineSeen, text: &mut TickText)
 
 /// Appends the expiry of an alarm, where it expires.
 #[inline(always)]
-fn push_expiry(alarm: AlarmId, seen: &AlarmSeen, text: &mut TickText)
+fn push_expiry(alarm: AlarmId, seen: &AlarmSeen, text: &mut DumpText)
     requires { length text.old + 4 ≤ TEXT_SIZE }
     ensures same { text.new ≡ text.old ++ expiry_text alarm seen.now }
     ensures short { length text.new ≤ length text.old + 4 }
@@ -34,7 +34,7 @@ fn push_expiry(alarm: AlarmId, seen: &AlarmSeen, text: &mut TickText)
 }
 
 /// Appends the losses of interrupts in the tick.
-pub(crate) fn push_losses(seen: &ArrayVec<RoutineSeen, MAX_ROUTINES>, text: &mut TickText)
+pub(crate) fn push_losses(seen: &ArrayVec<RoutineSeen, MAX_ROUTINES>, text: &mut DumpText)
     requires { length text.old + 4 * MAX_ROUTINES ≤ TEXT_SIZE }
     ensures same { text.new ≡ text.old ++ events_from loss_text 0 seen.now.items }
     ensures short { length text.new ≤ length text.old + 4 * MAX_ROUTINES }
@@ -45,7 +45,7 @@ pub(crate) fn push_losses(seen: &ArrayVec<RoutineSeen, MAX_ROUTINES>, text: &mut
 }
 
 /// Appends the expiries of alarms in the tick.
-pub(crate) fn push_expiries(seen: &ArrayVec<AlarmSeen, MAX_ALARMS>, text: &mut TickText)
+pub(crate) fn push_expiries(seen: &ArrayVec<AlarmSeen, MAX_ALARMS>, text: &mut DumpText)
     requires { length text.old + 4 * MAX_ALARMS ≤ TEXT_SIZE }
     ensures same { text.new ≡ text.old ++ events_from expiry_text 0 seen.now.items }
     ensures short { length text.new ≤ length text.old + 4 * MAX_ALARMS }

@@ -27,7 +27,7 @@ use crate::last_value::LastValue;
 use crate::names::{push_executor, push_holder};
 use crate::routine_values::RoutineValues;
 use crate::task_values::TaskValues;
-use crate::tick_text::{TEXT_SIZE, TickText};
+use crate::dump_text::{TEXT_SIZE, DumpText};
 use crate::variable::Variable;
 use arrayvec::ArrayVec;
 use observations::{Holder, MAX_HELD, Observation, RoutineSeen, TaskSeen};
@@ -60,7 +60,7 @@ fn resource_at(system: &System, number: usize) -> ResId
 fn push_tasks(
     values: &mut [TaskValues; MAX_TASKS],
     seen: &ArrayVec<TaskSeen, MAX_TASKS>,
-    text: &mut TickText,
+    text: &mut DumpText,
 )
     requires { length text.old + 39 * MAX_TASKS ≤ TEXT_SIZE }
     ensures same { text.new ≡ text.old ++ changes_from task_text 0 values.old seen.now.items }
@@ -78,7 +78,7 @@ fn push_tasks(
 fn push_routines(
     values: &mut [RoutineValues; MAX_ROUTINES],
     seen: &ArrayVec<RoutineSeen, MAX_ROUTINES>,
-    text: &mut TickText,
+    text: &mut DumpText,
 )
     requires { length text.old + 8 * MAX_ROUTINES ≤ TEXT_SIZE }
     ensures same { text.new ≡ text.old ++ changes_from routine_text 0 values.old seen.now.items }
@@ -100,7 +100,7 @@ fn push_holder_change(
     number: usize,
     last: &mut LastValue<Holder>,
     holder: Holder,
-    text: &mut TickText,
+    text: &mut DumpText,
 )
     requires { length text.old + 41 ≤ TEXT_SIZE }
     ensures same { text.new ≡ text.old ++ holder_text system.now number last.old holder }
@@ -117,7 +117,7 @@ fn push_holders(
     system: &System,
     values: &mut [LastValue<Holder>; MAX_HELD],
     seen: &ArrayVec<Holder, MAX_HELD>,
-    text: &mut TickText,
+    text: &mut DumpText,
 )
     requires { length text.old + 37 * MAX_HELD + 4 ≤ TEXT_SIZE }
     ensures same { text.new
@@ -138,7 +138,7 @@ fn push_executor_change(
     system: &System,
     last: &mut LastValue<Option<Owner>>,
     executor: Option<Owner>,
-    text: &mut TickText,
+    text: &mut DumpText,
 )
     requires { length text.old + 41 ≤ TEXT_SIZE }
     ensures same { text.new ≡ text.old ++ executor_text system.now last.old executor }
@@ -151,7 +151,7 @@ fn push_executor_change(
 }
 
 /// Appends the events that fire.
-fn push_events(seen: &Observation, text: &mut TickText)
+fn push_events(seen: &Observation, text: &mut DumpText)
     requires { length text.old + 320 ≤ TEXT_SIZE }
     ensures { text.new ≡ text.old ++ events_text seen.now }
 {
@@ -173,7 +173,7 @@ impl LastValues {
     }
 
     /// Appends the values that change with what is seen.
-    fn push_values(&mut self, system: &System, seen: &Observation, text: &mut TickText)
+    fn push_values(&mut self, system: &System, seen: &Observation, text: &mut DumpText)
         requires { length text.old + VALUES_SIZE + 4 ≤ TEXT_SIZE }
         ensures same { text.new ≡ text.old ++ values_text system.now self.old seen.now }
         ensures after { self.new ≡ after_tick self.old seen.now }
@@ -186,7 +186,7 @@ impl LastValues {
     }
 
     /// Puts together what is written of a tick behind the first that is written.
-    fn push_later(&mut self, system: &System, tick: u32, seen: &Observation, text: &mut TickText)
+    fn push_later(&mut self, system: &System, tick: u32, seen: &Observation, text: &mut DumpText)
         requires { text.old ≡ [] }
         ensures same { text.new ≡ tick_text system.now true tick self.old seen.now }
         ensures after { self.new ≡ after_tick self.old seen.now }
@@ -201,7 +201,7 @@ impl LastValues {
     }
 
     /// Puts together what is written of the first tick that is written.
-    fn push_first(&mut self, system: &System, tick: u32, seen: &Observation, text: &mut TickText)
+    fn push_first(&mut self, system: &System, tick: u32, seen: &Observation, text: &mut DumpText)
         requires { text.old ≡ [] }
         ensures same { text.new ≡ tick_text system.now false tick self.old seen.now }
         ensures after { self.new ≡ after_tick self.old seen.now }
@@ -220,7 +220,7 @@ impl LastValues {
         is_later: bool,
         tick: u32,
         seen: &Observation,
-        text: &mut TickText,
+        text: &mut DumpText,
     )
         ensures same { text.new ≡ tick_text system.now is_later tick self.old seen.now }
         ensures after { self.new ≡ after_tick self.old seen.now }

@@ -2,14 +2,14 @@
 //! A unit of time is a tick of the model and says nothing of seconds.
 #![tactic(auto)]
 
-mod definitions;
+mod declarations;
+mod dump_text;
 mod events;
 mod last_value;
 mod last_values;
 mod names;
 mod routine_values;
 mod task_values;
-mod tick_text;
 mod value_changes;
 mod variable;
 mod writing;

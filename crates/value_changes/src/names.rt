@@ -4,7 +4,7 @@ ghost use Rattle.std.specs.Prelude.{◌≡◌, ◌+◌, ◌≤◌, ◌++◌, len
 ghost use Rattle.osek_base.specs.Names.{name_at};
 ghost use Rattle.value_changes.specs.Lines.{executor_name, holder_name, string_line};
 
-use crate::tick_text::{TEXT_SIZE, TickText};
+use crate::dump_text::{TEXT_SIZE, DumpText};
 use crate::variable::Variable;
 use observations::Holder;
 use osek_base::{Name, Names, Owner};
@@ -16,7 +16,7 @@ const NOBODY: &str = "-";
 const ROUTINE: &str = "ISR.";
 
 /// The name of that number, empty where there is none.
-fn name_at(names: &[Name], number: u8) -> &str
+pub(crate) fn name_at(names: &[Name], number: u8) -> &str
     ensures same { result.now ≡ name_at names.now number }
     ensures short { length result.now ≤ 32 }
 {
@@ -29,7 +29,7 @@ fn name_at(names: &[Name], number: u8) -> &str
 /// Appends who executes: the name of a task or routine, so marked that it says which of the two,
 /// `-` where nobody does.
 #[inline(never)]
-pub(crate) fn push_executor(names: &Names, executor: &Option<Owner>, text: &mut TickText)
+pub(crate) fn push_executor(names: &Names, executor: &Option<Owner>, text: &mut DumpText)
     requires { length text.old + 41 ≤ TEXT_SIZE }
     ensures same { text.new
         ≡ text.old ++ string_line Variable.Executor (executor_name names.now executor.now) }
@@ -52,7 +52,7 @@ pub(crate) fn push_executor(names: &Names, executor: &Option<Owner>, text: &mut 
 
 /// Appends the name of the task that holds a resource, `-` where the resource is free.
 #[inline(never)]
-pub(crate) fn push_holder(names: &Names, variable: Variable, holder: Holder, text: &mut TickText)
+pub(crate) fn push_holder(names: &Names, variable: Variable, holder: Holder, text: &mut DumpText)
     requires { length text.old + 41 ≤ TEXT_SIZE }
     ensures same { text.new
         ≡ text.old ++ string_line variable (holder_name names.now holder) }

@@ -4,7 +4,7 @@ ghost use Rattle.std.specs.Prelude.{◌≡◌, ◌+◌, ◌≤◌, ◌++◌, len
 ghost use Rattle.value_changes.specs.Ticks.{no_routine_values, routine_after, routine_text};
 
 use crate::last_value::LastValue;
-use crate::tick_text::{TEXT_SIZE, TickText};
+use crate::dump_text::{TEXT_SIZE, DumpText};
 use crate::variable::Variable;
 use observations::RoutineSeen;
 use osek_base::IsrId;
@@ -31,7 +31,7 @@ impl Default for RoutineValues {
 impl RoutineValues {
     /// Appends what changes with what is seen of the routine.
     #[inline(always)]
-    pub(crate) fn push_changes(&mut self, routine: IsrId, seen: &RoutineSeen, text: &mut TickText)
+    pub(crate) fn push_changes(&mut self, routine: IsrId, seen: &RoutineSeen, text: &mut DumpText)
         requires { length text.old + 8 ≤ TEXT_SIZE }
         ensures same { text.new ≡ text.old ++ routine_text routine self.old seen.now }
         ensures after { self.new ≡ routine_after self.old seen.now }

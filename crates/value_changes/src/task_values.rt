@@ -14,7 +14,7 @@ ghost use Rattle.value_changes.specs.Ticks.{
 };
 
 use crate::last_value::LastValue;
-use crate::tick_text::{TEXT_SIZE, TickText};
+use crate::dump_text::{TEXT_SIZE, DumpText};
 use crate::variable::Variable;
 use observations::TaskSeen;
 use osek_base::{TaskId, TaskState};
@@ -42,7 +42,7 @@ impl Default for TaskValues {
 
 /// Appends the state, where it changes.
 #[inline(always)]
-fn push_state(last: &mut LastValue<TaskState>, task: TaskId, state: TaskState, text: &mut TickText)
+fn push_state(last: &mut LastValue<TaskState>, task: TaskId, state: TaskState, text: &mut DumpText)
     requires { length text.old + 13 ≤ TEXT_SIZE }
     ensures same { text.new ≡ text.old ++ state_text task last.old state }
     ensures after { last.new ≡ shown last.old (written same_state last.old state) }
@@ -59,7 +59,7 @@ fn push_priority(
     last: &mut LastValue<Option<u8>>,
     task: TaskId,
     priority: Option<u8>,
-    text: &mut TickText,
+    text: &mut DumpText,
 )
     requires { length text.old + 13 ≤ TEXT_SIZE }
     ensures same { text.new ≡ text.old ++ priority_text task last.old priority }
@@ -73,7 +73,7 @@ fn push_priority(
 
 /// Appends the number of jobs, where it changes.
 #[inline(always)]
-fn push_jobs(last: &mut LastValue<u8>, task: TaskId, jobs: u8, text: &mut TickText)
+fn push_jobs(last: &mut LastValue<u8>, task: TaskId, jobs: u8, text: &mut DumpText)
     requires { length text.old + 13 ≤ TEXT_SIZE }
     ensures same { text.new ≡ text.old ++ jobs_text task last.old jobs }
     ensures after { last.new ≡ shown last.old (written nat_eq last.old jobs) }
@@ -87,7 +87,7 @@ fn push_jobs(last: &mut LastValue<u8>, task: TaskId, jobs: u8, text: &mut TickTe
 impl TaskValues {
     /// Appends what changes with what is seen of the task.
     #[inline(always)]
-    pub(crate) fn push_changes(&mut self, task: TaskId, seen: &TaskSeen, text: &mut TickText)
+    pub(crate) fn push_changes(&mut self, task: TaskId, seen: &TaskSeen, text: &mut DumpText)
         requires { length text.old + 39 ≤ TEXT_SIZE }
         ensures same { text.new ≡ text.old ++ task_text task self.old seen.now }
         ensures after { self.new ≡ task_after self.old seen.now }

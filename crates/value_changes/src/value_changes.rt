@@ -2,6 +2,7 @@
 
 ghost use Rattle.std.specs.Prelude.{◌≡◌, ◌+◌, length, false};
 ghost use Rattle.std.specs.Io.KnownBytes.{Appends};
+ghost use Rattle.value_changes.specs.Declarations.{declarations};
 ghost use Rattle.value_changes.specs.Dumps.{
   Dump,
   alike,
@@ -14,9 +15,9 @@ ghost use Rattle.value_changes.specs.Lines.{time_line};
 ghost use Rattle.value_changes.specs.Ticks.{nothing_written, tick_text};
 ghost use Rattle.value_changes.specs.Writing.{Writes};
 
-use crate::definitions::write_definitions;
+use crate::declarations::push_declarations;
 use crate::last_values::LastValues;
-use crate::tick_text::TickText;
+use crate::dump_text::DumpText;
 use crate::writing::write_text;
 use observations::Observation;
 use osek_base::{System, TickRecord};
@@ -29,7 +30,7 @@ use std::marker::Model;
 pub struct ValueChanges<'s> {
     system: &'s System,
     values: LastValues,
-    text: TickText,
+    text: DumpText,
     /// The first tick that is written.
     from: u32,
     /// Whether it was seen.
@@ -67,16 +68,22 @@ impl<'s> ValueChanges<'s> {
         ValueChanges {
             system,
             values: LastValues::new(),
-            text: TickText::new(),
+            text: DumpText::new(),
             from,
             is_begun: false,
             ticks: u64::from(from),
         }
     }
 
-    /// Writes the declarations, which stand before the first tick. An error is a failed write.
-    pub fn begin<W: Write>(&self, out: &mut W) -> io::Result<()> {
-        write_definitions(self.system, out)
+    /// Writes the declarations, which stand before the first tick. An error is a failed write,
+    /// behind a beginning of them.
+    pub fn begin<W: Write>(&mut self, out: &mut W) -> io::Result<()>
+        ensures same { self.new ≡ self.old }
+        ensures text { Writes (W.contents out.old) (W.contents out.new)
+            (declarations self.old.system) result }
+    {
+        push_declarations(self.system, &mut self.text);
+        write_text(out, self.text.as_slice())
     }
 
     /// Writes what changes in a tick, of the first tick that is written all values. The tick before

@@ -3,10 +3,9 @@
 ghost use Rattle.std.specs.Prelude.{◌≡◌, ◌+◌, ◌-◌, ◌<◌, ◌≤◌, ◌*◌, ◌++◌, length};
 ghost use Rattle.value_changes.specs.Codes.{code, code_of, number_of};
 
-use crate::tick_text::{TEXT_SIZE, TickText};
+use crate::dump_text::{TEXT_SIZE, DumpText};
 use observations::MAX_HELD;
 use osek_base::{AlarmId, IsrId, MAX_ROUTINES, MAX_TASKS, ResId, TaskId};
-use std::fmt;
 
 /// How many characters identifier codes are made of: the printable ones of ASCII but the space.
 const DIGITS: u16 = 94;
@@ -83,7 +82,7 @@ fn digit(value: u16) -> u8
 
 /// Appends a number in digits, the lowest first.
 #[inline(always)]
-fn push_code_of(number: u16, text: &mut TickText)
+fn push_code_of(number: u16, text: &mut DumpText)
     requires small { number < DIGITS * DIGITS }
     requires room { length text.old + 2 ≤ TEXT_SIZE }
     ensures same { text.new ≡ text.old ++ code_of number }
@@ -119,25 +118,11 @@ impl Variable {
     /// Appends the identifier code: the number in digits, the lowest first; a second digit counts
     /// from 1.
     #[inline(always)]
-    pub(crate) fn push_code(&self, text: &mut TickText)
+    pub(crate) fn push_code(&self, text: &mut DumpText)
         requires { length text.old + 2 ≤ TEXT_SIZE }
         ensures same { text.new ≡ text.old ++ code self.now }
         ensures short { length text.new ≤ length text.old + 2 }
     {
         push_code_of(self.number(), text);
-    }
-}
-
-/// The identifier code.
-impl fmt::Display for Variable {
-    fn fmt<W: fmt::Write>(&self, f: &mut fmt::Formatter<W>) -> fmt::Result {
-        let number = self.number();
-        let first = char::from(digit(number % DIGITS));
-        if number < DIGITS {
-            write!(f, "{first}")
-        } else {
-            let second = char::from(digit(number / DIGITS - 1));
-            write!(f, "{first}{second}")
-        }
     }
 }

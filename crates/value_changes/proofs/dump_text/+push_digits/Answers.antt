@@ -1,7 +1,7 @@
 use Rattle.std.proofs.Common.{◌+◌, ◌/◌, ◌%◌, [], ◌∷◌, ◌++◌, length, sym, ap, ◌∙◌, append_assoc, length-append, arith}
 use Rattle.value_changes.specs.Lines.{binary}
 use Rattle.value_changes.proofs.BinaryLemmas.{binary_longer, binary_more, binary_one}
-use Rattle.value_changes.proofs.tick_text.+push_digits.Goals as goal
+use Rattle.value_changes.proofs.dump_text.+push_digits.Goals as goal
 
 pub push-requires : goal.push-requires
 push-requires t c =

@@ -1,4 +1,5 @@
-//! Value change dumps: the text of a tick is put together here, and written at once.
+//! Value change dumps: a text is put together here, and written at once: that of a tick, or the
+//! declarations.
 
 ghost use Rattle.std.specs.Prelude.{
   ◌≡◌,
@@ -29,22 +30,23 @@ use crate::variable::Variable;
 use itoa::Buffer;
 use std::marker::Model;
 
-/// How many bytes the text of a tick has room for. The longest has the time and the marks of the
-/// first tick, 37 bytes, a name of 41 for who executes, three vectors of 13 for each task, two
-/// wires and an event of 4 for each routine, a name of 37 for each resource, and an event of 4 for
-/// each alarm.
-pub(crate) const TEXT_SIZE: usize = 4352;
+/// How many bytes the text of a tick and that of the declarations have room for. A tick has at most
+/// 4,243: the time and the marks of the first one, a name of 41 bytes for who executes, three
+/// vectors of 13 for each task, two wires and an event of 4 for each routine, a name of 37 for each
+/// resource, and an event of 4 for each alarm. The declarations have at most 17,315, of
+/// which some are counted a little longer.
+pub(crate) const TEXT_SIZE: usize = 24_576;
 
-/// The bytes of a tick, at most [`TEXT_SIZE`]. Seen as their list.
+/// The bytes of a text, at most [`TEXT_SIZE`]. Seen as their list.
 #[derive(Drop)]
-pub(crate) struct TickText {
+pub(crate) struct DumpText {
     cells: [u8; TEXT_SIZE],
     len: usize,
 }
 
-impl Model for TickText {
+impl Model for DumpText {
     ghost use Rattle.std.specs.Prelude.{◌≡◌, ◌≤◌, ℕ, List, length, take};
-    ghost use Rattle.value_changes.specs.declared.tick_text.TheConstants.{TEXT_SIZE};
+    ghost use Rattle.value_changes.specs.declared.dump_text.TheConstants.{TEXT_SIZE};
 
     ghost Value = { List ℕ };
 
@@ -63,12 +65,12 @@ fn copy_in(cells: &mut [u8; TEXT_SIZE], start: usize, bytes: &[u8])
     cells[..start + bytes.len()][start..].copy_from_slice(bytes);
 }
 
-impl TickText {
+impl DumpText {
     /// A text with no byte.
     pub fn new() -> Self
         ensures { result ≡ [] }
     {
-        TickText {
+        DumpText {
             cells: [0; TEXT_SIZE],
             len: 0,
         }
@@ -234,7 +236,7 @@ impl TickText {
 }
 
 /// Appends the digits of a number in binary.
-fn push_digits(number: u8, text: &mut TickText)
+fn push_digits(number: u8, text: &mut DumpText)
     requires { length text.old + length (binary number) ≤ TEXT_SIZE }
     ensures { text.new ≡ text.old ++ binary number }
 {

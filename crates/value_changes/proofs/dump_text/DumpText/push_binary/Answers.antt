@@ -1,7 +1,7 @@
 use Rattle.std.proofs.Common.{length, ap, ◌∙◌, length-append, arith}
 use Rattle.value_changes.specs.Lines.{binary}
 use Rattle.value_changes.proofs.BinaryLemmas.{binary_short}
-use Rattle.value_changes.proofs.tick_text.TickText.push_binary.Goals as goal
+use Rattle.value_changes.proofs.dump_text.DumpText.push_binary.Goals as goal
 
 pub push_digits-requires : goal.push_digits-requires
 push_digits-requires c = let e = binary_short c.args.number c.ranges.number.fits in omega (arith, e, c.requires)
