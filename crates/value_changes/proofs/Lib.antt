@@ -2,3 +2,4 @@ pub mod BinaryLemmas
 pub mod EachLemmas
 pub mod WriteLemmas
 pub mod DeclarationLemmas
+pub mod AgainLemmas

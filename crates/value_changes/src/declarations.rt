@@ -231,7 +231,12 @@ fn push_alarm(system: &System, number: u8, text: &mut DumpText)
 {
     let names = system.names();
     let name = name_at(names.alarms.as_slice(), number);
-    push_variable("event 1", Variable::Expiry(AlarmId::new(number)), name, text);
+    push_variable(
+        "event 1",
+        Variable::Expiry(AlarmId::new(number)),
+        name,
+        text,
+    );
 }
 
 fn push_each_alarm(system: &System, text: &mut DumpText)

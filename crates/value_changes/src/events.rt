@@ -3,7 +3,7 @@
 ghost use Rattle.std.specs.Prelude.{◌≡◌, ◌+◌, ◌*◌, ◌≤◌, ◌++◌, length};
 ghost use Rattle.value_changes.specs.Ticks.{events_from, expiry_text, loss_text};
 
-use crate::dump_text::{TEXT_SIZE, DumpText};
+use crate::dump_text::{DumpText, TEXT_SIZE};
 use crate::variable::Variable;
 use arrayvec::ArrayVec;
 use observations::{AlarmSeen, RoutineSeen};

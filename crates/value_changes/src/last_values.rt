@@ -22,12 +22,12 @@ ghost use Rattle.value_changes.specs.Ticks.{
   values_text,
 };
 
+use crate::dump_text::{DumpText, TEXT_SIZE};
 use crate::events::{push_expiries, push_losses};
 use crate::last_value::LastValue;
 use crate::names::{push_executor, push_holder};
 use crate::routine_values::RoutineValues;
 use crate::task_values::TaskValues;
-use crate::dump_text::{TEXT_SIZE, DumpText};
 use crate::variable::Variable;
 use arrayvec::ArrayVec;
 use observations::{Holder, MAX_HELD, Observation, RoutineSeen, TaskSeen};

@@ -4,7 +4,7 @@ ghost use Rattle.std.specs.Prelude.{◌≡◌, ◌+◌, ◌≤◌, ◌++◌, len
 ghost use Rattle.osek_base.specs.Names.{name_at};
 ghost use Rattle.value_changes.specs.Lines.{executor_name, holder_name, string_line};
 
-use crate::dump_text::{TEXT_SIZE, DumpText};
+use crate::dump_text::{DumpText, TEXT_SIZE};
 use crate::variable::Variable;
 use observations::Holder;
 use osek_base::{Name, Names, Owner};

@@ -3,8 +3,8 @@
 ghost use Rattle.std.specs.Prelude.{◌≡◌, ◌+◌, ◌≤◌, ◌++◌, length};
 ghost use Rattle.value_changes.specs.Ticks.{no_routine_values, routine_after, routine_text};
 
+use crate::dump_text::{DumpText, TEXT_SIZE};
 use crate::last_value::LastValue;
-use crate::dump_text::{TEXT_SIZE, DumpText};
 use crate::variable::Variable;
 use observations::RoutineSeen;
 use osek_base::IsrId;

@@ -13,8 +13,8 @@ ghost use Rattle.value_changes.specs.Ticks.{
   task_text,
 };
 
+use crate::dump_text::{DumpText, TEXT_SIZE};
 use crate::last_value::LastValue;
-use crate::dump_text::{TEXT_SIZE, DumpText};
 use crate::variable::Variable;
 use observations::TaskSeen;
 use osek_base::{TaskId, TaskState};

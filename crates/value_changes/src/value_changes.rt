@@ -1,6 +1,6 @@
 //! Value change dumps, IEEE 1364: of each tick what changes in it.
 
-ghost use Rattle.std.specs.Prelude.{◌≡◌, ◌+◌, length, false};
+ghost use Rattle.std.specs.Prelude.{◌≡◌, [], ℕ, ◌+◌, length, false, true};
 ghost use Rattle.std.specs.Io.KnownBytes.{Appends};
 ghost use Rattle.value_changes.specs.Declarations.{declarations};
 ghost use Rattle.value_changes.specs.Dumps.{
@@ -12,12 +12,12 @@ ghost use Rattle.value_changes.specs.Dumps.{
   observed_text,
 };
 ghost use Rattle.value_changes.specs.Lines.{time_line};
-ghost use Rattle.value_changes.specs.Ticks.{nothing_written, tick_text};
+ghost use Rattle.value_changes.specs.Ticks.{after_tick, events_text, nothing_written, tick_text};
 ghost use Rattle.value_changes.specs.Writing.{Writes};
 
 use crate::declarations::push_declarations;
-use crate::last_values::LastValues;
 use crate::dump_text::DumpText;
+use crate::last_values::LastValues;
 use crate::writing::write_text;
 use observations::Observation;
 use osek_base::{System, TickRecord};
@@ -127,8 +127,10 @@ impl<'s> ValueChanges<'s> {
     }
 
     /// The same of the ticks from one on and before another, in each of which the same is seen: no
-    /// interrupt is lost in them and no alarm expires, so what changes does so in the first of them.
+    /// interrupt is lost in them and no alarm expires, so what changes does so in the first of them,
+    /// and another one has no text (`once`).
     /// An error is a failed write, behind a beginning of the text, and ends the dump.
+    #[tactic(auto, using(crate::proofs::AgainLemmas::told_once))]
     pub fn observe_alike<W: Write>(
         &mut self,
         seen: &Observation,
@@ -139,6 +141,8 @@ impl<'s> ValueChanges<'s> {
         ensures after { self.new ≡ alike self.old seen.now first end }
         ensures text { Writes (W.contents out.old) (W.contents out.new)
             (alike_text self.old seen.now first end) result }
+        ensures once { (t : ℕ) → events_text seen.now ≡ []
+            → tick_text self.old.system true t (after_tick self.old.values seen.now) seen.now ≡ [] }
     {
         let first = first.max(self.from);
         if end <= first {

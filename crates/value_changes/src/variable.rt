@@ -3,7 +3,7 @@
 ghost use Rattle.std.specs.Prelude.{◌≡◌, ◌+◌, ◌-◌, ◌<◌, ◌≤◌, ◌*◌, ◌++◌, length};
 ghost use Rattle.value_changes.specs.Codes.{code, code_of, number_of};
 
-use crate::dump_text::{TEXT_SIZE, DumpText};
+use crate::dump_text::{DumpText, TEXT_SIZE};
 use observations::MAX_HELD;
 use osek_base::{AlarmId, IsrId, MAX_ROUTINES, MAX_TASKS, ResId, TaskId};
 

@@ -1,4 +1,3 @@
-use Rattle.std.proofs.Common.{◌≡◌}
 use Rattle.std.specs.Prelude.{codes}
 use Rattle.value_changes.specs.Declarations.{scope_line}
 use Rattle.value_changes.proofs.DeclarationLemmas.{three}

@@ -1,4 +1,4 @@
-use Rattle.std.proofs.Common.{ℕ, ◌+◌, ◌*◌, ◌≤◌, length, arith}
+use Rattle.std.proofs.Common.{ℕ, arith}
 use Rattle.osek_base.specs.declared.ids.ResId.{ResId}
 use Rattle.value_changes.specs.Declarations.{resource_line}
 use Rattle.value_changes.proofs.DeclarationLemmas.{each_more}

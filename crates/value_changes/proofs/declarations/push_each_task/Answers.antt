@@ -1,4 +1,4 @@
-use Rattle.std.proofs.Common.{ℕ, ◌+◌, ◌*◌, ◌≤◌, length, arith}
+use Rattle.std.proofs.Common.{arith}
 use Rattle.value_changes.specs.Declarations.{task_scope}
 use Rattle.value_changes.proofs.DeclarationLemmas.{each_more}
 use Rattle.value_changes.proofs.declarations.push_each_task.Goals as goal
