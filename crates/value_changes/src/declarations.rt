@@ -270,7 +270,10 @@ fn push_header(text: &mut DumpText)
     ensures short { length text.new ≤ length text.old + 92 }
 {
     text.push_bytes(
-        b"$comment One unit of time is one tick. $end\n$version Paddlelychee $end\n$timescale 1 us $end\n",
+        b"$comment One unit of time is one tick. $end
+$version Paddlelychee $end
+$timescale 1 us $end
+",
     );
 }
 

@@ -126,10 +126,10 @@ impl<'s> ValueChanges<'s> {
         self.write_tick(seen.tick, u64::from(seen.tick) + 1, seen, out)
     }
 
-    /// The same of the ticks from one on and before another, in each of which the same is seen: no
-    /// interrupt is lost in them and no alarm expires, so what changes does so in the first of them,
-    /// and another one has no text (`once`).
-    /// An error is a failed write, behind a beginning of the text, and ends the dump.
+    /// The same of the ticks from one on and before another, in each of which the same is seen. No
+    /// interrupt is lost in them and no alarm expires, so all that changes does so in the first of
+    /// them, and the others have no text. An error is a failed write, behind a beginning of the
+    /// text, and ends the dump.
     #[tactic(auto, using(crate::proofs::AgainLemmas::told_once))]
     pub fn observe_alike<W: Write>(
         &mut self,
