@@ -1,6 +1,6 @@
 //! Value change dumps: a value is written where it changes.
 
-ghost use Rattle.std.specs.Prelude.{◌≡◌, None, IsTrue, IsSomeAnd, is_none};
+ghost use Rattle.std.specs.Prelude.{◌≡◌, None, IsTrue, IsSomeAnd};
 ghost use Rattle.value_changes.specs.Changes.{written, shown};
 
 use std::marker::Model;
@@ -31,17 +31,6 @@ impl<T> Default for LastValue<T> {
 }
 
 impl<T: Copy + Eq> LastValue<T> {
-    /// Whether the variable was last written with this value, so that nothing is to be written.
-    #[inline(always)]
-    pub fn is(&self, value: T) -> bool
-        ensures { result ≡ is_none (written T.eq self.now value) }
-    {
-        match self.value {
-            Some(last) => last == value,
-            None => false,
-        }
-    }
-
     /// The variable has this value now. The answer is what is to be written: nothing, where the
     /// value was written last.
     pub fn change_to(&mut self, value: T) -> Option<T>
