@@ -1,5 +1,5 @@
 -- How the bytes that a writer takes add up over several writes.
-use Rattle.std.proofs.Common.{ℕ, ◌+◌, ◌-◌, ◌≤◌, List, ◌++◌, length, take, drop, Option, Some, None, Result, Ok, Err, ap, ◌∙◌, append_assoc, arith}
+use Rattle.std.proofs.Common.{◌≡◌, ℕ, ◌+◌, ◌-◌, ◌≤◌, List, ◌++◌, [], ◌∷◌, append-nil, length, take, drop, Option, Some, None, Result, Ok, Err, sym, ap, ◌∙◌, append_assoc, arith}
 use Rattle.std.proofs.lemmas.List.{length-drop, take_rest, take-append-drop}
 use Rattle.std.proofs.Math.Seq.{take-add}
 use Rattle.std.specs.Io.KnownBytes.{Appends, Keeps}
@@ -39,3 +39,9 @@ pub stops : {T E : Type 0} (Q : E → Type 0) (a b : Option (List ℕ)) (text : 
     → Writes a b text r
 stops Q a b text (Ok x) h part = absurd h
 stops Q a b text (Err e) h part = record { written = tt; beginning = part }
+
+-- a text with no byte
+pub nothing : (a : Option (List ℕ)) (text : List ℕ) → length text ≡ 0 → Appends a a text
+nothing None text h = tt
+nothing (Some a) [] h = sym (append-nil a)
+nothing (Some a) (c ∷ text) h = absurd (omega arith)

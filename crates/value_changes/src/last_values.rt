@@ -18,6 +18,7 @@ ghost use Rattle.value_changes.specs.Ticks.{
   task_after,
   task_text,
   tick_text,
+  timed,
   values_after,
   values_text,
 };
@@ -153,10 +154,21 @@ fn push_executor_change(
 /// Appends the events that fire.
 fn push_events(seen: &Observation, text: &mut DumpText)
     requires { length text.old + 320 ≤ TEXT_SIZE }
-    ensures { text.new ≡ text.old ++ events_text seen.now }
+    ensures same { text.new ≡ text.old ++ events_text seen.now }
+    ensures short { length text.new ≤ length text.old + 320 }
 {
     push_losses(&seen.routines, text);
     push_expiries(&seen.alarms, text);
+}
+
+/// Appends the time and what changes then.
+fn push_timed(tick: u32, changes: &DumpText, text: &mut DumpText)
+    requires some { 0 < length changes.now }
+    requires room { length text.old + length changes.now + 22 ≤ TEXT_SIZE }
+    ensures { text.new ≡ text.old ++ timed tick changes.now }
+{
+    text.push_time(u64::from(tick));
+    text.push_bytes(changes.as_slice());
 }
 
 impl LastValues {
@@ -185,18 +197,25 @@ impl LastValues {
         push_holders(system, &mut self.holders, &seen.holders, text);
     }
 
-    /// Puts together what is written of a tick behind the first that is written.
-    fn push_later(&mut self, system: &System, tick: u32, seen: &Observation, text: &mut DumpText)
+    /// Puts together what is written of a tick behind the first that is written. It goes by way of
+    /// a text of its own, as the time is spelled only where something changes.
+    fn push_later(
+        &mut self,
+        system: &System,
+        tick: u32,
+        seen: &Observation,
+        changes: &mut DumpText,
+        text: &mut DumpText,
+    )
         requires { text.old ≡ [] }
         ensures same { text.new ≡ tick_text system.now true tick self.old seen.now }
         ensures after { self.new ≡ after_tick self.old seen.now }
     {
-        text.push_time(u64::from(tick));
-        let told = text.len();
-        self.push_values(system, seen, text);
-        push_events(seen, text);
-        if text.len() == told {
-            text.clear();
+        changes.clear();
+        self.push_values(system, seen, changes);
+        push_events(seen, changes);
+        if changes.len() > 0 {
+            push_timed(tick, changes, text);
         }
     }
 
@@ -220,6 +239,7 @@ impl LastValues {
         is_later: bool,
         tick: u32,
         seen: &Observation,
+        changes: &mut DumpText,
         text: &mut DumpText,
     )
         ensures same { text.new ≡ tick_text system.now is_later tick self.old seen.now }
@@ -227,7 +247,7 @@ impl LastValues {
     {
         text.clear();
         if is_later {
-            self.push_later(system, tick, seen, text);
+            self.push_later(system, tick, seen, changes, text);
         } else {
             self.push_first(system, tick, seen, text);
         }

@@ -18,7 +18,7 @@ ghost use Rattle.value_changes.specs.Writing.{Writes};
 use crate::declarations::push_declarations;
 use crate::dump_text::DumpText;
 use crate::last_values::LastValues;
-use crate::writing::write_text;
+use crate::writing::{write_some_text, write_text};
 use observations::Observation;
 use osek_base::{System, TickRecord};
 use std::io::{self, Write};
@@ -30,6 +30,8 @@ use std::marker::Model;
 pub struct ValueChanges<'s> {
     system: &'s System,
     values: LastValues,
+    /// What changes in a tick, and the text that is written.
+    changes: DumpText,
     text: DumpText,
     /// The first tick that is written.
     from: u32,
@@ -68,6 +70,7 @@ impl<'s> ValueChanges<'s> {
         ValueChanges {
             system,
             values: LastValues::new(),
+            changes: DumpText::new(),
             text: DumpText::new(),
             from,
             is_begun: false,
@@ -100,11 +103,12 @@ impl<'s> ValueChanges<'s> {
             (tick_text self.old.system self.old.is_begun tick self.old.values seen.now) result }
     {
         let is_later = self.is_begun;
+        let changes = &mut self.changes;
         self.values
-            .push_tick(self.system, is_later, tick, seen, &mut self.text);
+            .push_tick(self.system, is_later, tick, seen, changes, &mut self.text);
         self.is_begun = true;
         self.ticks = end;
-        write_text(out, self.text.as_slice())
+        write_some_text(out, &self.text)
     }
 
     /// Writes what changes in the next tick that is seen, of the first tick that is written all

@@ -4,6 +4,7 @@ ghost use Rattle.std.specs.Prelude.{◌<◌, ◌≤◌, IfOk, length};
 ghost use Rattle.std.specs.Io.KnownBytes.{Appends, WriteAppends};
 ghost use Rattle.value_changes.specs.Writing.{Writes};
 
+use crate::dump_text::DumpText;
 use std::io::{self, ErrorKind, Write};
 
 /// Writes some bytes of a text, from its first on, and answers how many; 0 where the write was
@@ -35,4 +36,15 @@ pub(crate) fn write_text<W: Write>(out: &mut W, text: &[u8]) -> io::Result<()>
         done += write_some(out, &text[done..])?;
     }
     Err(io::Error::from(ErrorKind::Interrupted))
+}
+
+/// The same of a text that is mostly empty: nothing is called then.
+#[inline(always)]
+pub(crate) fn write_some_text<W: Write>(out: &mut W, text: &DumpText) -> io::Result<()>
+    ensures { Writes (W.contents out.old) (W.contents out.new) text.now result }
+{
+    if text.len() == 0 {
+        return Ok(());
+    }
+    write_text(out, text.as_slice())
 }
