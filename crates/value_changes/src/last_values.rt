@@ -70,9 +70,7 @@ fn push_tasks(
 {
     for number in 0..seen.len() {
         let task = TaskId::new(number as u8);
-        let mut last = values[number];
-        last.push_changes(task, &seen[number], text);
-        values[number] = last;
+        values[number].push_changes(task, &seen[number], text);
     }
 }
 
@@ -88,9 +86,7 @@ fn push_routines(
 {
     for number in 0..seen.len() {
         let routine = IsrId::new(number as u8);
-        let mut last = values[number];
-        last.push_changes(routine, &seen[number], text);
-        values[number] = last;
+        values[number].push_changes(routine, &seen[number], text);
     }
 }
 
@@ -127,9 +123,7 @@ fn push_holders(
     ensures short { length text.new ≤ length text.old + 37 * MAX_HELD }
 {
     for number in 0..seen.len() {
-        let mut last = values[number];
-        push_holder_change(system, number, &mut last, seen[number], text);
-        values[number] = last;
+        push_holder_change(system, number, &mut values[number], seen[number], text);
     }
 }
 

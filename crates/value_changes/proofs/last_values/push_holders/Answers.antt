@@ -19,7 +19,7 @@ loop-number-preserved c =
           c.loop-number.invariant.same
           (c.push_holder_change.ensures.same ∙ ap (λ (h : Option ℕ). c.loop-number.text ++ text i last h) c.index-deref-number.is);
       after =
-          values_step holder_after vs c.loop-number.values xs c.deref.result.now i c.index-values-number.result c.push_holder_change.new.last
+          values_step holder_after vs c.loop-number.values xs c.deref.result.now i c.index-values-number.result _
           c.index-deref-number.result kept seen c.deref.ensures.0 c.loop-number.invariant.after
           (c.push_holder_change.ensures.after ∙ ap (λ (h : Option ℕ). holder_after last h) c.index-deref-number.is);
       short = omega (arith, c.push_holder_change.ensures.short, c.loop-number.invariant.short);

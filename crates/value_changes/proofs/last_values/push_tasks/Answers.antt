@@ -16,7 +16,7 @@ loop-number-preserved c =
           c.new-task.result _ _ kept seen c.deref.ensures.0 c.new-task.ensures c.loop-number.invariant.after c.loop-number.invariant.same
           c.push_changes.ensures.same;
       after =
-          values_step task_after vs c.loop-number.values xs c.deref.result.now i _ c.push_changes.new.self _ kept seen c.deref.ensures.0
+          values_step task_after vs c.loop-number.values xs c.deref.result.now i _ _ _ kept seen c.deref.ensures.0
           c.loop-number.invariant.after c.push_changes.ensures.after;
       short = omega (arith, c.push_changes.ensures.short, c.loop-number.invariant.short);
     }
