@@ -215,7 +215,7 @@ impl Alarms {
 
     /// The next tick begins, up to which the counters count. The alarms that are due in it expire, and
     /// `due`, which is empty, gets them.
-    #[inline(never)]
+    #[inline(always)]
     fn advance_counted(&mut self, system: &System, due: &mut DueList)
         requires table { IsTableOf system.now self.old }
         requires last { self.old.tick + 1 < MAX_TICKS }

@@ -1,10 +1,11 @@
 //! The running alarms of one counter.
 
 ghost use Rattle.std.specs.Prelude.{◌≡◌, ◌==◌, ◌<◌, ◌≤◌, ◌^◌, ◌+◌, ◌-◌, [], ◌∷◌, ◌++◌, ◌||◌, ℕ, length, map, is_some, drop, take, Option, Some, None, IfSome, IfNone, MatchOption, slice_index_or, true, false};
-ghost use Rattle.std.specs.List.{list_all, insert, remove, list_any};
-ghost use Rattle.alarms.specs.Waits.{span, inserted, without, wait_of, left_in, cycle_in, Wait, waits, wait_before, is_sooner, not_waiting, cut_at, grown_at, is_of, are_ahead, are_beyond, less_by, IsSoonest, are_apart, overs, is_over, again, is_raised, restarted, IsAgainAlone};
+ghost use Rattle.std.specs.List.{list_all, remove, list_any};
+ghost use Rattle.alarms.specs.Waits.{span, inserted, without, wait_of, left_in, cycle_in, Wait, waits, wait_before, is_sooner, not_waiting, cut_at, is_of, are_ahead, are_beyond, less_by, IsSoonest, are_apart, overs, is_over, again, is_raised, restarted, IsAgainAlone};
 
 use crate::due_alarms::DueAlarms;
+use crate::entry_places::{put_in, take_out};
 use crate::lone_alarm::{is_over_alone, recount};
 use crate::replacing::replace;
 use arrayvec::ArrayVec;
@@ -199,15 +200,31 @@ impl DifferenceList {
         ensures apart { are_apart self.new ≡ true }
         ensures ahead { are_ahead self.new ≡ true }
     {
-        let _few = self.len();
         if let Some(alone) = self.restart_alone() {
             due.raise(alone.alarm);
             return;
         }
+        *due = self.expire_each(due.copied());
+    }
+
+    /// As `expire`, one alarm after another, for a counter that has several or one that goes off. It takes and answers the
+    /// alarms that are due, and isn't lent them, so that who calls keeps them in a register.
+    #[inline(never)]
+    fn expire_each(&mut self, earlier: DueAlarms) -> DueAlarms
+        requires { are_apart self.old ≡ true }
+        ensures waits { (a : ℕ) → wait_of a self.new ≡ again (wait_of a self.old) }
+        ensures due { (a : ℕ)
+            → is_raised a result ≡ (is_raised a earlier || is_over (wait_of a self.old)) }
+        ensures apart { are_apart self.new ≡ true }
+        ensures ahead { are_ahead self.new ≡ true }
+    {
+        let _few = self.len();
+        let mut due = earlier;
         while let Some(expired) = self.take_due() {
             due.raise(expired.alarm);
             self.restart(expired);
         }
+        due
     }
 
     /// The only alarm, where its wait is over and it is cyclic: it starts again in its place. Else
@@ -322,41 +339,6 @@ fn cut_last(entries: &mut ArrayVec<Waiting, MAX_ALARMS>, counts: u32) -> bool
     let last = &mut entries[len - 1];
     last.difference -= counts;
     last.difference == 0
-}
-
-/// Takes an entry out, whose difference the entry before it gets.
-fn take_out(entries: &mut ArrayVec<Waiting, MAX_ALARMS>, place: usize)
-    requires place { place < length entries.old.items }
-    requires low { span entries.old.items < 2 ^ 32 }
-    ensures { entries.new.items ≡ remove (grown_at entries.old.items place) place }
-{
-    let difference = entries[place].difference;
-    if place > 0 {
-        let before = &mut entries[place - 1];
-        before.difference += difference;
-    }
-    entries.remove(place);
-}
-
-/// Puts an entry at a place, whose wait the entry before it no longer has to count.
-#[inline(always)]
-fn put_in(entries: &mut ArrayVec<Waiting, MAX_ALARMS>, place: usize, entry: Waiting)
-    requires place { place ≤ length entries.old.items }
-    requires room { length entries.old.items < MAX_ALARMS }
-    requires low { 0 < place
-        → entry.difference ≤ (slice_index_or entries.old.items (place - 1) not_waiting).difference }
-    ensures { entries.new.items
-        ≡ insert (cut_at entries.old.items place entry.difference) place entry }
-{
-    if place > 0 {
-        let before = &mut entries[place - 1];
-        before.difference -= entry.difference;
-    }
-    if place == entries.len() {
-        entries.push(entry);
-    } else {
-        entries.insert(place, entry);
-    }
 }
 
 /// Where an alarm that is to expire in `wait` counts goes, and what is left of its wait there.

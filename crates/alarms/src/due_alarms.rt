@@ -34,6 +34,14 @@ impl DueAlarms {
         DueAlarms { word: 0 }
     }
 
+    /// The same alarms once more.
+    #[inline(always)]
+    pub fn copied(&self) -> Self
+        ensures { result ≡ self.now }
+    {
+        DueAlarms { word: self.word }
+    }
+
     /// An alarm is due.
     #[inline(always)]
     pub fn raise(&mut self, alarm: AlarmId)

@@ -8,6 +8,7 @@ mod counters;
 mod difference_list;
 mod due_alarms;
 mod due_list;
+mod entry_places;
 mod lone_alarm;
 mod replacing;
 

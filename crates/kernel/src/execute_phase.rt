@@ -17,8 +17,8 @@ use crate::next::Next;
 use crate::processor::Processor;
 use machine::Cpu;
 use osek_base::{
-    Control, Instr, MAX_INSTRUCTIONS, MAX_RECORDS, Outcome, Owner, Register, Service, Source,
-    Status, System, TaskId, TickRecord, TraceEvent,
+    Control, Instr, MAX_INSTRUCTIONS, MAX_RECORDS, Outcome, Owner, Register, Results, Service,
+    Source, Status, System, TaskId, TickRecord, TraceEvent,
 };
 use ready_queues::ReadyQueues;
 
@@ -68,14 +68,20 @@ impl<'s, Q: ReadyQueues> Processor<'s, Q> {
         record_shutdown(self.system, &control, behind);
     }
 
-    /// A service with a status, which goes to r0, with its results behind it.
+    /// A service with a status, which goes to r0, with its results behind it. It answers the status, and leaves the results,
+    /// which most services don't have, in place of earlier ones.
     #[inline(never)]
-    pub fn execute_service(&mut self, next: &Next, behind: &mut TickRecord) -> Outcome
+    pub fn execute_service(
+        &mut self,
+        next: &Next,
+        results: &mut Results,
+        behind: &mut TickRecord,
+    ) -> Status
         requires comes { ComesTo self.old next.now behind.old }
         requires call { IsCall (instr_of next.now.packed) }
         ensures { DoesWithin 2 execute_phase_in self.old self.new []
-            (TraceEvent.Executed next.now.owner next.now.place (instr_of next.now.packed) result
-            ∷ behind.new) }
+            (TraceEvent.Executed next.now.owner next.now.place (instr_of next.now.packed)
+            (Outcome.Answer result results.new) ∷ behind.new) }
     {
         let answer = self.core.serve(next.owner, next.packed);
         let Some(status) = answer.status else {
@@ -83,7 +89,8 @@ impl<'s, Q: ReadyQueues> Processor<'s, Q> {
         };
         self.core.answer(next.owner, status, answer.results);
         record_refusal(self.system, next, status, behind);
-        Outcome::Answer(status, answer.results)
+        *results = answer.results;
+        status
     }
 }
 

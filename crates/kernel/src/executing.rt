@@ -11,7 +11,7 @@ use crate::blockers::Blockers;
 use crate::execute_phase::acting_task;
 use crate::next::Next;
 use crate::watched::Watched;
-use osek_base::{Executed, MAX_TICKS, Outcome, Owner, TickRecord};
+use osek_base::{Executed, MAX_TICKS, Outcome, Owner, Results, TickRecord};
 use ready_queues::ReadyQueues;
 
 impl<'s, Q: ReadyQueues, B: Blockers> Watched<'s, Q, B> {
@@ -107,7 +107,9 @@ impl<'s, Q: ReadyQueues, B: Blockers> Watched<'s, Q, B> {
         } else if B::are_counted() {
             self.serve(&next, tick, behind)
         } else {
-            self.processor.execute_service(&next, behind)
+            let mut results = Results::Nothing;
+            let status = self.processor.execute_service(&next, &mut results, behind);
+            Outcome::Answer(status, results)
         }
     }
 
@@ -123,9 +125,10 @@ impl<'s, Q: ReadyQueues, B: Blockers> Watched<'s, Q, B> {
         let service = next.packed.service();
         let named = acting_task(&service);
         let before = self.processor.stand(&named);
-        let outcome = self.processor.execute_service(next, behind);
+        let mut results = Results::Nothing;
+        let status = self.processor.execute_service(next, &mut results, behind);
         let after = self.processor.stand(&named);
         self.blocking.executed_since(&before, &after, tick);
-        outcome
+        Outcome::Answer(status, results)
     }
 }

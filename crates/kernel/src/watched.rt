@@ -65,7 +65,6 @@ impl<'s, Q: ReadyQueues, B: Blockers> Watched<'s, Q, B> {
     /// nothing but begin it, and that a task executes then. Answers that task; else nothing changes.
     #[inline(always)]
     pub fn begin_steady(&mut self) -> Option<TaskId>
-        requires { self.old.processor.objects.tick + 1 < MAX_TICKS }
         ensures { MatchOption result (self.new ≡ self.old) (BeginsSteady self.old self.new) }
     {
         let task = self.processor.core.steady_task()?;

@@ -133,13 +133,12 @@ impl<'s, Q: ReadyQueues> Objects<'s, Q> {
     #[inline(always)]
     fn enter(&mut self, task: TaskId)
         requires { task < length self.old.system.tasks }
-        ensures system { self.new.system ≡ self.old.system }
-        ensures kept { kept_in self.new ≡ record (kept_in self.old) {
-          slots = changed_at (by_task self.old.slots) task
-              (slot_entered self.old.system task (by_task self.old.slots task));
-          running = Some task;
-          gone = false;
-        } }
+        ensures { Becomes
+            (λ S o. record o {
+              slots = changed_at o.slots task (slot_entered S task (o.slots task));
+              running = Some task;
+              gone = false;
+            }) self.old self.new }
     {
         let system = self.system;
         let slot = &mut self.slots[task.number() as usize];

@@ -1,6 +1,6 @@
 //! OSEK/VDX OS: task management, alarms. Ticks in which nothing happens.
 
-ghost use Rattle.std.specs.Prelude.{◌≡◌, ◌<◌, ◌+◌, true, IfSome};
+ghost use Rattle.std.specs.Prelude.{◌≡◌, ◌<◌, ◌+◌, true, is_some, Some, IfSome};
 ghost use Rattle.kept_state.specs.Quiet.{IsQuiet};
 ghost use Rattle.services.specs.Objects.{kept_in};
 ghost use Rattle.services.specs.Quiet.{BeginsQuiet, IsIdle, IsSettled, PassesUpTo};
@@ -34,10 +34,21 @@ impl<'s, Q: ReadyQueues> Objects<'s, Q> {
         self.pending_routine().is_none()
     }
 
+    /// The running task, where one runs.
+    #[inline(always)]
+    fn runner(&self) -> TaskId
+        requires { is_some self.now.running ≡ true }
+        ensures { self.now.running ≡ Some result }
+    {
+        match self.running() {
+            None => unreachable!(),
+            Some(task) => task,
+        }
+    }
+
     /// The next tick begins, where it is known that no alarm is due in it. Answers whether it does.
     #[inline(always)]
     fn begin_quiet(&mut self) -> bool
-        requires { self.old.tick + 1 < MAX_TICKS }
         ensures { BeginsQuiet result self.old self.new }
     {
         self.alarms.pass_quiet()
@@ -71,7 +82,7 @@ impl<'s, Q: ReadyQueues> Core<'s, Q> {
         ensures { IfSome result (IsSteady self.now.system (kept_in self.now)) }
     {
         if self.is_settled {
-            self.objects.running()
+            Some(self.objects.runner())
         } else {
             None
         }
@@ -80,7 +91,6 @@ impl<'s, Q: ReadyQueues> Core<'s, Q> {
     /// The next tick begins, where it is known that no alarm is due in it. Answers whether it does; else nothing changes.
     #[inline(always)]
     pub fn begin_quiet(&mut self) -> bool
-        requires { self.old.tick + 1 < MAX_TICKS }
         ensures { BeginsQuiet result self.old self.new }
     {
         self.objects.begin_quiet()

@@ -37,10 +37,14 @@ impl<'s, Q: ReadyQueues> Objects<'s, Q> {
         if self.by_routine() {
             return Status::CallLevel;
         }
-        if self.holds_any() {
-            return Status::Resource;
+        if let Some(task) = self.calling_task() {
+            let slot = &mut self.slots[task.number() as usize];
+            if !slot.holds_none() {
+                return Status::Resource;
+            }
+            slot.end();
+            self.gone = true;
         }
-        self.end_caller();
         Status::Ok
     }
 

@@ -1,6 +1,7 @@
 use Rattle.std.proofs.Common.{◌≡◌, [], ◌∷◌, ◌<◌, length, sym, ◌∙◌, ap, subst}
 use Rattle.std.specs.Prelude.{IfSome}
 use Rattle.osek_base.specs.declared.instr.Instr.{Instr}
+use Rattle.osek_base.specs.declared.trace_event.Outcome.{Outcome}
 use Rattle.osek_base.specs.declared.trace_event.TraceEvent.{TraceEvent}
 use Rattle.machine.specs.Packed.{instr_of}
 use Rattle.blocking_laws.specs.Restamping.{stamps_at}
@@ -25,7 +26,7 @@ pub stand-after-requires : goal.stand-after-requires
 stand-after-requires g c =
     let p = c.self.inside.processor in
     let next = c.args.next.now in
-    subst (λ S. IfSome c.acting_task-named.result (λ t. t < length S.tasks)) (sym c.execute_service-outcome.ensures.does.system)
+    subst (λ S. IfSome c.acting_task-named.result (λ t. t < length S.tasks)) (sym c.execute_service-status.ensures.does.system)
     (named_there p next c.service-service.result c.acting_task-named.result
     (subst (λ (x : Watched). IsNext x.processor next) (sym c.self.view_is) c.requires.may.next)
     (service_is (instr_of next.packed) c.requires.call.plain c.requires.call.control ∙ ap Instr.Service (sym c.service-service.ensures))
@@ -55,8 +56,8 @@ returns g c =
     let k = c.self.inside in
     let counted = g.B.Blockers.are_counted in
     let next = c.args.next.now in
-    let r = c.execute_service-outcome in
-    let events = TraceEvent.Executed next.owner next.place (instr_of next.packed) r.result ∷ r.new.behind in
+    let r = c.execute_service-status in
+    let events = TraceEvent.Executed next.owner next.place (instr_of next.packed) (Outcome.Answer r.result r.new.results) ∷ r.new.behind in
     let is = service_is (instr_of next.packed) c.requires.call.plain c.requires.call.control ∙ ap Instr.Service (sym c.service-service.ensures) in
     subst (λ (x : Watched). WatchesWithin counted 2 executing c.args.tick x (watched_of r.new.self c.executed_since.new.self) [] events) c.self.view_is
     (record {

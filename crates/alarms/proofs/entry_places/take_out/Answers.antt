@@ -2,7 +2,7 @@ use Rattle.std.proofs.Common.{arith, ◌≡◌, ◌-◌}
 use Rattle.std.proofs.lemmas.List.{get_or_default}
 use Rattle.alarms.specs.Waits.{not_waiting}
 use Rattle.alarms.proofs.WaitLemmas.{two_of_span}
-use Rattle.alarms.proofs.difference_list.take_out.Goals as goal
+use Rattle.alarms.proofs.entry_places.take_out.Goals as goal
 
 pub overflow_add-before : goal.overflow_add-before
 overflow_add-before c =
