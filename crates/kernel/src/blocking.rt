@@ -71,6 +71,7 @@ impl<B: Blockers> Blocking<B> {
     /// How many blockers the job had that executed last, where it did so for the first time since it became ready: 1 where a
     /// job of a lower level has executed since, else 0. It is never 2, since each time that a job becomes ready it has at most
     /// one blocker.
+    #[inline(always)]
     pub fn number(&self) -> Option<u32>
         ensures { IsNumber B.are_counted (number_told self.now.told) result }
     {
@@ -166,9 +167,11 @@ impl<B: Blockers> Blocking<B> {
             None => self.begun.stamp = None,
             Some(task) => {
                 let level = processor.level_of(task);
-                self.begun.level = level;
-                self.begun.stamp = self.stamps.take(task);
                 self.last.note(level, tick);
+                match self.stamps.take(task) {
+                    None => self.begun.stamp = None,
+                    stamp => self.begun = Begun { level, stamp },
+                }
             }
         }
     }

@@ -135,6 +135,7 @@ impl<'s, Q: ReadyQueues, B: Blockers> Kernel<'s, Q, B> {
 
     /// The number of blockers of the job that executed in the last tick, where that was its first instruction since it became
     /// ready. None where blockers aren't counted.
+    #[inline(always)]
     pub fn blockers(&self) -> Option<u32>
         requires { 1 ≤ self.now.ticks }
         ensures { IsNumber B.are_counted

@@ -118,6 +118,7 @@ impl<'s, Q: ReadyQueues, B: Blockers> Machine<'s, Q, B> {
 
     /// The number of blockers of the job that executed in the last tick, where that was its first instruction since it became
     /// ready. None where blockers aren't counted.
+    #[inline(always)]
     pub fn blockers(&self) -> Option<u32>
         ensures { IsNumber B.are_counted (number_told self.now.blocking.told) result }
     {

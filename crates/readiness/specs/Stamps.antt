@@ -1,5 +1,5 @@
 -- Since which tick each job of a task is ready, where it hasn't executed since. No part of the standards.
-use Rattle.std.specs.Prelude.{ℕ, List, [], ◌∷◌, Option, Some, None}
+use Rattle.std.specs.Prelude.{ℕ, ◌≡◌, List, [], ◌∷◌, Option, Some, None, IfSome, slice_index_or}
 
 -- the oldest job gets a stamp where it has none
 abbrev pub stamp_oldest : ℕ → List (Option ℕ) → List (Option ℕ)
@@ -20,3 +20,7 @@ spent_oldest (p ∷ later) = None ∷ later
 abbrev pub without_oldest : List (Option ℕ) → List (Option ℕ)
 without_oldest [] = []
 without_oldest (p ∷ later) = later
+
+-- the oldest job of a task, where one is named, has no stamp
+abbrev pub HasNone : Option ℕ → List (List (Option ℕ)) → Type 0
+HasNone named lists = IfSome named (λ t. stamp_of_oldest (slice_index_or lists t []) ≡ None)

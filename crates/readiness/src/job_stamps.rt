@@ -1,6 +1,6 @@
 //! Since which tick each job is ready, by task.
 
-ghost use Rattle.std.specs.Prelude.{◌≡◌, ◌<◌, ◌≤◌, [], ◌∷◌, ◌++◌, Some, length, replicate, slice_set, slice_index_or, is_none};
+ghost use Rattle.std.specs.Prelude.{◌≡◌, ◌<◌, ◌≤◌, [], ◌∷◌, ◌++◌, Some, length, replicate, slice_set, slice_index_or, is_none, true, None};
 ghost use Rattle.readiness.specs.Stamps.{stamp_oldest, stamp_of_oldest, spent_oldest, without_oldest};
 
 use crate::task_stamps::TaskStamps;
@@ -12,14 +12,19 @@ use std::marker::Model;
 #[derive(Drop)]
 pub struct JobStamps {
     tasks: ArrayVec<TaskStamps, MAX_TASKS>,
+    /// A task whose oldest job is known to have no stamp: the one that executed last, as long as no stamp has changed since.
+    spent: Option<TaskId>,
 }
 
 impl Model for JobStamps {
     ghost use Rattle.std.specs.Prelude.{ℕ, List, Option};
+    ghost use Rattle.readiness.specs.Stamps.{HasNone};
 
     ghost Value = { List (List (Option ℕ)) };
 
     ghost view = { λ s. s.tasks.items };
+
+    ghost invariant = { λ s. HasNone s.spent s.tasks.items };
 }
 
 /// The content becomes the stamps of some tasks.
@@ -59,7 +64,7 @@ impl JobStamps {
         for _made in 0..count {
             tasks.push(TaskStamps::new());
         }
-        JobStamps { tasks }
+        JobStamps { tasks, spent: None }
     }
 
     /// The stamps become those of others.
@@ -67,6 +72,7 @@ impl JobStamps {
         ensures { self.new ≡ other.now }
     {
         replace_tasks(&mut self.tasks, other.tasks.as_slice());
+        self.spent = other.spent;
     }
 
     /// A job of a task more, ready from a tick on: it is the newest.
@@ -76,6 +82,7 @@ impl JobStamps {
         ensures { self.new
             ≡ slice_set self.old task (slice_index_or self.old task [] ++ Some tick ∷ []) }
     {
+        self.spent = None;
         self.tasks[task.number() as usize].add(tick);
     }
 
@@ -85,6 +92,7 @@ impl JobStamps {
         ensures { self.new
             ≡ slice_set self.old task (without_oldest (slice_index_or self.old task [])) }
     {
+        self.spent = None;
         self.tasks[task.number() as usize].end();
     }
 
@@ -94,7 +102,19 @@ impl JobStamps {
         ensures { self.new
             ≡ slice_set self.old task (stamp_oldest tick (slice_index_or self.old task [])) }
     {
+        self.spent = None;
         self.tasks[task.number() as usize].stamp(tick);
+    }
+
+    /// Whether it is known that the oldest job of a task has no stamp any more.
+    #[inline(always)]
+    fn is_known_spent(&self, task: TaskId) -> bool
+        ensures { result ≡ true → stamp_of_oldest (slice_index_or self.now task []) ≡ None }
+    {
+        match self.spent {
+            None => false,
+            Some(spent) => spent.number() == task.number(),
+        }
     }
 
     /// Whether the oldest job of a task has no stamp any more, or the task has no job.
@@ -102,6 +122,9 @@ impl JobStamps {
     pub fn is_spent(&self, task: TaskId) -> bool
         ensures { result ≡ is_none (stamp_of_oldest (slice_index_or self.now task [])) }
     {
+        if self.is_known_spent(task) {
+            return true;
+        }
         match self.tasks.as_slice().get(task.number() as usize) {
             None => true,
             Some(stamps) => stamps.is_spent(),
@@ -116,6 +139,10 @@ impl JobStamps {
         ensures after { self.new
             ≡ slice_set self.old task (spent_oldest (slice_index_or self.old task [])) }
     {
+        if self.is_known_spent(task) {
+            return None;
+        }
+        self.spent = Some(task);
         self.tasks[task.number() as usize].take()
     }
 }

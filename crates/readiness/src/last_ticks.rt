@@ -4,6 +4,7 @@ ghost use Rattle.std.specs.Prelude.{◌≡◌, ◌<◌, ◌≤◌, ◌+◌, nat_
 ghost use Rattle.std.specs.List.{list_any};
 
 use osek_base::{MAX_TASK_PRIORITY, MAX_TICKS};
+use std::cmp;
 use std::marker::Model;
 
 const LEVELS: usize = MAX_TASK_PRIORITY as usize + 1;
@@ -12,14 +13,21 @@ const LEVELS: usize = MAX_TASK_PRIORITY as usize + 1;
 #[derive(Drop)]
 pub struct LastTicks {
     after: [u32; LEVELS],
+    /// The level of the job that executed last.
+    level: u8,
+    /// No number of another level is greater.
+    others: u32,
 }
 
 impl Model for LastTicks {
     ghost use Rattle.std.specs.Prelude.{ℕ, List};
+    ghost use Rattle.readiness.specs.Last.{AreOthers};
 
     ghost Value = { List ℕ };
 
     ghost view = { λ l. l.after };
+
+    ghost invariant = { λ l. AreOthers l.after l.level l.others };
 }
 
 impl LastTicks {
@@ -27,7 +35,11 @@ impl LastTicks {
     pub fn new() -> Self
         ensures { result ≡ replicate LEVELS 0 }
     {
-        LastTicks { after: [0; LEVELS] }
+        LastTicks {
+            after: [0; LEVELS],
+            level: 0,
+            others: 0,
+        }
     }
 
     /// The last tick of each level becomes that of others.
@@ -35,6 +47,8 @@ impl LastTicks {
         ensures { self.new ≡ other.now }
     {
         self.after.copy_from_slice(&other.after);
+        self.level = other.level;
+        self.others = other.others;
     }
 
     /// A job of a level executes in a tick.
@@ -44,16 +58,30 @@ impl LastTicks {
         requires tick { tick < MAX_TICKS }
         ensures { self.new ≡ slice_set self.old level (tick + 1) }
     {
+        if level != self.level {
+            self.others = cmp::max(self.others, self.after[self.level as usize]);
+            self.level = level;
+        }
         self.after[level as usize] = tick + 1;
     }
 
     /// Whether a job of a level below has executed in a tick or since.
+    #[inline(always)]
     pub fn is_lower_since(&self, level: u8, tick: u32) -> bool
         requires { level ≤ MAX_TASK_PRIORITY }
         ensures { result ≡ list_any (λ after. nat_lt tick after) (take level self.now) }
     {
-        self.after[..level as usize]
-            .iter()
-            .any(|after| tick < *after)
+        if level == self.level && self.others <= tick {
+            return false;
+        }
+        is_one_since(&self.after[..level as usize], tick)
     }
+}
+
+/// Whether one of some levels has executed in a tick or since.
+#[inline(never)]
+fn is_one_since(after: &[u32], tick: u32) -> bool
+    ensures { result ≡ list_any (λ after. nat_lt tick after) after.now }
+{
+    after.iter().any(|after| tick < *after)
 }

@@ -1,9 +1,13 @@
 //! The outcomes of instructions in a block, no part of the standards. What nearly all lines have, a number of one digit and the
 //! sign before it, is appended as one array.
 
-ghost use Rattle.std.specs.Prelude.{◌≡◌, ◌+◌, ◌≤◌, ◌++◌, length, decimal, codes};
+ghost use Rattle.std.specs.Prelude.{◌≡◌, ◌+◌, ◌≤◌, ◌++◌, ℕ, length, decimal, codes};
+ghost use Rattle.osek_base.specs.BlockingText.{blockers_text};
 ghost use Rattle.osek_base.specs.Text.{outcome_text};
+ghost use Rattle.osek_base.specs.declared.ids.Owner.{Owner};
+ghost use Rattle.osek_base.specs.declared.instr.Instr.{Instr};
 ghost use Rattle.osek_base.specs.declared.trace_event.Outcome.{Outcome};
+ghost use Rattle.osek_base.specs.declared.trace_event.TraceEvent.{TraceEvent};
 ghost use Rattle.osek_base.specs.Tick.{status_number};
 
 use crate::block::{BLOCK_SIZE, Block};
@@ -85,5 +89,34 @@ pub(crate) fn push_outcome(text: &mut Block, outcome: &Outcome)
         if !matches!(results, Results::Nothing) {
             push_results(text, *results);
         }
+    }
+}
+
+/// Appends ` ! ` and a number of blockers to a block.
+#[inline(always)]
+fn push_block_count(text: &mut Block, number: u32)
+    requires { length text.old + 13 ≤ BLOCK_SIZE }
+    ensures same { text.new ≡ text.old ++ codes " ! " ++ decimal number }
+    ensures short { length text.new ≤ length text.old + 13 }
+{
+    if number < 10 {
+        text.push_array(&[b' ', b'!', b' ', b'0' + number as u8]);
+    } else {
+        text.push_str(" ! ");
+        push_block_digits(text, number);
+    }
+}
+
+/// Appends ` ! ` and a number of blockers to a block, where one is told.
+#[inline(always)]
+pub(crate) fn push_block_blockers(text: &mut Block, number: Option<u32>)
+    requires { length text.old + 13 ≤ BLOCK_SIZE }
+    ensures same { (who : Owner) (place : ℕ) (what : Instr) (outcome : Outcome)
+        → text.new
+        ≡ text.old ++ blockers_text number (TraceEvent.Executed who place what outcome) }
+    ensures short { length text.new ≤ length text.old + 13 }
+{
+    if let Some(number) = number {
+        push_block_count(text, number);
     }
 }

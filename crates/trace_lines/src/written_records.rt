@@ -9,8 +9,9 @@ ghost use Rattle.trace_lines.specs.Programs.{IsOfProgram};
 ghost use Rattle.trace_lines.specs.Sinks.{PutsBehind};
 
 use crate::block::{BLOCK_SIZE, Block, RECORD_SIZE, make_room};
+use crate::block_outcome::push_block_blockers;
 use crate::instruction_texts::InstructionTexts;
-use crate::line::{push_blocker_count, push_blockers};
+use crate::line::push_blockers;
 use crate::sink::{Sink, SinkFault};
 use crate::text::Text;
 use crate::tick_text::TickText;
@@ -109,7 +110,7 @@ fn push_executed_record(
         ++ record_text texts.now.names tick.now number (executed_record texts.now executed.now) }
 {
     texts.push_executed_line(tick, executed, text);
-    push_blocker_count(text, number);
+    push_block_blockers(text, number);
     text.push_str("\n");
 }
 

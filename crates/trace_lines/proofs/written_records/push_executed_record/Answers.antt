@@ -14,6 +14,6 @@ returns c =
     let count = blockers_text c.args.number (executed_record S executed) in
     c.push_str.ensures
     ∙ ap (λ v. v ++ 10 ∷ [])
-    (c.push_blocker_count.ensures.same executed.owner executed.place (instruction_at S executed.owner executed.place) executed.outcome
+    (c.push_block_blockers.ensures.same executed.owner executed.place (instruction_at S executed.owner executed.place) executed.outcome
     ∙ ap (λ v. v ++ count) c.push_executed_line.ensures.same ∙ append_assoc text own count)
     ∙ append_assoc text (own ++ count) (10 ∷ [])

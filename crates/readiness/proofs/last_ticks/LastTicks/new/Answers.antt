@@ -1,0 +1,6 @@
+use Rattle.std.proofs.Common.{arith}
+use Rattle.readiness.proofs.LastLemmas.{zeros}
+use Rattle.readiness.proofs.last_ticks.LastTicks.new.Goals as goal
+
+pub invariant_of-result : goal.invariant_of-result
+invariant_of-result c = record { low = omega arith; each = λ l other. zeros 64 l }
