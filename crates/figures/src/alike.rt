@@ -68,7 +68,7 @@ fn note_task_alike(
 {
     let tick = task_tick(levels, first, observation, number);
     if is_calm_task(&tick) {
-        figures.observe(&tick);
+        figures.note(&tick);
         figures.go_on(&tick, end - first - 1);
     } else {
         note_each_task(figures, levels, first, end, observation, number);

@@ -47,23 +47,6 @@ fn observe_task(
     }
 }
 
-// A tick more of a task, in which anything may come to it.
-#[inline(never)]
-fn count_task(
-    figures: &mut TaskFigures,
-    levels: &[u8],
-    tick: u32,
-    observation: &Observation,
-    number: usize,
-)
-    requires { number < length levels.now }
-    ensures { (before : List TaskTick) → figures.old ≡ task_figures before
-        → figures.new
-        ≡ task_figures (task_tick levels.now (numbered tick observation.now) number ∷ before) }
-{
-    figures.observe(&task_tick(levels, tick, observation, number));
-}
-
 /// A tick more of a task that has a job, or to which something comes. In most of them its times
 /// alone grow.
 #[inline(always)]
@@ -79,12 +62,7 @@ pub fn note_task(
         → figures.new
         ≡ task_figures (task_tick levels.now (numbered tick observation.now) number ∷ before) }
 {
-    let seen = task_tick(levels, tick, observation, number);
-    if figures.is_calm(&seen) {
-        figures.observe_calm(&seen);
-    } else {
-        count_task(figures, levels, tick, observation, number);
-    }
+    figures.note(&task_tick(levels, tick, observation, number));
 }
 
 // A tick more of a routine. In a quiet one nothing has to be counted.

@@ -56,6 +56,7 @@ impl TaskFigures {
     }
 
     /// A tick more is seen.
+    #[inline(never)]
     pub fn observe(&mut self, tick: &TaskTick)
         ensures { (before : List TaskTick) → self.old ≡ task_figures before
             → self.new ≡ task_figures (tick.now ∷ before) }
@@ -83,6 +84,19 @@ impl TaskFigures {
     {
         self.counts.unfinished = u32::from(tick.left_jobs());
         self.times.observe(tick);
+    }
+
+    /// A tick more is seen, of which maybe the times alone grow.
+    #[inline(always)]
+    pub(crate) fn note(&mut self, tick: &TaskTick)
+        ensures { (before : List TaskTick) → self.old ≡ task_figures before
+            → self.new ≡ task_figures (tick.now ∷ before) }
+    {
+        if self.is_calm(tick) {
+            self.observe_calm(tick);
+        } else {
+            self.observe(tick);
+        }
     }
 
     /// Some ticks more are seen that are like the last one, in which nothing came to the task. Its

@@ -1,8 +1,10 @@
 -- What an observed run keeps, no part of the standards.
-use Rattle.std.specs.Prelude.{ℕ, ◌≡◌, ◌≤◌, ◌-◌, Bool, List, map, length}
+use Rattle.std.specs.Prelude.{ℕ, ◌≡◌, ◌<◌, ◌≤◌, ◌+◌, ◌-◌, ◌==◌, ◌∷◌, ◌++◌, Bool, true, List, Option, IfSome, map, length}
 use Rattle.osek_base.specs.declared.arrivals.Arrival.{Arrival}
 use Rattle.osek_base.specs.declared.trace_event.TraceEvent.{TraceEvent}
-use Rattle.osek_base.specs.declared.limits.TheConstants.{MAX_ARRIVALS}
+use Rattle.osek_base.specs.declared.executed.Executed.{Executed}
+use Rattle.osek_base.specs.declared.limits.TheConstants.{MAX_ARRIVALS, MAX_RECORDS}
+use Rattle.osek_base.specs.Executed.{StandsIn, idle_or_executed}
 use Rattle.osek_base.specs.Lists.{below}
 use Rattle.osek_base.specs.State.{State}
 use Rattle.osek_base.specs.System.{System}
@@ -13,7 +15,7 @@ use Rattle.seen_ticks.specs.Told.{task_at}
 use Rattle.observed_runs.specs.declared.before.Before.{Before}
 use Rattle.observed_runs.specs.declared.execution.Execution.{Execution}
 use Rattle.seen_ticks.specs.declared.task_at.TaskAt.{TaskAt}
-use Rattle.seen_ticks.specs.Observed.{IsObserved, Ticked, active_routine, ending, is_pending, jobs_before, refusing, tick_at}
+use Rattle.seen_ticks.specs.Observed.{IsObserved, Ticked, active_routine, ending, holders_seen, is_pending, jobs_before, refusing, tick_at}
 
 -- the tick of a run that was done last
 abbrev pub last_tick : Progress → Ticked
@@ -25,6 +27,18 @@ pub record IsBefore (S : System) (k : Ticked) (before : Before) : Type 0 where
   pub pending : before.pending.items ≡ map (is_pending k.before) (below (length S.routines))
   pub active : before.active ≡ active_routine k.before
 
+-- what is known before the tick that comes next
+pub record KnowsNext (r : Progress) (before : Before) : Type 0 where
+  pub jobs : before.jobs.items ≡ map (jobs_before (r.ticks == 0) (run_of r).state) (below (length r.system.tasks))
+  pub pending : before.pending.items ≡ map (is_pending (run_of r).state) (below (length r.system.routines))
+  pub active : before.active ≡ active_routine (run_of r).state
+
+-- the records of a tick, before and behind that of what it executed
+pub record AreRecords (S : System) (executed : Option Executed) (ahead behind all : List TraceEvent) : Type 0 where
+  pub recorded : ahead ++ idle_or_executed S executed ∷ behind ≡ all
+  pub there : IfSome executed (StandsIn S)
+  pub few : length ahead + length behind < MAX_RECORDS
+
 -- what it executed
 pub record IsExecution (S : System) (k : Ticked) (e : Execution) : Type 0 where
   pub executed : e.executed ≡ k.executed
@@ -32,19 +46,23 @@ pub record IsExecution (S : System) (k : Ticked) (e : Execution) : Type 0 where
   pub refusing : e.refusing ≡ refusing S k.executed
 
 -- of tick n of a run, the state behind it, what was known before it, what it executed, what tasks were then, and its records
-pub record IsTold (S : System) (mode : ℕ) (arrivals : List Arrival) (n : ℕ) (now : State) (before : Before) (e : Execution) (tasks : List TaskAt) (records : List TraceEvent) : Type 0 where
+pub record IsTold (S : System) (mode : ℕ) (arrivals : List Arrival) (n : ℕ) (now : State) (before : Before) (e : Execution) (tasks : List TaskAt) (ahead behind_it : List TraceEvent) : Type 0 where
   pub behind : now ≡ (tick_at S mode arrivals n).after
   pub known : IsBefore S (tick_at S mode arrivals n) before
   pub done : IsExecution S (tick_at S mode arrivals n) e
   pub each : tasks ≡ map (task_at S (tick_at S mode arrivals n).at) (below (length S.tasks))
-  pub recorded : records ≡ record_at S mode arrivals n
+  pub records : AreRecords S e.executed ahead behind_it (record_at S mode arrivals n)
 
--- beside a run, its system, that its arrivals are few, and what is told of the tick done last
-pub record IsTelling (r : Progress) (S : System) (before : Before) (e : Execution) (tasks : List TaskAt) (records : List TraceEvent) : Type 0 where
+-- beside a run, its system, that its arrivals are few, what is told of the tick done last, and whether what was known before
+-- that is known before the next, too
+pub record IsTelling (r : Progress) (S : System) (before : Before) (is_noted : Bool) (e : Execution) (tasks : List TaskAt)
+    (ahead behind : List TraceEvent) : Type 0 where
   pub system : r.system ≡ S
   pub few : length r.arrivals ≤ MAX_ARRIVALS
-  pub told : 1 ≤ r.ticks → IsTold r.system r.mode r.arrivals (r.ticks - 1) (run_of r).state before e tasks records
+  pub told : 1 ≤ r.ticks → IsTold r.system r.mode r.arrivals (r.ticks - 1) (run_of r).state before e tasks ahead behind
+  pub next : is_noted ≡ true → KnowsNext r before
 
--- and what is seen of it
-abbrev pub IsObservedRun : Bool → Progress → Observation → Type 0
-IsObservedRun counted r o = 1 ≤ r.ticks → IsObserved counted r.system r.mode r.arrivals (r.ticks - 1) o
+-- what is seen of it, and whether its holders are those before the next tick, too
+pub record IsObservedRun (counted : Bool) (r : Progress) (o : Observation) (is_held : Bool) : Type 0 where
+  pub observed : 1 ≤ r.ticks → IsObserved counted r.system r.mode r.arrivals (r.ticks - 1) o
+  pub held : is_held ≡ true → o.holders.items ≡ holders_seen r.system (run_of r).state

@@ -1,5 +1,5 @@
 -- Ticks of an observed run in which the same is seen, no part of the standards.
-use Rattle.std.specs.Prelude.{ℕ, ◌≡◌, ◌<◌, ◌≤◌, ◌+◌, ◌-◌, Bool, true, false, List, [], ◌∷◌, Option, None, IfSome}
+use Rattle.std.specs.Prelude.{ℕ, ◌≡◌, ◌<◌, ◌≤◌, ◌+◌, ◌-◌, ◌&&◌, Bool, true, false, List, [], ◌∷◌, Option, None, IfSome}
 use Rattle.std.specs.Option.{option_map}
 use Rattle.osek_base.specs.declared.arrivals.Arrival.{Arrival}
 use Rattle.osek_base.specs.declared.executed.Executed.{Executed}
@@ -10,11 +10,14 @@ use Rattle.osek_base.specs.Executed.{StandsIn, idle_or_executed}
 use Rattle.osek_base.specs.System.{System}
 use Rattle.osek_base.specs.Trace.{arriving, run}
 use Rattle.observations.specs.declared.observation.Observation.{Observation}
+use Rattle.observations.specs.declared.task_seen.TaskSeen.{TaskSeen}
 use Rattle.blocking_laws.specs.Steps.{record_at, step_at}
 use Rattle.kept_state.specs.Kept.{Kept, kept}
 use Rattle.kernel.specs.Progress.{Progress, run_of}
 use Rattle.kernel.specs.Working.{at_rest}
-use Rattle.seen_ticks.specs.Observed.{IsObserved, answered, ending, failure_of, owner_of, refusing}
+use Rattle.seen_ticks.specs.declared.task_at.TaskAt.{TaskAt}
+use Rattle.seen_ticks.specs.Told.{task_at}
+use Rattle.seen_ticks.specs.Observed.{IsObserved, Ticked, answered, ending, failure_of, is_by, is_waiting, owner_of, refusing, state_seen, task_seen}
 
 -- in a tick of a run nothing comes to a task, routine, resource or alarm: no interrupt arrives, no alarm is due, no number of
 -- blockers is told where they are counted, who executes, if anybody does, is answered nothing and neither ends a job nor makes
@@ -57,3 +60,20 @@ pub record PassesAlike (counted : Bool) (most : ℕ) (old new : Progress) (n : �
   pub alike : (k : ℕ) → k < n → (o : Observation)
       → IsObserved counted old.system old.mode old.arrivals (new.ticks - 1) o
       → IsObserved counted old.system old.mode old.arrivals (old.ticks + k) (record o { tick = old.ticks + k })
+
+-- what is seen of a task to which nothing comes, by whether it executes, and what it is
+abbrev pub task_left : Bool → TaskAt → TaskSeen
+task_left executes at =
+    record {
+      state = state_seen executes at.state;
+      priority = at.priority;
+      jobs = at.jobs;
+      made = 0;
+      refused = 0;
+      ended = false;
+      waits = executes && is_waiting at.state;
+    }
+
+-- nothing comes to a task in a tick
+pub record LeavesTasks (S : System) (k : Ticked) : Type 0 where
+  pub each : (t : ℕ) → task_seen S k t ≡ task_left (is_by (Owner.Task t) k.executed) (task_at S k.at t)

@@ -1,9 +1,10 @@
 //! What has to be known of the state before a tick, to tell what comes in it. No part of the standards.
 
-ghost use Rattle.std.specs.Prelude.{◌≡◌, ◌<◌, ◌==◌, map, length};
+ghost use Rattle.std.specs.Prelude.{◌≡◌, ◌<◌, ◌==◌, true, map, length};
 ghost use Rattle.osek_base.specs.Lists.{below};
 ghost use Rattle.kernel.specs.Progress.{run_of};
-ghost use Rattle.seen_ticks.specs.Observed.{active_routine, is_pending, jobs_before};
+ghost use Rattle.observed_runs.specs.Keeping.{KnowsNext};
+ghost use Rattle.seen_ticks.specs.Observed.{is_pending, jobs_before};
 
 use arrayvec::ArrayVec;
 use kernel::{Blockers, Kernel, give_places};
@@ -31,15 +32,27 @@ impl Before {
         }
     }
 
+    /// As [`note`](Before::note), where it isn't noted already.
+    #[inline(always)]
+    pub(crate) fn note_once<B: Blockers>(
+        &mut self,
+        is_noted: bool,
+        kernel: &Kernel<'_, LevelQueues, B>,
+        system: &System,
+    )
+        requires system { kernel.now.system ≡ system.now }
+        requires noted { is_noted ≡ true → KnowsNext kernel.now self.old }
+        ensures { KnowsNext kernel.now self.new }
+    {
+        if !is_noted {
+            self.note(kernel, system);
+        }
+    }
+
     /// Notes what is known before the tick that a kernel does next.
     pub(crate) fn note<B: Blockers>(&mut self, kernel: &Kernel<'_, LevelQueues, B>, system: &System)
         requires { kernel.now.system ≡ system.now }
-        ensures jobs { self.new.jobs.items
-            ≡ map (jobs_before (kernel.now.ticks == 0) (run_of kernel.now).state)
-            (below (length system.now.tasks)) }
-        ensures pending { self.new.pending.items
-            ≡ map (is_pending (run_of kernel.now).state) (below (length system.now.routines)) }
-        ensures active { self.new.active ≡ active_routine (run_of kernel.now).state }
+        ensures { KnowsNext kernel.now self.new }
     {
         see_jobs(kernel, system, &mut self.jobs);
         see_pending(kernel, system, &mut self.pending);

@@ -1,13 +1,13 @@
 //! A run that is observed, no part of the standards.
 
-ghost use Rattle.std.specs.Prelude.{◌≡◌, ◌+◌, ◌-◌, ◌≤◌, false, true, not, IsTrue, IsFalse, None, Some, IfOk};
+ghost use Rattle.std.specs.Prelude.{◌≡◌, ◌+◌, ◌-◌, ◌≤◌, [], false, true, not, IsTrue, IsFalse, None, Some, IfOk};
 ghost use Rattle.osek_base.specs.BlockingText.{blockers_at};
 ghost use Rattle.osek_base.specs.Names.{number_of};
 ghost use Rattle.kernel.specs.declared.boot.BootFault.{BootFault};
 ghost use Rattle.kernel.specs.Progress.{AreKnown, is_over};
 ghost use Rattle.blocking_laws.specs.Steps.{record_at, step_at};
 ghost use Rattle.observed_runs.specs.Keeping.{last_tick};
-ghost use Rattle.observed_runs.specs.Passing.{PassesAlike};
+ghost use Rattle.observed_runs.specs.Passing.{LeavesTasks, PassesAlike};
 ghost use Rattle.seen_ticks.specs.Observed.{IsObserved, IsSeen, holders_seen};
 
 use crate::execution::{answered, executor, failure};
@@ -25,6 +25,8 @@ use std::marker::Model;
 pub struct ObservedRun<'s, B: Blockers> {
     told: ToldRun<'s, B>,
     seen: Observation,
+    /// Whether the holders that are seen are those before the tick that comes next, too.
+    is_held: bool,
 }
 
 impl<'s, B: Blockers> Model for ObservedRun<'s, B> {
@@ -35,14 +37,16 @@ impl<'s, B: Blockers> Model for ObservedRun<'s, B> {
 
     ghost view = { λ r. r.told };
 
-    ghost invariant = { λ r. IsObservedRun B.are_counted r.told r.seen };
+    ghost invariant = { λ r. IsObservedRun B.are_counted r.told r.seen r.is_held };
 }
 
 impl<'s, B: Blockers> ToldRun<'s, B> {
-    /// Leaves what is seen of the tick that was done last, where its holders stand already.
+    /// Leaves what is seen of the tick that was done last, where its holders stand already. It may
+    /// be known that nothing comes to any task in it.
     #[inline(always)]
-    fn see(&self, seen: &mut Observation)
+    fn see(&self, is_left: bool, seen: &mut Observation)
         requires ticked { 1 ≤ self.now.ticks }
+        requires left { is_left ≡ true → LeavesTasks self.now.system (last_tick self.now) }
         requires holders { seen.old.holders.items
             ≡ holders_seen self.now.system (last_tick self.now).at }
         ensures number { seen.new.tick ≡ self.now.ticks - 1 }
@@ -58,7 +62,7 @@ impl<'s, B: Blockers> ToldRun<'s, B> {
         seen.answered = answered(&executed);
         seen.failure = failure(&executed);
         seen.blockers = self.kernel.blockers();
-        self.see_tasks(&mut seen.tasks);
+        self.see_tasks_of(is_left, &mut seen.tasks);
         self.see_routines(&mut seen.routines);
         self.see_alarms(&mut seen.alarms);
     }
@@ -83,6 +87,7 @@ impl<'s, B: Blockers> ObservedRun<'s, B> {
         Ok(ObservedRun {
             told,
             seen: Observation::new(),
+            is_held: false,
         })
     }
 
@@ -96,9 +101,11 @@ impl<'s, B: Blockers> ObservedRun<'s, B> {
         if self.told.is_over() {
             return false;
         }
-        self.told.see_holders(&mut self.seen.holders);
+        self.told
+            .see_holders_once(self.is_held, &mut self.seen.holders);
         self.told.advance();
-        self.told.see(&mut self.seen);
+        self.told.see(false, &mut self.seen);
+        self.is_held = false;
         true
     }
 
@@ -120,7 +127,8 @@ impl<'s, B: Blockers> ObservedRun<'s, B> {
             return 0;
         }
         self.told.see_holders(&mut self.seen.holders);
-        self.told.see(&mut self.seen);
+        self.told.see(true, &mut self.seen);
+        self.is_held = true;
         passed
     }
 
@@ -133,13 +141,18 @@ impl<'s, B: Blockers> ObservedRun<'s, B> {
         &self.seen
     }
 
-    /// The records of the tick that was done last; none before the first.
-    pub fn records(&self) -> &TickRecord
-        ensures { 1 ≤ self.now.ticks
-            → result.now
+    /// Leaves the records of the tick that was done last; none before the first.
+    pub fn records_into(&self, records: &mut TickRecord)
+        ensures none { self.now.ticks ≡ 0 → records.new ≡ [] }
+        ensures done { 1 ≤ self.now.ticks
+            → records.new
             ≡ record_at self.now.system self.now.mode self.now.arrivals (self.now.ticks - 1) }
     {
-        self.told.records()
+        if self.told.ticks() == 0 {
+            records.clear();
+        } else {
+            self.told.records_into(records);
+        }
     }
 
     /// How many ticks are done.

@@ -1,9 +1,10 @@
 //! OSEK/VDX OS: task management, task state model. What is seen of the tasks.
 
-ghost use Rattle.std.specs.Prelude.{ℕ, ◌≡◌, ◌<◌, ◌≤◌, ◌+◌, ◌-◌, [], false, None, map, length};
+ghost use Rattle.std.specs.Prelude.{ℕ, ◌≡◌, ◌<◌, ◌≤◌, ◌+◌, ◌-◌, [], true, false, None, map, length};
 ghost use Rattle.osek_base.specs.declared.ids.Owner.{Owner};
 ghost use Rattle.osek_base.specs.Lists.{below};
 ghost use Rattle.observed_runs.specs.Keeping.{last_tick};
+ghost use Rattle.observed_runs.specs.Passing.{LeavesTasks};
 ghost use Rattle.seen_ticks.specs.Observed.{
   activations_by,
   is_by,
@@ -109,9 +110,69 @@ impl<'s, B: Blockers> ToldRun<'s, B> {
         }
     }
 
+    /// What is seen of a task in the tick that was done last, where nothing comes to any in it.
+    #[inline(always)]
+    fn task_left(&self, task: TaskId, by: &Option<TaskId>) -> TaskSeen
+        requires ticked { 1 ≤ self.now.ticks }
+        requires task { task < length self.now.system.tasks }
+        requires by { (t : ℕ) → is_number t by.now
+            ≡ is_by (Owner.Task t) (last_tick self.now).executed }
+        requires left { LeavesTasks self.now.system (last_tick self.now) }
+        ensures { result ≡ task_seen self.now.system (last_tick self.now) task }
+    {
+        let at = self.task_at(task);
+        let jobs = at.jobs;
+        let is_own = is_task(task, *by);
+        TaskSeen {
+            state: state_seen(is_own, at.state),
+            priority: at.priority,
+            jobs,
+            made: 0,
+            refused: 0,
+            ended: false,
+            waits: is_own && is_waiting(at.state),
+        }
+    }
+
+    /// Leaves what is seen of the tasks in the tick that was done last, where nothing comes to any.
+    #[tactic(auto, using(kernel::proofs::Filled::one_more, kernel::proofs::Filled::all_of))]
+    #[inline(always)]
+    fn see_tasks_left(&self, tasks: &mut ArrayVec<TaskSeen, MAX_TASKS>)
+        requires ticked { 1 ≤ self.now.ticks }
+        requires left { LeavesTasks self.now.system (last_tick self.now) }
+        ensures { tasks.new.items
+            ≡ map (task_seen self.now.system (last_tick self.now))
+            (below (length self.now.system.tasks)) }
+    {
+        let count = self.system().task_count();
+        give_places(tasks, count);
+        let places = tasks.as_mut_slice();
+        let by = executing_task(&self.executed());
+        for number in 0..count {
+            places[number] = self.task_left(TaskId::new(number as u8), &by);
+        }
+    }
+
+    /// Leaves what is seen of the tasks in the tick that was done last, of which it may be known
+    /// that nothing comes to any in it.
+    #[inline(always)]
+    pub(crate) fn see_tasks_of(&self, is_left: bool, tasks: &mut ArrayVec<TaskSeen, MAX_TASKS>)
+        requires ticked { 1 ≤ self.now.ticks }
+        requires left { is_left ≡ true → LeavesTasks self.now.system (last_tick self.now) }
+        ensures { tasks.new.items
+            ≡ map (task_seen self.now.system (last_tick self.now))
+            (below (length self.now.system.tasks)) }
+    {
+        if is_left {
+            self.see_tasks_left(tasks);
+        } else {
+            self.see_tasks(tasks);
+        }
+    }
+
     /// Leaves what is seen of the tasks in the tick that was done last.
     #[tactic(auto, using(kernel::proofs::Filled::one_more, kernel::proofs::Filled::all_of))]
-    pub(crate) fn see_tasks(&self, tasks: &mut ArrayVec<TaskSeen, MAX_TASKS>)
+    fn see_tasks(&self, tasks: &mut ArrayVec<TaskSeen, MAX_TASKS>)
         requires { 1 ≤ self.now.ticks }
         ensures { tasks.new.items
             ≡ map (task_seen self.now.system (last_tick self.now))

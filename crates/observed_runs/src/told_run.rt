@@ -1,6 +1,6 @@
 //! A run beside what its kernel tells of the last tick, no part of the standards.
 
-ghost use Rattle.std.specs.Prelude.{◌≡◌, ◌<◌, ◌+◌, ◌-◌, ◌∷◌, ◌++◌, ◌≤◌, false, length, IfOk, IfSome, Some, None};
+ghost use Rattle.std.specs.Prelude.{◌≡◌, ◌+◌, ◌-◌, ◌++◌, ◌≤◌, true, false, length, IfOk, IfSome, Some, None};
 ghost use Rattle.osek_base.specs.Executed.{StandsIn, idle_or_executed};
 ghost use Rattle.osek_base.specs.Names.{number_of};
 ghost use Rattle.osek_base.specs.Proper.{IsProper};
@@ -28,11 +28,15 @@ pub(crate) struct ToldRun<'s, B: Blockers> {
     pub(crate) system: &'s System,
     pub(crate) kernel: Kernel<'s, LevelQueues, B>,
     pub(crate) before: Before,
+    /// Whether the same is known before the tick that comes next.
+    is_noted: bool,
     pub(crate) execution: Execution,
     pub(crate) at: AtInstruction,
-    records: TickRecord,
-    /// Room for the records behind that of the instruction.
+    /// The records before and behind that of the last tick's instruction.
+    ahead: TickRecord,
     behind: TickRecord,
+    /// Room to work in.
+    room: TickRecord,
 }
 
 impl<'s, B: Blockers> Model for ToldRun<'s, B> {
@@ -43,7 +47,8 @@ impl<'s, B: Blockers> Model for ToldRun<'s, B> {
 
     ghost view = { λ r. r.kernel };
 
-    ghost invariant = { λ r. IsTelling r.kernel r.system.now r.before r.execution r.at.tasks.items r.records };
+    ghost invariant = { λ r. IsTelling r.kernel r.system.now r.before r.is_noted r.execution
+        r.at.tasks.items r.ahead r.behind };
 }
 
 impl<'s, B: Blockers> ToldRun<'s, B> {
@@ -67,10 +72,12 @@ impl<'s, B: Blockers> ToldRun<'s, B> {
             system,
             kernel,
             before: Before::new(),
+            is_noted: false,
             execution: Execution::nothing(),
             at: AtInstruction::new(),
-            records: TickRecord::new(),
+            ahead: TickRecord::new(),
             behind: TickRecord::new(),
+            room: TickRecord::new(),
         })
     }
 
@@ -100,11 +107,12 @@ impl<'s, B: Blockers> ToldRun<'s, B> {
         requires { is_over self.old ≡ false }
         ensures { self.new ≡ record self.old { ticks = self.old.ticks + 1 } }
     {
-        self.before.note(&self.kernel, self.system);
+        self.before
+            .note_once(self.is_noted, &self.kernel, self.system);
         let executed = self
             .kernel
-            .tick_seen(&mut self.records, &mut self.behind, &mut self.at);
-        join(&mut self.records, self.system, &executed, &self.behind);
+            .tick_seen(&mut self.ahead, &mut self.behind, &mut self.at);
+        self.is_noted = false;
         self.execution = Execution::of(self.system, executed);
     }
 
@@ -119,10 +127,11 @@ impl<'s, B: Blockers> ToldRun<'s, B> {
             return 0;
         }
         self.before.note(&self.kernel, self.system);
+        self.is_noted = true;
         see_tasks_between(&self.kernel, self.system, &mut self.at.tasks);
         self.execution = Execution::of(self.system, None);
-        self.records.clear();
-        self.records.push(TraceEvent::Idle);
+        self.ahead.clear();
+        self.behind.clear();
         passed
     }
 
@@ -133,15 +142,16 @@ impl<'s, B: Blockers> ToldRun<'s, B> {
         requires { self.old.ticks + most ≤ MAX_TICKS }
         ensures { StaysOn B.are_counted most self.old self.new result }
     {
-        let worked = self.kernel.pass_plain(most, &mut self.behind);
+        let worked = self.kernel.pass_plain(most, &mut self.room);
         if worked.ticks == 0 {
             return 0;
         }
         self.before.note(&self.kernel, self.system);
+        self.is_noted = true;
         see_tasks_between(&self.kernel, self.system, &mut self.at.tasks);
         self.execution = Execution::of(self.system, worked.last);
-        self.records.clear();
-        self.records.push(event_of(self.system, &worked.last));
+        self.ahead.clear();
+        self.behind.clear();
         worked.ticks
     }
 
@@ -168,24 +178,32 @@ impl<'s, B: Blockers> ToldRun<'s, B> {
         see_holders(&self.kernel, self.system, holders);
     }
 
-    /// The records of the tick that was done last; none before the first.
-    pub(crate) fn records(&self) -> &TickRecord
-        ensures { 1 ≤ self.now.ticks
-            → result.now
+    /// Leaves who holds each resource, where it isn't known that they stand there.
+    #[inline(always)]
+    pub(crate) fn see_holders_once(&self, is_seen: bool, holders: &mut ArrayVec<Holder, MAX_HELD>)
+        requires { is_seen ≡ true
+            → holders.old.items ≡ holders_seen self.now.system (run_of self.now).state }
+        ensures holders { holders.new.items ≡ holders_seen self.now.system (run_of self.now).state }
+        ensures proper { IsProper self.now.system }
+    {
+        if is_seen {
+            let _proper = self.system.task_count();
+        } else {
+            self.see_holders(holders);
+        }
+    }
+
+    /// Leaves the records of the tick that was done last.
+    pub(crate) fn records_into(&self, records: &mut TickRecord)
+        requires { 1 ≤ self.now.ticks }
+        ensures { records.new
             ≡ record_at self.now.system self.now.mode self.now.arrivals (self.now.ticks - 1) }
     {
-        &self.records
+        records.clear();
+        push_all(records, &self.ahead);
+        records.push(event_of(self.system, &self.execution.executed));
+        push_all(records, &self.behind);
     }
-}
-
-/// Adds the record of what a tick executed, and those behind it.
-fn join(records: &mut TickRecord, system: &System, executed: &Option<Executed>, behind: &TickRecord)
-    requires there { IfSome executed.now (StandsIn system.now) }
-    requires room { length records.old + length behind.now < MAX_RECORDS }
-    ensures { records.new ≡ records.old ++ idle_or_executed system.now executed.now ∷ behind.now }
-{
-    records.push(event_of(system, executed));
-    push_all(records, behind);
 }
 
 /// The record of what a tick executed.

@@ -4,7 +4,7 @@ use crate::beginning::{RunInput, begin};
 use crate::progress::Progress;
 use kernel::NotCounted;
 use observed_runs::ObservedRun;
-use osek_base::System;
+use osek_base::{System, TickRecord};
 use std::alloc::Global;
 use std::io::Write;
 use timelines::Timeline;
@@ -38,15 +38,18 @@ fn draw_run<E: Write>(
     ticks: u32,
     progress: &mut Progress<'_, E>,
 ) -> Result<(), RunFault> {
+    let mut records = TickRecord::new();
     for _tick in 0..ticks {
         if ticks <= run.ticks_done() || !run.advance() {
             break;
         }
-        timeline.observe(system, run.observation(), run.records())?;
+        run.records_into(&mut records);
+        timeline.observe(system, run.observation(), &records)?;
         let done = run.ticks_done();
         if 0 < run.pass_alike(ticks.saturating_sub(done)) {
-            let (seen, records) = (run.observation(), run.records());
-            timeline.observe_alike(system, seen, records, done, run.ticks_done())?;
+            run.records_into(&mut records);
+            let seen = run.observation();
+            timeline.observe_alike(system, seen, &records, done, run.ticks_done())?;
         }
         progress.note(run.ticks_done(), ticks);
     }

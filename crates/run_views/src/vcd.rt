@@ -4,7 +4,7 @@ use crate::beginning::{RunInput, begin};
 use crate::progress::Progress;
 use kernel::NotCounted;
 use observed_runs::ObservedRun;
-use osek_base::System;
+use osek_base::{System, TickRecord};
 use std::alloc::Global;
 use std::io::Write;
 use tracer::RunFault;
@@ -33,12 +33,14 @@ fn dump_run<O: Write, E: Write>(
     progress: &mut Progress<'_, E>,
     out: &mut O,
 ) -> Result<(), RunFault> {
+    let mut records = TickRecord::new();
     dump.begin(out)?;
     for _tick in 0..ticks {
         if ticks <= run.ticks_done() || !run.advance() {
             break;
         }
-        dump.observe(run.observation(), run.records(), out)?;
+        run.records_into(&mut records);
+        dump.observe(run.observation(), &records, out)?;
         let done = run.ticks_done();
         if 0 < run.pass_alike(ticks.saturating_sub(done)) {
             dump.observe_alike(run.observation(), done, run.ticks_done(), out)?;

@@ -10,11 +10,11 @@ returns-then-is_calm_task c = λ before e.
     let o = c.args.observation.now in
     let tick = task_tick c.args.levels.now (numbered c.args.first o) c.args.number in
     let is = rw c.task_tick-tick.ensures at (sym c.is_calm_task.ensures ∙ c.if-is_calm_task.true) in
-    let first = rw c.task_tick-tick.ensures at (c.observe.ensures before e) in
+    let first = rw c.task_tick-tick.ensures at (c.note.ensures before e) in
     let more = c.args.end - c.args.first - 1 in
     let all : c.args.end - c.args.first ≡ suc more = omega (arith, c.requires.some) in
-    let grown : c.go_on.new.self ≡ task_on tick c.observe.new.self more =
-    subst (λ t. c.go_on.new.self ≡ task_on t c.observe.new.self more) c.task_tick-tick.ensures c.go_on.ensures in
+    let grown : c.go_on.new.self ≡ task_on tick c.note.new.self more =
+    subst (λ t. c.go_on.new.self ≡ task_on t c.note.new.self more) c.task_tick-tick.ensures c.go_on.ensures in
     grown ∙ row_all task_figures (λ t. task_tick c.args.levels.now (numbered t o) c.args.number) c.args.first before
-    (task_on tick c.observe.new.self) (c.args.end - c.args.first) more all (task_start tick before c.observe.new.self first)
-    (λ m _ seen same. task_go tick (c.args.first + suc m) m before seen c.observe.new.self (calm tick is) first same)
+    (task_on tick c.note.new.self) (c.args.end - c.args.first) more all (task_start tick before c.note.new.self first)
+    (λ m _ seen same. task_go tick (c.args.first + suc m) m before seen c.note.new.self (calm tick is) first same)

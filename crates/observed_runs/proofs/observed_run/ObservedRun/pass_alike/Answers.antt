@@ -1,7 +1,7 @@
-use Rattle.std.proofs.Common.{◌≤◌, ◌<◌, ◌∙◌, subst, arith}
+use Rattle.std.proofs.Common.{◌≤◌, ◌<◌, sym, ◌∙◌, subst, arith}
 use Rattle.kernel.specs.Progress.{Progress}
 use Rattle.observed_runs.specs.Passing.{PassesAlike}
-use Rattle.observed_runs.proofs.Alike.{passes_alike, stayed_holders}
+use Rattle.observed_runs.proofs.Alike.{passes_alike, stayed_holders, stayed_tasks}
 use Rattle.observed_runs.proofs.observed_run.ObservedRun.pass_alike.Goals as goal
 
 pub see-requires-clause-holders : goal.see-requires-clause-holders
@@ -10,6 +10,31 @@ see-requires-clause-holders g c =
     let some : 0 < p.result = omega (arith, c.if-passed-eq0.false) in
     c.see_holders.ensures.holders
     ∙ stayed_holders g.B.Blockers.are_counted c.min.result p.result c.self.inside.told p.new.self p.ensures.last p.ensures.stayed some
+
+pub see-requires-clause-left : goal.see-requires-clause-left
+see-requires-clause-left g c =
+    let p = c.pass_alike-passed in
+    let some : 0 < p.result = omega (arith, c.if-passed-eq0.false) in
+    λ _.
+    stayed_tasks g.B.Blockers.are_counted c.min.result p.result c.self.inside.told p.new.self p.ensures.last p.ensures.stayed some
+    c.see_holders.ensures.proper
+
+pub invariant_of-self-2 : goal.invariant_of-self-2
+invariant_of-self-2 g c =
+    let p = c.pass_alike-passed in
+    let s = c.see.ensures in
+    let some : 0 < p.result = omega (arith, c.if-passed-eq0.false) in
+    record {
+      observed = λ later. record {
+        number = s.number;
+        seen = s.seen;
+        blockers = s.counted;
+        uncounted = s.uncounted;
+      };
+      held = λ _.
+          s.seen.holders
+          ∙ sym (stayed_holders g.B.Blockers.are_counted c.min.result p.result c.self.inside.told p.new.self p.ensures.last p.ensures.stayed some);
+    }
 
 pub returns : goal.returns
 returns g c =

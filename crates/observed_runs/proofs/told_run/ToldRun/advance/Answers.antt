@@ -1,12 +1,11 @@
-use Rattle.std.proofs.Common.{◌≡◌, false, ◌≤◌, ◌++◌, ◌∷◌, map, length, sym, ◌∙◌, ap, subst}
-use Rattle.std.specs.Prelude.{◌==◌}
+use Rattle.std.proofs.Common.{◌≡◌, false, ◌≤◌, ◌++◌, ◌∷◌, length, sym, ◌∙◌, ap, subst, arith}
+use Rattle.std.specs.Prelude.{IfSome}
 use Rattle.osek_base.specs.declared.limits.TheConstants.{MAX_ARRIVALS}
-use Rattle.osek_base.specs.Executed.{idle_or_executed}
-use Rattle.osek_base.specs.Lists.{below}
+use Rattle.osek_base.specs.Executed.{StandsIn, idle_or_executed}
 use Rattle.osek_base.specs.System.{System}
 use Rattle.kernel.specs.Progress.{Progress, is_over, run_of}
 use Rattle.observed_runs.specs.Keeping.{IsTold}
-use Rattle.seen_ticks.specs.Observed.{ending, is_pending, jobs_before, refusing}
+use Rattle.seen_ticks.specs.Observed.{ending, refusing}
 use Rattle.observed_runs.proofs.Seeing.{one_on, state_more}
 use Rattle.observed_runs.proofs.Telling.{executed_told}
 use Rattle.observed_runs.proofs.told_run.ToldRun.advance.Goals as goal
@@ -25,17 +24,14 @@ invariant_of-self g c =
       few = subst (λ (r : Progress). length r.arrivals ≤ MAX_ARRIVALS) (sym t.ensures.done.next) v.few;
       told = λ later.
           one_on k new
-          (λ S mode arrivals n. IsTold S mode arrivals n (run_of new).state c.note.new.self e.result t.new.at.tasks.items c.join.new.records)
+          (λ S mode arrivals n. IsTold S mode arrivals n (run_of new).state c.note_once.new.self e.result t.new.at.tasks.items t.new.before t.new.behind)
           t.ensures.done.next
           (record {
             behind = state_more k new t.ensures.done.next (subst (λ (r : Progress). is_over r ≡ false) (sym c.self.view_is) c.requires);
             known = record {
-              jobs =
-                  c.note.ensures.jobs
-                  ∙ ap (λ (S : System). map (jobs_before (k.ticks == 0) (run_of k).state) (below (length S.tasks))) here;
-              pending =
-                  c.note.ensures.pending ∙ ap (λ (S : System). map (is_pending (run_of k).state) (below (length S.routines))) here;
-              active = c.note.ensures.active;
+              jobs = c.note_once.ensures.jobs;
+              pending = c.note_once.ensures.pending;
+              active = c.note_once.ensures.active;
             };
             done = record {
               executed = e.ensures.executed ∙ told;
@@ -43,7 +39,13 @@ invariant_of-self g c =
               refusing = e.ensures.refusing ∙ ap (λ S. refusing S t.result) here ∙ ap (refusing k.system) told;
             };
             each = t.ensures.seen;
-            recorded =
-                c.join.ensures ∙ ap (λ S. t.new.before ++ idle_or_executed S t.result ∷ t.new.behind) here ∙ t.ensures.done.records;
+            records = record {
+              recorded =
+                  ap (λ v. t.new.before ++ idle_or_executed k.system v ∷ t.new.behind) e.ensures.executed
+                  ∙ t.ensures.done.records;
+              there = subst (λ v. IfSome v (StandsIn k.system)) (sym e.ensures.executed) t.ensures.done.there;
+              few = t.ensures.done.few;
+            };
           });
+      next = λ is. absurd (grind (arith, is));
     }

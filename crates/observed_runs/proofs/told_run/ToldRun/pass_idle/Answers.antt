@@ -1,13 +1,11 @@
-use Rattle.std.proofs.Common.{◌≡◌, ◌≤◌, ◌<◌, ◌∷◌, ◌++◌, [], map, length, sym, ◌∙◌, ap, subst, arith}
-use Rattle.std.specs.Prelude.{None, ◌==◌}
+use Rattle.std.proofs.Common.{◌≡◌, ◌≤◌, ◌<◌, map, length, sym, ◌∙◌, ap, subst, arith}
+use Rattle.std.specs.Prelude.{None}
 use Rattle.osek_base.specs.declared.limits.TheConstants.{MAX_ARRIVALS}
-use Rattle.osek_base.specs.declared.trace_event.TraceEvent.{TraceEvent}
 use Rattle.osek_base.specs.Lists.{below}
 use Rattle.osek_base.specs.Proper.{IsProper}
 use Rattle.osek_base.specs.System.{System}
 use Rattle.kernel.specs.Progress.{Progress, run_of}
 use Rattle.seen_ticks.specs.Told.{task_at}
-use Rattle.seen_ticks.specs.Observed.{is_pending, jobs_before}
 use Rattle.observed_runs.proofs.Alike.{idle_stays, stayed_told}
 use Rattle.observed_runs.proofs.told_run.ToldRun.pass_idle.Goals as goal
 
@@ -27,21 +25,18 @@ invariant_of-self-2 g c =
       few = subst (λ (r : Progress). length r.arrivals ≤ MAX_ARRIVALS) (sym p.ensures.next) v.few;
       told = λ later.
           stayed_told g.B.Blockers.are_counted c.args.most p.result k new None
-          (idle_stays g.B.Blockers.are_counted c.args.most p.result k new p.ensures) some proper c.note.new.self e.result c.see_tasks_between.new.tasks.items c.push.new.self
+          (idle_stays g.B.Blockers.are_counted c.args.most p.result k new p.ensures) some proper c.note.new.self e.result c.see_tasks_between.new.tasks.items c.clear.new.self c.clear-2.new.self
           (record {
-            jobs =
-                c.note.ensures.jobs
-                ∙ ap (λ (S : System). map (jobs_before (new.ticks == 0) (run_of new).state) (below (length S.tasks))) here;
-            pending =
-                c.note.ensures.pending
-                ∙ ap (λ (S : System). map (is_pending (run_of new).state) (below (length S.routines))) here;
-            active = c.note.ensures.active;
+            next = c.note.ensures;
             executed = e.ensures.executed;
             ending = e.ensures.ending;
             refusing = e.ensures.refusing;
             each =
                 c.see_tasks_between.ensures.tasks
                 ∙ ap (λ (S : System). map (task_at S (run_of new).state) (below (length S.tasks))) here;
-            recorded = c.push.ensures ∙ ap (λ v. v ++ TraceEvent.Idle ∷ []) c.clear.ensures;
+            there = tt;
+            none_ahead = c.clear.ensures;
+            none_behind = c.clear-2.ensures;
           });
+      next = λ _. c.note.ensures;
     }

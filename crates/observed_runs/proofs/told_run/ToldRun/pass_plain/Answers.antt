@@ -1,13 +1,13 @@
-use Rattle.std.proofs.Common.{◌≡◌, ◌≤◌, ◌<◌, ◌∷◌, ◌++◌, [], map, length, sym, ◌∙◌, ap, subst, arith}
-use Rattle.std.specs.Prelude.{◌==◌}
+use Rattle.std.proofs.Common.{◌≡◌, ◌≤◌, ◌<◌, map, length, sym, ◌∙◌, ap, subst, arith}
+use Rattle.std.specs.Prelude.{IfSome}
 use Rattle.osek_base.specs.declared.limits.TheConstants.{MAX_ARRIVALS}
-use Rattle.osek_base.specs.Executed.{idle_or_executed}
+use Rattle.osek_base.specs.Executed.{StandsIn}
 use Rattle.osek_base.specs.Lists.{below}
 use Rattle.osek_base.specs.Proper.{IsProper}
 use Rattle.osek_base.specs.System.{System}
 use Rattle.kernel.specs.Progress.{Progress, run_of}
 use Rattle.seen_ticks.specs.Told.{task_at}
-use Rattle.seen_ticks.specs.Observed.{ending, is_pending, jobs_before, refusing}
+use Rattle.seen_ticks.specs.Observed.{ending, refusing}
 use Rattle.observed_runs.specs.Passing.{StaysOn}
 use Rattle.observed_runs.proofs.Alike.{stayed_told, work_stays}
 use Rattle.observed_runs.proofs.told_run.ToldRun.pass_plain.Goals as goal
@@ -28,26 +28,20 @@ invariant_of-self-2 g c =
       few = subst (λ (r : Progress). length r.arrivals ≤ MAX_ARRIVALS) (sym p.ensures.next) v.few;
       told = λ later.
           stayed_told g.B.Blockers.are_counted c.args.most p.result.ticks k new p.result.last
-          (work_stays g.B.Blockers.are_counted c.args.most p.result.ticks k new p.result.last p.ensures) some proper c.note.new.self e.result c.see_tasks_between.new.tasks.items c.push.new.self
+          (work_stays g.B.Blockers.are_counted c.args.most p.result.ticks k new p.result.last p.ensures) some proper c.note.new.self e.result c.see_tasks_between.new.tasks.items c.clear.new.self c.clear-2.new.self
           (record {
-            jobs =
-                c.note.ensures.jobs
-                ∙ ap (λ (S : System). map (jobs_before (new.ticks == 0) (run_of new).state) (below (length S.tasks))) here;
-            pending =
-                c.note.ensures.pending
-                ∙ ap (λ (S : System). map (is_pending (run_of new).state) (below (length S.routines))) here;
-            active = c.note.ensures.active;
+            next = c.note.ensures;
             executed = e.ensures.executed;
             ending = e.ensures.ending ∙ ap (λ (S : System). ending S p.result.last) here;
             refusing = e.ensures.refusing ∙ ap (λ (S : System). refusing S p.result.last) here;
             each =
                 c.see_tasks_between.ensures.tasks
                 ∙ ap (λ (S : System). map (task_at S (run_of new).state) (below (length S.tasks))) here;
-            recorded =
-                c.push.ensures ∙ ap (λ v. v ++ c.event_of.result ∷ []) c.clear.ensures
-                ∙ ap (λ x. x ∷ []) c.event_of.ensures
-                ∙ ap (λ (S : System). idle_or_executed S p.result.last ∷ []) here;
+            there = subst (λ (S : System). IfSome p.result.last (StandsIn S)) (sym (ap (λ (r : Progress). r.system) p.ensures.next)) p.ensures.there;
+            none_ahead = c.clear.ensures;
+            none_behind = c.clear-2.ensures;
           });
+      next = λ _. c.note.ensures;
     }
 
 pub returns : goal.returns
