@@ -77,9 +77,9 @@ fn number_shown<B: Blockers>(kernel: &Kernel<'_, LevelQueues, B>, shown: Shown) 
         ≡ numbers_shown shown kernel.now.system kernel.now.mode kernel.now.arrivals
         (kernel.now.ticks - 1) }
 {
-    match kernel.blockers() {
-        Some(number) if matches!(shown, Shown::Blocking) => Some(number),
-        _ => None,
+    match shown {
+        Shown::Blocking => kernel.blockers(),
+        Shown::All | Shown::View(_) => None,
     }
 }
 

@@ -1,5 +1,5 @@
-use Rattle.std.proofs.Common.{◌≡◌, subst, sym, ap, ◌∙◌, true}
-use Rattle.std.specs.Prelude.{IfSome, Some, is_some}
+use Rattle.std.proofs.Common.{◌≡◌, subst, sym}
+use Rattle.std.specs.Prelude.{IfSome, Some}
 use Rattle.services.specs.Objects.{Objects, kept_in}
 use Rattle.services.specs.Steady.{IsSteady}
 use Rattle.services.proofs.SteadyLemmas.{steady}
