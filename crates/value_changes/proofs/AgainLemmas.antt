@@ -17,24 +17,24 @@ use Rattle.value_changes.specs.declared.variable.Variable.{Variable}
 
 -- ---- each value is equal to itself
 
-number_same : (n : ℕ) → nat_eq n n ≡ true
+pub number_same : (n : ℕ) → nat_eq n n ≡ true
 number_same n = eq-eqb n n refl
 
-state_same : (s : TaskState) → same_state s s ≡ true
+pub state_same : (s : TaskState) → same_state s s ≡ true
 state_same TaskState.Running = refl
 state_same TaskState.Waiting = refl
 state_same TaskState.Ready = refl
 state_same TaskState.Suspended = refl
 
-flag_same : (b : Bool) → same_flag b b ≡ true
+pub flag_same : (b : Bool) → same_flag b b ≡ true
 flag_same true = refl
 flag_same false = refl
 
-owner_same : (o : Owner) → same_owner o o ≡ true
+pub owner_same : (o : Owner) → same_owner o o ≡ true
 owner_same (Owner.Task t) = eq-eqb t t refl
 owner_same (Owner.Routine i) = eq-eqb i i refl
 
-option_same : {V : Type 0} (same : V → V → Bool) → ((v : V) → same v v ≡ true) → (o : Option V) → same_option same o o ≡ true
+pub option_same : {V : Type 0} (same : V → V → Bool) → ((v : V) → same v v ≡ true) → (o : Option V) → same_option same o o ≡ true
 option_same same h None = refl
 option_same same h (Some v) = h v
 
@@ -45,7 +45,7 @@ module _ {V : Type 0} (same : V → V → Bool) (h : (v : V) → same v v ≡ tr
   stays l v true e = ap (λ (b : Bool). cond b None (Some v)) e
   stays l v false e = ap (λ (b : Bool). cond b None (Some v)) (h v)
 
-  written_again : (last : Option V) (v : V) → written same (shown last (written same last v)) v ≡ None
+  pub written_again : (last : Option V) (v : V) → written same (shown last (written same last v)) v ≡ None
   written_again None v = ap (λ (b : Bool). cond b None (Some v)) (h v)
   written_again (Some l) v = stays l v (same l v) refl
 

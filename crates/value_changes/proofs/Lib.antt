@@ -3,3 +3,4 @@ pub mod EachLemmas
 pub mod WriteLemmas
 pub mod DeclarationLemmas
 pub mod AgainLemmas
+pub mod RunLemmas

@@ -3,5 +3,6 @@ pub mod Codes
 pub mod Declarations
 pub mod Dumps
 pub mod Lines
+pub mod Runs
 pub mod Ticks
 pub mod Writing

@@ -12,6 +12,7 @@ ghost use Rattle.value_changes.specs.Dumps.{
   observed_text,
 };
 ghost use Rattle.value_changes.specs.Lines.{time_line};
+ghost use Rattle.value_changes.specs.Runs.{IsEach};
 ghost use Rattle.value_changes.specs.Ticks.{after_tick, events_text, nothing_written, tick_text};
 ghost use Rattle.value_changes.specs.Writing.{Writes};
 
@@ -132,9 +133,9 @@ impl<'s> ValueChanges<'s> {
 
     /// The same of the ticks from one on and before another, in each of which the same is seen. No
     /// interrupt is lost in them and no alarm expires, so all that changes does so in the first of
-    /// them, and the others have no text. An error is a failed write, behind a beginning of the
+    /// them, and the others have no text: what is written, and the dump behind them, are as if each
+    /// were handed on, one after another. An error is a failed write, behind a beginning of the
     /// text, and ends the dump.
-    #[tactic(auto, using(crate::proofs::AgainLemmas::told_once))]
     pub fn observe_alike<W: Write>(
         &mut self,
         seen: &Observation,
@@ -147,6 +148,8 @@ impl<'s> ValueChanges<'s> {
             (alike_text self.old seen.now first end) result }
         ensures once { (t : ℕ) → events_text seen.now ≡ []
             → tick_text self.old.system true t (after_tick self.old.values seen.now) seen.now ≡ [] }
+        ensures each { (n : ℕ) → end ≡ first + n → events_text seen.now ≡ []
+            → IsEach self.old seen.now first end n }
     {
         let first = first.max(self.from);
         if end <= first {

@@ -1,0 +1,27 @@
+-- Value change dumps: ticks that are handed on one after another, oldest first.
+use Rattle.std.specs.Prelude.{ℕ, ◌≡◌, zero, suc, List, [], ◌∷◌, ◌++◌}
+use Rattle.observations.specs.declared.observation.Observation.{Observation}
+use Rattle.value_changes.specs.Dumps.{Dump, alike, alike_text, observed, observed_text}
+
+-- what is written of ticks in which these are seen, and the dump behind them
+abbrev pub dump_text : Dump → List Observation → List ℕ
+dump_text d [] = []
+dump_text d (o ∷ seen) = observed_text d o ++ dump_text (observed d o) seen
+
+abbrev pub dump_behind : Dump → List Observation → Dump
+dump_behind d [] = d
+dump_behind d (o ∷ seen) = dump_behind (observed d o) seen
+
+-- what is seen as of a tick of another number
+abbrev pub numbered : ℕ → Observation → Observation
+numbered tick o = record o { tick = tick }
+
+-- so many ticks from one on, in which but for the number the same is seen
+abbrev pub alike_ticks : Observation → ℕ → ℕ → List Observation
+alike_ticks o first zero = []
+alike_ticks o first (suc n) = numbered first o ∷ alike_ticks o (suc first) n
+
+-- to hand on such ticks at once, up to an end, is to hand on each
+pub record IsEach (d : Dump) (o : Observation) (first end n : ℕ) : Type 0 where
+  pub text : alike_text d o first end ≡ dump_text d (alike_ticks o first n)
+  pub behind : alike d o first end ≡ dump_behind d (alike_ticks o first n)
