@@ -92,8 +92,8 @@ pub(crate) fn push_outcome(text: &mut Block, outcome: &Outcome)
     }
 }
 
-/// Appends ` ! ` and a number of blockers to a block.
-#[inline(always)]
+/// Appends ` ! ` and a number of blockers to a block, in a call, as few lines have one and the tick that writes them is large.
+#[inline(never)]
 fn push_block_count(text: &mut Block, number: u32)
     requires { length text.old + 13 ≤ BLOCK_SIZE }
     ensures same { text.new ≡ text.old ++ codes " ! " ++ decimal number }
