@@ -114,7 +114,7 @@ impl<'s, Q: ReadyQueues, B: Blockers> Watched<'s, Q, B> {
     }
 
     /// A service with a status, where blockers are counted: the task on which it acts is looked at before and after.
-    #[inline(always)]
+    #[inline(never)]
     fn serve(&mut self, next: &Next, tick: u32, behind: &mut TickRecord) -> Outcome
         requires may { MayRun B.are_counted self.old next.now behind.old }
         requires call { IsCall (instr_of next.now.packed) }
