@@ -124,7 +124,7 @@ impl<'s, Q: ReadyQueues, B: Blockers> Watched<'s, Q, B> {
     }
 
     /// An alarm acts, and the task on which it acts is looked at before and after. Answers the status of its action.
-    #[inline(always)]
+    #[inline(never)]
     pub fn alarm_acts(&mut self, alarm: AlarmId, tick: u32, records: &mut TickRecord) -> Status
         requires { MayActNow B.are_counted alarm self.old records.old }
         ensures { AlarmActs B.are_counted alarm tick self.old self.new records.old records.new

@@ -15,7 +15,7 @@ use crate::line::push_blockers;
 use crate::sink::{Sink, SinkFault};
 use crate::text::Text;
 use crate::tick_text::TickText;
-use osek_base::{Entry, Executed, TickRecord, TraceEvent};
+use osek_base::{Entry, Executed, Outcome, TickRecord, TraceEvent};
 
 /// Appends the line of a record, the number of blockers where there is one, and the line's end.
 #[inline(always)]
@@ -159,7 +159,7 @@ fn write_executed_parts<S: Sink>(
 
 /// Writes the lines of a tick of which that of what it executed is the first by way of the block.
 #[inline(always)]
-pub fn write_from_executed<S: Sink>(
+fn write_executed_first<S: Sink>(
     texts: &InstructionTexts<'_>,
     tick: &TickText,
     number: Option<u32>,
@@ -176,6 +176,32 @@ pub fn write_from_executed<S: Sink>(
 {
     write_executed(texts, tick, number, executed, text, out)?;
     write_tick(texts, tick, number, behind, text, out)
+}
+
+/// Writes the lines of a tick of which that of what it executed is the first by way of the block. The ways of a plain
+/// instruction and of a service part before anything is written, and don't meet again: so a plain instruction, which most
+/// ticks execute, carries no status and no results.
+#[inline(always)]
+pub fn write_from_executed<S: Sink>(
+    texts: &InstructionTexts<'_>,
+    tick: &TickText,
+    number: Option<u32>,
+    executed: &Executed,
+    behind: &TickRecord,
+    text: &mut Block,
+    out: &mut S,
+) -> Result<(), SinkFault>
+    requires placed { StandsIn texts.now executed.now }
+    requires behind { AllByRecursion (IsOfProgram texts.now) behind.now }
+    ensures { PutsBehind S.taken S.has_failed out.old out.new text.old text.new
+        (tick_text texts.now.names tick.now number
+        (executed_record texts.now executed.now ∷ behind.now)) result }
+{
+    if let Outcome::Plain(_) = &executed.outcome {
+        write_executed_first(texts, tick, number, executed, behind, text, out)
+    } else {
+        write_executed_first(texts, tick, number, executed, behind, text, out)
+    }
 }
 
 /// Writes the lines of a tick in which nobody executed by way of the block.
