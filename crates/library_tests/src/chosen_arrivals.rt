@@ -4,18 +4,15 @@
 ghost use Rattle.std.specs.Prelude.{◌≡◌, ◌<◌, length};
 ghost use Rattle.kernel.specs.Machine.{system_of};
 
-use arrayvec::ArrayString;
+use crate::lines::{push_line, push_lines};
+use crate::systems::system_of;
 use arrival_lists::read_arrivals;
 use kernel::{Kernel, Machine};
-use oil_reader::read_oil;
 use osek_base::{Executed, IsrId, MAX_TICKS, Owner, System, TickRecord, TraceEvent};
 use ready_queues::LevelQueues;
 use std::alloc::{AllocError, Global};
 use std::fmt::Write;
 use std::test::Fail;
-use system_gen::generate;
-use task_asm::assemble;
-use trace_lines::line_text;
 
 const OIL: &str = "OIL_VERSION = \"2.5\";
 CPU c {
@@ -57,38 +54,6 @@ const LINES: &str = "0 startup
 const TICKS: u32 = 15;
 
 const ARRIVALS: &str = "4 I\n13 I\n";
-
-fn system(alloc: Global) -> Result<System, Fail> {
-    let file = read_oil(alloc, OIL.as_bytes())?;
-    let programs = assemble(alloc, PROGRAMS.as_bytes())?;
-    Ok(generate(alloc, file, programs)?)
-}
-
-/// Adds the line of a record.
-fn push_line(
-    text: &mut String,
-    system: &System,
-    tick: u32,
-    record: &TraceEvent,
-) -> Result<(), AllocError> {
-    let mut line = ArrayString::new();
-    line_text(system.names(), tick, record, &mut line);
-    text.push_str(line.as_str())?;
-    text.push_str("\n")
-}
-
-/// Adds the lines of some records.
-fn push_lines(
-    text: &mut String,
-    system: &System,
-    tick: u32,
-    records: &TickRecord,
-) -> Result<(), AllocError> {
-    for entry in records.entries() {
-        push_line(text, system, tick, entry.event())?;
-    }
-    Ok(())
-}
 
 /// Whether the task has just stored an odd number.
 fn has_stored_odd(machine: &Machine<'_, LevelQueues>, last: &Option<Executed>) -> bool {
@@ -199,7 +164,7 @@ fn machine_run(alloc: Global, system: &System) -> Result<Seen, Fail>
 
 #[test]
 fn chosen_arrivals_give_the_kernels_records(rt: HostRuntime) -> Result<(), Fail> {
-    let system = system(rt.alloc())?;
+    let system = system_of(rt.alloc(), OIL, PROGRAMS)?;
     let count = system.routine_count();
     assert_eq!(rt; count, 1);
     if count == 1 {

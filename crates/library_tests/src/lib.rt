@@ -1,6 +1,6 @@
 //! Tests of what the program doesn't show: printed OIL, both kinds of ready lists and the runs over
 //! them, a run over ready lists of another make, a machine whose interrupts are chosen as it goes,
-//! instructions as words, and upper parts by themselves.
+//! instructions as words, upper parts by themselves, a search and needed data worked out by hand.
 #![tactic(auto)]
 
 #[cfg(test)]
@@ -10,13 +10,21 @@ mod counting_queues;
 #[cfg(test)]
 mod instruction_words;
 #[cfg(test)]
+mod lines;
+#[cfg(test)]
 mod most_objects;
 #[cfg(test)]
 mod printed_files;
 #[cfg(test)]
+mod pump;
+#[cfg(test)]
 mod queue_runs;
 #[cfg(test)]
 mod ready_lists;
+#[cfg(test)]
+mod search_ring;
+#[cfg(test)]
+mod systems;
 #[cfg(test)]
 mod three_tasks;
 #[cfg(test)]

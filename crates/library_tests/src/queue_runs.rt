@@ -1,16 +1,14 @@
 //! Runs over both kinds of ready queues, of each kind of object and service. Their records are
 //! compared with each other; the texts of such traces stand in `rows`.
 
+use crate::systems::system_of;
 use arrival_lists::read_arrivals;
 use kernel::Kernel;
-use oil_reader::read_oil;
 use osek_base::System;
 use ready_queues::{LevelQueues, ListQueues};
 use std::alloc::{AllocError, Global};
 use std::fmt::Write;
 use std::test::Fail;
-use system_gen::generate;
-use task_asm::assemble;
 
 const HOOKS: [&str; 5] = [
     "STARTUPHOOK",
@@ -55,9 +53,7 @@ impl Case {
 
     /// Its system.
     fn system(&self, alloc: Global) -> Result<System, Fail> {
-        let file = read_oil(alloc, self.oil(alloc)?.as_bytes())?;
-        let programs = assemble(alloc, self.programs.as_bytes())?;
-        Ok(generate(alloc, file, programs)?)
+        system_of(alloc, self.oil(alloc)?.as_str(), self.programs)
     }
 }
 

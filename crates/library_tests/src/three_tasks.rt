@@ -1,11 +1,9 @@
 //! A system of three tasks and four resources.
 
-use oil_reader::read_oil;
+use crate::systems::system_of;
 use osek_base::System;
 use std::alloc::Global;
 use std::test::Fail;
-use system_gen::generate;
-use task_asm::assemble;
 
 const OIL: &str = "OIL_VERSION = \"2.5\";
 CPU c {
@@ -27,7 +25,5 @@ const PROGRAMS: &str = ".task A\nACT B\nACT C\nNOP\nTERM\nz: JMP z
 .task B\nTERM\nz: JMP z\n.task C\nTERM\nz: JMP z\n";
 
 pub fn three_tasks(alloc: Global) -> Result<System, Fail> {
-    let file = read_oil(alloc, OIL.as_bytes())?;
-    let programs = assemble(alloc, PROGRAMS.as_bytes())?;
-    Ok(generate(alloc, file, programs)?)
+    system_of(alloc, OIL, PROGRAMS)
 }

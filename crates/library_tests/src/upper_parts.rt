@@ -1,17 +1,15 @@
 //! The upper part of a system by itself, by public calls: of two systems that agree from 5 upward, one whose lower task
 //! ends and one whose lower task goes round, the upper part is booted, and its view is looked at tick by tick.
 
-use arrayvec::ArrayString;
+use crate::lines::push_lines;
+use crate::systems::system_of;
 use kernel::Kernel;
-use oil_reader::read_oil;
 use osek_base::{Arrivals, System, TickRecord};
 use partition_check::check_partition;
 use ready_queues::LevelQueues;
 use std::alloc::{AllocError, Global};
 use std::test::Fail;
-use system_gen::generate;
-use task_asm::assemble;
-use trace_lines::{line_text, upper_view};
+use trace_lines::upper_view;
 use upper_only::upper_only;
 
 const OIL: &str = "OIL_VERSION = \"2.5\";
@@ -47,24 +45,7 @@ const VIEW: &str = "0 other
 fn system_with(alloc: Global, lower: &str) -> Result<System, Fail> {
     let mut programs = String::from_str(alloc, UPPER)?;
     programs.push_str(lower)?;
-    let file = read_oil(alloc, OIL.as_bytes())?;
-    Ok(generate(alloc, file, assemble(alloc, programs.as_bytes())?)?)
-}
-
-/// Adds the lines of a tick's records.
-fn push_lines(
-    text: &mut String,
-    system: &System,
-    tick: u32,
-    records: &TickRecord,
-) -> Result<(), AllocError> {
-    let mut line = ArrayString::new();
-    for entry in records.entries() {
-        line_text(system.names(), tick, entry.event(), &mut line);
-        text.push_str(line.as_str())?;
-        text.push_str("\n")?;
-    }
-    Ok(())
+    system_of(alloc, OIL, programs.as_str())
 }
 
 /// The view at 5 of the first seven ticks of a system in the mode M.

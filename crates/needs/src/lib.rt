@@ -13,8 +13,6 @@ mod indices;
 mod needed;
 mod numbers;
 mod passes;
-#[cfg(test)]
-mod pump;
 mod table;
 
 pub use needed::needed_data;

@@ -11,8 +11,6 @@ mod agenda;
 mod index;
 mod joining;
 mod outcome;
-#[cfg(test)]
-mod ring;
 mod searching;
 mod sets;
 mod steps;

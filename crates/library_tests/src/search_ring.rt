@@ -1,6 +1,6 @@
 //! A search that is worked out by hand: a walk round five places, and how long a round lasts.
 
-use crate::{Limits, Obstacle, Outcome, Progress, Steps, search};
+use search::{Limits, Obstacle, Outcome, Progress, Steps, search};
 use std::alloc::{AllocError, Global};
 use std::test::Fail;
 
