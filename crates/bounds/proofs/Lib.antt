@@ -1,5 +1,3 @@
-pub mod HeldLemmas
-pub mod SetLemmas
 pub mod Exploring
 pub mod Losing
 pub mod Deciding

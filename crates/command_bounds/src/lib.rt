@@ -2,8 +2,6 @@
 #![tactic(auto)]
 
 mod bounding;
-mod search_watch;
-mod witnessing;
 
-pub use bounding::{BoundsAsked, write_searched};
-pub use search_watch::SearchWatch;
+pub use bounding::write_searched;
+pub use command_found::{BoundsAsked, SearchWatch};

@@ -1,7 +1,5 @@
 //! Answers to command lines: what is asked is written, and then how it ended.
 
-use crate::explaining::{explain_fault, explain_verdict};
-use crate::showing::write_shown;
 use clap::Error as LineError;
 use clap::error::ErrorKind;
 use command_answers::{Texts, Verdict, read_texts, status_of, system_of, write_cut, write_cuts};
@@ -12,6 +10,7 @@ use command_files::{
 use command_making::{answer_import, make_files};
 use command_requests::{Asked, Question, Request, read_line};
 use command_runs::{write_lines, write_view};
+use command_texts::{explain_fault, explain_verdict, write_shown};
 use run_views::Progress;
 use std::alloc::{AllocError, Global};
 use std::convert::AsStr;

@@ -2,8 +2,6 @@
 #![tactic(auto)]
 
 mod answering;
-mod explaining;
-mod showing;
 
 pub use answering::command;
 pub use command_files::{

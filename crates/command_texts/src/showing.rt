@@ -10,7 +10,7 @@ use system_listing::show;
 use tracer::RunFault;
 
 /// Writes the listing of a system. The verdict has what is surely a mistake.
-pub(crate) fn write_shown<O: Write>(
+pub fn write_shown<O: Write>(
     alloc: Global,
     request: &Request<'_>,
     texts: &Texts,

@@ -2,10 +2,11 @@
 //! some from which it is made.
 
 ghost use Rattle.std.specs.Prelude.{◌≡◌, IfOk, IfSome};
-ghost use Rattle.bounds.specs.Held.{IsIn, IsOf};
+ghost use Rattle.visited_machines.specs.Held.{IsIn, IsOf};
 
-use crate::bases::{Bases, Spot, StateMachine};
+use crate::bases::{Bases, Spot};
 use crate::origin::Origin;
+use crate::state_machine::StateMachine;
 use crate::stops::Stops;
 use crate::way::{Passed, Start, put_way};
 use bound_nodes::{Effort, Trails};
@@ -29,7 +30,7 @@ const MANY: usize = 60_000;
 /// The machine of the node that is visited, and machines from which such are made. How they are
 /// found goes by a trail, of which contracts see nothing: what is made is known by its key.
 #[derive(Drop)]
-pub(crate) struct States<'s> {
+pub struct States<'s> {
     bases: Bases<'s>,
     stops: Stops<'s>,
     origin: Origin<'s>,
@@ -55,7 +56,7 @@ impl<'s> Model for States<'s> {
 
 impl<'s> States<'s> {
     /// Nothing is visited yet.
-    pub(crate) fn new(
+    pub fn new(
         alloc: Global,
         system: &'s System,
         needs: &'s Needs,
@@ -76,19 +77,19 @@ impl<'s> States<'s> {
     }
 
     /// The machine of the node that is visited, if its state has a key.
-    pub(crate) fn at(&self, key: &[u8]) -> Option<&StateMachine<'s>>
+    pub fn at(&self, key: &[u8]) -> Option<&StateMachine<'s>>
         ensures { IfSome result (λ m. IsIn self.now key.now m.now) }
     {
         self.origin.at(key)
     }
 
     /// The routines that are pending in that node's state, as a set. Contracts don't see it.
-    pub(crate) fn pending(&self) -> u64 {
+    pub fn pending(&self) -> u64 {
         self.origin.pending()
     }
 
     /// A node is visited that an entry tells, and whose machine is made from that at a place.
-    pub(crate) fn visit(
+    pub fn visit(
         &mut self,
         alloc: Global,
         trails: &Trails,
@@ -197,7 +198,7 @@ impl<'s> States<'s> {
 
     /// A node that an entry tells is open: it is what comes of the node that is visited, or of boot,
     /// whose machine is lent. Answers the place of the machine from which that of the node is made.
-    pub(crate) fn open(
+    pub fn open(
         &mut self,
         alloc: Global,
         booted: &StateMachine<'s>,
@@ -220,7 +221,7 @@ impl<'s> States<'s> {
 
     /// A node was kept for which the machine at a place was to be: that isn't needed where the node
     /// has none.
-    pub(crate) fn keep_for(&mut self, base: usize, kept: Option<usize>)
+    pub fn keep_for(&mut self, base: usize, kept: Option<usize>)
         ensures { self.new ≡ self.old }
     {
         if kept.is_none() {
@@ -229,7 +230,7 @@ impl<'s> States<'s> {
     }
 
     /// A node was visited whose machine is made from that at a place.
-    pub(crate) fn close(&mut self, base: usize)
+    pub fn close(&mut self, base: usize)
         ensures { self.new ≡ self.old }
     {
         self.bases.release(base);

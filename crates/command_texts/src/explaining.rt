@@ -57,7 +57,7 @@ fn refused_line(fault: &IrqFault) -> Option<(usize, LineFault)> {
 
 /// Writes where a refusal is in the texts, what is wrong there, and what would be allowed. Want of memory and a failed write
 /// have no explanation.
-pub(crate) fn explain_fault<W: Write>(
+pub fn explain_fault<W: Write>(
     alloc: Global,
     request: &Request<'_>,
     texts: &Texts,
@@ -174,7 +174,7 @@ fn explain_joined<E: Write>(
 }
 
 /// Explains what was denied, as far as memory and `err` allow.
-pub(crate) fn explain_verdict<E: Write>(
+pub fn explain_verdict<E: Write>(
     alloc: Global,
     request: &Request<'_>,
     texts: &Texts,
