@@ -2,44 +2,25 @@
 use Rattle.std.specs.Prelude.{ℕ, ◌&&◌, Bool, false, cond, List, length, nat_lt, Option, None, Some, slice_index_or}
 use Rattle.osek_base.specs.declared.ids.Owner.{Owner}
 use Rattle.osek_base.specs.declared.ids.Owner.TheVariants.{Routine, Task}
-use Rattle.osek_base.specs.declared.status.TaskState.{TaskState}
 use Rattle.observations.specs.declared.alarm_seen.AlarmSeen.{AlarmSeen}
 use Rattle.observations.specs.declared.routine_seen.RoutineSeen.{RoutineSeen}
 use Rattle.observations.specs.declared.task_seen.TaskSeen.{TaskSeen}
 use Rattle.observations.specs.Seen.{Seen}
+use Rattle.figures.specs.FigureSums.{unseen_alarm, unseen_routine, unseen_task}
 use Rattle.figures.specs.declared.task_tick.TaskTick.{TaskTick}
 use Rattle.figures.specs.declared.routine_figures.RoutineTick.{RoutineTick}
 use Rattle.figures.specs.declared.resource_figures.HolderTick.{HolderTick}
 use Rattle.figure_laws.specs.Blocking.{stands_ready}
 
--- a task without a job, to which nothing comes, and the like; what is beyond the lists is seen so
-abbrev pub no_task : TaskSeen
-no_task =
-    record {
-      state = TaskState.Suspended;
-      priority = None;
-      jobs = 0;
-      made = 0;
-      refused = 0;
-      ended = false;
-      waits = false;
-    }
-
-abbrev pub no_routine : RoutineSeen
-no_routine =
-    record { executes = false; is_pending = false; is_started = false; arrived = 0; lost = 0 }
-
-abbrev pub no_alarm : AlarmSeen
-no_alarm = record { has_expired = false; is_refused = false }
-
+-- what is seen of a thing, beyond the lists that nothing comes to it
 abbrev pub task_in : Seen → ℕ → TaskSeen
-task_in seen k = slice_index_or seen.tasks k no_task
+task_in seen k = slice_index_or seen.tasks k unseen_task
 
 abbrev pub routine_in : Seen → ℕ → RoutineSeen
-routine_in seen i = slice_index_or seen.routines i no_routine
+routine_in seen i = slice_index_or seen.routines i unseen_routine
 
 abbrev pub alarm_in : Seen → ℕ → AlarmSeen
-alarm_in seen a = slice_index_or seen.alarms a no_alarm
+alarm_in seen a = slice_index_or seen.alarms a unseen_alarm
 
 -- as ticks of figures, whose labels go by what is seen alone
 abbrev pub task_tick : Seen → ℕ → TaskTick

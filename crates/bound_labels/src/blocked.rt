@@ -9,8 +9,8 @@ ghost use Rattle.bound_labels.specs.Ticks.{executing_level};
 
 use crate::counting::older;
 use crate::places::give_places;
-use crate::ticks::{executing_level, is_above, is_ready, task_in};
-use figures::TaskTick;
+use crate::ticks::{executing_level, is_above, is_ready};
+use figures::{TaskTick, task_seen};
 use observations::{Observation, TaskSeen};
 use osek_base::System;
 use std::alloc::{AllocError, Global};
@@ -96,7 +96,7 @@ fn ticks_behind(
         (lower_executes (levels_of system.now) seen.now.executor) cap (seen_of seen.now)
         blocked.now task }
 {
-    let one = task_in(seen.tasks.as_slice(), task);
+    let one = task_seen(seen.tasks.as_slice(), task);
     next_ticks(
         system,
         cap,

@@ -1,12 +1,10 @@
 //! What is seen of things in a tick, one by one, and as ticks of figures.
 
-ghost use Rattle.std.specs.Prelude.{◌≡◌, false, IsTrue, None, length, nat_lt, slice_index_or};
+ghost use Rattle.std.specs.Prelude.{◌≡◌, false, IsTrue, length, nat_lt, slice_index_or};
 ghost use Rattle.figures.specs.FigureSums.{levels_of, lower_executes};
 ghost use Rattle.figure_laws.specs.Blocking.{stands_ready};
 ghost use Rattle.observations.specs.Seen.{seen_of};
 ghost use Rattle.bound_labels.specs.Ticks.{
-  no_task,
-  no_routine,
   blocked_tick,
   executing_level,
   is_above,
@@ -16,55 +14,9 @@ ghost use Rattle.bound_labels.specs.Ticks.{
   holder_tick,
 };
 
-use figures::{HolderTick, RoutineTick, TaskTick};
-use observations::{Holder, Observation, RoutineSeen, TaskSeen};
+use figures::{HolderTick, RoutineTick, TaskTick, holder_seen, routine_seen, task_seen};
+use observations::{Observation, TaskSeen};
 use osek_base::{Owner, System, TaskId, TaskState};
-
-/// What is seen of a task in a tick; beyond the last task what is seen of one without a job.
-#[inline(always)]
-pub(crate) fn task_in(tasks: &[TaskSeen], number: usize) -> TaskSeen
-    ensures { result ≡ slice_index_or tasks.now number no_task }
-{
-    match tasks.get(number) {
-        Some(seen) => *seen,
-        None => TaskSeen {
-            state: TaskState::Suspended,
-            priority: None,
-            jobs: 0,
-            made: 0,
-            refused: 0,
-            ended: false,
-            waits: false,
-        },
-    }
-}
-
-/// What is seen of a routine in a tick; beyond the last routine that nothing comes to it.
-#[inline(always)]
-pub(crate) fn routine_in(routines: &[RoutineSeen], number: usize) -> RoutineSeen
-    ensures { result ≡ slice_index_or routines.now number no_routine }
-{
-    match routines.get(number) {
-        Some(seen) => *seen,
-        None => RoutineSeen {
-            executes: false,
-            is_pending: false,
-            is_started: false,
-            arrived: 0,
-            lost: 0,
-        },
-    }
-}
-
-#[inline(always)]
-fn holder_in(holders: &[Holder], number: usize) -> Holder
-    ensures { result ≡ slice_index_or holders.now number None }
-{
-    match holders.get(number) {
-        Some(holder) => *holder,
-        None => Holder::new(None),
-    }
-}
 
 /// A task in a tick, by its number.
 #[inline(always)]
@@ -73,7 +25,7 @@ pub fn task_tick(seen: &Observation, number: usize) -> TaskTick
 {
     TaskTick {
         tick: 0,
-        seen: task_in(seen.tasks.as_slice(), number),
+        seen: task_seen(seen.tasks.as_slice(), number),
         lower_executes: false,
         has_failed: false,
         blockers: None,
@@ -193,7 +145,7 @@ pub fn routine_tick(seen: &Observation, number: usize) -> RoutineTick
 {
     RoutineTick {
         tick: 0,
-        seen: routine_in(seen.routines.as_slice(), number),
+        seen: routine_seen(seen.routines.as_slice(), number),
         has_failed: false,
     }
 }
@@ -205,6 +157,6 @@ pub fn holder_tick(seen: &Observation, number: usize) -> HolderTick
 {
     HolderTick {
         tick: 0,
-        holder: holder_in(seen.holders.as_slice(), number),
+        holder: holder_seen(seen.holders.as_slice(), number),
     }
 }

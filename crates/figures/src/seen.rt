@@ -105,8 +105,8 @@ pub fn alarm_tick(tick: u32, observation: &Observation, number: usize) -> AlarmT
     }
 }
 
-// Whether a status is told, other than E_OK.
-fn is_error(answered: &Option<Status>) -> bool
+/// Whether a status is told, other than E_OK.
+pub fn is_error(answered: &Option<Status>) -> bool
     ensures { result ≡ is_error answered.now }
 {
     match answered {

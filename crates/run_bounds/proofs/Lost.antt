@@ -24,12 +24,12 @@ use Rattle.seen_ticks.specs.Told.{refused_by}
 use Rattle.shown_ticks.specs.Seen.{executor_in, failure_in, seen_by, seen_in}
 use Rattle.shown_ticks.specs.Shown.{KeptTicked, routine_seen_in, ticked_in}
 use Rattle.figures.specs.declared.routine_figures.RoutineTick.{RoutineTick}
-use Rattle.figures.specs.FigureSums.{levels_of, lower_executes}
+use Rattle.figures.specs.FigureSums.{levels_of, lower_executes, unseen_routine}
 use Rattle.figure_laws.specs.Pending.{IsOlder, pending_in, pending_next}
 use Rattle.figure_laws.specs.Labels.{IsAtMost}
 use Rattle.figure_laws.specs.Times.{waited}
 use Rattle.state_keys.specs.Key.{key}
-use Rattle.bound_labels.specs.Ticks.{no_routine, routine_in, routine_tick}
+use Rattle.bound_labels.specs.Ticks.{routine_in, routine_tick}
 use Rattle.bound_labels.specs.Labels.{IsAtLeast, Labels, arrives_in, distance_of, next_labels, next_pending, next_wait, pending_of, wait_of}
 use Rattle.bound_peaks.specs.Peaks.{IsNoted, Peaks, TickShown, has_come, peak}
 use Rattle.run_bounds.specs.Lost.{IsWithoutLost, LostChangeNothing}
@@ -167,23 +167,23 @@ module _ (s : Setting) (set fewer : ℕ) (o : Kept) (without : IsWithoutLost s s
     unfolding seen_in
     many_at low =
         table_at (routine_seen_in (ticked_in s.system false many o)) (length s.system.routines) i
-        no_routine low
+        unseen_routine low
 
     few_at : i < length s.system.routines → of_few ≡ routine_seen_in as_few i
-    few_at low = table_at (routine_seen_in as_few) (length s.system.routines) i no_routine low
+    few_at low = table_at (routine_seen_in as_few) (length s.system.routines) i unseen_routine low
 
-    many_past : length s.system.routines ≤ i → of_many ≡ no_routine
+    many_past : length s.system.routines ≤ i → of_many ≡ unseen_routine
     unfolding seen_in
     many_past high =
         let many_seen = routine_seen_in (ticked_in s.system false many o) in
         let long = length-table many_seen (length s.system.routines) in
-        get_or_past (map many_seen (below (length s.system.routines))) i no_routine
+        get_or_past (map many_seen (below (length s.system.routines))) i unseen_routine
         (omega (arith, high, long))
 
-    few_past : length s.system.routines ≤ i → of_few ≡ no_routine
+    few_past : length s.system.routines ≤ i → of_few ≡ unseen_routine
     few_past high =
         let long = length-table (routine_seen_in as_few) (length s.system.routines) in
-        get_or_past seen_few i no_routine (omega (arith, high, long))
+        get_or_past seen_few i unseen_routine (omega (arith, high, long))
 
     pending_same : of_few.is_pending ≡ of_many.is_pending
     pending_same = elim (cases_lt i (length s.system.routines)) [

@@ -24,13 +24,13 @@ use Rattle.same_future.proofs.Tables.{length-table, table_at}
 use Rattle.shown_ticks.specs.Seen.{executor_in, seen_in}
 use Rattle.shown_ticks.specs.Shown.{KeptTicked, alarm_seen_in, holders_seen_in, kept_tick_at, routine_seen_in, scheduler_seen_in, task_seen_in, ticked_in}
 use Rattle.figures.specs.declared.task_tick.TaskTick.{TaskTick}
-use Rattle.figures.specs.FigureSums.{held_count, levels_of, lower_executes}
+use Rattle.figures.specs.FigureSums.{held_count, levels_of, lower_executes, unseen_alarm, unseen_routine, unseen_task}
 use Rattle.figure_laws.specs.Blocking.{blocked_in, blocked_next}
 use Rattle.figure_laws.specs.Holding.{Hold}
 use Rattle.figure_laws.specs.Seen.{AgesAgree, HoldsAgree, PendingAgrees}
 use Rattle.figure_laws.proofs.Seen.{labels_go_by_seen}
 use Rattle.run_figures.specs.RunFigures.{alarm_ticks, executors, holder_ticks, routine_ticks, task_ticks}
-use Rattle.bound_labels.specs.Ticks.{alarm_in, blocked_tick, holder_tick, no_alarm, no_routine, no_task, routine_in, routine_tick, task_in, task_tick}
+use Rattle.bound_labels.specs.Ticks.{alarm_in, blocked_tick, holder_tick, routine_in, routine_tick, task_in, task_tick}
 use Rattle.run_bounds.proofs.Arrived.{StandFor}
 
 -- ---- the lists
@@ -68,19 +68,19 @@ module _ (S : System) (chosen : List ℕ) (o : Kept) where
       → task_in (seen_in S chosen o) k ≡ task_seen_in S (ticked_in S false chosen o) k
   unfolding seen_in
   task_at k low =
-      table_at (task_seen_in S (ticked_in S false chosen o)) (length S.tasks) k no_task low
+      table_at (task_seen_in S (ticked_in S false chosen o)) (length S.tasks) k unseen_task low
 
   routine_at : (k : ℕ) → k < length S.routines
       → routine_in (seen_in S chosen o) k ≡ routine_seen_in (ticked_in S false chosen o) k
   unfolding seen_in
   routine_at k low =
-      table_at (routine_seen_in (ticked_in S false chosen o)) (length S.routines) k no_routine low
+      table_at (routine_seen_in (ticked_in S false chosen o)) (length S.routines) k unseen_routine low
 
   alarm_at : (k : ℕ) → k < length S.alarms
       → alarm_in (seen_in S chosen o) k ≡ alarm_seen_in (ticked_in S false chosen o) k
   unfolding seen_in
   alarm_at k low =
-      table_at (alarm_seen_in (ticked_in S false chosen o)) (length S.alarms) k no_alarm low
+      table_at (alarm_seen_in (ticked_in S false chosen o)) (length S.alarms) k unseen_alarm low
 
   holder_at : (k : ℕ) → slice_index_or (seen_in S chosen o).holders k None
       ≡ slice_index_or (holders_seen_in S (before_execution_in S chosen o).state) k None

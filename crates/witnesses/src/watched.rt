@@ -29,94 +29,11 @@ use bound_labels::blocked_tick;
 use bound_nodes::Figure;
 use figures::{
     AlarmFigures, AlarmTick, HolderTick, Reached, ResourceFigures, RoutineFigures, RoutineTick,
-    TaskFigures, TaskTick,
+    TaskFigures, TaskTick, alarm_seen, holder_seen, is_error, is_routine, is_task, routine_seen,
+    task_seen,
 };
-use observations::{AlarmSeen, Failure, Holder, Observation, RoutineSeen, TaskSeen};
-use osek_base::{Owner, Status, System, TaskState};
-
-/// What is seen of the task of a number; nothing where there is none.
-pub(crate) fn task_seen(tasks: &[TaskSeen], number: usize) -> TaskSeen
-    ensures { result ≡ slice_index_or tasks.now number unseen_task }
-{
-    match tasks.get(number) {
-        Some(seen) => *seen,
-        None => TaskSeen {
-            state: TaskState::Suspended,
-            priority: None,
-            jobs: 0,
-            made: 0,
-            refused: 0,
-            ended: false,
-            waits: false,
-        },
-    }
-}
-
-fn routine_seen(routines: &[RoutineSeen], number: usize) -> RoutineSeen
-    ensures { result ≡ slice_index_or routines.now number unseen_routine }
-{
-    match routines.get(number) {
-        Some(seen) => *seen,
-        None => RoutineSeen {
-            executes: false,
-            is_pending: false,
-            is_started: false,
-            arrived: 0,
-            lost: 0,
-        },
-    }
-}
-
-fn holder_seen(holders: &[Holder], number: usize) -> Holder
-    ensures { result ≡ slice_index_or holders.now number None }
-{
-    match holders.get(number) {
-        Some(holder) => *holder,
-        None => Holder::new(None),
-    }
-}
-
-fn alarm_seen(alarms: &[AlarmSeen], number: usize) -> AlarmSeen
-    ensures { result ≡ slice_index_or alarms.now number unseen_alarm }
-{
-    match alarms.get(number) {
-        Some(seen) => *seen,
-        None => AlarmSeen {
-            has_expired: false,
-            is_refused: false,
-        },
-    }
-}
-
-/// Whether a status is told, other than E_OK.
-fn is_error(answered: &Option<Status>) -> bool
-    ensures { result ≡ is_error answered.now }
-{
-    match answered {
-        Some(status) => status.number() > 0,
-        None => false,
-    }
-}
-
-/// Whether a task executes.
-fn is_task(executor: &Option<Owner>, number: usize) -> bool
-    ensures { result ≡ is_task executor.now number }
-{
-    match executor {
-        Some(Owner::Task(task)) => task.number() as usize == number,
-        _ => false,
-    }
-}
-
-/// Whether a routine executes.
-fn is_routine(executor: &Option<Owner>, number: usize) -> bool
-    ensures { result ≡ is_routine executor.now number }
-{
-    match executor {
-        Some(Owner::Routine(routine)) => routine.number() as usize == number,
-        _ => false,
-    }
-}
+use observations::{Failure, Observation};
+use osek_base::System;
 
 /// The number of blockers that a tick tells of a task, where one is told and it executes.
 fn blockers_told(seen: &Observation, number: usize) -> Option<u32>
