@@ -1,0 +1,83 @@
+-- The records of every run are in range.
+use Rattle.std.proofs.Common.{ℕ, zero, suc, ◌≡◌, ◌<◌, ◌≤◌, Bool, true, false, List, refl, subst, sym, arith}
+use Rattle.std.specs.List.{AllByRecursion}
+use Rattle.osek_base.specs.declared.arrivals.Arrival.{Arrival}
+use Rattle.osek_base.specs.declared.limits.TheConstants.{MAX_TICKS}
+use Rattle.osek_base.specs.Proper.{IsProper}
+use Rattle.osek_base.specs.State.{State}
+use Rattle.osek_base.specs.System.{System}
+use Rattle.osek_base.specs.Tick.{Step, before_execution, execute_phase, from_execution, last_phase, tick}
+use Rattle.osek_base.specs.Trace.{Run, arriving, run, step_added}
+use Rattle.run_laws.proofs.Formed.{HasForm}
+use Rattle.run_laws.proofs.FormedPhases.{before_form}
+use Rattle.run_laws.proofs.FormedTick.{run_form}
+use Rattle.run_laws.proofs.Lists.{all_append}
+use Rattle.run_laws.proofs.RankedTick.{IsRunState, before_executing, run_ordered}
+use Rattle.run_laws.proofs.RunSteps.{run_tick}
+use Rattle.line_lengths.proofs.Events.{IsInRange}
+use Rattle.line_lengths.proofs.Executing.{execute_recorded}
+use Rattle.line_lengths.proofs.Phases.{before_recorded, boot_recorded, last_recorded, later_words}
+use Rattle.line_lengths.proofs.Words.{HasWords}
+
+-- a step of a tick below the limit, whose records are in range
+pub record IsStepInRange (S : System) (step : Step) : Type 0 where
+  pub number : step.number < MAX_TICKS
+  pub events : AllByRecursion (IsInRange S) step.events
+
+-- the steps of a run are in range, and so is what goes on
+pub record IsRunInRange (S : System) (r : Run) : Type 0 where
+  pub steps : AllByRecursion (IsStepInRange S) r.steps
+  pub state : HasWords S r.state
+  pub unwritten : AllByRecursion (IsInRange S) r.unwritten
+
+module _ (S : System) (proper : IsProper S) where
+  record IsTickInRange (step : Step) : Type 0 where
+    events : AllByRecursion (IsInRange S) step.events
+    state : HasWords S step.after
+
+  tick_in_range : (arrived : List ℕ) (s : State) → IsRunState S s → HasForm S s → HasWords S s → IsTickInRange (tick S arrived s)
+  unfolding tick
+  tick_in_range arrived s good form h =
+      let ready : State = (before_execution S arrived s).state in
+      let first = before_recorded S proper arrived s h in
+      let executed = execute_recorded S proper ready (before_executing S proper arrived s good).good.single (before_form S proper arrived s form) first.state in
+      let left : State = (execute_phase S ready).state in
+      let last = last_recorded S left executed.state in
+      record {
+        events = all_append (IsInRange S) (before_execution S arrived s).events (from_execution S ready).events first.events
+            (all_append (IsInRange S) (execute_phase S ready).events (last_phase S left).events executed.events last.events);
+        state = later_words S (last_phase S left).state last.state;
+      }
+
+  number_is : (arrived : List ℕ) (s : State) → (tick S arrived s).number ≡ s.tick
+  unfolding tick
+  number_is arrived s = refl
+
+  module _ (mode : ℕ) (arrivals : List Arrival) where
+    more : (r : Run) (over : Bool) → r.state.over ≡ over → (over ≡ false → r.state.tick < MAX_TICKS) → IsRunState S r.state → HasForm S r.state
+        → IsRunInRange S r → IsRunInRange S (elim over [ true ↦ r | false ↦ step_added r (tick S (arriving arrivals r.state.tick) r.state) ])
+    more r true is low good form h = h
+    more r false is low good form h =
+        let step : Step = tick S (arriving arrivals r.state.tick) r.state in
+        let next = tick_in_range (arriving arrivals r.state.tick) r.state good form h.state in
+        record {
+          steps = all_append (IsStepInRange S) r.steps _ h.steps (
+            record {
+              number = subst (λ t. t < MAX_TICKS) (sym (number_is (arriving arrivals r.state.tick) r.state)) (low refl);
+              events = all_append (IsInRange S) r.unwritten step.events h.unwritten next.events;
+            },
+            tt,
+          );
+          state = next.state;
+          unwritten = tt;
+        }
+
+    pub run_in_range : (n : ℕ) → n ≤ MAX_TICKS → IsRunInRange S (run S mode arrivals n)
+    unfolding run
+    run_in_range zero few =
+        let booted = boot_recorded S proper mode in
+        record { steps = tt; state = booted.state; unwritten = booted.events }
+    run_in_range (suc n) few =
+        let r : Run = run S mode arrivals n in
+        more r r.state.over refl (λ going. let is = run_tick S mode arrivals n going in omega (arith, is, few))
+        (run_ordered S proper mode arrivals n) (run_form S proper mode arrivals n) (run_in_range n (omega (arith, few)))
