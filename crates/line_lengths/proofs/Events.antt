@@ -43,12 +43,15 @@ IsShown Effect.Nothing = Unit {0}
 IsShown (Effect.Value v) = v < 2 ^ 32
 IsShown (Effect.Stored i v) = (i < 100) × (v < 2 ^ 32)
 
-effect_long : (effect : Effect) → IsShown effect → length (outcome_text (Outcome.Plain effect)) ≤ 19
+effect_long : (effect : Effect) → IsShown effect
+    → length (outcome_text (Outcome.Plain effect)) ≤ 19
 effect_long Effect.Nothing shown = omega arith
 effect_long (Effect.Value v) shown = let long = ten_digits v shown in omega (arith, long)
 effect_long (Effect.Stored i v) shown =
     joined (codes " -> [" ++ decimal i ++ codes "] ") (decimal v) 9 10
-    (joined (codes " -> [" ++ decimal i) (codes "] ") 7 2 (joined (codes " -> [") (decimal i) 5 2 (omega arith) (two_digits i shown.0)) (omega arith))
+    (joined (codes " -> [" ++ decimal i) (codes "] ") 7 2
+    (joined (codes " -> [") (decimal i) 5 2 (omega arith) (two_digits i shown.0))
+    (omega arith))
     (ten_digits v shown.1)
 
 -- the answer to a GetAlarmBase
@@ -61,20 +64,24 @@ pub record IsBase (call : ServiceCall) (answer : Status) : Type 0 where
 abbrev pub AreAnswered : ServiceCall → Status → Results → Type 0
 AreAnswered call answer Results.Nothing = Unit {0}
 AreAnswered call answer (Results.One a) = a < 2 ^ 32
-AreAnswered call answer (Results.Three a b c) = IsBase call answer × ((a < 2 ^ 32) × ((b < 2 ^ 32) × (c < 2 ^ 32)))
+AreAnswered call answer (Results.Three a b c) =
+    IsBase call answer × ((a < 2 ^ 32) × ((b < 2 ^ 32) × (c < 2 ^ 32)))
 
-answer_long : (answer : Status) (found : Results) (n m : ℕ) → length (decimal (status_number answer)) ≤ n → length (results_text found) ≤ m
+answer_long : (answer : Status) (found : Results) (n m : ℕ)
+    → length (decimal (status_number answer)) ≤ n → length (results_text found) ≤ m
     → length (outcome_text (Outcome.Answer answer found)) ≤ 3 + n + m
 answer_long answer found n m short long =
     joined (codes " = " ++ decimal (status_number answer)) (results_text found) (3 + n) m
     (joined (codes " = ") (decimal (status_number answer)) 3 n (omega arith) short) long
 
-three_long : (a b c : ℕ) → a < 2 ^ 32 → b < 2 ^ 32 → c < 2 ^ 32 → length (results_text (Results.Three a b c)) ≤ 35
+three_long : (a b c : ℕ) → a < 2 ^ 32 → b < 2 ^ 32 → c < 2 ^ 32
+    → length (results_text (Results.Three a b c)) ≤ 35
 three_long a b c one two three =
     joined (codes " : " ++ decimal a ++ codes " " ++ decimal b ++ codes " ") (decimal c) 25 10
     (joined (codes " : " ++ decimal a ++ codes " " ++ decimal b) (codes " ") 24 1
     (joined (codes " : " ++ decimal a ++ codes " ") (decimal b) 14 10
-    (joined (codes " : " ++ decimal a) (codes " ") 13 1 (joined (codes " : ") (decimal a) 3 10 (omega arith) (ten_digits a one)) (omega arith))
+    (joined (codes " : " ++ decimal a) (codes " ") 13 1
+    (joined (codes " : ") (decimal a) 3 10 (omega arith) (ten_digits a one)) (omega arith))
     (ten_digits b two)) (omega arith)) (ten_digits c three)
 
 -- ---- records
@@ -88,7 +95,8 @@ IsOutcome _ _ = ⊥
 
 -- what a record of the system may say
 abbrev pub IsInRange : System → TraceEvent → Type 0
-IsInRange S (TraceEvent.Executed who place what outcome) = (place ≤ MAX_INSTRUCTIONS) × (IsAllowed S what × IsOutcome what outcome)
+IsInRange S (TraceEvent.Executed who place what outcome) =
+    (place ≤ MAX_INSTRUCTIONS) × (IsAllowed S what × IsOutcome what outcome)
 IsInRange S (TraceEvent.Error who what answer) = IsAllowed S what
 IsInRange S (TraceEvent.Shutdown n) = n < 2 ^ 32
 IsInRange S _ = Unit {0}
@@ -98,32 +106,41 @@ module _ (S : System) (short : HasShortNames S.names) where
   abbrev IsFew : Instr → Outcome → Type 0
   IsFew what outcome = length (instruction_text S.names what) + length (outcome_text outcome) ≤ 76
 
-  single_long : (call : ServiceCall) (answer : Status) (found : Results) → IsAllowed S (Instr.Service call)
+  single_long : (call : ServiceCall) (answer : Status) (found : Results)
+      → IsAllowed S (Instr.Service call)
       → length (results_text found) ≤ 13 → IsFew (Instr.Service call) (Outcome.Answer answer found)
   single_long call answer found allowed few =
       let first = service_long S.names short S call allowed.operands in
       let second = answer_long answer found 2 13 (status_long answer) few in
       omega (arith, first, second)
 
-  answered_long : (call : ServiceCall) (answer : Status) (found : Results) → IsAllowed S (Instr.Service call)
+  answered_long : (call : ServiceCall) (answer : Status) (found : Results)
+      → IsAllowed S (Instr.Service call)
       → AreAnswered call answer found → IsFew (Instr.Service call) (Outcome.Answer answer found)
-  answered_long call answer Results.Nothing allowed h = single_long call answer Results.Nothing allowed (omega arith)
+  answered_long call answer Results.Nothing allowed h =
+      single_long call answer Results.Nothing allowed (omega arith)
   answered_long call answer (Results.One a) allowed h =
-      single_long call answer (Results.One a) allowed (let long = ten_digits a h in omega (arith, long))
+      single_long call answer (Results.One a) allowed
+      (let long = ten_digits a h in omega (arith, long))
   answered_long call answer (Results.Three a b c) allowed h =
       let found : Results = Results.Three a b c in
-      subst (λ (k : ServiceCall). IsFew (Instr.Service k) (Outcome.Answer answer found)) (sym h.0.asks)
-      (subst (λ (k : Status). IsFew (Instr.Service (Service.GetAlarmBase h.0.alarm)) (Outcome.Answer k found)) (sym h.0.done)
+      subst (λ (k : ServiceCall). IsFew (Instr.Service k) (Outcome.Answer answer found))
+      (sym h.0.asks)
+      (subst (λ (k : Status). IsFew (Instr.Service (Service.GetAlarmBase h.0.alarm))
+      (Outcome.Answer k found)) (sym h.0.done)
       (let first = base_long S.names short h.0.alarm in
-      let second = answer_long Status.Ok found 1 35 (one_digit 0 (omega arith)) (three_long a b c h.1.0 h.1.1.0 h.1.1.1) in
+      let second = answer_long Status.Ok found 1 35 (one_digit 0 (omega arith))
+      (three_long a b c h.1.0 h.1.1.0 h.1.1.1) in
       omega (arith, first, second)))
 
-  both_long : (what : Instr) (outcome : Outcome) → IsAllowed S what → IsOutcome what outcome → IsFew what outcome
+  both_long : (what : Instr) (outcome : Outcome) → IsAllowed S what → IsOutcome what outcome
+      → IsFew what outcome
   both_long (Instr.Plain p) (Outcome.Plain effect) allowed is =
       let first = plain_long S.names allowed.size p allowed.few allowed.operands in
       let second = effect_long effect is in
       omega (arith, first, second)
-  both_long (Instr.Service call) (Outcome.Answer answer found) allowed is = answered_long call answer found allowed is
+  both_long (Instr.Service call) (Outcome.Answer answer found) allowed is =
+      answered_long call answer found allowed is
   both_long (Instr.Control control) Outcome.Control allowed is =
       let first = control_long S.names allowed.in_routine control allowed.operands in
       omega (arith, first)
@@ -134,19 +151,22 @@ module _ (S : System) (short : HasShortNames S.names) where
   both_long (Instr.Control control) (Outcome.Plain effect) allowed is = absurd is
   both_long (Instr.Control control) (Outcome.Answer answer found) allowed is = absurd is
 
-  executed_long : (who : Owner) (place : ℕ) (what : Instr) (outcome : Outcome) → place ≤ MAX_INSTRUCTIONS → IsFew what outcome
+  executed_long : (who : Owner) (place : ℕ) (what : Instr) (outcome : Outcome)
+      → place ≤ MAX_INSTRUCTIONS → IsFew what outcome
       → length (event_text S.names (TraceEvent.Executed who place what outcome)) ≤ 114
   executed_long who place what outcome inside few =
       let name = owner_name S.names who in
       let first = instruction_text S.names what in
       let front = joined (name ++ codes " " ++ decimal place) (codes " ") 37 1
-      (joined (name ++ codes " ") (decimal place) 33 4 (joined name (codes " ") 32 1 (owner_long S.names short who) (omega arith))
+      (joined (name ++ codes " ") (decimal place) 33 4
+      (joined name (codes " ") 32 1 (owner_long S.names short who) (omega arith))
       (four_digits place inside)) (omega arith) in
       omega (
         arith,
         front,
         few,
-        length-append (name ++ codes " " ++ decimal place ++ codes " " ++ first) (outcome_text outcome),
+        length-append (name ++ codes " " ++ decimal place ++ codes " " ++ first)
+            (outcome_text outcome),
         length-append (name ++ codes " " ++ decimal place ++ codes " ") first,
       )
 
@@ -155,15 +175,20 @@ module _ (S : System) (short : HasShortNames S.names) where
   error_long who what answer allowed =
       let source = source_name S.names who in
       let first = instruction_text S.names what in
-      let all = joined (codes "error " ++ source ++ codes " " ++ first ++ codes " ") (decimal (status_number answer)) 90 2
+      let all = joined (codes "error " ++ source ++ codes " " ++ first ++ codes " ")
+      (decimal (status_number answer)) 90 2
       (joined (codes "error " ++ source ++ codes " " ++ first) (codes " ") 89 1
       (joined (codes "error " ++ source ++ codes " ") first 40 49
-      (joined (codes "error " ++ source) (codes " ") 39 1 (joined (codes "error ") source 6 33 (omega arith) (source_long S.names short who)) (omega arith))
-      (instruction_long S.names short S allowed.in_routine allowed.size what allowed.few allowed.operands)) (omega arith))
+      (joined (codes "error " ++ source) (codes " ") 39 1
+      (joined (codes "error ") source 6 33 (omega arith) (source_long S.names short who))
+      (omega arith))
+      (instruction_long S.names short S allowed.in_routine allowed.size what allowed.few
+      allowed.operands)) (omega arith))
       (status_long answer) in
       omega (arith, all)
 
-  pub event_long : (event : TraceEvent) → IsInRange S event → length (event_text S.names event) ≤ 114
+  pub event_long : (event : TraceEvent) → IsInRange S event
+      → length (event_text S.names event) ≤ 114
   event_long TraceEvent.Startup h = omega arith
   event_long (TraceEvent.Pre t) h = let long = short.tasks t in omega (arith, long)
   event_long (TraceEvent.Post t) h = let long = short.tasks t in omega (arith, long)
@@ -174,7 +199,9 @@ module _ (S : System) (short : HasShortNames S.names) where
   event_long (TraceEvent.Error who what answer) h = error_long who what answer h
   event_long (TraceEvent.Shutdown n) h = let long = ten_digits n h in omega (arith, long)
 
-  pub line_long : (t : ℕ) (event : TraceEvent) → t < MAX_TICKS → IsInRange S event → length (line S.names t event) ≤ 121
+  pub line_long : (t : ℕ) (event : TraceEvent) → t < MAX_TICKS → IsInRange S event
+      → length (line S.names t event) ≤ 121
   line_long t event low h =
       joined (decimal t ++ codes " ") (event_text S.names event) 7 114
-      (joined (decimal t) (codes " ") 6 1 (six_digits t (omega (arith, low))) (omega arith)) (event_long event h)
+      (joined (decimal t) (codes " ") 6 1 (six_digits t (omega (arith, low))) (omega arith))
+      (event_long event h)

@@ -42,14 +42,17 @@ digits_long : (room j m : ℕ) (acc : List ℕ) → 0 < j → m < 16 ^ j
 digits_long zero j m acc some small = omega arith
 digits_long (suc room) zero m acc some small = absurd (omega (arith, some))
 digits_long (suc room) (suc j) m acc some small =
-    go (m / 16 == 0) refl (λ more. digits_long room j (m / 16) (glyph ∷ acc) more (fewer j m small))
+    go (m / 16 == 0) refl
+    (λ more. digits_long room j (m / 16) (glyph ∷ acc) more (fewer j m small))
   where
     glyph : ℕ
     glyph = digit_glyph false (m % 16)
 
     go : (b : Bool) → (m / 16 == 0) ≡ b
-        → (0 < j → length (digits_onto room 16 false (m / 16) (glyph ∷ acc)) ≤ j + length (glyph ∷ acc))
-        → length (cond b (glyph ∷ acc) (digits_onto room 16 false (m / 16) (glyph ∷ acc))) ≤ suc j + length acc
+        → (0 < j → length (digits_onto room 16 false (m / 16) (glyph ∷ acc)) ≤ j + length
+        (glyph ∷ acc))
+        → length (cond b (glyph ∷ acc) (digits_onto room 16 false (m / 16) (glyph ∷ acc))) ≤ suc j
+        + length acc
     go true is rest = omega arith
     go false is rest = let long = rest (not_last j m small is) in omega (arith, long)
 
@@ -89,9 +92,11 @@ listed_long (x ∷ xs) (n ∷ ns) within =
     (joined x (listed xs) n (room ns) within.0 (listed_long xs ns within.1))
 
 -- a mnemonic and its operands, of which the first stands behind a space
-pub written_long : (word x : List ℕ) (xs : List (List ℕ)) (w n : ℕ) (ns : List ℕ) → length word ≤ w → length x ≤ n
+pub written_long : (word x : List ℕ) (xs : List (List ℕ)) (w n : ℕ) (ns : List ℕ) → length word ≤ w
+    → length x ≤ n
     → AreWithin xs ns → length (written word (x ∷ xs)) ≤ w + 1 + n + room ns
 written_long word x xs w n ns short first within =
     joined (word ++ codes " " ++ x) (listed xs) (w + 1 + n) (room ns)
-    (joined (word ++ codes " ") x (w + 1) n (joined word (codes " ") w 1 short (omega arith)) first)
+    (joined (word ++ codes " ") x (w + 1) n
+    (joined word (codes " ") w 1 short (omega arith)) first)
     (listed_long xs ns within)

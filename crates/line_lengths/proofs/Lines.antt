@@ -28,25 +28,30 @@ use Rattle.line_lengths.proofs.Named.{HasShortNames, short_names}
 use Rattle.line_lengths.proofs.Runs.{IsStepInRange, run_in_range}
 
 -- what holds of each line of each step holds of all lines
-all_lines : {X : Type 0} (n : ℕ) (P : X → Type 0) (of : X → List (List ℕ)) (xs : List X) → ((x : X) → P x → HaveAtMost n (of x))
+all_lines : {X : Type 0} (n : ℕ) (P : X → Type 0) (of : X → List (List ℕ)) (xs : List X)
+    → ((x : X) → P x → HaveAtMost n (of x))
     → AllByRecursion P xs → HaveAtMost n (flat_map of xs)
 all_lines n P of [] each all = tt
 all_lines n P of (x ∷ xs) each all =
-    all_append (λ text. length text ≤ n) (of x) (flat_map of xs) (each x all.0) (all_lines n P of xs each all.1)
+    all_append (λ text. length text ≤ n) (of x) (flat_map of xs) (each x all.0)
+    (all_lines n P of xs each all.1)
 
 module _ (S : System) (proper : IsProper S) where
   names : HasShortNames S.names
   names = short_names S.names proper.names
 
-  events_short : (t : ℕ) (events : List TraceEvent) → t < MAX_TICKS → AllByRecursion (IsInRange S) events
+  events_short : (t : ℕ) (events : List TraceEvent) → t < MAX_TICKS
+      → AllByRecursion (IsInRange S) events
       → HaveAtMost longest_line (map (line S.names t) events)
   events_short t [] low all = tt
-  events_short t (e ∷ events) low all = (line_long S names t e low all.0, events_short t events low all.1)
+  events_short t (e ∷ events) low all =
+      (line_long S names t e low all.0, events_short t events low all.1)
 
   -- ---- with a number of blockers
 
   module _ (number : Option ℕ) (few : IfSome number (λ n. n ≤ 1)) where
-    number_short : (o : Option ℕ) → IfSome o (λ n. n ≤ 1) → (e : TraceEvent) → length (blockers_text o e) ≤ 4
+    number_short : (o : Option ℕ) → IfSome o (λ n. n ≤ 1) → (e : TraceEvent)
+        → length (blockers_text o e) ≤ 4
     number_short (Some n) low (TraceEvent.Executed who place what outcome) =
         let long = one_digit n (omega (arith, low)) in omega (arith, long)
     number_short None low e = omega arith
@@ -58,22 +63,28 @@ module _ (S : System) (proper : IsProper S) where
     number_short (Some n) low (TraceEvent.Error who what answer) = omega arith
     number_short (Some n) low (TraceEvent.Shutdown m) = omega arith
 
-    numbered_short : (t : ℕ) (events : List TraceEvent) → t < MAX_TICKS → AllByRecursion (IsInRange S) events
-        → HaveAtMost longest_numbered_line (map (λ e. line S.names t e ++ blockers_text number e) events)
+    numbered_short : (t : ℕ) (events : List TraceEvent) → t < MAX_TICKS
+        → AllByRecursion (IsInRange S) events
+        → HaveAtMost longest_numbered_line
+        (map (λ e. line S.names t e ++ blockers_text number e) events)
     numbered_short t [] low all = tt
     numbered_short t (e ∷ events) low all =
         let first = line_long S names t e low all.0 in
-        let second = number_short number few e in
-        (omega (arith, first, second, length-append (line S.names t e) (blockers_text number e)), numbered_short t events low all.1)
+        let second = number_short number few e in (
+          omega (arith, first, second, length-append (line S.names t e) (blockers_text number e)),
+          numbered_short t events low all.1,
+        )
 
   -- a job has one blocker at most
-  few_blockers : (mode : ℕ) (arrivals : List Arrival) (v : ℕ) → IfSome (blockers_at S mode arrivals v) (λ n. n ≤ 1)
+  few_blockers : (mode : ℕ) (arrivals : List Arrival) (v : ℕ)
+      → IfSome (blockers_at S mode arrivals v) (λ n. n ≤ 1)
   few_blockers mode arrivals v = of_job (executor_at (slice_get steps v))
     where
       steps : List Step
       steps = (run S mode arrivals (suc v)).steps
 
-      of_job : (o : Option Job) → IfSome (blockers_since S (boot S mode).state steps v o) (λ n. n ≤ 1)
+      of_job : (o : Option Job)
+          → IfSome (blockers_since S (boot S mode).state steps v o) (λ n. n ≤ 1)
       of_job None = tt
       of_job (Some j) = since (ready_since S (boot S mode).state steps j.id v) refl
         where
@@ -82,14 +93,17 @@ module _ (S : System) (proper : IsProper S) where
           since None is = tt
           since (Some u) is =
               let ready = found (λ k. k < suc v)
-              (λ k. nat_le (behind_last j.id steps v) k && is_ready_from S (boot S mode).state steps k j.id) (below (suc v)) u
+              (λ k. nat_le (behind_last j.id steps v) k && is_ready_from S
+              (boot S mode).state steps k j.id) (below (suc v)) u
               (all_below (suc v)) is in
               blocks_once S mode arrivals (suc v) proper u j.id
-              (and_parts (nat_le (behind_last j.id steps v) u) (is_ready_from S (boot S mode).state steps u j.id) ready.1).1
+              (and_parts (nat_le (behind_last j.id steps v) u)
+              (is_ready_from S (boot S mode).state steps u j.id) ready.1).1
 
   -- ---- in a view
 
-  kept_range : (b : Bool) (e : TraceEvent) → IsInRange S e → IfSome (cond b (Some e) None) (IsInRange S)
+  kept_range : (b : Bool) (e : TraceEvent) → IsInRange S e
+      → IfSome (cond b (Some e) None) (IsInRange S)
   kept_range true e h = h
   kept_range false e h = tt
 
@@ -98,20 +112,26 @@ module _ (S : System) (proper : IsProper S) where
   shown_range p (TraceEvent.Shutdown n) h = h
   shown_range p (TraceEvent.Pre t) h = kept_range (is_upper_task S p t) (TraceEvent.Pre t) tt
   shown_range p (TraceEvent.Post t) h = kept_range (is_upper_task S p t) (TraceEvent.Post t) tt
-  shown_range p (TraceEvent.Error who what answer) h = kept_range (is_upper_source S p who) (TraceEvent.Error who what answer) h
+  shown_range p (TraceEvent.Error who what answer) h =
+      kept_range (is_upper_source S p who) (TraceEvent.Error who what answer) h
   shown_range p (TraceEvent.Executed who place what outcome) h = go (is_upper_owner S p who)
     where
-      go : (b : Bool) → IfSome (cond b (Some (TraceEvent.Executed who place what outcome)) (Some TraceEvent.Other)) (IsInRange S)
+      go : (b : Bool)
+          → IfSome (cond b (Some (TraceEvent.Executed who place what outcome))
+          (Some TraceEvent.Other)) (IsInRange S)
       go true = h
       go false = tt
   shown_range p TraceEvent.Idle h = tt
   shown_range p TraceEvent.Other h = tt
 
-  view_range : (p : ℕ) (events : List TraceEvent) → AllByRecursion (IsInRange S) events → AllByRecursion (IsInRange S) (view_records S p events)
+  view_range : (p : ℕ) (events : List TraceEvent) → AllByRecursion (IsInRange S) events
+      → AllByRecursion (IsInRange S) (view_records S p events)
   view_range p [] all = tt
-  view_range p (e ∷ events) all = go (shown S p e) (shown_range p e all.0) (view_range p events all.1)
+  view_range p (e ∷ events) all =
+      go (shown S p e) (shown_range p e all.0) (view_range p events all.1)
     where
-      go : (o : Option TraceEvent) → IfSome o (IsInRange S) → AllByRecursion (IsInRange S) (view_records S p events)
+      go : (o : Option TraceEvent) → IfSome o (IsInRange S)
+          → AllByRecursion (IsInRange S) (view_records S p events)
           → AllByRecursion (IsInRange S) (cons_option o (view_records S p events))
       go None h rest = rest
       go (Some f) h rest = (h, rest)
@@ -120,8 +140,10 @@ module _ (S : System) (proper : IsProper S) where
       → HaveAtMost longest_line (flat_map (λ seen. seen.lines) (map (sight S p) steps))
   sights_range p [] all = tt
   sights_range p (step ∷ steps) all =
-      all_append (λ text. length text ≤ longest_line) (sight S p step).lines (flat_map (λ seen. seen.lines) (map (sight S p) steps))
-      (events_short step.number (view_records S p step.events) all.0.number (view_range p step.events all.0.events))
+      all_append (λ text. length text ≤ longest_line) (sight S p step).lines
+      (flat_map (λ seen. seen.lines) (map (sight S p) steps))
+      (events_short step.number (view_records S p step.events) all.0.number
+      (view_range p step.events all.0.events))
       (sights_range p steps all.1)
 
 -- ---- the laws
@@ -129,15 +151,19 @@ module _ (S : System) (proper : IsProper S) where
 pub lines_are_short : LinesAreShort
 lines_are_short S mode arrivals n proper few =
     all_lines longest_line (IsStepInRange S) (step_lines S.names) (run S mode arrivals n).steps
-    (λ step h. events_short S proper step.number step.events h.number h.events) (run_in_range S proper mode arrivals n few).steps
+    (λ step h. events_short S proper step.number step.events h.number h.events)
+    (run_in_range S proper mode arrivals n few).steps
 
 pub numbered_lines_are_short : NumberedLinesAreShort
 numbered_lines_are_short S mode arrivals n proper few =
-    all_lines longest_numbered_line (IsStepInRange S) (blocking_lines S mode arrivals) (run S mode arrivals n).steps
-    (λ step h. numbered_short S proper (blockers_at S mode arrivals step.number) (few_blockers S proper mode arrivals step.number)
+    all_lines longest_numbered_line (IsStepInRange S) (blocking_lines S mode arrivals)
+    (run S mode arrivals n).steps
+    (λ step h. numbered_short S proper (blockers_at S mode arrivals step.number)
+    (few_blockers S proper mode arrivals step.number)
     step.number step.events h.number h.events)
     (run_in_range S proper mode arrivals n few).steps
 
 pub view_lines_are_short : ViewLinesAreShort
 view_lines_are_short S p mode arrivals n proper few =
-    sights_range S proper p (run S mode arrivals n).steps (run_in_range S proper mode arrivals n few).steps
+    sights_range S proper p (run S mode arrivals n).steps
+    (run_in_range S proper mode arrivals n few).steps

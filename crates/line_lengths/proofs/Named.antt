@@ -20,7 +20,9 @@ proper_short : (names : List (List ℕ)) → are_proper_names names ≡ true →
 proper_short names proper n = elim (cases_lt n (length names)) [
   | inl inside ↦
       let all = (and_parts (list_all is_proper_name names) (are_distinct_names names) proper).0 in
-      leb-true _ _ (and_parts (nat_le 1 (length (name_at names n))) _ (all_at is_proper_name names n [] inside all)).1
+      leb-true _ _
+      (and_parts (nat_le 1 (length (name_at names n))) _
+      (all_at is_proper_name names n [] inside all)).1
   | inr past ↦ let none = ap length (get_or_past names n [] past) in omega (arith, none)
 ]
 
@@ -36,7 +38,8 @@ short_names names proper =
     let to_alarms = and_parts _ (are_proper_names names.alarms) but_modes in
     let to_events = and_parts _ (are_proper_names names.events) to_alarms.0 in
     let to_resources = and_parts _ (are_proper_names names.resources) to_events.0 in
-    let first = and_parts (are_proper_names names.tasks) (are_proper_names names.routines) to_resources.0 in
+    let first = and_parts (are_proper_names names.tasks)
+    (are_proper_names names.routines) to_resources.0 in
     record {
       tasks = proper_short names.tasks first.0;
       routines = proper_short names.routines first.1;

@@ -39,12 +39,15 @@ both_true false b one other = one
 module _ (S : System) where
   -- ---- alarms
 
-  renewed_near : (n : ℕ) (e : Option Expiry) → IsNear n e → IsNear n (cond (is_due_at n e) (renewed e) e)
+  renewed_near : (n : ℕ) (e : Option Expiry) → IsNear n e
+      → IsNear n (cond (is_due_at n e) (renewed e) e)
   renewed_near n None near = tt
   renewed_near n (Some e) near = go (e.count == n) refl (e.cycle == 0)
     where
       go : (b : Bool) → (e.count == n) ≡ b → (c : Bool)
-          → IsNear n (cond b (cond c None (Some (record { count = e.count + e.cycle; cycle = e.cycle }))) (Some e))
+          → IsNear n
+          (cond b (cond c None (Some (record { count = e.count + e.cycle; cycle = e.cycle })))
+          (Some e))
       go true now true = tt
       go true now false =
           let is = eqb-true e.count n now in
@@ -52,9 +55,15 @@ module _ (S : System) where
           (omega (arith, is, few), few)
       go false now c = near
 
-  advanced_words : (s : State) → HasWords S s → HasWords S (record s { alarms = alarms_advanced S s })
+  advanced_words : (s : State) → HasWords S s
+      → HasWords S (record s { alarms = alarms_advanced S s })
   advanced_words s h = record {
-    objects = record { jobs = h.objects.jobs; shared = h.objects.shared; masks = h.objects.masks; alarms = near };
+    objects = record {
+      jobs = h.objects.jobs;
+      shared = h.objects.shared;
+      masks = h.objects.masks;
+      alarms = near;
+    };
     active = h.active;
     words = h.words;
   }
@@ -69,7 +78,9 @@ module _ (S : System) where
             (renewed_near (count S s a) (expiry s a) (h.objects.alarms a))
         | inr past ↦
             let long = length-table new (length S.alarms) in
-            subst (IsNear (count S s a)) (sym (get_or_past (map new (below (length S.alarms))) a None (omega (arith, past, long)))) tt
+            subst (IsNear (count S s a))
+            (sym (get_or_past (map new (below (length S.alarms))) a None
+            (omega (arith, past, long)))) tt
       ]
 
   allowed_action : (action : Action) → is_proper_action S action ≡ true
@@ -79,12 +90,19 @@ module _ (S : System) where
   allowed_action (Action.SetEvent t m) proper =
       let both = and_parts _ (is_proper_mask m) proper in
       let known = and_parts _ _ both.0 in (
-        record { in_routine = false; size = 0; few = omega arith; operands = both_true _ _ known.0 both.1 },
+        record {
+          in_routine = false;
+          size = 0;
+          few = omega arith;
+          operands = both_true _ _ known.0
+              both.1;
+        },
         proper_mask m both.1,
       )
 
   module _ (proper : IsProper S) where
-    alarms_recorded : (due : List ℕ) → AllByRecursion (λ a. a < length S.alarms) due → (s : State) → HasWords S s
+    alarms_recorded : (due : List ℕ) → AllByRecursion (λ a. a < length S.alarms) due → (s : State)
+        → HasWords S s
         → IsRecorded S (alarms_act S due s)
     alarms_recorded [] all s h = record { events = tt; state = h }
     alarms_recorded (a ∷ due) all s h =
@@ -92,10 +110,13 @@ module _ (S : System) where
         (and_parts _ _ (and_parts _ _ (proper_alarm_at S a proper all.0)).0).1 in
         let call = action_call (alarm S a).action in
         let reply = unasked_service S NobodyCalls s call in
-        let rest = alarms_recorded due all.1 (alarm_acts S a s).state (of_action S proper s h call action.1) in
+        let rest = alarms_recorded due all.1 (alarm_acts S a s).state
+        (of_action S proper s h call action.1) in
         record {
-          events = all_append (IsInRange S) (alarm_acts S a s).events (alarms_act S due (alarm_acts S a s).state).events
-              (error_range S (Source.Alarm a) (Instr.Service call) reply.status action.0) rest.events;
+          events = all_append (IsInRange S) (alarm_acts S a s).events
+              (alarms_act S due (alarm_acts S a s).state).events
+              (error_range S (Source.Alarm a) (Instr.Service call) reply.status action.0)
+              rest.events;
           state = rest.state;
         }
 
@@ -103,7 +124,8 @@ module _ (S : System) where
     unfolding alarm_phase
     alarm_phase_recorded s h =
         alarms_recorded (due_alarms S s)
-        (all_kept (λ a. a < length S.alarms) (is_due S s) (below (length S.alarms)) (all_below (length S.alarms)))
+        (all_kept (λ a. a < length S.alarms) (is_due S s) (below (length S.alarms))
+        (all_below (length S.alarms)))
         (record s { alarms = alarms_advanced S s }) (advanced_words s h)
 
   -- ---- reschedules
@@ -121,10 +143,13 @@ module _ (S : System) where
   switch_range None (Some new) = entered_range (Some new)
   switch_range (Some old) None = left_range (Some old)
   switch_range (Some old) (Some new) =
-      cond_both (AllByRecursion (IsInRange S)) (same_id old new) [] (left_record S (Some old) ++ entered_record S (Some new)) tt
-      (all_append (IsInRange S) (left_record S (Some old)) (entered_record S (Some new)) (left_range (Some old)) (entered_range (Some new)))
+      cond_both (AllByRecursion (IsInRange S)) (same_id old new) []
+      (left_record S (Some old) ++ entered_record S (Some new)) tt
+      (all_append (IsInRange S) (left_record S (Some old)) (entered_record S (Some new))
+      (left_range (Some old)) (entered_range (Some new)))
 
-  entered_words : (o : Option Job) (jobs : List Job) → AllByRecursion IsWordJob jobs → AllByRecursion IsWordJob (jobs_entered S o jobs)
+  entered_words : (o : Option Job) (jobs : List Job) → AllByRecursion IsWordJob jobs
+      → AllByRecursion IsWordJob (jobs_entered S o jobs)
   entered_words None jobs all = all
   entered_words (Some j) jobs all = jobs_changed j.id (entered S) jobs (λ k own. own) all
 
@@ -132,7 +157,10 @@ module _ (S : System) where
   unfolding reschedule
   reschedule_recorded s h = go (may_dispatch s)
     where
-      go : (b : Bool) → IsRecorded S (with_dispatch_of s (cond b (switched S (choice S s.jobs) s) (record { events = []; state = s })))
+      go : (b : Bool)
+          → IsRecorded S
+          (with_dispatch_of s
+          (cond b (switched S (choice S s.jobs) s) (record { events = []; state = s })))
       go true = record {
         events = switch_range s.running (option_map id_of (choice S s.jobs));
         state = record {
@@ -142,11 +170,12 @@ module _ (S : System) where
           words = h.words;
         };
       }
-      go false = record { events = tt; state = record { objects = h.objects; active = h.active; words = h.words } }
+      go false = record { events = tt; state = h }
 
   -- ---- phases 1 to 4, and 6
 
-  started_words : (s : State) (o : Option ℕ) → HasWords S s → IfSome (routine_started o s).active (λ a. AreWords a.context.registers)
+  started_words : (s : State) (o : Option ℕ) → HasWords S s
+      → IfSome (routine_started o s).active (λ a. AreWords a.context.registers)
   started_words s None h = h.active
   started_words s (Some i) h = no_words 8
 
@@ -154,32 +183,42 @@ module _ (S : System) where
   unfolding start_phase
   start_words s h = go (may_dispatch s)
     where
-      go : (b : Bool) → HasWords S (with_start_of s (cond b (routine_started (routine_choice S s) s) s))
-      go true = record { objects = h.objects; active = started_words s (routine_choice S s) h; words = h.words }
-      go false = record { objects = h.objects; active = h.active; words = h.words }
+      go : (b : Bool)
+          → HasWords S (with_start_of s (cond b (routine_started (routine_choice S s) s) s))
+      go true =
+          record {
+            objects = h.objects;
+            active = started_words s
+                (routine_choice S s) h;
+            words = h.words;
+          }
+      go false = h
 
-  pub before_recorded : (proper : IsProper S) (arrived : List ℕ) (s : State) → HasWords S s → IsRecorded S (before_execution S arrived s)
+  pub before_recorded : (proper : IsProper S) (arrived : List ℕ) (s : State) → HasWords S s
+      → IsRecorded S (before_execution S arrived s)
   before_recorded proper arrived s h =
       let acted = alarm_phase_recorded proper s h in
       let due = (alarm_phase S s).state in
-      let dispatched = reschedule_recorded (arrival_phase arrived due)
-      (record { objects = acted.state.objects; active = acted.state.active; words = acted.state.words }) in
+      let dispatched = reschedule_recorded (arrival_phase arrived due) acted.state in
       record {
-        events = all_append (IsInRange S) (alarm_phase S s).events (reschedule S (arrival_phase arrived due)).events
+        events = all_append (IsInRange S) (alarm_phase S s).events
+            (reschedule S (arrival_phase arrived due)).events
             acted.events dispatched.events;
         state = start_words (reschedule S (arrival_phase arrived due)).state dispatched.state;
       }
 
   pub last_recorded : (s : State) → HasWords S s → IsRecorded S (last_phase S s)
   last_recorded s h =
-      cond_both (IsRecorded S) s.over (record { events = []; state = s }) (reschedule S s) (record { events = tt; state = h })
+      cond_both (IsRecorded S) s.over (record { events = []; state = s }) (reschedule S s)
+      (record { events = tt; state = h })
       (reschedule_recorded s h)
 
   -- ---- the next tick
 
   no_less : (t b : ℕ) → t / b ≤ (t + 1) / b
   no_less t b = elim (cases_lt 0 b) [
-    | inl some ↦ let down = div-mul-le_self t b in le-div (t / b) (t + 1) b some (omega (arith, down))
+    | inl some ↦ let down = div-mul-le_self t b in le-div (t / b) (t + 1) b some
+        (omega (arith, down))
     | inr least ↦
         let none : b ≡ 0 = omega (arith, least) in
         let is : t / b ≡ 0 = ap (λ k. t / k) none ∙ div-zero t in
@@ -199,7 +238,8 @@ module _ (S : System) where
       jobs = h.objects.jobs;
       shared = h.objects.shared;
       masks = h.objects.masks;
-      alarms = λ a. later_near s.tick (counter_of S a).ticks_per_base (expiry s a) (h.objects.alarms a);
+      alarms = λ a. later_near s.tick (counter_of S a).ticks_per_base (expiry s a)
+          (h.objects.alarms a);
     };
     active = h.active;
     words = h.words;
@@ -209,7 +249,8 @@ module _ (S : System) where
 
   activated_words : (t : ℕ) (s : State) → HasWords S s → HasWords S (activated S t s)
   unfolding activated
-  activated_words t s h = record { objects = of_activated S s.tick t s h.objects; active = h.active; words = h.words }
+  activated_words t s h =
+      record { objects = of_activated S s.tick t s h.objects; active = h.active; words = h.words }
 
   all_words : (tasks : List ℕ) (s : State) → HasWords S s → HasWords S (all_activated S tasks s)
   all_words [] s h = h
@@ -219,14 +260,19 @@ module _ (S : System) where
   no_windows zero = tt
   no_windows (suc n) = (no_words 16, no_windows n)
 
-  cycle_few : (most cycle : ℕ) (least : Bool) → most ≤ MAX_COUNTS → (cycle == 0 || (least && nat_le cycle most)) ≡ true → cycle ≤ MAX_COUNTS
+  cycle_few : (most cycle : ℕ) (least : Bool) → most ≤ MAX_COUNTS
+      → (cycle == 0 || (least && nat_le cycle most)) ≡ true → cycle ≤ MAX_COUNTS
   cycle_few most cycle least few proper = go (cycle == 0) refl proper
     where
-      go : (b : Bool) → (cycle == 0) ≡ b → (b || (least && nat_le cycle most)) ≡ true → cycle ≤ MAX_COUNTS
+      go : (b : Bool) → (cycle == 0) ≡ b → (b || (least && nat_le cycle most)) ≡ true
+          → cycle ≤ MAX_COUNTS
       go true is h = let none = eqb-true cycle 0 is in omega (arith, none)
-      go false is h = let low = leb-true cycle most (and_parts least (nat_le cycle most) h).1 in omega (arith, low, few)
+      go false is h =
+          let low = leb-true cycle most (and_parts least (nat_le cycle most) h).1 in omega
+          (arith, low, few)
 
-  start_near : (n mode : ℕ) (start : AlarmStart) → start.time ≤ MAX_COUNTS → start.cycle ≤ MAX_COUNTS
+  start_near : (n mode : ℕ) (start : AlarmStart) → start.time ≤ MAX_COUNTS
+      → start.cycle ≤ MAX_COUNTS
       → IsNear n (first_expiry (start_in mode (Some start)))
   start_near n mode start low few = go (is_in mode start.modes)
     where
@@ -234,18 +280,28 @@ module _ (S : System) where
       go true = (omega (arith, low), omega (arith, few))
       go false = tt
 
-  first_near : (n mode : ℕ) (c : Counter) (o : Option AlarmStart) → c.max_allowed_value ≤ MAX_COUNTS → is_proper_start S c o ≡ true
+  first_near : (n mode : ℕ) (c : Counter) (o : Option AlarmStart)
+      → c.max_allowed_value ≤ MAX_COUNTS → is_proper_start S c o ≡ true
       → IsNear n (first_expiry (start_in mode o))
   first_near n mode c None most proper = tt
   first_near n mode c (Some start) most proper =
       let all = and_parts _ (modes_exist S start.modes) proper in
       let timed = and_parts _ _ all.0 in
-      let low = leb-true start.time c.max_allowed_value (and_parts (nat_le 1 start.time) _ timed.0).1 in
-      start_near n mode start (omega (arith, low, most)) (cycle_few c.max_allowed_value start.cycle _ most timed.1)
+      let low = leb-true start.time c.max_allowed_value
+      (and_parts (nat_le 1 start.time) _ timed.0).1 in
+      start_near n mode start (omega (arith, low, most))
+      (cycle_few c.max_allowed_value start.cycle _ most timed.1)
 
-  begun_words : (proper : IsProper S) (mode : ℕ) → HasWords S (record (still S) { alarms = starting_alarms S mode })
+  begun_words : (proper : IsProper S) (mode : ℕ)
+      → HasWords S (record (still S) { alarms = starting_alarms S mode })
   begun_words proper mode = record {
-    objects = record { jobs = tt; shared = no_windows (length S.resources); masks = no_words (length S.tasks); alarms = near };
+    objects = record {
+      jobs = tt;
+      shared = no_windows (length S.resources);
+      masks = no_words
+          (length S.tasks);
+      alarms = near;
+    };
     active = tt;
     words = λ who i. omega arith;
   }
@@ -253,15 +309,19 @@ module _ (S : System) where
       first : Alarm → Option Expiry
       first a = first_expiry (start_in mode a.autostart)
 
-      near : (a : ℕ) → IsNear (0 / (counter_of S a).ticks_per_base) (get_or (map first S.alarms) a None)
+      near : (a : ℕ)
+          → IsNear (0 / (counter_of S a).ticks_per_base) (get_or (map first S.alarms) a None)
       near a = elim (cases_lt a (length S.alarms)) [
         | inl inside ↦
-            subst (IsNear (0 / (counter_of S a).ticks_per_base)) (sym (get_or-map first S.alarms a no_alarm None inside))
-            (first_near _ mode (counter S (alarm S a).counter) (alarm S a).autostart (any_counter S (alarm S a).counter proper).most
+            subst (IsNear (0 / (counter_of S a).ticks_per_base))
+            (sym (get_or-map first S.alarms a no_alarm None inside))
+            (first_near _ mode (counter S (alarm S a).counter) (alarm S a).autostart
+            (any_counter S (alarm S a).counter proper).most
             (and_parts _ _ (proper_alarm_at S a proper inside)).1)
         | inr past ↦
             let long = length-map S.alarms first in
-            subst (IsNear (0 / (counter_of S a).ticks_per_base)) (sym (get_or_past (map first S.alarms) a None (omega (arith, past, long)))) tt
+            subst (IsNear (0 / (counter_of S a).ticks_per_base))
+            (sym (get_or_past (map first S.alarms) a None (omega (arith, past, long)))) tt
       ]
 
   pub boot_recorded : (proper : IsProper S) (mode : ℕ) → IsRecorded S (boot S mode)
@@ -269,9 +329,11 @@ module _ (S : System) where
   boot_recorded proper mode =
       let begun = record (still S) { alarms = starting_alarms S mode } in
       let started = all_activated S (starting_tasks S mode) begun in
-      let first = reschedule_recorded started (all_words (starting_tasks S mode) begun (begun_words proper mode)) in
+      let first = reschedule_recorded started
+      (all_words (starting_tasks S mode) begun (begun_words proper mode)) in
       record {
-        events = all_append (IsInRange S) (hooked S.hooks.startup TraceEvent.Startup) (reschedule S started).events
+        events = all_append (IsInRange S) (hooked S.hooks.startup TraceEvent.Startup)
+            (reschedule S started).events
             (hooked_range S S.hooks.startup TraceEvent.Startup tt) first.events;
         state = first.state;
       }

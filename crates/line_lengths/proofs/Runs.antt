@@ -35,17 +35,22 @@ module _ (S : System) (proper : IsProper S) where
     events : AllByRecursion (IsInRange S) step.events
     state : HasWords S step.after
 
-  tick_in_range : (arrived : List ℕ) (s : State) → IsRunState S s → HasForm S s → HasWords S s → IsTickInRange (tick S arrived s)
+  tick_in_range : (arrived : List ℕ) (s : State) → IsRunState S s → HasForm S s → HasWords S s
+      → IsTickInRange (tick S arrived s)
   unfolding tick
   tick_in_range arrived s good form h =
       let ready : State = (before_execution S arrived s).state in
       let first = before_recorded S proper arrived s h in
-      let executed = execute_recorded S proper ready (before_executing S proper arrived s good).good.single (before_form S proper arrived s form) first.state in
+      let executed = execute_recorded S proper ready
+      (before_executing S proper arrived s good).good.single
+      (before_form S proper arrived s form) first.state in
       let left : State = (execute_phase S ready).state in
       let last = last_recorded S left executed.state in
       record {
-        events = all_append (IsInRange S) (before_execution S arrived s).events (from_execution S ready).events first.events
-            (all_append (IsInRange S) (execute_phase S ready).events (last_phase S left).events executed.events last.events);
+        events = all_append (IsInRange S) (before_execution S arrived s).events
+            (from_execution S ready).events first.events
+            (all_append (IsInRange S) (execute_phase S ready).events
+            (last_phase S left).events executed.events last.events);
         state = later_words S (last_phase S left).state last.state;
       }
 
@@ -54,8 +59,12 @@ module _ (S : System) (proper : IsProper S) where
   number_is arrived s = refl
 
   module _ (mode : ℕ) (arrivals : List Arrival) where
-    more : (r : Run) (over : Bool) → r.state.over ≡ over → (over ≡ false → r.state.tick < MAX_TICKS) → IsRunState S r.state → HasForm S r.state
-        → IsRunInRange S r → IsRunInRange S (elim over [ true ↦ r | false ↦ step_added r (tick S (arriving arrivals r.state.tick) r.state) ])
+    more : (r : Run) (over : Bool) → r.state.over ≡ over
+        → (over ≡ false → r.state.tick < MAX_TICKS) → IsRunState S r.state → HasForm S r.state
+        → IsRunInRange S r
+        → IsRunInRange S
+        (elim over
+        [ true ↦ r | false ↦ step_added r (tick S (arriving arrivals r.state.tick) r.state) ])
     more r true is low good form h = h
     more r false is low good form h =
         let step : Step = tick S (arriving arrivals r.state.tick) r.state in
@@ -63,7 +72,8 @@ module _ (S : System) (proper : IsProper S) where
         record {
           steps = all_append (IsStepInRange S) r.steps _ h.steps (
             record {
-              number = subst (λ t. t < MAX_TICKS) (sym (number_is (arriving arrivals r.state.tick) r.state)) (low refl);
+              number = subst (λ t. t < MAX_TICKS)
+                  (sym (number_is (arriving arrivals r.state.tick) r.state)) (low refl);
               events = all_append (IsInRange S) r.unwritten step.events h.unwritten next.events;
             },
             tt,
@@ -79,5 +89,7 @@ module _ (S : System) (proper : IsProper S) where
         record { steps = tt; state = booted.state; unwritten = booted.events }
     run_in_range (suc n) few =
         let r : Run = run S mode arrivals n in
-        more r r.state.over refl (λ going. let is = run_tick S mode arrivals n going in omega (arith, is, few))
-        (run_ordered S proper mode arrivals n) (run_form S proper mode arrivals n) (run_in_range n (omega (arith, few)))
+        more r r.state.over refl
+        (λ going. let is = run_tick S mode arrivals n going in omega (arith, is, few))
+        (run_ordered S proper mode arrivals n) (run_form S proper mode arrivals n)
+        (run_in_range n (omega (arith, few)))

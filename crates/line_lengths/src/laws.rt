@@ -1,6 +1,7 @@
 //! The laws, one function each. The functions are empty: the clause is the law.
 
-ghost use Rattle.line_lengths.specs.LineLengths.{LinesAreShort, NumberedLinesAreShort, ViewLinesAreShort};
+ghost use Rattle.line_lengths.specs.LineLengths.{LinesAreShort, NumberedLinesAreShort};
+ghost use Rattle.line_lengths.specs.LineLengths.{ViewLinesAreShort};
 
 /// Each line of the trace of a run of a proper system, of 1,000,000 ticks at most, has at most 121
 /// bytes.
