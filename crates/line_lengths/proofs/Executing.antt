@@ -28,7 +28,7 @@ use Rattle.osek_base.specs.Proper.{IsProper, is_proper_control, is_proper_mask, 
 use Rattle.osek_base.specs.Reschedule.{Recorded, hooked}
 use Rattle.osek_base.specs.Service.{Caller, JobCalls, RoutineCalls, NobodyCalls, controlled, first_refusal, reply_to, refusals, remaining, results, running_task, service, state_number, task_state, word_of}
 use Rattle.osek_base.specs.Alarm.{count, expiry}
-use Rattle.osek_base.specs.State.{Active, Expiry, JobId, State, interrupts_off, same_id, shared_window, with_job, words_after}
+use Rattle.osek_base.specs.State.{Job, Active, Expiry, JobId, State, interrupts_off, same_id, shared_window, with_job, words_after}
 use Rattle.osek_base.specs.System.{System, alarm, instruction_at}
 use Rattle.osek_base.specs.Tick.{answered, at_values, caller_executes, error_record, execute_phase, executed, executor, job_moved, moved, shutdown_record, status_number, with_context}
 use Rattle.osek_base.specs.Types.{PlainInstr, ServiceCall}
@@ -133,8 +133,9 @@ module _ (S : System) (proper : IsProper S) (s : State) where
       let given = h.given in
       elim (cases_lt r.task (length s.made)) [
         | inl inside ↦ omega (arith, inside, made, few)
-        | inr past ↦ let none = get_or_past s.made r.task 0 past in absurd
-            (omega (arith, none, given))
+        | inr past ↦
+            let none = get_or_past s.made r.task 0 past in
+            absurd (omega (arith, none, given))
       ]
 
   module _ (h : HasWords S s) (runner : IsWord (running_task s.running)) (x : Context) where
@@ -189,14 +190,10 @@ answered_words x call answer found all small = go found small
     go (Results.One a) h =
         each_set IsWord (with_value x 0 (status_number answer)).registers 1 a h first
     go (Results.Three a b c) h =
-        let second = each_set IsWord
-        (with_value x 0 (status_number answer)).registers 1 a h.1.0 first in
-        let third = each_set IsWord
-        (with_value (with_value x 0 (status_number answer)) 1 a).registers 2 b h.1.1.0 second
-        in
-        each_set IsWord
-        (with_value (with_value (with_value x 0 (status_number answer)) 1 a) 2 b).registers 3 c
-        h.1.1.1 third
+        let one = with_value x 0 (status_number answer) in
+        let second = each_set IsWord one.registers 1 a h.1.0 first in
+        let third = each_set IsWord (with_value one 1 a).registers 2 b h.1.1.0 second in
+        each_set IsWord (with_value (with_value one 1 a) 2 b).registers 3 c h.1.1.1 third
 
 -- records in range, and a state with words
 pub record IsRecorded (S : System) (r : Recorded) : Type 0 where
@@ -271,68 +268,51 @@ module _ (S : System) where
     executed_recorded who c x (Instr.Plain p) all inside allowed =
         let done = plain p x (s.words who) in
         let both = plain_done allowed.size x (s.words who) all (h.words who) p allowed.operands in
+        let words = words_stored s.words who done.effect h.words both.1 in
         record {
           events = ((inside, (allowed, both.1)), tt);
-          state = of_context c done.context
-              (record s { words = words_after s.words who done.effect }) both.0
-              (record {
-                objects = h.objects;
-                active = h.active;
-                words = words_stored s.words who
-                    done.effect h.words both.1;
-              });
+          state = of_context c done.context (record s { words = words_after s.words who done.effect })
+              both.0 (record { objects = h.objects; active = h.active; words = words });
         }
     executed_recorded who c x (Instr.Service call) all inside allowed =
         let r = service S c s (at_values x call) in
         let small = service_small S proper s h runner x c call in
+        let errors = error_range (Source.Owner who) (Instr.Service call) r.status allowed in
         record {
-          events = (
-            (inside, (allowed, small)),
-            error_range (Source.Owner who)
-                (Instr.Service call) r.status allowed,
-          );
+          events = ((inside, (allowed, small)), errors);
           state = of_context c (answered r.status r.results x) r.state
               (answered_words x call r.status r.results all small)
               (of_service S proper s h c (at_values x call)
               (operands_at S x call all allowed.operands));
         }
-    executed_recorded who c x (Instr.Control control) all inside allowed = record {
-      events = (
-        (inside, (allowed, tt)),
-        shutdown_range allowed.in_routine control
-            allowed.operands,
-      );
-      state = of_context c (next x) (controlled control s) all (of_control control s h);
-    }
+    executed_recorded who c x (Instr.Control control) all inside allowed =
+        let shutdown = shutdown_range allowed.in_routine control allowed.operands in
+        record {
+          events = ((inside, (allowed, tt)), shutdown);
+          state = of_context c (next x) (controlled control s) all (of_control control s h);
+        }
 
     caller_recorded : (c : Caller) → HasForm S s → IsCaller s c
         → IsRecorded S (caller_executes S c s)
     caller_recorded (JobCalls j) form calls =
-        let here : IsPlacedJob S j =
-        (found (IsPlacedJob S)
-        (λ k. same_id k.id j.id) s.jobs j form.formed.jobs calls.found).0 in
-        let all : IsWordJob j =
-        (found IsWordJob (λ k. same_id k.id j.id) s.jobs j h.objects.jobs calls.found).0 in
-        let few =
-        (known_place S
-        (Owner.Task j.id.task) j.context.place proper here.task here.context.place).short in
+        let who = Owner.Task j.id.task in
+        let is_it : Job → Bool = λ k. same_id k.id j.id in
+        let here = (found (IsPlacedJob S) is_it s.jobs j form.formed.jobs calls.found).0 in
+        let all = (found IsWordJob is_it s.jobs j h.objects.jobs calls.found).0 in
+        let few = known_place S who j.context.place proper here.task here.context.place in
         let inside = here.context.place in
-        executed_recorded (Owner.Task j.id.task) (JobCalls j) j.context
-        (instruction_at S (Owner.Task j.id.task) j.context.place) all
-        (omega (arith, inside, few)) (allowed_at S (Owner.Task j.id.task) j.context.place proper)
+        let short = few.short in
+        executed_recorded who (JobCalls j) j.context (instruction_at S who j.context.place) all
+        (omega (arith, inside, short)) (allowed_at S who j.context.place proper)
     caller_recorded (RoutineCalls a) form calls =
+        let who = Owner.Routine a.routine in
         let here : IsPlacedRoutine S a = subst (HasActive S) calls form.active in
-        let all : AreWords a.context.registers = subst
-        (λ o. IfSome o (λ b. AreWords b.context.registers)) calls h.active in
-        let few =
-        (known_place S
-        (Owner.Routine a.routine) a.context.place proper here.routine here.context.place).short
-        in
+        let all = subst (λ o. IfSome o (λ b. AreWords b.context.registers)) calls h.active in
+        let few = known_place S who a.context.place proper here.routine here.context.place in
         let inside = here.context.place in
-        executed_recorded (Owner.Routine a.routine) (RoutineCalls a) a.context
-        (instruction_at S (Owner.Routine a.routine) a.context.place) all
-        (omega (arith, inside, few))
-        (allowed_at S (Owner.Routine a.routine) a.context.place proper)
+        let short = few.short in
+        executed_recorded who (RoutineCalls a) a.context (instruction_at S who a.context.place) all
+        (omega (arith, inside, short)) (allowed_at S who a.context.place proper)
     caller_recorded NobodyCalls form calls = record { events = (tt, tt); state = h }
 
   pub execute_recorded : (proper : IsProper S) (s : State) → IsSingle S s → HasForm S s

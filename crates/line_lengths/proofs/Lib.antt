@@ -5,5 +5,6 @@ pub mod Events
 pub mod Words
 pub mod Executing
 pub mod Phases
+pub mod Boot
 pub mod Runs
 pub mod Lines

@@ -49,31 +49,28 @@ module _ (S : System) (proper : IsProper S) where
 
   -- ---- with a number of blockers
 
-  module _ (number : Option ℕ) (few : IfSome number (λ n. n ≤ 1)) where
-    number_short : (o : Option ℕ) → IfSome o (λ n. n ≤ 1) → (e : TraceEvent)
-        → length (blockers_text o e) ≤ 4
-    number_short (Some n) low (TraceEvent.Executed who place what outcome) =
-        let long = one_digit n (omega (arith, low)) in omega (arith, long)
-    number_short None low e = omega arith
-    number_short (Some n) low TraceEvent.Startup = omega arith
-    number_short (Some n) low (TraceEvent.Pre t) = omega arith
-    number_short (Some n) low (TraceEvent.Post t) = omega arith
-    number_short (Some n) low TraceEvent.Idle = omega arith
-    number_short (Some n) low TraceEvent.Other = omega arith
-    number_short (Some n) low (TraceEvent.Error who what answer) = omega arith
-    number_short (Some n) low (TraceEvent.Shutdown m) = omega arith
+  number_short : (o : Option ℕ) → IfSome o (λ n. n ≤ 1) → (e : TraceEvent)
+      → length (blockers_text o e) ≤ 4
+  number_short (Some n) low (TraceEvent.Executed who place what outcome) =
+      let long = one_digit n (omega (arith, low)) in omega (arith, long)
+  number_short (Some n) low TraceEvent.Startup = omega arith
+  number_short (Some n) low (TraceEvent.Pre t) = omega arith
+  number_short (Some n) low (TraceEvent.Post t) = omega arith
+  number_short (Some n) low TraceEvent.Idle = omega arith
+  number_short (Some n) low TraceEvent.Other = omega arith
+  number_short (Some n) low (TraceEvent.Error who what answer) = omega arith
+  number_short (Some n) low (TraceEvent.Shutdown m) = omega arith
+  number_short None low e = omega arith
 
-    numbered_short : (t : ℕ) (events : List TraceEvent) → t < MAX_TICKS
-        → AllByRecursion (IsInRange S) events
-        → HaveAtMost longest_numbered_line
-        (map (λ e. line S.names t e ++ blockers_text number e) events)
-    numbered_short t [] low all = tt
-    numbered_short t (e ∷ events) low all =
-        let first = line_long S names t e low all.0 in
-        let second = number_short number few e in (
-          omega (arith, first, second, length-append (line S.names t e) (blockers_text number e)),
-          numbered_short t events low all.1,
-        )
+  numbered_short : (number : Option ℕ) → IfSome number (λ n. n ≤ 1) → (t : ℕ)
+      (events : List TraceEvent) → t < MAX_TICKS → AllByRecursion (IsInRange S) events
+      → HaveAtMost longest_numbered_line (map (λ e. line S.names t e ++ blockers_text number e) events)
+  numbered_short number one t [] low all = tt
+  numbered_short number one t (e ∷ events) low all =
+      let first = line_long S names t e low all.0 in
+      let second = number_short number one e in
+      let both = length-append (line S.names t e) (blockers_text number e) in
+      (omega (arith, first, second, both), numbered_short number one t events low all.1)
 
   -- a job has one blocker at most
   few_blockers : (mode : ℕ) (arrivals : List Arrival) (v : ℕ)
@@ -136,34 +133,46 @@ module _ (S : System) (proper : IsProper S) where
       go None h rest = rest
       go (Some f) h rest = (h, rest)
 
-  sights_range : (p : ℕ) (steps : List Step) → AllByRecursion (IsStepInRange S) steps
-      → HaveAtMost longest_line (flat_map (λ seen. seen.lines) (map (sight S p) steps))
-  sights_range p [] all = tt
-  sights_range p (step ∷ steps) all =
-      all_append (λ text. length text ≤ longest_line) (sight S p step).lines
-      (flat_map (λ seen. seen.lines) (map (sight S p) steps))
-      (events_short step.number (view_records S p step.events) all.0.number
-      (view_range p step.events all.0.events))
-      (sights_range p steps all.1)
+  -- ---- of steps
+
+  module _ (n : ℕ) (few : n ≤ MAX_TICKS) where
+    step_short : (step : Step) → IsStepInRange S n step → HaveAtMost longest_line (step_lines S.names step)
+    step_short step h =
+        let low = h.number in
+        events_short step.number step.events (omega (arith, low, few)) h.events
+
+    numbered_step_short : (mode : ℕ) (arrivals : List Arrival) (step : Step) → IsStepInRange S n step
+        → HaveAtMost longest_numbered_line (blocking_lines S mode arrivals step)
+    numbered_step_short mode arrivals step h =
+        let low = h.number in
+        numbered_short (blockers_at S mode arrivals step.number) (few_blockers mode arrivals step.number)
+        step.number step.events (omega (arith, low, few)) h.events
+
+    sights_short : (p : ℕ) (steps : List Step) → AllByRecursion (IsStepInRange S n) steps
+        → HaveAtMost longest_line (flat_map (λ seen. seen.lines) (map (sight S p) steps))
+    sights_short p [] all = tt
+    sights_short p (step ∷ steps) all =
+        let low = all.0.number in
+        all_append (λ text. length text ≤ longest_line) (sight S p step).lines
+        (flat_map (λ seen. seen.lines) (map (sight S p) steps))
+        (events_short step.number (view_records S p step.events) (omega (arith, low, few))
+        (view_range p step.events all.0.events))
+        (sights_short p steps all.1)
 
 -- ---- the laws
 
 pub lines_are_short : LinesAreShort
 lines_are_short S mode arrivals n proper few =
-    all_lines longest_line (IsStepInRange S) (step_lines S.names) (run S mode arrivals n).steps
-    (λ step h. events_short S proper step.number step.events h.number h.events)
-    (run_in_range S proper mode arrivals n few).steps
+    all_lines longest_line (IsStepInRange S n) (step_lines S.names) (run S mode arrivals n).steps
+    (step_short S proper n few) (run_in_range S proper mode arrivals n).steps
 
 pub numbered_lines_are_short : NumberedLinesAreShort
 numbered_lines_are_short S mode arrivals n proper few =
-    all_lines longest_numbered_line (IsStepInRange S) (blocking_lines S mode arrivals)
-    (run S mode arrivals n).steps
-    (λ step h. numbered_short S proper (blockers_at S mode arrivals step.number)
-    (few_blockers S proper mode arrivals step.number)
-    step.number step.events h.number h.events)
-    (run_in_range S proper mode arrivals n few).steps
+    all_lines longest_numbered_line (IsStepInRange S n) (blocking_lines S mode arrivals)
+    (run S mode arrivals n).steps (numbered_step_short S proper n few mode arrivals)
+    (run_in_range S proper mode arrivals n).steps
 
 pub view_lines_are_short : ViewLinesAreShort
 view_lines_are_short S p mode arrivals n proper few =
-    sights_range S proper p (run S mode arrivals n).steps
-    (run_in_range S proper mode arrivals n few).steps
+    sights_short S proper n few p (run S mode arrivals n).steps
+    (run_in_range S proper mode arrivals n).steps

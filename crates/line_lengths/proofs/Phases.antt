@@ -1,35 +1,31 @@
 -- Each phase of a tick but the instruction records what is in range, and leaves words.
-use Rattle.std.proofs.Common.{ℕ, zero, suc, ◌≡◌, ◌<◌, ◌≤◌, ◌+◌, ◌/◌, inl, inr, Bool, true, false, cond, ◌&&◌, List, [], ◌∷◌, ◌++◌, map, length, get_or, replicate, refl, subst, sym, ◌∙◌, ap, arith}
-use Rattle.std.specs.Prelude.{Option, Some, None, IfSome, ◌||◌, ◌==◌, nat_le}
+use Rattle.std.proofs.Common.{ℕ, ◌≡◌, ◌<◌, ◌≤◌, ◌+◌, ◌/◌, inl, inr, Bool, true, false, cond, ◌&&◌, List, [], ◌∷◌, ◌++◌, map, length, get_or, refl, subst, sym, ◌∙◌, ap, arith}
+use Rattle.std.specs.Prelude.{Option, Some, None, IfSome, ◌==◌}
 use Rattle.std.specs.List.{AllByRecursion}
 use Rattle.std.specs.Option.{option_map}
 use Rattle.std.proofs.Math.Nat.{div-mul-le_self, div-zero}
-use Rattle.std.proofs.lemmas.Bool.{and_parts, cases_lt, eqb-true, leb-true}
-use Rattle.std.proofs.lemmas.List.{get_or-map, get_or_past, length-map}
+use Rattle.std.proofs.lemmas.Bool.{and_parts, cases_lt, eqb-true}
+use Rattle.std.proofs.lemmas.List.{get_or_past}
 use Rattle.std.proofs.lemmas.Nat.{le-div}
 use Rattle.osek_base.specs.declared.instr.Instr.{Instr}
-use Rattle.osek_base.specs.declared.limits.TheConstants.{MAX_COUNTS}
 use Rattle.osek_base.specs.declared.task.Action.{Action}
-use Rattle.osek_base.specs.declared.task.Counter.{Counter}
 use Rattle.osek_base.specs.declared.trace_event.Source.{Source}
 use Rattle.osek_base.specs.declared.trace_event.TraceEvent.{TraceEvent}
-use Rattle.osek_base.specs.Activation.{activated}
 use Rattle.osek_base.specs.Alarm.{alarms_advanced, count, due_alarms, expiry, is_due, is_due_at, renewed}
 use Rattle.osek_base.specs.Choice.{choice}
-use Rattle.osek_base.specs.Lists.{below, is_in}
-use Rattle.osek_base.specs.Proper.{IsProper, is_proper_action, is_proper_mask, is_proper_start, modes_exist}
-use Rattle.osek_base.specs.Reschedule.{entered, entered_record, hooked, id_of, jobs_entered, left_record, reschedule, switch_records, switched, with_dispatch_of}
+use Rattle.osek_base.specs.Lists.{below}
+use Rattle.osek_base.specs.Proper.{IsProper, is_proper_action, is_proper_mask}
+use Rattle.osek_base.specs.Reschedule.{entered, entered_record, id_of, jobs_entered, left_record, reschedule, switch_records, switched, with_dispatch_of}
 use Rattle.osek_base.specs.Service.{NobodyCalls, unasked_service}
-use Rattle.osek_base.specs.State.{Expiry, Job, JobId, State, may_dispatch, no_shared, same_id, still}
-use Rattle.osek_base.specs.System.{Alarm, AlarmStart, System, alarm, counter, counter_of, no_alarm, start_in}
+use Rattle.osek_base.specs.State.{Expiry, Job, JobId, State, may_dispatch, same_id}
+use Rattle.osek_base.specs.System.{System, alarm, counter_of}
 use Rattle.osek_base.specs.Tick.{action_call, alarm_acts, alarm_phase, alarms_act, arrival_phase, before_execution, last_phase, routine_choice, routine_started, start_phase, with_start_of}
-use Rattle.osek_base.specs.Trace.{all_activated, boot, first_expiry, starting_alarms, starting_tasks}
 use Rattle.run_laws.proofs.Known.{all_below, proper_alarm_at}
 use Rattle.run_laws.proofs.Lists.{all_append, all_kept, cond_both}
 use Rattle.same_future.proofs.Tables.{length-table, table_at}
 use Rattle.line_lengths.proofs.Events.{IsInRange}
 use Rattle.line_lengths.proofs.Instructions.{IsAllowed, proper_mask}
-use Rattle.line_lengths.proofs.Words.{AreOperands, AreWords, HasWords, IsNear, IsWordJob, any_counter, jobs_changed, no_words, of_action, of_activated, of_jobs}
+use Rattle.line_lengths.proofs.Words.{AreOperands, AreWords, HasWords, IsNear, IsWordJob, jobs_changed, no_words, of_action, of_jobs}
 use Rattle.line_lengths.proofs.Executing.{IsRecorded, error_range, hooked_range}
 
 both_true : (a b : Bool) → a ≡ true → b ≡ true → (a && b) ≡ true
@@ -45,9 +41,7 @@ module _ (S : System) where
   renewed_near n (Some e) near = go (e.count == n) refl (e.cycle == 0)
     where
       go : (b : Bool) → (e.count == n) ≡ b → (c : Bool)
-          → IsNear n
-          (cond b (cond c None (Some (record { count = e.count + e.cycle; cycle = e.cycle })))
-          (Some e))
+          → IsNear n (cond b (cond c None (Some (record e { count = e.count + e.cycle }))) (Some e))
       go true now true = tt
       go true now false =
           let is = eqb-true e.count n now in
@@ -89,21 +83,15 @@ module _ (S : System) where
       (record { in_routine = false; size = 0; few = omega arith; operands = proper }, tt)
   allowed_action (Action.SetEvent t m) proper =
       let both = and_parts _ (is_proper_mask m) proper in
-      let known = and_parts _ _ both.0 in (
-        record {
-          in_routine = false;
-          size = 0;
-          few = omega arith;
-          operands = both_true _ _ known.0
-              both.1;
-        },
+      let known = and_parts _ _ both.0 in
+      let all = both_true _ _ known.0 both.1 in (
+        record { in_routine = false; size = 0; few = omega arith; operands = all },
         proper_mask m both.1,
       )
 
   module _ (proper : IsProper S) where
-    alarms_recorded : (due : List ℕ) → AllByRecursion (λ a. a < length S.alarms) due → (s : State)
-        → HasWords S s
-        → IsRecorded S (alarms_act S due s)
+    alarms_recorded : (due : List ℕ) → AllByRecursion (λ a. a < length S.alarms) due
+        → (s : State) → HasWords S s → IsRecorded S (alarms_act S due s)
     alarms_recorded [] all s h = record { events = tt; state = h }
     alarms_recorded (a ∷ due) all s h =
         let action = allowed_action (alarm S a).action
@@ -186,12 +174,8 @@ module _ (S : System) where
       go : (b : Bool)
           → HasWords S (with_start_of s (cond b (routine_started (routine_choice S s) s) s))
       go true =
-          record {
-            objects = h.objects;
-            active = started_words s
-                (routine_choice S s) h;
-            words = h.words;
-          }
+          let active = started_words s (routine_choice S s) h in
+          record { objects = h.objects; active = active; words = h.words }
       go false = h
 
   pub before_recorded : (proper : IsProper S) (arrived : List ℕ) (s : State) → HasWords S s
@@ -210,15 +194,15 @@ module _ (S : System) where
   pub last_recorded : (s : State) → HasWords S s → IsRecorded S (last_phase S s)
   last_recorded s h =
       cond_both (IsRecorded S) s.over (record { events = []; state = s }) (reschedule S s)
-      (record { events = tt; state = h })
-      (reschedule_recorded s h)
+      (record { events = tt; state = h }) (reschedule_recorded s h)
 
   -- ---- the next tick
 
   no_less : (t b : ℕ) → t / b ≤ (t + 1) / b
   no_less t b = elim (cases_lt 0 b) [
-    | inl some ↦ let down = div-mul-le_self t b in le-div (t / b) (t + 1) b some
-        (omega (arith, down))
+    | inl some ↦
+        let down = div-mul-le_self t b in
+        le-div (t / b) (t + 1) b some (omega (arith, down))
     | inr least ↦
         let none : b ≡ 0 = omega (arith, least) in
         let is : t / b ≡ 0 = ap (λ k. t / k) none ∙ div-zero t in
@@ -244,96 +228,3 @@ module _ (S : System) where
     active = h.active;
     words = h.words;
   }
-
-  -- ---- boot
-
-  activated_words : (t : ℕ) (s : State) → HasWords S s → HasWords S (activated S t s)
-  unfolding activated
-  activated_words t s h =
-      record { objects = of_activated S s.tick t s h.objects; active = h.active; words = h.words }
-
-  all_words : (tasks : List ℕ) (s : State) → HasWords S s → HasWords S (all_activated S tasks s)
-  all_words [] s h = h
-  all_words (t ∷ ts) s h = all_words ts (activated S t s) (activated_words t s h)
-
-  no_windows : (n : ℕ) → AllByRecursion AreWords (replicate n no_shared)
-  no_windows zero = tt
-  no_windows (suc n) = (no_words 16, no_windows n)
-
-  cycle_few : (most cycle : ℕ) (least : Bool) → most ≤ MAX_COUNTS
-      → (cycle == 0 || (least && nat_le cycle most)) ≡ true → cycle ≤ MAX_COUNTS
-  cycle_few most cycle least few proper = go (cycle == 0) refl proper
-    where
-      go : (b : Bool) → (cycle == 0) ≡ b → (b || (least && nat_le cycle most)) ≡ true
-          → cycle ≤ MAX_COUNTS
-      go true is h = let none = eqb-true cycle 0 is in omega (arith, none)
-      go false is h =
-          let low = leb-true cycle most (and_parts least (nat_le cycle most) h).1 in omega
-          (arith, low, few)
-
-  start_near : (n mode : ℕ) (start : AlarmStart) → start.time ≤ MAX_COUNTS
-      → start.cycle ≤ MAX_COUNTS
-      → IsNear n (first_expiry (start_in mode (Some start)))
-  start_near n mode start low few = go (is_in mode start.modes)
-    where
-      go : (b : Bool) → IsNear n (first_expiry (cond b (Some (start.time, start.cycle)) None))
-      go true = (omega (arith, low), omega (arith, few))
-      go false = tt
-
-  first_near : (n mode : ℕ) (c : Counter) (o : Option AlarmStart)
-      → c.max_allowed_value ≤ MAX_COUNTS → is_proper_start S c o ≡ true
-      → IsNear n (first_expiry (start_in mode o))
-  first_near n mode c None most proper = tt
-  first_near n mode c (Some start) most proper =
-      let all = and_parts _ (modes_exist S start.modes) proper in
-      let timed = and_parts _ _ all.0 in
-      let low = leb-true start.time c.max_allowed_value
-      (and_parts (nat_le 1 start.time) _ timed.0).1 in
-      start_near n mode start (omega (arith, low, most))
-      (cycle_few c.max_allowed_value start.cycle _ most timed.1)
-
-  begun_words : (proper : IsProper S) (mode : ℕ)
-      → HasWords S (record (still S) { alarms = starting_alarms S mode })
-  begun_words proper mode = record {
-    objects = record {
-      jobs = tt;
-      shared = no_windows (length S.resources);
-      masks = no_words
-          (length S.tasks);
-      alarms = near;
-    };
-    active = tt;
-    words = λ who i. omega arith;
-  }
-    where
-      first : Alarm → Option Expiry
-      first a = first_expiry (start_in mode a.autostart)
-
-      near : (a : ℕ)
-          → IsNear (0 / (counter_of S a).ticks_per_base) (get_or (map first S.alarms) a None)
-      near a = elim (cases_lt a (length S.alarms)) [
-        | inl inside ↦
-            subst (IsNear (0 / (counter_of S a).ticks_per_base))
-            (sym (get_or-map first S.alarms a no_alarm None inside))
-            (first_near _ mode (counter S (alarm S a).counter) (alarm S a).autostart
-            (any_counter S (alarm S a).counter proper).most
-            (and_parts _ _ (proper_alarm_at S a proper inside)).1)
-        | inr past ↦
-            let long = length-map S.alarms first in
-            subst (IsNear (0 / (counter_of S a).ticks_per_base))
-            (sym (get_or_past (map first S.alarms) a None (omega (arith, past, long)))) tt
-      ]
-
-  pub boot_recorded : (proper : IsProper S) (mode : ℕ) → IsRecorded S (boot S mode)
-  unfolding boot
-  boot_recorded proper mode =
-      let begun = record (still S) { alarms = starting_alarms S mode } in
-      let started = all_activated S (starting_tasks S mode) begun in
-      let first = reschedule_recorded started
-      (all_words (starting_tasks S mode) begun (begun_words proper mode)) in
-      record {
-        events = all_append (IsInRange S) (hooked S.hooks.startup TraceEvent.Startup)
-            (reschedule S started).events
-            (hooked_range S S.hooks.startup TraceEvent.Startup tt) first.events;
-        state = first.state;
-      }

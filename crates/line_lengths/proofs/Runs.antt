@@ -1,8 +1,7 @@
 -- The records of every run are in range.
-use Rattle.std.proofs.Common.{ℕ, zero, suc, ◌≡◌, ◌<◌, ◌≤◌, Bool, true, false, List, refl, subst, sym, arith}
+use Rattle.std.proofs.Common.{ℕ, zero, suc, ◌≡◌, ◌<◌, Bool, true, false, List, refl, ◌∙◌, arith}
 use Rattle.std.specs.List.{AllByRecursion}
 use Rattle.osek_base.specs.declared.arrivals.Arrival.{Arrival}
-use Rattle.osek_base.specs.declared.limits.TheConstants.{MAX_TICKS}
 use Rattle.osek_base.specs.Proper.{IsProper}
 use Rattle.osek_base.specs.State.{State}
 use Rattle.osek_base.specs.System.{System}
@@ -11,22 +10,23 @@ use Rattle.osek_base.specs.Trace.{Run, arriving, run, step_added}
 use Rattle.run_laws.proofs.Formed.{HasForm}
 use Rattle.run_laws.proofs.FormedPhases.{before_form}
 use Rattle.run_laws.proofs.FormedTick.{run_form}
-use Rattle.run_laws.proofs.Lists.{all_append}
+use Rattle.run_laws.proofs.Lists.{all_append, all_weaker}
 use Rattle.run_laws.proofs.RankedTick.{IsRunState, before_executing, run_ordered}
 use Rattle.run_laws.proofs.RunSteps.{run_tick}
+use Rattle.line_lengths.proofs.Boot.{boot_recorded}
 use Rattle.line_lengths.proofs.Events.{IsInRange}
 use Rattle.line_lengths.proofs.Executing.{execute_recorded}
-use Rattle.line_lengths.proofs.Phases.{before_recorded, boot_recorded, last_recorded, later_words}
+use Rattle.line_lengths.proofs.Phases.{before_recorded, last_recorded, later_words}
 use Rattle.line_lengths.proofs.Words.{HasWords}
 
--- a step of a tick below the limit, whose records are in range
-pub record IsStepInRange (S : System) (step : Step) : Type 0 where
-  pub number : step.number < MAX_TICKS
+-- a step of a tick before tick n, whose records are in range
+pub record IsStepInRange (S : System) (n : ℕ) (step : Step) : Type 0 where
+  pub number : step.number < n
   pub events : AllByRecursion (IsInRange S) step.events
 
--- the steps of a run are in range, and so is what goes on
-pub record IsRunInRange (S : System) (r : Run) : Type 0 where
-  pub steps : AllByRecursion (IsStepInRange S) r.steps
+-- the steps of a run of n ticks are in range, and so is what goes on
+pub record IsRunInRange (S : System) (n : ℕ) (r : Run) : Type 0 where
+  pub steps : AllByRecursion (IsStepInRange S n) r.steps
   pub state : HasWords S r.state
   pub unwritten : AllByRecursion (IsInRange S) r.unwritten
 
@@ -58,38 +58,42 @@ module _ (S : System) (proper : IsProper S) where
   unfolding tick
   number_is arrived s = refl
 
+  later_steps : (n : ℕ) (steps : List Step) → AllByRecursion (IsStepInRange S n) steps
+      → AllByRecursion (IsStepInRange S (suc n)) steps
+  later_steps n steps all =
+      all_weaker (IsStepInRange S n) (IsStepInRange S (suc n)) steps
+      (λ step h. record { number = let low = h.number in omega (arith, low); events = h.events }) all
+
   module _ (mode : ℕ) (arrivals : List Arrival) where
-    more : (r : Run) (over : Bool) → r.state.over ≡ over
-        → (over ≡ false → r.state.tick < MAX_TICKS) → IsRunState S r.state → HasForm S r.state
-        → IsRunInRange S r
-        → IsRunInRange S
-        (elim over
-        [ true ↦ r | false ↦ step_added r (tick S (arriving arrivals r.state.tick) r.state) ])
-    more r true is low good form h = h
-    more r false is low good form h =
-        let step : Step = tick S (arriving arrivals r.state.tick) r.state in
-        let next = tick_in_range (arriving arrivals r.state.tick) r.state good form h.state in
+    -- one tick further, at an over of one's own
+    abbrev further : Run → Bool → Run
+    further r over =
+        elim over [ true ↦ r | false ↦ step_added r (tick S (arriving arrivals r.state.tick) r.state) ]
+
+    more : (n : ℕ) (r : Run) (over : Bool) → (over ≡ false → r.state.tick ≡ n)
+        → IsRunState S r.state → HasForm S r.state → IsRunInRange S n r
+        → IsRunInRange S (suc n) (further r over)
+    more n r true is good form h =
+        record { steps = later_steps n r.steps h.steps; state = h.state; unwritten = h.unwritten }
+    more n r false is good form h =
+        let arrived = arriving arrivals r.state.tick in
+        let step : Step = tick S arrived r.state in
+        let next = tick_in_range arrived r.state good form h.state in
+        let number : step.number ≡ n = number_is arrived r.state ∙ is refl in
+        let events = all_append (IsInRange S) r.unwritten step.events h.unwritten next.events in
         record {
-          steps = all_append (IsStepInRange S) r.steps _ h.steps (
-            record {
-              number = subst (λ t. t < MAX_TICKS)
-                  (sym (number_is (arriving arrivals r.state.tick) r.state)) (low refl);
-              events = all_append (IsInRange S) r.unwritten step.events h.unwritten next.events;
-            },
-            tt,
-          );
+          steps = all_append (IsStepInRange S (suc n)) r.steps _ (later_steps n r.steps h.steps)
+              (record { number = omega (arith, number); events = events }, tt);
           state = next.state;
           unwritten = tt;
         }
 
-    pub run_in_range : (n : ℕ) → n ≤ MAX_TICKS → IsRunInRange S (run S mode arrivals n)
+    pub run_in_range : (n : ℕ) → IsRunInRange S n (run S mode arrivals n)
     unfolding run
-    run_in_range zero few =
+    run_in_range zero =
         let booted = boot_recorded S proper mode in
         record { steps = tt; state = booted.state; unwritten = booted.events }
-    run_in_range (suc n) few =
+    run_in_range (suc n) =
         let r : Run = run S mode arrivals n in
-        more r r.state.over refl
-        (λ going. let is = run_tick S mode arrivals n going in omega (arith, is, few))
-        (run_ordered S proper mode arrivals n) (run_form S proper mode arrivals n)
-        (run_in_range n (omega (arith, few)))
+        more n r r.state.over (run_tick S mode arrivals n) (run_ordered S proper mode arrivals n)
+        (run_form S proper mode arrivals n) (run_in_range n)

@@ -81,12 +81,8 @@ small_counter c proper =
     (and_parts (nat_le 1 c.max_allowed_value) _ (and_parts _ (nat_le 1 c.min_cycle) cycled.0).0).1
     in
     let lowest = leb-true c.min_cycle c.max_allowed_value cycled.1 in
-    record {
-      most = highest;
-      least = omega
-          (arith, highest, lowest);
-      base = ltb-true c.ticks_per_base (2 ^ 32) based.1;
-    }
+    let base = ltb-true c.ticks_per_base (2 ^ 32) based.1 in
+    record { most = highest; least = omega (arith, highest, lowest); base = base }
 
 -- also of a counter that isn't declared
 pub any_counter : (S : System) (c : ℕ) → IsProper S → IsSmall (counter S c)
@@ -167,8 +163,8 @@ module _ (S : System) (now : ℕ) where
       jobs = h.jobs;
       shared = h.shared;
       masks = h.masks;
-      alarms = near_set
-          (λ b. IsNear (now / (counter_of S b).ticks_per_base)) s.alarms a e near h.alarms;
+      alarms = near_set (λ b. IsNear (now / (counter_of S b).ticks_per_base)) s.alarms a e near
+          h.alarms;
     }
 
     of_stored : (r i v : ℕ) → IsWord v
