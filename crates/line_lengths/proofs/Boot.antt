@@ -17,7 +17,8 @@ use Rattle.osek_base.specs.Trace.{all_activated, boot, first_expiry, starting_al
 use Rattle.run_laws.proofs.Known.{proper_alarm_at}
 use Rattle.run_laws.proofs.Lists.{all_append}
 use Rattle.line_lengths.proofs.Events.{IsInRange}
-use Rattle.line_lengths.proofs.Words.{AreWords, HasWords, IsNear, any_counter, no_words, of_activated}
+use Rattle.line_lengths.specs.HeldWords.{AreWords, IsNear}
+use Rattle.line_lengths.proofs.Words.{HasWords, any_counter, no_words, of_activated}
 use Rattle.line_lengths.proofs.Executing.{IsRecorded, hooked_range}
 use Rattle.line_lengths.proofs.Phases.{reschedule_recorded}
 

@@ -39,7 +39,8 @@ use Rattle.run_laws.proofs.Lists.{cond_both, found}
 use Rattle.run_laws.proofs.Single.{HasRunner, IsSingle}
 use Rattle.line_lengths.proofs.Events.{AreAnswered, IsInRange, IsShown, small_status}
 use Rattle.line_lengths.proofs.Instructions.{IsAllowed, allowed_at, proper_mask}
-use Rattle.line_lengths.proofs.Words.{IsWord, AreWords, IsNear, HasWords, AreOperands, IsWordJob, any_counter, each_at, each_set, jobs_changed, of_jobs, of_service, word_at}
+use Rattle.line_lengths.specs.HeldWords.{IsWord, AreWords, IsNear}
+use Rattle.line_lengths.proofs.Words.{HasWords, AreOperands, IsWordJob, any_counter, each_at, each_set, jobs_changed, of_jobs, of_service, word_at}
 
 -- ---- operands
 
@@ -271,7 +272,8 @@ module _ (S : System) where
         let words = words_stored s.words who done.effect h.words both.1 in
         record {
           events = ((inside, (allowed, both.1)), tt);
-          state = of_context c done.context (record s { words = words_after s.words who done.effect })
+          state = of_context c done.context
+              (record s { words = words_after s.words who done.effect })
               both.0 (record { objects = h.objects; active = h.active; words = words });
         }
     executed_recorded who c x (Instr.Service call) all inside allowed =

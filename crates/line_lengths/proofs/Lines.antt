@@ -64,7 +64,8 @@ module _ (S : System) (proper : IsProper S) where
 
   numbered_short : (number : Option ℕ) → IfSome number (λ n. n ≤ 1) → (t : ℕ)
       (events : List TraceEvent) → t < MAX_TICKS → AllByRecursion (IsInRange S) events
-      → HaveAtMost longest_numbered_line (map (λ e. line S.names t e ++ blockers_text number e) events)
+      → HaveAtMost longest_numbered_line
+      (map (λ e. line S.names t e ++ blockers_text number e) events)
   numbered_short number one t [] low all = tt
   numbered_short number one t (e ∷ events) low all =
       let first = line_long S names t e low all.0 in
@@ -89,13 +90,12 @@ module _ (S : System) (proper : IsProper S) where
               → IfSome (option_map (λ u. length (blockers S steps u j.id)) o) (λ n. n ≤ 1)
           since None is = tt
           since (Some u) is =
-              let ready = found (λ k. k < suc v)
-              (λ k. nat_le (behind_last j.id steps v) k && is_ready_from S
-              (boot S mode).state steps k j.id) (below (suc v)) u
+              let becomes : ℕ → Bool = λ k. is_ready_from S (boot S mode).state steps k j.id in
+              let behind : ℕ → Bool = λ k. nat_le (behind_last j.id steps v) k in
+              let ready = found (λ k. k < suc v) (λ k. behind k && becomes k) (below (suc v)) u
               (all_below (suc v)) is in
               blocks_once S mode arrivals (suc v) proper u j.id
-              (and_parts (nat_le (behind_last j.id steps v) u)
-              (is_ready_from S (boot S mode).state steps u j.id) ready.1).1
+              (and_parts (behind u) (becomes u) ready.1).1
 
   -- ---- in a view
 
@@ -136,16 +136,19 @@ module _ (S : System) (proper : IsProper S) where
   -- ---- of steps
 
   module _ (n : ℕ) (few : n ≤ MAX_TICKS) where
-    step_short : (step : Step) → IsStepInRange S n step → HaveAtMost longest_line (step_lines S.names step)
+    step_short : (step : Step) → IsStepInRange S n step
+        → HaveAtMost longest_line (step_lines S.names step)
     step_short step h =
         let low = h.number in
         events_short step.number step.events (omega (arith, low, few)) h.events
 
-    numbered_step_short : (mode : ℕ) (arrivals : List Arrival) (step : Step) → IsStepInRange S n step
+    numbered_step_short : (mode : ℕ) (arrivals : List Arrival) (step : Step)
+        → IsStepInRange S n step
         → HaveAtMost longest_numbered_line (blocking_lines S mode arrivals step)
     numbered_step_short mode arrivals step h =
         let low = h.number in
-        numbered_short (blockers_at S mode arrivals step.number) (few_blockers mode arrivals step.number)
+        numbered_short (blockers_at S mode arrivals step.number)
+        (few_blockers mode arrivals step.number)
         step.number step.events (omega (arith, low, few)) h.events
 
     sights_short : (p : ℕ) (steps : List Step) → AllByRecursion (IsStepInRange S n) steps

@@ -25,7 +25,8 @@ use Rattle.run_laws.proofs.Lists.{all_append, all_kept, cond_both}
 use Rattle.same_future.proofs.Tables.{length-table, table_at}
 use Rattle.line_lengths.proofs.Events.{IsInRange}
 use Rattle.line_lengths.proofs.Instructions.{IsAllowed, proper_mask}
-use Rattle.line_lengths.proofs.Words.{AreOperands, AreWords, HasWords, IsNear, IsWordJob, jobs_changed, no_words, of_action, of_jobs}
+use Rattle.line_lengths.specs.HeldWords.{AreWords, IsNear}
+use Rattle.line_lengths.proofs.Words.{AreOperands, HasWords, IsWordJob, jobs_changed, no_words, of_action, of_jobs}
 use Rattle.line_lengths.proofs.Executing.{IsRecorded, error_range, hooked_range}
 
 both_true : (a b : Bool) → a ≡ true → b ≡ true → (a && b) ≡ true
@@ -41,7 +42,8 @@ module _ (S : System) where
   renewed_near n (Some e) near = go (e.count == n) refl (e.cycle == 0)
     where
       go : (b : Bool) → (e.count == n) ≡ b → (c : Bool)
-          → IsNear n (cond b (cond c None (Some (record e { count = e.count + e.cycle }))) (Some e))
+          → IsNear n
+          (cond b (cond c None (Some (record e { count = e.count + e.cycle }))) (Some e))
       go true now true = tt
       go true now false =
           let is = eqb-true e.count n now in

@@ -13,6 +13,7 @@ use Rattle.run_laws.proofs.FormedTick.{run_form}
 use Rattle.run_laws.proofs.Lists.{all_append, all_weaker}
 use Rattle.run_laws.proofs.RankedTick.{IsRunState, before_executing, run_ordered}
 use Rattle.run_laws.proofs.RunSteps.{run_tick}
+use Rattle.line_lengths.specs.HeldWords.{RunsHoldWords}
 use Rattle.line_lengths.proofs.Boot.{boot_recorded}
 use Rattle.line_lengths.proofs.Events.{IsInRange}
 use Rattle.line_lengths.proofs.Executing.{execute_recorded}
@@ -62,13 +63,15 @@ module _ (S : System) (proper : IsProper S) where
       → AllByRecursion (IsStepInRange S (suc n)) steps
   later_steps n steps all =
       all_weaker (IsStepInRange S n) (IsStepInRange S (suc n)) steps
-      (λ step h. record { number = let low = h.number in omega (arith, low); events = h.events }) all
+      (λ step h. record { number = let low = h.number in omega (arith, low); events = h.events })
+      all
 
   module _ (mode : ℕ) (arrivals : List Arrival) where
     -- one tick further, at an over of one's own
     abbrev further : Run → Bool → Run
     further r over =
-        elim over [ true ↦ r | false ↦ step_added r (tick S (arriving arrivals r.state.tick) r.state) ]
+        elim over
+        [ true ↦ r | false ↦ step_added r (tick S (arriving arrivals r.state.tick) r.state) ]
 
     more : (n : ℕ) (r : Run) (over : Bool) → (over ≡ false → r.state.tick ≡ n)
         → IsRunState S r.state → HasForm S r.state → IsRunInRange S n r
@@ -97,3 +100,15 @@ module _ (S : System) (proper : IsProper S) where
         let r : Run = run S mode arrivals n in
         more n r r.state.over (run_tick S mode arrivals n) (run_ordered S proper mode arrivals n)
         (run_form S proper mode arrivals n) (run_in_range n)
+
+pub runs_hold_words : RunsHoldWords
+runs_hold_words S mode arrivals n proper =
+    let h = (run_in_range S proper mode arrivals n).state in
+    record {
+      jobs = h.objects.jobs;
+      active = h.active;
+      words = h.words;
+      shared = h.objects.shared;
+      masks = h.objects.masks;
+      alarms = h.objects.alarms;
+    }

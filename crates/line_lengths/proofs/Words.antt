@@ -1,5 +1,5 @@
 -- Registers, words, masks and what alarms have left have 32 bits, and no service changes that.
-use Rattle.std.proofs.Common.{ℕ, zero, suc, ◌≡◌, ◌<◌, ◌≤◌, ◌+◌, ◌-◌, ◌/◌, ◌%◌, ◌^◌, inl, inr, true, cond, not, ◌&&◌, List, [], ◌∷◌, ◌++◌, map, length, set, get_or, replicate, subst, sym, arith}
+use Rattle.std.proofs.Common.{ℕ, zero, suc, ◌≡◌, ◌≤◌, ◌+◌, ◌-◌, ◌/◌, ◌%◌, ◌^◌, inl, inr, true, cond, not, ◌&&◌, List, [], ◌∷◌, ◌++◌, map, length, set, get_or, replicate, subst, sym, arith}
 use Rattle.std.specs.Prelude.{Option, Some, None, IfSome, nat_le, slice_index, slice_index_or, slice_set, bit_and, bit_or, bit_xor}
 use Rattle.std.specs.List.{AllByRecursion, filter}
 use Rattle.std.specs.Int.Bits.{and_lt}
@@ -22,13 +22,8 @@ use Rattle.osek_base.specs.State.{Active, Expiry, Job, JobId, State, interrupts_
 use Rattle.osek_base.specs.System.{System, counter, counter_of, is_extended, no_counter}
 use Rattle.osek_base.specs.Types.{ServiceCall}
 use Rattle.osek_base.proofs.PlaceLemmas.{all_at}
+use Rattle.line_lengths.specs.HeldWords.{IsWord, AreWords, IsNear}
 use Rattle.run_laws.proofs.Lists.{all_append, all_kept, all_map, cond_both}
-
-abbrev pub IsWord : ℕ → Type 0
-IsWord n = n < 2 ^ 32
-
-abbrev pub AreWords : List ℕ → Type 0
-AreWords values = AllByRecursion IsWord values
 
 -- ---- lists
 
@@ -52,11 +47,6 @@ no_words zero = tt
 no_words (suc n) = (omega arith, no_words n)
 
 -- ---- alarms
-
--- an alarm has 32 bits of counts left at most, and such a cycle
-abbrev pub IsNear : ℕ → Option Expiry → Type 0
-IsNear n None = Unit {0}
-IsNear n (Some e) = (e.count < n + 2 ^ 32) × IsWord e.cycle
 
 near_set : (P : ℕ → Option Expiry → Type 0) (es : List (Option Expiry)) (a : ℕ) (e : Option Expiry)
     → P a e

@@ -32,7 +32,8 @@ LinesAreShort =
 abbrev pub NumberedLinesAreShort : Type 0
 NumberedLinesAreShort =
     (S : System) (mode : ℕ) (arrivals : List Arrival) (n : ℕ) → IsProper S → n ≤ MAX_TICKS
-    → HaveAtMost longest_numbered_line (flat_map (blocking_lines S mode arrivals) (run S mode arrivals n).steps)
+    → HaveAtMost longest_numbered_line
+    (flat_map (blocking_lines S mode arrivals) (run S mode arrivals n).steps)
 
 -- those of a view, at any priority
 abbrev pub ViewLinesAreShort : Type 0
