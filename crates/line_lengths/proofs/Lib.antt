@@ -1,0 +1,10 @@
+pub mod Lengths
+pub mod Named
+pub mod Instructions
+pub mod Events
+pub mod Words
+pub mod Executing
+pub mod Phases
+pub mod Boot
+pub mod Runs
+pub mod Lines
