@@ -39,6 +39,7 @@ impl Looker for Unseen {
 impl Looker for AtInstruction {
     ghost HasSeen = { λ at S o. at.tasks.items ≡ map (task_at_in S o) (below (length S.tasks)) };
 
+    #[inline(always)]
     fn look<Q: ReadyQueues>(&mut self, processor: &Processor<'_, Q>) {
         see_tasks(processor, &mut self.tasks);
     }
@@ -46,6 +47,7 @@ impl Looker for AtInstruction {
 
 /// Leaves what each task is.
 #[tactic(auto, using(crate::proofs::Filled::one_more, crate::proofs::Filled::all_of))]
+#[inline(always)]
 fn see_tasks<Q: ReadyQueues>(processor: &Processor<'_, Q>, tasks: &mut ArrayVec<TaskAt, MAX_TASKS>)
     ensures { tasks.new.items
         ≡ map (task_at_in (system_of processor.now) (picture processor.now))

@@ -79,6 +79,14 @@ impl<'s, Q: ReadyQueues, B: Blockers> Kernel<'s, Q, B> {
         Some(executed)
     }
 
+    /// Whether it is known that the running task executes a plain instruction in the next tick, and
+    /// nothing else happens, if no alarm is due. Where it isn't, [`pass_plain`](Kernel::pass_plain)
+    /// does no tick.
+    #[inline(always)]
+    pub fn works_on(&self) -> bool {
+        self.next != self.machine.next_tick() && self.machine.is_working()
+    }
+
     /// The ticks that follow, at most some, are done as long as it is known that the running task
     /// executes a plain instruction in each, and nothing else happens: no interrupt arrives, no
     /// alarm is due, and no number of blockers is told. The first tick is none of these. `room` is

@@ -31,7 +31,6 @@ use Rattle.kept_state.specs.Kept.{Kept, kept}
 use Rattle.kept_state.specs.KeptService.{holds_in}
 use Rattle.kept_state.specs.Seen.{holder_in, routine_of}
 use Rattle.kept_state.proofs.Ticked.{known_of, settled_of}
-use Rattle.seen_ticks.specs.declared.task_at.TaskAt.{TaskAt}
 use Rattle.kernel.specs.Progress.{HasIdled, Progress, run_of}
 use Rattle.kernel.specs.Working.{HasWorked, at_rest}
 use Rattle.seen_ticks.specs.Told.{refused_of, task_at, task_at_in}
@@ -40,7 +39,7 @@ use Rattle.observed_runs.specs.declared.before.Before.{Before}
 use Rattle.observed_runs.specs.declared.execution.Execution.{Execution}
 use Rattle.observed_runs.specs.Keeping.{IsTold, KnowsNext}
 use Rattle.seen_ticks.specs.Observed.{IsObserved, IsSeen, Ticked, activates, active_routine, alarm_seen, answered, ending, executed_in, failure_by, failure_of, holders_seen, instruction, is_accepted, is_by, is_end, is_limit, is_number, is_pending, is_waiting, jobs_before, lost_of, one_if, owner_of, refusing, routine_seen, state_seen, status_of, task_of, task_seen, tick_at}
-use Rattle.observed_runs.specs.Passing.{HasStayed, LeavesTasks, PassesAlike, StaysAlike, task_left}
+use Rattle.observed_runs.specs.Passing.{HasStayed, LeavesAll, PassesAlike, StaysAlike, task_left}
 use Rattle.observed_runs.proofs.Staying.{holding}
 
 -- ---- a task, between two ticks and at the instruction of one
@@ -219,15 +218,18 @@ module _ (counted : Bool) (S : System) (proper : IsProper S) (mode : ℕ) (arriv
         lost = none_lost (is_pending before i) j;
       }
 
-  -- by what it was, and who executes
-  pub tasks_left : LeavesTasks S (tick_at S mode arrivals n)
-  tasks_left = record {
+  -- nothing comes to anything
+  pub all_left : LeavesAll S (tick_at S mode arrivals n)
+  all_left = record {
     each = λ t.
         let own : is_by (Owner.Task t) e ≡ by_owner (Owner.Task t) who = by_same (Owner.Task t) e who stays.owner in
-        let left : alike_task S o who t ≡ task_left (is_by (Owner.Task t) e) (task_at S at t) =
-        sym (ap₂ task_left own (task_at_is t)) in
+        let left : alike_task S o who t ≡ task_left (is_by (Owner.Task t) e) (task_at S after t) =
+        sym (ap₂ task_left own (task_behind t)) in
         ap (λ k. task_seen S k t) tick_is ∙ one_task t ∙ left
-        ∙ ap (λ x. task_left (is_by (Owner.Task t) x) (task_at S at t)) (sym executed_is);
+        ∙ ap (λ x. task_left (is_by (Owner.Task t) x) (task_at S after t)) (sym executed_is);
+    none_due = ap (λ (k : Ticked). k.due) tick_is;
+    none_refused = ap (λ (k : Ticked). k.refused) tick_is;
+    none_arrive = ap (λ (k : Ticked). k.arrived) tick_is;
   }
 
   tasks_are : map (task_seen S (tick_at S mode arrivals n)) (below (length S.tasks)) ≡ map (alike_task S o who) (below (length S.tasks))
@@ -288,18 +290,14 @@ module _ (counted : Bool) (S : System) (proper : IsProper S) (mode : ℕ) (arriv
         ap active_routine behind ∙ ap (λ (x : Kept). active_of x) stays.behind
         ∙ sym (ap (λ (x : Kept). active_of x) stays.before)
 
-    task_now : (t : ℕ) → task_at S now t ≡ task_at S at t
-    task_now t = ap (λ (s : State). task_at S s t) behind ∙ task_behind t ∙ sym (task_at_is t)
-
-    pub alike_told : (known : Before) (x : Execution) (tasks : List TaskAt) (ahead behind_it : List TraceEvent) (last : Option Executed)
+    pub alike_told : (known : Before) (x : Execution) (ahead behind_it : List TraceEvent) (last : Option Executed)
         → known.jobs.items ≡ map (jobs_before (ticks == 0) now) (below (length S.tasks))
         → known.pending.items ≡ map (is_pending now) (below (length S.routines)) → known.active ≡ active_routine now
         → x.executed ≡ last → x.ending ≡ ending S last → x.refusing ≡ refusing S last
-        → tasks ≡ map (task_at S now) (below (length S.tasks))
         → IfSome last (StandsIn S) → ahead ≡ [] → behind_it ≡ []
         → record_at S mode arrivals n ≡ idle_or_executed S last ∷ []
-        → IsTold S mode arrivals n now known x tasks ahead behind_it
-    alike_told known x tasks ahead behind_it last jobs pending active executed ends refuses each there none_ahead none_behind recorded =
+        → IsTold S mode arrivals n now known x ahead behind_it
+    alike_told known x ahead behind_it last jobs pending active executed ends refuses there none_ahead none_behind recorded =
         let last_is : executed_in (record_at S mode arrivals n) ≡ last = ap executed_in recorded ∙ executed_again S last in
         let few_ahead = ap (λ (v : List TraceEvent). length v) none_ahead in
         let few_behind = ap (λ (v : List TraceEvent). length v) none_behind in
@@ -317,7 +315,6 @@ module _ (counted : Bool) (S : System) (proper : IsProper S) (mode : ℕ) (arriv
             ending = ends ∙ sym (ap (ending S) last_is);
             refusing = refuses ∙ sym (ap (refusing S) last_is);
           };
-          each = each ∙ ap (λ (f : ℕ → TaskAt). map f (below (length S.tasks))) (fun_ext task_now);
           records = record {
             recorded =
                 ap₂ (λ (u v : List TraceEvent). u ++ idle_or_executed S x.executed ∷ v) none_ahead none_behind
@@ -392,13 +389,12 @@ work_stays counted most n old new last worked = record {
 -- ---- a kernel that passes such ticks
 
 -- what is noted behind a run's last tick, in which that was executed
-pub record IsNoted (r : Progress) (last : Option Executed) (known : Before) (e : Execution) (tasks : List TaskAt)
+pub record IsNoted (r : Progress) (last : Option Executed) (known : Before) (e : Execution)
     (ahead behind : List TraceEvent) : Type 0 where
   pub next : KnowsNext r known
   pub executed : e.executed ≡ last
   pub ending : e.ending ≡ ending r.system last
   pub refusing : e.refusing ≡ refusing r.system last
-  pub each : tasks ≡ map (task_at r.system (run_of r).state) (below (length r.system.tasks))
   pub there : IfSome last (StandsIn r.system)
   pub none_ahead : ahead ≡ []
   pub none_behind : behind ≡ []
@@ -429,29 +425,29 @@ module _ (counted : Bool) (most n : ℕ) (k new : Progress) (last : Option Execu
   not_first_at : (i : ℕ) → 1 ≤ k.ticks + i
   not_first_at i = let begun = stayed.not_first some in omega (arith, begun)
 
-  pub stayed_told : IsProper k.system → (known : Before) (e : Execution) (tasks : List TaskAt) (ahead behind : List TraceEvent)
-      → IsNoted new last known e tasks ahead behind
-      → IsTold new.system new.mode new.arrivals (new.ticks - 1) (run_of new).state known e tasks ahead behind
-  stayed_told proper known e tasks ahead behind noted =
-      let is : IsNoted (record k { ticks = k.ticks + n }) last known e tasks ahead behind =
-      subst (λ r. IsNoted r last known e tasks ahead behind) stayed.next noted in
+  pub stayed_told : IsProper k.system → (known : Before) (e : Execution) (ahead behind : List TraceEvent)
+      → IsNoted new last known e ahead behind
+      → IsTold new.system new.mode new.arrivals (new.ticks - 1) (run_of new).state known e ahead behind
+  stayed_told proper known e ahead behind noted =
+      let is : IsNoted (record k { ticks = k.ticks + n }) last known e ahead behind =
+      subst (λ r. IsNoted r last known e ahead behind) stayed.next noted in
       let state_is : (run_of new).state ≡ (run k.system k.mode k.arrivals (k.ticks + n)).state =
       ap (λ (r : Progress). (run_of r).state) stayed.next in
-      last_on k new n (λ S mode arrivals m. IsTold S mode arrivals m (run_of new).state known e tasks ahead behind) stayed.next some
-      (subst (λ s. IsTold k.system k.mode k.arrivals (k.ticks + (n - 1)) s known e tasks ahead behind) (sym state_is)
+      last_on k new n (λ S mode arrivals m. IsTold S mode arrivals m (run_of new).state known e ahead behind) stayed.next some
+      (subst (λ s. IsTold k.system k.mode k.arrivals (k.ticks + (n - 1)) s known e ahead behind) (sym state_is)
       (alike_told counted k.system proper k.mode k.arrivals (k.ticks + (n - 1)) kept_then stayed.who (not_first_at (n - 1))
       (stayed.going (n - 1) last_low) (stayed.stays (n - 1) last_low)
       (k.ticks + n) (run k.system k.mode k.arrivals (k.ticks + n)).state state_behind (not_first_at n)
-      known e tasks ahead behind last is.next.jobs is.next.pending is.next.active
-      is.executed is.ending is.refusing is.each is.there is.none_ahead is.none_behind (stayed.recorded some)))
+      known e ahead behind last is.next.jobs is.next.pending is.next.active
+      is.executed is.ending is.refusing is.there is.none_ahead is.none_behind (stayed.recorded some)))
 
-  -- nothing comes to a task in the last of them
-  pub stayed_tasks : IsProper new.system
-      → LeavesTasks new.system (tick_at new.system new.mode new.arrivals (new.ticks - 1))
-  stayed_tasks proper_now =
+  -- nothing comes to anything in the last of them
+  pub stayed_all : IsProper new.system
+      → LeavesAll new.system (tick_at new.system new.mode new.arrivals (new.ticks - 1))
+  stayed_all proper_now =
       let proper : IsProper k.system = subst IsProper (ap (λ (r : Progress). r.system) stayed.next) proper_now in
-      last_on k new n (λ S mode arrivals m. LeavesTasks S (tick_at S mode arrivals m)) stayed.next some
-      (tasks_left counted k.system proper k.mode k.arrivals (k.ticks + (n - 1)) kept_then stayed.who (not_first_at (n - 1))
+      last_on k new n (λ S mode arrivals m. LeavesAll S (tick_at S mode arrivals m)) stayed.next some
+      (all_left counted k.system proper k.mode k.arrivals (k.ticks + (n - 1)) kept_then stayed.who (not_first_at (n - 1))
       (stayed.going (n - 1) last_low) (stayed.stays (n - 1) last_low))
 
   pub stayed_holders : holders_seen new.system (run_of new).state

@@ -4,6 +4,7 @@ pub mod RefusedAlarms
 pub mod Refusals
 pub mod SeenSteps
 pub mod Alike
+pub mod Left
 pub mod Seeing
 pub mod Staying
 pub mod Telling

@@ -11,10 +11,8 @@ use Rattle.osek_base.specs.System.{System}
 use Rattle.observations.specs.declared.observation.Observation.{Observation}
 use Rattle.blocking_laws.specs.Steps.{record_at}
 use Rattle.kernel.specs.Progress.{Progress, run_of}
-use Rattle.seen_ticks.specs.Told.{task_at}
 use Rattle.observed_runs.specs.declared.before.Before.{Before}
 use Rattle.observed_runs.specs.declared.execution.Execution.{Execution}
-use Rattle.seen_ticks.specs.declared.task_at.TaskAt.{TaskAt}
 use Rattle.seen_ticks.specs.Observed.{IsObserved, Ticked, active_routine, ending, holders_seen, is_pending, jobs_before, refusing, tick_at}
 
 -- the tick of a run that was done last
@@ -45,21 +43,20 @@ pub record IsExecution (S : System) (k : Ticked) (e : Execution) : Type 0 where
   pub ending : e.ending ≡ ending S k.executed
   pub refusing : e.refusing ≡ refusing S k.executed
 
--- of tick n of a run, the state behind it, what was known before it, what it executed, what tasks were then, and its records
-pub record IsTold (S : System) (mode : ℕ) (arrivals : List Arrival) (n : ℕ) (now : State) (before : Before) (e : Execution) (tasks : List TaskAt) (ahead behind_it : List TraceEvent) : Type 0 where
+-- of tick n of a run, the state behind it, what was known before it, what it executed, and its records
+pub record IsTold (S : System) (mode : ℕ) (arrivals : List Arrival) (n : ℕ) (now : State) (before : Before) (e : Execution) (ahead behind_it : List TraceEvent) : Type 0 where
   pub behind : now ≡ (tick_at S mode arrivals n).after
   pub known : IsBefore S (tick_at S mode arrivals n) before
   pub done : IsExecution S (tick_at S mode arrivals n) e
-  pub each : tasks ≡ map (task_at S (tick_at S mode arrivals n).at) (below (length S.tasks))
   pub records : AreRecords S e.executed ahead behind_it (record_at S mode arrivals n)
 
 -- beside a run, its system, that its arrivals are few, what is told of the tick done last, and whether what was known before
 -- that is known before the next, too
-pub record IsTelling (r : Progress) (S : System) (before : Before) (is_noted : Bool) (e : Execution) (tasks : List TaskAt)
+pub record IsTelling (r : Progress) (S : System) (before : Before) (is_noted : Bool) (e : Execution)
     (ahead behind : List TraceEvent) : Type 0 where
   pub system : r.system ≡ S
   pub few : length r.arrivals ≤ MAX_ARRIVALS
-  pub told : 1 ≤ r.ticks → IsTold r.system r.mode r.arrivals (r.ticks - 1) (run_of r).state before e tasks ahead behind
+  pub told : 1 ≤ r.ticks → IsTold r.system r.mode r.arrivals (r.ticks - 1) (run_of r).state before e ahead behind
   pub next : is_noted ≡ true → KnowsNext r before
 
 -- what is seen of it, and whether its holders are those before the next tick, too

@@ -74,6 +74,10 @@ task_left executes at =
       waits = executes && is_waiting at.state;
     }
 
--- nothing comes to a task in a tick
-pub record LeavesTasks (S : System) (k : Ticked) : Type 0 where
-  pub each : (t : ℕ) → task_seen S k t ≡ task_left (is_by (Owner.Task t) k.executed) (task_at S k.at t)
+-- nothing comes to anything in a tick: tasks are behind it what they are at its instruction, no alarm is due, and no interrupt
+-- arrives
+pub record LeavesAll (S : System) (k : Ticked) : Type 0 where
+  pub each : (t : ℕ) → task_seen S k t ≡ task_left (is_by (Owner.Task t) k.executed) (task_at S k.after t)
+  pub none_due : k.due ≡ []
+  pub none_refused : k.refused ≡ []
+  pub none_arrive : k.arrived ≡ []

@@ -8,7 +8,6 @@ mod holders_seen;
 mod observed_run;
 mod readers;
 mod routines_seen;
-mod tasks_between;
 mod tasks_seen;
 mod told_run;
 

@@ -1,18 +1,28 @@
 //! A run that is observed, no part of the standards.
 
-ghost use Rattle.std.specs.Prelude.{◌≡◌, ◌+◌, ◌-◌, ◌≤◌, [], false, true, not, IsTrue, IsFalse, None, Some, IfOk};
+ghost use Rattle.std.specs.Prelude.{◌≡◌, ◌+◌, ◌-◌, ◌≤◌, [], not, map, length, IsTrue, IsFalse, Some, IfOk};
+ghost use Rattle.std.specs.Option.{option_map};
 ghost use Rattle.osek_base.specs.BlockingText.{blockers_at};
+ghost use Rattle.osek_base.specs.Lists.{below};
 ghost use Rattle.osek_base.specs.Names.{number_of};
 ghost use Rattle.kernel.specs.declared.boot.BootFault.{BootFault};
 ghost use Rattle.kernel.specs.Progress.{AreKnown, is_over};
+ghost use Rattle.kernel.specs.Stamping.{IsNumber};
 ghost use Rattle.blocking_laws.specs.Steps.{record_at, step_at};
 ghost use Rattle.observed_runs.specs.Keeping.{last_tick};
-ghost use Rattle.observed_runs.specs.Passing.{LeavesTasks, PassesAlike};
-ghost use Rattle.seen_ticks.specs.Observed.{IsObserved, IsSeen, holders_seen};
+ghost use Rattle.observed_runs.specs.Passing.{LeavesAll, PassesAlike};
+ghost use Rattle.seen_ticks.specs.Told.{task_at};
+ghost use Rattle.seen_ticks.specs.Observed.{
+  IsObserved,
+  answered,
+  failure_of,
+  holders_seen,
+  owner_of,
+};
 
 use crate::execution::{answered, executor, failure};
 use crate::told_run::ToldRun;
-use kernel::{Blockers, BootFault};
+use kernel::{AtInstruction, Blockers, BootFault};
 use observations::Observation;
 use osek_base::{Arrivals, MAX_TICKS, System, TickRecord};
 use std::alloc::Global;
@@ -24,6 +34,8 @@ use std::marker::Model;
 #[derive(Drop)]
 pub struct ObservedRun<'s, B: Blockers> {
     told: ToldRun<'s, B>,
+    /// Room for what the tasks are at a tick's instruction.
+    at: AtInstruction,
     seen: Observation,
     /// Whether the holders that are seen are those before the tick that comes next, too.
     is_held: bool,
@@ -41,20 +53,18 @@ impl<'s, B: Blockers> Model for ObservedRun<'s, B> {
 }
 
 impl<'s, B: Blockers> ToldRun<'s, B> {
-    /// Leaves what is seen of the tick that was done last, where its holders stand already. It may
-    /// be known that nothing comes to any task in it.
+    /// Leaves who executed in the tick that was done last, and how that went.
     #[inline(always)]
-    fn see(&self, is_left: bool, seen: &mut Observation)
-        requires ticked { 1 ≤ self.now.ticks }
-        requires left { is_left ≡ true → LeavesTasks self.now.system (last_tick self.now) }
-        requires holders { seen.old.holders.items
-            ≡ holders_seen self.now.system (last_tick self.now).at }
+    fn see_executed(&self, seen: &mut Observation)
+        requires { 1 ≤ self.now.ticks }
+        ensures holders { seen.new.holders ≡ seen.old.holders }
         ensures number { seen.new.tick ≡ self.now.ticks - 1 }
-        ensures seen { IsSeen self.now.system (last_tick self.now) seen.new }
-        ensures counted { B.are_counted ≡ true
-            → seen.new.blockers
-            ≡ blockers_at self.now.system self.now.mode self.now.arrivals (self.now.ticks - 1) }
-        ensures uncounted { B.are_counted ≡ false → seen.new.blockers ≡ None }
+        ensures executor { seen.new.executor ≡ option_map owner_of (last_tick self.now).executed }
+        ensures answered { seen.new.answered ≡ answered (last_tick self.now).executed }
+        ensures failure { seen.new.failure ≡ failure_of (last_tick self.now).executed }
+        ensures blockers { IsNumber B.are_counted
+            (blockers_at self.now.system self.now.mode self.now.arrivals (self.now.ticks - 1))
+            seen.new.blockers }
     {
         seen.tick = self.ticks() - 1;
         let executed = self.executed();
@@ -62,9 +72,42 @@ impl<'s, B: Blockers> ToldRun<'s, B> {
         seen.answered = answered(&executed);
         seen.failure = failure(&executed);
         seen.blockers = self.kernel.blockers();
-        self.see_tasks_of(is_left, &mut seen.tasks);
+    }
+
+    /// Leaves what is seen of the tick that was done last, by what the tasks were at its instruction.
+    /// Its holders stand already.
+    #[inline(always)]
+    fn see(&self, at: &AtInstruction, seen: &mut Observation)
+        requires ticked { 1 ≤ self.now.ticks }
+        requires each { at.now.tasks.items
+            ≡ map (task_at self.now.system (last_tick self.now).at)
+            (below (length self.now.system.tasks)) }
+        requires holders { seen.old.holders.items
+            ≡ holders_seen self.now.system (last_tick self.now).at }
+        ensures { IsObserved B.are_counted self.now.system self.now.mode self.now.arrivals
+            (self.now.ticks - 1) seen.new }
+    {
+        self.see_executed(seen);
+        self.see_tasks(at, &mut seen.tasks);
         self.see_routines(&mut seen.routines);
         self.see_alarms(&mut seen.alarms);
+    }
+
+    /// Leaves what is seen of the tick that was done last, in which nothing comes to anything. Its
+    /// holders stand already.
+    #[inline(always)]
+    fn see_alike(&self, seen: &mut Observation)
+        requires ticked { 1 ≤ self.now.ticks }
+        requires leaves { LeavesAll self.now.system (last_tick self.now) }
+        requires holders { seen.old.holders.items
+            ≡ holders_seen self.now.system (last_tick self.now).at }
+        ensures { IsObserved B.are_counted self.now.system self.now.mode self.now.arrivals
+            (self.now.ticks - 1) seen.new }
+    {
+        self.see_executed(seen);
+        self.see_tasks_left(&mut seen.tasks);
+        self.see_routines_left(&mut seen.routines);
+        self.see_alarms_left(&mut seen.alarms);
     }
 }
 
@@ -86,6 +129,7 @@ impl<'s, B: Blockers> ObservedRun<'s, B> {
         let told = ToldRun::boot(alloc, system, mode, arrivals)?;
         Ok(ObservedRun {
             told,
+            at: AtInstruction::new(),
             seen: Observation::new(),
             is_held: false,
         })
@@ -103,8 +147,8 @@ impl<'s, B: Blockers> ObservedRun<'s, B> {
         }
         self.told
             .see_holders_once(self.is_held, &mut self.seen.holders);
-        self.told.advance();
-        self.told.see(false, &mut self.seen);
+        self.told.advance(&mut self.at);
+        self.told.see(&self.at, &mut self.seen);
         self.is_held = false;
         true
     }
@@ -113,8 +157,20 @@ impl<'s, B: Blockers> ObservedRun<'s, B> {
     /// of them: of the others the same is seen, but for the number. Such are ticks in which nobody
     /// executes, and those in which the running task executes plain instructions, where nothing else
     /// happens. Answers how many were done. The first tick is none of these.
-    #[inline(never)]
+    #[inline(always)]
     pub fn pass_alike(&mut self, most: u32) -> u32
+        ensures { PassesAlike B.are_counted most self.old self.new result }
+    {
+        if self.told.may_pass(self.seen.executor.is_none()) {
+            self.pass_some(most)
+        } else {
+            0
+        }
+    }
+
+    /// As [`pass_alike`](ObservedRun::pass_alike).
+    #[inline(never)]
+    fn pass_some(&mut self, most: u32) -> u32
         ensures { PassesAlike B.are_counted most self.old self.new result }
     {
         if self.told.is_over() {
@@ -127,7 +183,7 @@ impl<'s, B: Blockers> ObservedRun<'s, B> {
             return 0;
         }
         self.told.see_holders(&mut self.seen.holders);
-        self.told.see(true, &mut self.seen);
+        self.told.see_alike(&mut self.seen);
         self.is_held = true;
         passed
     }

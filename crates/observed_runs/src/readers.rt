@@ -117,13 +117,13 @@ fn few_jobs<B: Blockers>(kernel: &Kernel<'_, LevelQueues, B>, system: &System, t
 }
 
 impl<'s, B: Blockers> ToldRun<'s, B> {
-    /// What a task was when the instruction was executed.
-    pub(crate) fn task_at(&self, task: TaskId) -> TaskAt
+    /// What a task is behind the tick.
+    pub(crate) fn task_behind(&self, task: TaskId) -> TaskAt
         requires ticked { 1 ≤ self.now.ticks }
         requires task { task < length self.now.system.tasks }
-        ensures { result ≡ task_at self.now.system (last_tick self.now).at task }
+        ensures { result ≡ task_at self.now.system (last_tick self.now).after task }
     {
-        self.at.tasks[task.number() as usize]
+        self.kernel.task_at(task)
     }
 
     /// How many jobs a task had before the tick; before the first one none.
@@ -151,7 +151,7 @@ impl<'s, B: Blockers> ToldRun<'s, B> {
         requires task { task < length self.now.system.tasks }
         ensures { result ≡ task_state (last_tick self.now).after task }
     {
-        self.kernel.task_at(task).state
+        self.task_behind(task).state
     }
 
     /// What was executed.

@@ -4,7 +4,8 @@ ghost use Rattle.std.specs.Prelude.{ℕ, ◌≡◌, ◌<◌, ◌≤◌, ◌+◌,
 ghost use Rattle.osek_base.specs.declared.ids.Owner.{Owner};
 ghost use Rattle.osek_base.specs.Lists.{below};
 ghost use Rattle.observed_runs.specs.Keeping.{last_tick};
-ghost use Rattle.observed_runs.specs.Passing.{LeavesTasks};
+ghost use Rattle.observed_runs.specs.Passing.{LeavesAll};
+ghost use Rattle.seen_ticks.specs.Told.{task_at};
 ghost use Rattle.seen_ticks.specs.Observed.{
   activations_by,
   is_by,
@@ -19,9 +20,10 @@ ghost use Rattle.seen_ticks.specs.Observed.{
 use crate::readers::is_task;
 use crate::told_run::ToldRun;
 use arrayvec::ArrayVec;
-use kernel::{Blockers, give_places};
+use kernel::{AtInstruction, Blockers, give_places};
 use observations::TaskSeen;
 use osek_base::{Executed, MAX_ACTIVATION, MAX_TASKS, Owner, TaskId, TaskState};
+use seen_ticks::TaskAt;
 
 /// RUNNING for a task that executes, and READY for one that a routine interrupts.
 pub fn state_seen(executes: bool, state: TaskState) -> TaskState
@@ -84,22 +86,30 @@ impl<'s, B: Blockers> ToldRun<'s, B> {
         }
     }
 
-    /// What is seen of a task in the tick that was done last, of which that task executed the
-    /// instruction, and in which maybe activations were refused.
-    fn task_seen(&self, task: TaskId, by: &Option<TaskId>, is_any_refused: bool) -> TaskSeen
+    /// Leaves what is seen of a task in the tick that was done last, by what it was at the tick's
+    /// instruction, the task of which that was, and whether any activation may have been refused.
+    #[inline(always)]
+    fn see_task(
+        &self,
+        task: TaskId,
+        at: TaskAt,
+        by: &Option<TaskId>,
+        is_any_refused: bool,
+        seen: &mut TaskSeen,
+    )
         requires ticked { 1 ≤ self.now.ticks }
         requires task { task < length self.now.system.tasks }
+        requires at { at ≡ task_at self.now.system (last_tick self.now).at task }
         requires by { (t : ℕ) → is_number t by.now
             ≡ is_by (Owner.Task t) (last_tick self.now).executed }
         requires instruction { is_any_refused ≡ false
             → refusing self.now.system (last_tick self.now).executed ≡ None }
         requires alarms { is_any_refused ≡ false → (last_tick self.now).refused ≡ [] }
-        ensures { result ≡ task_seen self.now.system (last_tick self.now) task }
+        ensures { seen.new ≡ task_seen self.now.system (last_tick self.now) task }
     {
-        let at = self.task_at(task);
         let is_own = is_task(task, *by);
         let ended = self.is_ended(task);
-        TaskSeen {
+        *seen = TaskSeen {
             state: state_seen(is_own, at.state),
             priority: at.priority,
             jobs: at.jobs,
@@ -107,6 +117,32 @@ impl<'s, B: Blockers> ToldRun<'s, B> {
             refused: self.refused(task, is_any_refused),
             ended,
             waits: is_own && is_waiting(self.state_behind(task)),
+        };
+    }
+
+    /// Leaves what is seen of the tasks in the tick that was done last, by what they were at its
+    /// instruction.
+    #[tactic(auto, using(kernel::proofs::Filled::one_more, kernel::proofs::Filled::all_of))]
+    #[inline(always)]
+    pub(crate) fn see_tasks(&self, at: &AtInstruction, tasks: &mut ArrayVec<TaskSeen, MAX_TASKS>)
+        requires ticked { 1 ≤ self.now.ticks }
+        requires each { at.now.tasks.items
+            ≡ map (task_at self.now.system (last_tick self.now).at)
+            (below (length self.now.system.tasks)) }
+        ensures { tasks.new.items
+            ≡ map (task_seen self.now.system (last_tick self.now))
+            (below (length self.now.system.tasks)) }
+    {
+        let count = self.system().task_count();
+        give_places(tasks, count);
+        let places = tasks.as_mut_slice();
+        let stood = at.tasks.as_slice();
+        let by = executing_task(&self.executed());
+        let is_any_refused = self.is_any_refused();
+        for number in 0..count {
+            let task = TaskId::new(number as u8);
+            let place = &mut places[number];
+            self.see_task(task, stood[number], &by, is_any_refused, place);
         }
     }
 
@@ -117,10 +153,10 @@ impl<'s, B: Blockers> ToldRun<'s, B> {
         requires task { task < length self.now.system.tasks }
         requires by { (t : ℕ) → is_number t by.now
             ≡ is_by (Owner.Task t) (last_tick self.now).executed }
-        requires left { LeavesTasks self.now.system (last_tick self.now) }
+        requires leaves { LeavesAll self.now.system (last_tick self.now) }
         ensures { result ≡ task_seen self.now.system (last_tick self.now) task }
     {
-        let at = self.task_at(task);
+        let at = self.task_behind(task);
         let jobs = at.jobs;
         let is_own = is_task(task, *by);
         TaskSeen {
@@ -137,9 +173,9 @@ impl<'s, B: Blockers> ToldRun<'s, B> {
     /// Leaves what is seen of the tasks in the tick that was done last, where nothing comes to any.
     #[tactic(auto, using(kernel::proofs::Filled::one_more, kernel::proofs::Filled::all_of))]
     #[inline(always)]
-    fn see_tasks_left(&self, tasks: &mut ArrayVec<TaskSeen, MAX_TASKS>)
+    pub(crate) fn see_tasks_left(&self, tasks: &mut ArrayVec<TaskSeen, MAX_TASKS>)
         requires ticked { 1 ≤ self.now.ticks }
-        requires left { LeavesTasks self.now.system (last_tick self.now) }
+        requires leaves { LeavesAll self.now.system (last_tick self.now) }
         ensures { tasks.new.items
             ≡ map (task_seen self.now.system (last_tick self.now))
             (below (length self.now.system.tasks)) }
@@ -150,41 +186,6 @@ impl<'s, B: Blockers> ToldRun<'s, B> {
         let by = executing_task(&self.executed());
         for number in 0..count {
             places[number] = self.task_left(TaskId::new(number as u8), &by);
-        }
-    }
-
-    /// Leaves what is seen of the tasks in the tick that was done last, of which it may be known
-    /// that nothing comes to any in it.
-    #[inline(always)]
-    pub(crate) fn see_tasks_of(&self, is_left: bool, tasks: &mut ArrayVec<TaskSeen, MAX_TASKS>)
-        requires ticked { 1 ≤ self.now.ticks }
-        requires left { is_left ≡ true → LeavesTasks self.now.system (last_tick self.now) }
-        ensures { tasks.new.items
-            ≡ map (task_seen self.now.system (last_tick self.now))
-            (below (length self.now.system.tasks)) }
-    {
-        if is_left {
-            self.see_tasks_left(tasks);
-        } else {
-            self.see_tasks(tasks);
-        }
-    }
-
-    /// Leaves what is seen of the tasks in the tick that was done last.
-    #[tactic(auto, using(kernel::proofs::Filled::one_more, kernel::proofs::Filled::all_of))]
-    fn see_tasks(&self, tasks: &mut ArrayVec<TaskSeen, MAX_TASKS>)
-        requires { 1 ≤ self.now.ticks }
-        ensures { tasks.new.items
-            ≡ map (task_seen self.now.system (last_tick self.now))
-            (below (length self.now.system.tasks)) }
-    {
-        let count = self.system().task_count();
-        give_places(tasks, count);
-        let places = tasks.as_mut_slice();
-        let by = executing_task(&self.executed());
-        let is_any_refused = self.is_any_refused();
-        for number in 0..count {
-            places[number] = self.task_seen(TaskId::new(number as u8), &by, is_any_refused);
         }
     }
 }

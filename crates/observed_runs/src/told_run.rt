@@ -1,19 +1,21 @@
 //! A run beside what its kernel tells of the last tick, no part of the standards.
 
-ghost use Rattle.std.specs.Prelude.{◌≡◌, ◌+◌, ◌-◌, ◌++◌, ◌≤◌, true, false, length, IfOk, IfSome, Some, None};
+ghost use Rattle.std.specs.Prelude.{◌≡◌, ◌+◌, ◌-◌, ◌++◌, ◌≤◌, true, false, length, map, IfOk, IfSome, Some, None};
 ghost use Rattle.osek_base.specs.Executed.{StandsIn, idle_or_executed};
+ghost use Rattle.osek_base.specs.Lists.{below};
 ghost use Rattle.osek_base.specs.Names.{number_of};
 ghost use Rattle.osek_base.specs.Proper.{IsProper};
 ghost use Rattle.kernel.specs.declared.boot.BootFault.{BootFault};
 ghost use Rattle.kernel.specs.Progress.{AreKnown, HasIdled, is_over, run_of};
 ghost use Rattle.blocking_laws.specs.Steps.{record_at};
+ghost use Rattle.observed_runs.specs.Keeping.{last_tick};
 ghost use Rattle.observed_runs.specs.Passing.{StaysOn};
 ghost use Rattle.seen_ticks.specs.Observed.{executed_in, holders_seen};
+ghost use Rattle.seen_ticks.specs.Told.{task_at};
 
 use crate::before::Before;
 use crate::execution::Execution;
 use crate::holders_seen::see_holders;
-use crate::tasks_between::see_tasks_between;
 use arrayvec::ArrayVec;
 use kernel::{AtInstruction, Blockers, BootFault, Kernel};
 use observations::{Holder, MAX_HELD};
@@ -31,7 +33,6 @@ pub(crate) struct ToldRun<'s, B: Blockers> {
     /// Whether the same is known before the tick that comes next.
     is_noted: bool,
     pub(crate) execution: Execution,
-    pub(crate) at: AtInstruction,
     /// The records before and behind that of the last tick's instruction.
     ahead: TickRecord,
     behind: TickRecord,
@@ -48,7 +49,7 @@ impl<'s, B: Blockers> Model for ToldRun<'s, B> {
     ghost view = { λ r. r.kernel };
 
     ghost invariant = { λ r. IsTelling r.kernel r.system.now r.before r.is_noted r.execution
-        r.at.tasks.items r.ahead r.behind };
+        r.ahead r.behind };
 }
 
 impl<'s, B: Blockers> ToldRun<'s, B> {
@@ -74,7 +75,6 @@ impl<'s, B: Blockers> ToldRun<'s, B> {
             before: Before::new(),
             is_noted: false,
             execution: Execution::nothing(),
-            at: AtInstruction::new(),
             ahead: TickRecord::new(),
             behind: TickRecord::new(),
             room: TickRecord::new(),
@@ -102,16 +102,17 @@ impl<'s, B: Blockers> ToldRun<'s, B> {
         self.kernel.is_over()
     }
 
-    /// Does one tick.
-    pub(crate) fn advance(&mut self)
+    /// Does one tick, and leaves what the tasks are at its instruction.
+    pub(crate) fn advance(&mut self, at: &mut AtInstruction)
         requires { is_over self.old ≡ false }
-        ensures { self.new ≡ record self.old { ticks = self.old.ticks + 1 } }
+        ensures next { self.new ≡ record self.old { ticks = self.old.ticks + 1 } }
+        ensures seen { at.new.tasks.items
+            ≡ map (task_at self.new.system (last_tick self.new).at)
+            (below (length self.new.system.tasks)) }
     {
         self.before
             .note_once(self.is_noted, &self.kernel, self.system);
-        let executed = self
-            .kernel
-            .tick_seen(&mut self.ahead, &mut self.behind, &mut self.at);
+        let executed = self.kernel.tick_seen(&mut self.ahead, &mut self.behind, at);
         self.is_noted = false;
         self.execution = Execution::of(self.system, executed);
     }
@@ -128,7 +129,7 @@ impl<'s, B: Blockers> ToldRun<'s, B> {
         }
         self.before.note(&self.kernel, self.system);
         self.is_noted = true;
-        see_tasks_between(&self.kernel, self.system, &mut self.at.tasks);
+        let _proper = self.system.task_count();
         self.execution = Execution::of(self.system, None);
         self.ahead.clear();
         self.behind.clear();
@@ -148,11 +149,22 @@ impl<'s, B: Blockers> ToldRun<'s, B> {
         }
         self.before.note(&self.kernel, self.system);
         self.is_noted = true;
-        see_tasks_between(&self.kernel, self.system, &mut self.at.tasks);
+        let _proper = self.system.task_count();
         self.execution = Execution::of(self.system, worked.last);
         self.ahead.clear();
         self.behind.clear();
         worked.ticks
+    }
+
+    /// Whether ticks may follow that [`pass_alike`](ToldRun::pass_alike) does. Where none may, none is
+    /// done.
+    #[inline(always)]
+    pub(crate) fn may_pass(&self, is_idle: bool) -> bool {
+        if is_idle {
+            self.kernel.machine().core().is_quiet()
+        } else {
+            self.kernel.works_on()
+        }
     }
 
     /// Does the ticks that follow, at most some, as long as the same is seen of each: while nobody

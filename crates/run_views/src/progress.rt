@@ -37,12 +37,19 @@ impl<'e, E: Write> Progress<'e, E> {
     }
 
     /// So many ticks are done of so many. A failed write is forgotten.
+    #[inline(always)]
     pub fn note(&mut self, done: u32, ticks: u32) {
         if self.is_shown && self.next <= done {
-            self.next = done.saturating_add(TICKS_BETWEEN);
-            let _ = write!(self.err, "\r{done} of {ticks} ticks");
-            let _ = self.err.flush();
+            self.show(done, ticks);
         }
+    }
+
+    /// Shows the number anew.
+    #[inline(never)]
+    fn show(&mut self, done: u32, ticks: u32) {
+        self.next = done.saturating_add(TICKS_BETWEEN);
+        let _ = write!(self.err, "\r{done} of {ticks} ticks");
+        let _ = self.err.flush();
     }
 
     /// A search has made so many visits, keeps so many states, has so many of them open, has tried all that can come up to a

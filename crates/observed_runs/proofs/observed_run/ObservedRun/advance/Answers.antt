@@ -9,5 +9,5 @@ pub see-requires-clause-holders : goal.see-requires-clause-holders
 see-requires-clause-holders g c =
     let k : Progress = c.self.inside.told in
     one_on k c.advance.new.self
-    (λ S mode arrivals n. c.see_holders_once.new.holders.items ≡ holders_seen S (tick_at S mode arrivals n).at) c.advance.ensures
+    (λ S mode arrivals n. c.see_holders_once.new.holders.items ≡ holders_seen S (tick_at S mode arrivals n).at) c.advance.ensures.next
     (c.see_holders_once.ensures.holders ∙ holders_stay k.system c.see_holders_once.ensures.proper k.mode k.arrivals k.ticks)

@@ -1,11 +1,12 @@
-use Rattle.std.proofs.Common.{◌≡◌, false, ◌≤◌, ◌++◌, ◌∷◌, length, sym, ◌∙◌, ap, subst, arith}
+use Rattle.std.proofs.Common.{◌≡◌, false, ◌≤◌, ◌++◌, ◌∷◌, length, map, sym, ◌∙◌, ap, subst, arith}
 use Rattle.std.specs.Prelude.{IfSome}
 use Rattle.osek_base.specs.declared.limits.TheConstants.{MAX_ARRIVALS}
 use Rattle.osek_base.specs.Executed.{StandsIn, idle_or_executed}
-use Rattle.osek_base.specs.System.{System}
+use Rattle.osek_base.specs.Lists.{below}
 use Rattle.kernel.specs.Progress.{Progress, is_over, run_of}
 use Rattle.observed_runs.specs.Keeping.{IsTold}
-use Rattle.seen_ticks.specs.Observed.{ending, refusing}
+use Rattle.seen_ticks.specs.Told.{task_at}
+use Rattle.seen_ticks.specs.Observed.{ending, refusing, tick_at}
 use Rattle.observed_runs.proofs.Seeing.{one_on, state_more}
 use Rattle.observed_runs.proofs.Telling.{executed_told}
 use Rattle.observed_runs.proofs.told_run.ToldRun.advance.Goals as goal
@@ -24,7 +25,7 @@ invariant_of-self g c =
       few = subst (λ (r : Progress). length r.arrivals ≤ MAX_ARRIVALS) (sym t.ensures.done.next) v.few;
       told = λ later.
           one_on k new
-          (λ S mode arrivals n. IsTold S mode arrivals n (run_of new).state c.note_once.new.self e.result t.new.at.tasks.items t.new.before t.new.behind)
+          (λ S mode arrivals n. IsTold S mode arrivals n (run_of new).state c.note_once.new.self e.result t.new.before t.new.behind)
           t.ensures.done.next
           (record {
             behind = state_more k new t.ensures.done.next (subst (λ (r : Progress). is_over r ≡ false) (sym c.self.view_is) c.requires);
@@ -38,7 +39,6 @@ invariant_of-self g c =
               ending = e.ensures.ending ∙ ap (λ S. ending S t.result) here ∙ ap (ending k.system) told;
               refusing = e.ensures.refusing ∙ ap (λ S. refusing S t.result) here ∙ ap (refusing k.system) told;
             };
-            each = t.ensures.seen;
             records = record {
               recorded =
                   ap (λ v. t.new.before ++ idle_or_executed k.system v ∷ t.new.behind) e.ensures.executed
@@ -49,3 +49,12 @@ invariant_of-self g c =
           });
       next = λ is. absurd (grind (arith, is));
     }
+
+pub returns-clause-seen : goal.returns-clause-seen
+returns-clause-seen g c =
+    let k : Progress = c.self.inside.kernel in
+    let t = c.tick_seen-executed in
+    let new : Progress = t.new.self in
+    one_on k new
+    (λ S mode arrivals n. t.new.at.tasks.items ≡ map (task_at S (tick_at S mode arrivals n).at) (below (length S.tasks)))
+    t.ensures.done.next t.ensures.seen

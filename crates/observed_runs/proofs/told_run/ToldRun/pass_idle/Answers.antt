@@ -1,11 +1,8 @@
-use Rattle.std.proofs.Common.{◌≡◌, ◌≤◌, ◌<◌, map, length, sym, ◌∙◌, ap, subst, arith}
+use Rattle.std.proofs.Common.{◌≡◌, ◌≤◌, ◌<◌, length, sym, ◌∙◌, ap, subst, arith}
 use Rattle.std.specs.Prelude.{None}
 use Rattle.osek_base.specs.declared.limits.TheConstants.{MAX_ARRIVALS}
-use Rattle.osek_base.specs.Lists.{below}
 use Rattle.osek_base.specs.Proper.{IsProper}
-use Rattle.osek_base.specs.System.{System}
-use Rattle.kernel.specs.Progress.{Progress, run_of}
-use Rattle.seen_ticks.specs.Told.{task_at}
+use Rattle.kernel.specs.Progress.{Progress}
 use Rattle.observed_runs.proofs.Alike.{idle_stays, stayed_told}
 use Rattle.observed_runs.proofs.told_run.ToldRun.pass_idle.Goals as goal
 
@@ -19,21 +16,18 @@ invariant_of-self-2 g c =
     let system : new.system ≡ c.self.inside.system.now = ap (λ (r : Progress). r.system) p.ensures.next ∙ v.system in
     let here = sym system in
     let some : 0 < p.result = omega (arith, c.if-passed-eq0.false) in
-    let proper : IsProper k.system = subst IsProper (sym v.system) c.see_tasks_between.ensures.proper in
+    let proper : IsProper k.system = subst IsProper (sym v.system) c.task_count-proper.ensures.proper in
     record {
       system = system;
       few = subst (λ (r : Progress). length r.arrivals ≤ MAX_ARRIVALS) (sym p.ensures.next) v.few;
       told = λ later.
           stayed_told g.B.Blockers.are_counted c.args.most p.result k new None
-          (idle_stays g.B.Blockers.are_counted c.args.most p.result k new p.ensures) some proper c.note.new.self e.result c.see_tasks_between.new.tasks.items c.clear.new.self c.clear-2.new.self
+          (idle_stays g.B.Blockers.are_counted c.args.most p.result k new p.ensures) some proper c.note.new.self e.result c.clear.new.self c.clear-2.new.self
           (record {
             next = c.note.ensures;
             executed = e.ensures.executed;
             ending = e.ensures.ending;
             refusing = e.ensures.refusing;
-            each =
-                c.see_tasks_between.ensures.tasks
-                ∙ ap (λ (S : System). map (task_at S (run_of new).state) (below (length S.tasks))) here;
             there = tt;
             none_ahead = c.clear.ensures;
             none_behind = c.clear-2.ensures;

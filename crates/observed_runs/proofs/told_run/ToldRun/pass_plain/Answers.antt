@@ -1,12 +1,10 @@
-use Rattle.std.proofs.Common.{◌≡◌, ◌≤◌, ◌<◌, map, length, sym, ◌∙◌, ap, subst, arith}
+use Rattle.std.proofs.Common.{◌≡◌, ◌≤◌, ◌<◌, length, sym, ◌∙◌, ap, subst, arith}
 use Rattle.std.specs.Prelude.{IfSome}
 use Rattle.osek_base.specs.declared.limits.TheConstants.{MAX_ARRIVALS}
 use Rattle.osek_base.specs.Executed.{StandsIn}
-use Rattle.osek_base.specs.Lists.{below}
 use Rattle.osek_base.specs.Proper.{IsProper}
 use Rattle.osek_base.specs.System.{System}
-use Rattle.kernel.specs.Progress.{Progress, run_of}
-use Rattle.seen_ticks.specs.Told.{task_at}
+use Rattle.kernel.specs.Progress.{Progress}
 use Rattle.seen_ticks.specs.Observed.{ending, refusing}
 use Rattle.observed_runs.specs.Passing.{StaysOn}
 use Rattle.observed_runs.proofs.Alike.{stayed_told, work_stays}
@@ -22,21 +20,18 @@ invariant_of-self-2 g c =
     let system : new.system ≡ c.self.inside.system.now = ap (λ (r : Progress). r.system) p.ensures.next ∙ v.system in
     let here = sym system in
     let some : 0 < p.result.ticks = omega (arith, c.if-worked-eq0.false) in
-    let proper : IsProper k.system = subst IsProper (sym v.system) c.see_tasks_between.ensures.proper in
+    let proper : IsProper k.system = subst IsProper (sym v.system) c.task_count-proper.ensures.proper in
     record {
       system = system;
       few = subst (λ (r : Progress). length r.arrivals ≤ MAX_ARRIVALS) (sym p.ensures.next) v.few;
       told = λ later.
           stayed_told g.B.Blockers.are_counted c.args.most p.result.ticks k new p.result.last
-          (work_stays g.B.Blockers.are_counted c.args.most p.result.ticks k new p.result.last p.ensures) some proper c.note.new.self e.result c.see_tasks_between.new.tasks.items c.clear.new.self c.clear-2.new.self
+          (work_stays g.B.Blockers.are_counted c.args.most p.result.ticks k new p.result.last p.ensures) some proper c.note.new.self e.result c.clear.new.self c.clear-2.new.self
           (record {
             next = c.note.ensures;
             executed = e.ensures.executed;
             ending = e.ensures.ending ∙ ap (λ (S : System). ending S p.result.last) here;
             refusing = e.ensures.refusing ∙ ap (λ (S : System). refusing S p.result.last) here;
-            each =
-                c.see_tasks_between.ensures.tasks
-                ∙ ap (λ (S : System). map (task_at S (run_of new).state) (below (length S.tasks))) here;
             there = subst (λ (S : System). IfSome p.result.last (StandsIn S)) (sym (ap (λ (r : Progress). r.system) p.ensures.next)) p.ensures.there;
             none_ahead = c.clear.ensures;
             none_behind = c.clear-2.ensures;

@@ -1,38 +1,31 @@
 use Rattle.std.proofs.Common.{◌≤◌, ◌<◌, sym, ◌∙◌, subst, arith}
 use Rattle.kernel.specs.Progress.{Progress}
 use Rattle.observed_runs.specs.Passing.{PassesAlike}
-use Rattle.observed_runs.proofs.Alike.{passes_alike, stayed_holders, stayed_tasks}
-use Rattle.observed_runs.proofs.observed_run.ObservedRun.pass_alike.Goals as goal
+use Rattle.observed_runs.proofs.Alike.{passes_alike, stayed_all, stayed_holders}
+use Rattle.observed_runs.proofs.observed_run.ObservedRun.pass_some.Goals as goal
 
-pub see-requires-clause-holders : goal.see-requires-clause-holders
-see-requires-clause-holders g c =
+pub see_alike-requires-clause-holders : goal.see_alike-requires-clause-holders
+see_alike-requires-clause-holders g c =
     let p = c.pass_alike-passed in
     let some : 0 < p.result = omega (arith, c.if-passed-eq0.false) in
     c.see_holders.ensures.holders
     ∙ stayed_holders g.B.Blockers.are_counted c.min.result p.result c.self.inside.told p.new.self p.ensures.last p.ensures.stayed some
 
-pub see-requires-clause-left : goal.see-requires-clause-left
-see-requires-clause-left g c =
+pub see_alike-requires-clause-leaves : goal.see_alike-requires-clause-leaves
+see_alike-requires-clause-leaves g c =
     let p = c.pass_alike-passed in
     let some : 0 < p.result = omega (arith, c.if-passed-eq0.false) in
-    λ _.
-    stayed_tasks g.B.Blockers.are_counted c.min.result p.result c.self.inside.told p.new.self p.ensures.last p.ensures.stayed some
+    stayed_all g.B.Blockers.are_counted c.min.result p.result c.self.inside.told p.new.self p.ensures.last p.ensures.stayed some
     c.see_holders.ensures.proper
 
 pub invariant_of-self-2 : goal.invariant_of-self-2
 invariant_of-self-2 g c =
     let p = c.pass_alike-passed in
-    let s = c.see.ensures in
     let some : 0 < p.result = omega (arith, c.if-passed-eq0.false) in
     record {
-      observed = λ later. record {
-        number = s.number;
-        seen = s.seen;
-        blockers = s.counted;
-        uncounted = s.uncounted;
-      };
+      observed = λ later. c.see_alike.ensures;
       held = λ _.
-          s.seen.holders
+          c.see_alike.ensures.seen.holders
           ∙ sym (stayed_holders g.B.Blockers.are_counted c.min.result p.result c.self.inside.told p.new.self p.ensures.last p.ensures.stayed some);
     }
 

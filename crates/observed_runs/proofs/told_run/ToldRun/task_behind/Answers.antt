@@ -1,0 +1,13 @@
+use Rattle.std.proofs.Common.{◌≤◌, sym, ◌∙◌, ap, subst}
+use Rattle.kernel.specs.Progress.{Progress}
+use Rattle.osek_base.specs.State.{State}
+use Rattle.observed_runs.specs.Keeping.{last_tick}
+use Rattle.seen_ticks.specs.Told.{task_at}
+use Rattle.observed_runs.proofs.told_run.ToldRun.task_behind.Goals as goal
+
+pub returns : goal.returns
+returns g c =
+    let r : Progress = c.self.inside.kernel in
+    let told = c.self.invariant.told (subst (λ (x : Progress). 1 ≤ x.ticks) (sym c.self.view_is) c.requires.ticked) in
+    c.task_at.ensures ∙ ap (λ (s : State). task_at r.system s c.args.task) told.behind
+    ∙ ap (λ (x : Progress). task_at x.system (last_tick x).after c.args.task) c.self.view_is
