@@ -1,6 +1,6 @@
 -- What is seen of a tick in which nothing comes to anything, by what is kept of the state at rest, which stays the same.
 use Rattle.std.proofs.Common.{◌≡◌, ℕ, ◌+◌, ◌-◌, ◌<◌, ◌≤◌, Bool, true, false, cond, List, [], ◌∷◌, ◌++◌, map, length, refl, sym, ◌∙◌, ap, ap₂, subst, arith}
-use Rattle.std.specs.Prelude.{Option, Some, None, IfSome, not, ◌&&◌, ◌==◌, slice_index_or}
+use Rattle.std.specs.Prelude.{Option, Some, None, IfSome, not, ◌&&◌, ◌||◌, ◌==◌, nat_le, slice_index_or}
 use Rattle.std.specs.Option.{option_map}
 use Rattle.std.specs.List.{find}
 use Rattle.std.proofs.Math.Path.{fun_ext}
@@ -31,7 +31,7 @@ use Rattle.kept_state.specs.Kept.{Kept, kept}
 use Rattle.kept_state.specs.KeptService.{holds_in}
 use Rattle.kept_state.specs.Seen.{holder_in, routine_of}
 use Rattle.kept_state.proofs.Ticked.{known_of, settled_of}
-use Rattle.kernel.specs.Progress.{HasIdled, Progress, run_of}
+use Rattle.kernel.specs.Progress.{HasIdled, Progress, is_over, run_of}
 use Rattle.kernel.specs.Working.{HasWorked, at_rest}
 use Rattle.seen_ticks.specs.Told.{refused_of, task_at, task_at_in}
 use Rattle.seen_ticks.proofs.SeenLemmas.{counted as counted_jobs, task_is}
@@ -462,8 +462,16 @@ module _ (counted : Bool) (most n : ℕ) (k new : Progress) (last : Option Execu
       ∙ holders_kept k.system (step_at k.system k.mode k.arrivals (k.ticks + (n - 1))).after kept_then stays.behind
       ∙ sym (holders_kept k.system (step_at k.system k.mode k.arrivals (k.ticks + (n - 1))).executing kept_then stays.at))
 
-  pub passes_alike : (more : ℕ) → most ≤ more → IsProper new.system → PassesAlike counted more k new n
-  passes_alike more less proper_now =
+  -- before each of them the run goes on
+  goes_on : k.ticks + most ≤ 1000000 → (i : ℕ) → i < n → is_over (record k { ticks = k.ticks + i }) ≡ false
+  goes_on room i low =
+      let within = stayed.few in
+      let few : nat_le 1000000 (k.ticks + i) ≡ false = grind (arith, room, within, low) in
+      ap (λ b. b || (run k.system k.mode k.arrivals (k.ticks + i)).state.over) few ∙ stayed.going i low
+
+  pub passes_alike : (more : ℕ) → most ≤ more → k.ticks + most ≤ 1000000 → IsProper new.system
+      → PassesAlike counted more k new n
+  passes_alike more less room proper_now =
       let few = stayed.few in
       let ticks_are : new.ticks ≡ k.ticks + n = ap (λ (r : Progress). r.ticks) stayed.next in
       let last_is : new.ticks - 1 ≡ k.ticks + (n - 1) = omega (arith, ticks_are, some) in
@@ -471,6 +479,9 @@ module _ (counted : Bool) (most n : ℕ) (k new : Progress) (last : Option Execu
       record {
         few = omega (arith, few, less);
         next = stayed.next;
+        going = goes_on room;
+        none_arrive = λ i low. (stayed.stays i low).none_arrive;
+        none_due = λ i low. (stayed.stays i low).none_due;
         alike = λ i low seen is.
             let was = subst (λ m. IsObserved counted k.system k.mode k.arrivals m seen) last_is is in
             let alike =

@@ -13,10 +13,10 @@ use Rattle.observations.specs.declared.observation.Observation.{Observation}
 use Rattle.observations.specs.declared.task_seen.TaskSeen.{TaskSeen}
 use Rattle.blocking_laws.specs.Steps.{record_at, step_at}
 use Rattle.kept_state.specs.Kept.{Kept, kept}
-use Rattle.kernel.specs.Progress.{Progress, run_of}
+use Rattle.kernel.specs.Progress.{Progress, is_over, run_of}
 use Rattle.kernel.specs.Working.{at_rest}
 use Rattle.seen_ticks.specs.declared.task_at.TaskAt.{TaskAt}
-use Rattle.seen_ticks.specs.Told.{task_at}
+use Rattle.seen_ticks.specs.Told.{due_in, task_at}
 use Rattle.seen_ticks.specs.Observed.{IsObserved, Ticked, answered, ending, failure_of, is_by, is_waiting, owner_of, refusing, state_seen, task_seen}
 
 -- in a tick of a run nothing comes to a task, routine, resource or alarm: no interrupt arrives, no alarm is due, no number of
@@ -53,10 +53,14 @@ pub record StaysOn (counted : Bool) (most : ℕ) (old new : Progress) (n : ℕ) 
   pub last : Option Executed
   pub stayed : HasStayed counted most old new n last
 
--- so many ticks were done, at most some: what is seen of the last is, but for its number, what is seen of each
+-- so many ticks were done, at most some, before each of which the run goes on, and in none of which an interrupt arrives or an
+-- alarm is due: what is seen of the last is, but for its number, what is seen of each
 pub record PassesAlike (counted : Bool) (most : ℕ) (old new : Progress) (n : ℕ) : Type 0 where
   pub few : n ≤ most
   pub next : new ≡ record old { ticks = old.ticks + n }
+  pub going : (k : ℕ) → k < n → is_over (record old { ticks = old.ticks + k }) ≡ false
+  pub none_arrive : (k : ℕ) → k < n → arriving old.arrivals (old.ticks + k) ≡ []
+  pub none_due : (k : ℕ) → k < n → due_in old.system old.mode old.arrivals (old.ticks + k) ≡ []
   pub alike : (k : ℕ) → k < n → (o : Observation)
       → IsObserved counted old.system old.mode old.arrivals (new.ticks - 1) o
       → IsObserved counted old.system old.mode old.arrivals (old.ticks + k) (record o { tick = old.ticks + k })

@@ -1,5 +1,5 @@
 -- Ticks in which the same is seen are handed on at once as one after another.
-use Rattle.std.proofs.Common.{◌≡◌, ℕ, zero, suc, ◌+◌, ◌<◌, ◌≤◌, max, nat_lt, cond, Bool, true, false, List, [], ◌∷◌, ◌++◌, append-nil, Option, refl, sym, ap, ap₂, ◌∙◌, arith, le-ltb, lt-ltb, ltb-true, ltb-false}
+use Rattle.std.proofs.Common.{◌≡◌, ℕ, zero, suc, ◌+◌, ◌<◌, ◌≤◌, max, nat_lt, cond, Bool, true, false, List, [], ◌∷◌, ◌++◌, append-nil, append_assoc, Option, refl, sym, ap, ap₂, ◌∙◌, arith, le-ltb, lt-ltb, ltb-true, ltb-false}
 use Rattle.observations.specs.declared.observation.Observation.{Observation}
 use Rattle.observations.specs.declared.routine_seen.RoutineSeen.{RoutineSeen}
 use Rattle.observations.specs.declared.task_seen.TaskSeen.{TaskSeen}
@@ -167,3 +167,16 @@ handed_each d o first end n e none =
       text = ap (alike_text d o first) e ∙ sym (each_text d o none first n);
       behind = ap (alike d o first) e ∙ sym (each_behind d o none first n);
     }
+
+-- ---- ticks behind others
+
+pub text_appends : (d : Dump) (seen more : List Observation)
+    → dump_text d (seen ++ more) ≡ dump_text d seen ++ dump_text (dump_behind d seen) more
+text_appends d [] more = refl
+text_appends d (o ∷ seen) more =
+    ap (λ t. observed_text d o ++ t) (text_appends (observed d o) seen more)
+    ∙ sym (append_assoc (observed_text d o) (dump_text (observed d o) seen) (dump_text (dump_behind (observed d o) seen) more))
+
+pub behind_appends : (d : Dump) (seen more : List Observation) → dump_behind d (seen ++ more) ≡ dump_behind (dump_behind d seen) more
+behind_appends d [] more = refl
+behind_appends d (o ∷ seen) more = behind_appends (observed d o) seen more

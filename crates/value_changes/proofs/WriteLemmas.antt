@@ -6,7 +6,7 @@ use Rattle.std.specs.Io.KnownBytes.{Appends, Keeps}
 use Rattle.std.specs.Result.{IsErrAnd}
 use Rattle.value_changes.specs.Writing.{AppendsSome, Writes}
 
-appends_more : (a b c : Option (List ℕ)) (xs ys : List ℕ) → Appends a b xs → Appends b c ys → Appends a c (xs ++ ys)
+pub appends_more : (a b c : Option (List ℕ)) (xs ys : List ℕ) → Appends a b xs → Appends b c ys → Appends a c (xs ++ ys)
 appends_more None b c xs ys p q = tt
 appends_more (Some a) None c xs ys p q = absurd p
 appends_more (Some a) (Some b) None xs ys p q = absurd q
@@ -45,3 +45,29 @@ pub nothing : (a : Option (List ℕ)) (text : List ℕ) → length text ≡ 0 �
 nothing None text h = tt
 nothing (Some a) [] h = sym (append-nil a)
 nothing (Some a) (c ∷ text) h = absurd (omega arith)
+
+-- ---- texts one behind another
+
+-- a beginning of a text, and one of a longer one
+pub begins_longer : (a b : Option (List ℕ)) (text more : List ℕ) → AppendsSome a b text → AppendsSome a b (text ++ more)
+begins_longer a b text more part =
+    record {
+      front = part.front;
+      rest = part.rest ++ more;
+      whole = sym (append_assoc part.front part.rest more) ∙ ap (λ t. t ++ more) part.whole;
+      taken = part.taken;
+    }
+
+pub begins_behind : (a b c : Option (List ℕ)) (text more : List ℕ) → Appends a b text → AppendsSome b c more → AppendsSome a c (text ++ more)
+begins_behind a b c text more p part =
+    record {
+      front = text ++ part.front;
+      rest = part.rest;
+      whole = append_assoc text part.front part.rest ∙ ap (λ t. text ++ t) part.whole;
+      taken = appends_more a b c text part.front p part.taken;
+    }
+
+pub writes_behind : {T E : Type 0} (a b c : Option (List ℕ)) (text more : List ℕ) (r : Result T E) → Appends a b text → Writes b c more r
+    → Writes a c (text ++ more) r
+writes_behind a b c text more (Ok x) p w = record { written = appends_more a b c text more p w.written; beginning = tt }
+writes_behind a b c text more (Err e) p w = record { written = tt; beginning = begins_behind a b c text more p w.beginning }

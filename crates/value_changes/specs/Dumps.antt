@@ -1,9 +1,9 @@
 -- Value change dumps: what is to be known to go on with a dump, and how it goes on.
-use Rattle.std.specs.Prelude.{ℕ, ◌+◌, Bool, true, nat_lt, max, if◌then◌else◌, List, []}
+use Rattle.std.specs.Prelude.{ℕ, ◌+◌, Bool, true, false, nat_lt, max, if◌then◌else◌, List, []}
 use Rattle.observations.specs.declared.observation.Observation.{Observation}
 use Rattle.osek_base.specs.System.{System}
 use Rattle.value_changes.specs.declared.last_values.LastValues.{LastValues}
-use Rattle.value_changes.specs.Ticks.{after_tick, tick_text}
+use Rattle.value_changes.specs.Ticks.{after_tick, nothing_written, tick_text}
 
 -- the system, what its variables were last written with, the first tick that is written, whether it was, and the tick behind the
 -- last that was seen
@@ -13,6 +13,10 @@ pub record Dump : Type 0 where
   pub first : ℕ
   pub is_begun : Bool
   pub behind : ℕ
+
+-- the dump of a system's ticks from one on, of which nothing is written
+abbrev pub started : System → ℕ → Dump
+started S from = record { system = S; values = nothing_written; first = from; is_begun = false; behind = from }
 
 -- the dump behind a tick in which that is seen
 abbrev pub behind_tick : Dump → ℕ → Observation → Dump

@@ -1,7 +1,10 @@
 -- Value change dumps: ticks that are handed on one after another, oldest first.
 use Rattle.std.specs.Prelude.{ℕ, ◌≡◌, zero, suc, List, [], ◌∷◌, ◌++◌}
 use Rattle.observations.specs.declared.observation.Observation.{Observation}
-use Rattle.value_changes.specs.Dumps.{Dump, alike, alike_text, observed, observed_text}
+use Rattle.osek_base.specs.System.{System}
+use Rattle.value_changes.specs.Declarations.{declarations}
+use Rattle.value_changes.specs.Dumps.{Dump, alike, alike_text, observed, observed_text, started}
+use Rattle.value_changes.specs.Lines.{time_line}
 
 -- what is written of ticks in which these are seen, and the dump behind them
 abbrev pub dump_text : Dump → List Observation → List ℕ
@@ -11,6 +14,13 @@ dump_text d (o ∷ seen) = observed_text d o ++ dump_text (observed d o) seen
 abbrev pub dump_behind : Dump → List Observation → Dump
 dump_behind d [] = d
 dump_behind d (o ∷ seen) = dump_behind (observed d o) seen
+
+-- the whole text of a dump of a run of a system: the declarations, what is written of the ticks in which these are seen, from
+-- one on, and the time behind the last of them
+abbrev pub whole_text : System → ℕ → List Observation → List ℕ
+whole_text S from seen =
+    let d : Dump = started S from in
+    declarations S ++ dump_text d seen ++ time_line (dump_behind d seen).behind
 
 -- what is seen as of a tick of another number
 abbrev pub numbered : ℕ → Observation → Observation

@@ -1,6 +1,6 @@
 //! Value change dumps, IEEE 1364: of each tick what changes in it.
 
-ghost use Rattle.std.specs.Prelude.{◌≡◌, [], ℕ, ◌+◌, length, false, true};
+ghost use Rattle.std.specs.Prelude.{◌≡◌, [], ℕ, ◌+◌, length, true};
 ghost use Rattle.std.specs.Io.KnownBytes.{Appends};
 ghost use Rattle.value_changes.specs.Declarations.{declarations};
 ghost use Rattle.value_changes.specs.Dumps.{
@@ -10,10 +10,11 @@ ghost use Rattle.value_changes.specs.Dumps.{
   behind_tick,
   observed,
   observed_text,
+  started,
 };
 ghost use Rattle.value_changes.specs.Lines.{time_line};
 ghost use Rattle.value_changes.specs.Runs.{IsEach};
-ghost use Rattle.value_changes.specs.Ticks.{after_tick, events_text, nothing_written, tick_text};
+ghost use Rattle.value_changes.specs.Ticks.{after_tick, events_text, tick_text};
 ghost use Rattle.value_changes.specs.Writing.{Writes};
 
 use crate::declarations::push_declarations;
@@ -60,13 +61,7 @@ impl<'s> ValueChanges<'s> {
     /// The dump of the ticks from `from` on of a run of that system, of which nothing is written
     /// yet.
     pub fn new(system: &'s System, from: u32) -> Self
-        ensures { result ≡ record {
-          system = system.now;
-          values = nothing_written;
-          first = from;
-          is_begun = false;
-          behind = from;
-        } }
+        ensures { result ≡ started system.now from }
     {
         ValueChanges {
             system,

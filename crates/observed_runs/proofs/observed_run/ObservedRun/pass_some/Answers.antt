@@ -1,5 +1,6 @@
-use Rattle.std.proofs.Common.{◌≤◌, ◌<◌, sym, ◌∙◌, subst, arith}
-use Rattle.kernel.specs.Progress.{Progress}
+use Rattle.std.proofs.Common.{◌≡◌, ◌+◌, ◌≤◌, ◌<◌, false, sym, ◌∙◌, subst, arith}
+use Rattle.kernel.specs.Progress.{Progress, is_over}
+use Rattle.kernel.proofs.RunLemmas.{going}
 use Rattle.observed_runs.specs.Passing.{PassesAlike}
 use Rattle.observed_runs.proofs.Alike.{passes_alike, stayed_all, stayed_holders}
 use Rattle.observed_runs.proofs.observed_run.ObservedRun.pass_some.Goals as goal
@@ -35,6 +36,10 @@ returns g c =
     let counted = g.B.Blockers.are_counted in
     let some : 0 < p.result = omega (arith, c.if-passed-eq0.false) in
     let less : c.min.result ≤ c.args.most = grind (arith, c.min.ensures) in
+    let k : Progress = c.self.inside.told in
+    let on : is_over k ≡ false = sym c.is_over.ensures ∙ c.if-is_over.false in
+    let limit : k.ticks < 1000000 = (going k.system k.mode k.arrivals k.ticks on).limit in
+    let room : k.ticks + c.min.result ≤ 1000000 = grind (arith, c.min.ensures, c.ticks-left.ensures, limit) in
     subst (λ (r : Progress). PassesAlike counted c.args.most r p.new.self p.result) c.self.view_is
     (passes_alike counted c.min.result p.result c.self.inside.told p.new.self p.ensures.last p.ensures.stayed some c.args.most less
-    c.see_holders.ensures.proper)
+    room c.see_holders.ensures.proper)
