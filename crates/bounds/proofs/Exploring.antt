@@ -24,7 +24,7 @@ use Rattle.run_bounds.specs.Trying.{AreFree, MaySubsets, OneStateTells, SubsetsM
 use Rattle.run_bounds.proofs.Going.{boot_state}
 use Rattle.run_bounds.proofs.Trying.{labels_are_ordered}
 use Rattle.bound_nodes.specs.Ground.{Ground, IsGround}
-use Rattle.visited_machines.specs.Held.{IsIn}
+use Rattle.bounds.specs.Held.{IsIn}
 use Rattle.bounds.specs.Exploring.{AreNotedIn, Explorer, setting_of}
 
 -- a run comes to a machine's state

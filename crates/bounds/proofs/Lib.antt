@@ -1,3 +1,5 @@
+pub mod HeldLemmas
+pub mod SetLemmas
 pub mod Exploring
 pub mod Losing
 pub mod Deciding

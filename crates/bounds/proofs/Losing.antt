@@ -15,7 +15,7 @@ use Rattle.bound_peaks.specs.Peaks.{Peaks, has_come}
 use Rattle.run_bounds.specs.Lost.{IsWithoutLost, LoseNothing, LostChangeNothing}
 use Rattle.run_bounds.specs.Nodes.{AreNoted, IsNext, May, Node, Setting, StandsFor, rules_of}
 use Rattle.run_bounds.specs.Trying.{OneStateTells, TellsAll}
-use Rattle.visited_machines.specs.Held.{IsIn}
+use Rattle.bounds.specs.Held.{IsIn}
 use Rattle.bound_nodes.specs.Ground.{IsGround}
 use Rattle.bounds.specs.Exploring.{AreNotedIn, Explorer, setting_of}
 use Rattle.bounds.proofs.Exploring.{stands}

@@ -1,6 +1,6 @@
 //! The machine that a search ticks.
 
-ghost use Rattle.std.specs.Prelude.{◌≡◌, ◌<◌, ◌≤◌, IfOk, IfSome, OnOk, false, length};
+ghost use Rattle.std.specs.Prelude.{◌≡◌, ◌<◌, ◌≤◌, IsTrue, IfOk, IfSome, OnOk, false, length};
 ghost use Rattle.std.specs.List.{All};
 ghost use Rattle.kept_state.specs.KeptTick.{boot_in, tick_in};
 ghost use Rattle.observations.specs.Seen.{seen_of};
@@ -9,6 +9,7 @@ ghost use Rattle.kernel.specs.Machine.{IsOfRun, next_tick, picture, system_of};
 ghost use Rattle.needs.specs.Table.{need_of};
 ghost use Rattle.state_keys.specs.Key.{key};
 
+use crate::bases::StateMachine;
 use bound_labels::Labels;
 use bound_nodes::Node;
 use kernel::Machine;
@@ -19,7 +20,6 @@ use seen_machines::Watcher;
 use state_bytes::write_key;
 use std::alloc::{AllocError, Global};
 use std::mem;
-use visited_machines::StateMachine;
 
 /// Boots a machine again, in a mode.
 pub(crate) fn boot_again<'s>(
@@ -39,6 +39,14 @@ pub(crate) fn boot_again<'s>(
     // It goes by one call.
     mem::drop(booted);
     Ok(())
+}
+
+/// Whether a machine can be ticked: its run isn't over, and ticks are left.
+pub(crate) fn can_go_on(machine: &StateMachine<'_>) -> bool
+    ensures going { IsTrue result → (picture machine.now).over ≡ false }
+    ensures left { IsTrue result → next_tick machine.now < MAX_TICKS }
+{
+    !machine.is_shut_down() && machine.next_tick() < MAX_TICKS
 }
 
 /// A machine becomes what a tick makes of another one, in which the interrupts of some routines

@@ -5,8 +5,11 @@ ghost use Rattle.std.specs.Prelude.{◌≡◌, IfOk};
 ghost use Rattle.bound_nodes.specs.Ground.{IsGround};
 ghost use Rattle.bound_nodes.specs.Ground.{Ground};
 
-use crate::current::{boot_again, node_of, tick_from};
+use crate::bases::StateMachine;
+use crate::current::{boot_again, can_go_on, node_of, tick_from};
 use crate::room::Room;
+use crate::routines::pending_routines;
+use crate::states::States;
 use bound_labels::Labels;
 use bound_nodes::{Comparing, Node, Trails, Watch, common, held_count, put_routines, without};
 use bound_peaks::Peaks;
@@ -19,7 +22,6 @@ use search::{Progress, Steps, subset_from};
 use std::alloc::{AllocError, Global};
 use std::marker::Model;
 use std::mem;
-use visited_machines::{StateMachine, States, can_go_on, pending_routines};
 
 /// Ticks machines from state to state, and notes the greatest times that are seen.
 #[derive(Drop)]

@@ -2,9 +2,15 @@
 //! every run of a system shows.
 #![tactic(auto)]
 
+mod bases;
 mod current;
 mod explorer;
 mod finding;
+mod origin;
 mod room;
+mod routines;
+mod states;
+mod stops;
+mod way;
 
 pub use finding::find_bounds;

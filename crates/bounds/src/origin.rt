@@ -1,10 +1,11 @@
 //! The machine of the node that is visited.
 
 ghost use Rattle.std.specs.Prelude.{◌≡◌, IfOk, IfSome};
-ghost use Rattle.visited_machines.specs.Held.{IsIn, IsOf};
+ghost use Rattle.bounds.specs.Held.{IsIn, IsOf};
 
+use crate::bases::StateMachine;
+use crate::current::can_go_on;
 use crate::routines::pending_routines;
-use crate::state_machine::{StateMachine, can_go_on};
 use bound_nodes::put_routines;
 use kernel::Machine;
 use needs::Needs;
@@ -34,7 +35,7 @@ pub(crate) struct Origin<'s> {
 
 impl<'s> Model for Origin<'s> {
     ghost use Rattle.bound_nodes.specs.Ground.{Ground};
-    ghost use Rattle.visited_machines.specs.Held.{IsOrigin};
+    ghost use Rattle.bounds.specs.Held.{IsOrigin};
 
     ghost Value = { Ground };
 

@@ -2,11 +2,10 @@
 //! some from which it is made.
 
 ghost use Rattle.std.specs.Prelude.{◌≡◌, IfOk, IfSome};
-ghost use Rattle.visited_machines.specs.Held.{IsIn, IsOf};
+ghost use Rattle.bounds.specs.Held.{IsIn, IsOf};
 
-use crate::bases::{Bases, Spot};
+use crate::bases::{Bases, Spot, StateMachine};
 use crate::origin::Origin;
-use crate::state_machine::StateMachine;
 use crate::stops::Stops;
 use crate::way::{Passed, Start, put_way};
 use bound_nodes::{Effort, Trails};
@@ -30,7 +29,7 @@ const MANY: usize = 60_000;
 /// The machine of the node that is visited, and machines from which such are made. How they are
 /// found goes by a trail, of which contracts see nothing: what is made is known by its key.
 #[derive(Drop)]
-pub struct States<'s> {
+pub(crate) struct States<'s> {
     bases: Bases<'s>,
     stops: Stops<'s>,
     origin: Origin<'s>,
@@ -56,7 +55,7 @@ impl<'s> Model for States<'s> {
 
 impl<'s> States<'s> {
     /// Nothing is visited yet.
-    pub fn new(
+    pub(crate) fn new(
         alloc: Global,
         system: &'s System,
         needs: &'s Needs,
@@ -77,19 +76,19 @@ impl<'s> States<'s> {
     }
 
     /// The machine of the node that is visited, if its state has a key.
-    pub fn at(&self, key: &[u8]) -> Option<&StateMachine<'s>>
+    pub(crate) fn at(&self, key: &[u8]) -> Option<&StateMachine<'s>>
         ensures { IfSome result (λ m. IsIn self.now key.now m.now) }
     {
         self.origin.at(key)
     }
 
     /// The routines that are pending in that node's state, as a set. Contracts don't see it.
-    pub fn pending(&self) -> u64 {
+    pub(crate) fn pending(&self) -> u64 {
         self.origin.pending()
     }
 
     /// A node is visited that an entry tells, and whose machine is made from that at a place.
-    pub fn visit(
+    pub(crate) fn visit(
         &mut self,
         alloc: Global,
         trails: &Trails,
@@ -198,7 +197,7 @@ impl<'s> States<'s> {
 
     /// A node that an entry tells is open: it is what comes of the node that is visited, or of boot,
     /// whose machine is lent. Answers the place of the machine from which that of the node is made.
-    pub fn open(
+    pub(crate) fn open(
         &mut self,
         alloc: Global,
         booted: &StateMachine<'s>,
@@ -221,7 +220,7 @@ impl<'s> States<'s> {
 
     /// A node was kept for which the machine at a place was to be: that isn't needed where the node
     /// has none.
-    pub fn keep_for(&mut self, base: usize, kept: Option<usize>)
+    pub(crate) fn keep_for(&mut self, base: usize, kept: Option<usize>)
         ensures { self.new ≡ self.old }
     {
         if kept.is_none() {
@@ -230,7 +229,7 @@ impl<'s> States<'s> {
     }
 
     /// A node was visited whose machine is made from that at a place.
-    pub fn close(&mut self, base: usize)
+    pub(crate) fn close(&mut self, base: usize)
         ensures { self.new ≡ self.old }
     {
         self.bases.release(base);

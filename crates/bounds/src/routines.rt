@@ -5,7 +5,7 @@ ghost use Rattle.std.specs.Int.{bit_at};
 ghost use Rattle.same_future.specs.Spans.{is_pending_in};
 ghost use Rattle.kernel.specs.Machine.{picture, system_of};
 
-use crate::state_machine::StateMachine;
+use crate::bases::StateMachine;
 use osek_base::{IsrId, MAX_ROUTINES};
 
 /// Whether an interrupt of a routine is pending.
@@ -17,7 +17,7 @@ fn is_pending(machine: &StateMachine<'_>, routine: IsrId) -> bool
 }
 
 /// The routines that are pending, as a set, of so many that there are.
-pub fn pending_routines(machine: &StateMachine<'_>, count: usize) -> u64
+pub(crate) fn pending_routines(machine: &StateMachine<'_>, count: usize) -> u64
     requires all { count ≤ length (system_of machine.now).routines }
     requires few { count ≤ MAX_ROUTINES }
     ensures { (i : ℕ) → bit_at result i ≡ 1 → is_pending_in (picture machine.now) i ≡ true }

@@ -1,8 +1,8 @@
 use Rattle.std.proofs.Common.{subst, sym}
 use Rattle.std.specs.List.{All}
-use Rattle.visited_machines.specs.Held.{IsOf}
-use Rattle.visited_machines.proofs.HeldLemmas.{push_in}
-use Rattle.visited_machines.proofs.bases.Bases.add.Goals as goal
+use Rattle.bounds.specs.Held.{IsOf}
+use Rattle.bounds.proofs.HeldLemmas.{push_in}
+use Rattle.bounds.proofs.bases.Bases.add.Goals as goal
 
 pub invariant_of-self-in_err-push : goal.invariant_of-self-in_err-push
 invariant_of-self-in_err-push c =

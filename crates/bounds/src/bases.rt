@@ -2,13 +2,16 @@
 
 ghost use Rattle.std.specs.Prelude.{◌≡◌, IfSome};
 ghost use Rattle.kernel.specs.Machine.{system_of};
-ghost use Rattle.visited_machines.specs.Held.{IsOf};
+ghost use Rattle.bounds.specs.Held.{IsOf};
 
-use crate::state_machine::StateMachine;
-use kernel::Machine;
+use kernel::{Machine, NotCounted};
 use osek_base::{ModeId, System};
+use services::CompactQueues;
 use std::alloc::{AllocError, Global};
 use std::marker::Model;
+
+/// A machine that a search ticks; nobody asks it for blockers.
+pub(crate) type StateMachine<'s> = Machine<'s, CompactQueues, NotCounted>;
 
 /// Where a state stands in a search.
 #[derive(Clone, Copy)]
@@ -70,7 +73,7 @@ pub(crate) struct Bases<'s> {
 impl<'s> Model for Bases<'s> {
     ghost use Rattle.osek_base.specs.System.{System};
     ghost use Rattle.std.specs.List.{All};
-    ghost use Rattle.visited_machines.specs.Held.{IsOf};
+    ghost use Rattle.bounds.specs.Held.{IsOf};
 
     ghost Value = { System };
 

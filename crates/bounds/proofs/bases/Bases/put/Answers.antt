@@ -1,6 +1,6 @@
 use Rattle.std.proofs.Common.{sym}
-use Rattle.visited_machines.proofs.HeldLemmas.{became, set_in}
-use Rattle.visited_machines.proofs.bases.Bases.put.Goals as goal
+use Rattle.bounds.proofs.HeldLemmas.{became, set_in}
+use Rattle.bounds.proofs.bases.Bases.put.Goals as goal
 
 pub invariant_of-self : goal.invariant_of-self
 invariant_of-self c =

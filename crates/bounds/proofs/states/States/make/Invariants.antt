@@ -1,5 +1,5 @@
 use Rattle.std.proofs.Common.{◌≡◌}
-use Rattle.visited_machines.proofs.states.States.make.Given as goal
+use Rattle.bounds.proofs.states.States.make.Given as goal
 
 -- it is of the same system still
 abbrev pub invariant-loop-number : goal.invariant-loop-number

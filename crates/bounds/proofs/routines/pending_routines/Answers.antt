@@ -1,9 +1,9 @@
 use Rattle.std.proofs.Common.{◌<◌, arith, sym, ◌∙◌, ap}
 use Rattle.same_future.specs.Spans.{is_pending_in}
 use Rattle.kernel.specs.Machine.{picture}
-use Rattle.visited_machines.proofs.SetLemmas.{one_pending}
-use Rattle.visited_machines.proofs.routines.pending_routines.Goals.{then-is_pending, else-is_pending}
-use Rattle.visited_machines.proofs.routines.pending_routines.Goals as goal
+use Rattle.bounds.proofs.SetLemmas.{one_pending}
+use Rattle.bounds.proofs.routines.pending_routines.Goals.{then-is_pending, else-is_pending}
+use Rattle.bounds.proofs.routines.pending_routines.Goals as goal
 
 pub loop-number-preserved : goal.loop-number-preserved
 loop-number-preserved c =

@@ -4,8 +4,8 @@ use Rattle.std.specs.List.{All}
 use Rattle.std.proofs.lemmas.List.Elements.{All-set, All-push}
 use Rattle.osek_base.specs.System.{System}
 use Rattle.kernel.specs.Machine.{Machine}
-use Rattle.visited_machines.specs.Held.{IsOf}
-use Rattle.visited_machines.specs.declared.bases.Base.{Base}
+use Rattle.bounds.specs.Held.{IsOf}
+use Rattle.bounds.specs.declared.bases.Base.{Base}
 
 -- a machine that became another one
 pub became : (S T : System) (base : Base) (m : Machine) → S ≡ T → base.machine ≡ m → IsOf S m

@@ -1,10 +1,9 @@
 //! Machines of states on the ways to those that a search visited last.
 
 ghost use Rattle.std.specs.Prelude.{◌≡◌, ◌≤◌, IfSome};
-ghost use Rattle.visited_machines.specs.Held.{IsOf};
+ghost use Rattle.bounds.specs.Held.{IsOf};
 
-use crate::bases::{Bases, Spot};
-use crate::state_machine::StateMachine;
+use crate::bases::{Bases, Spot, StateMachine};
 use osek_base::{ModeId, System};
 use std::alloc::{AllocError, Global};
 use std::marker::Model;
