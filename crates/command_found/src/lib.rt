@@ -1,4 +1,5 @@
-//! Answers to command lines of `osek` on what a search through every run has found. No part of the standards.
+//! Answers to command lines of `osek` on what a search through every run has found. No part of the
+//! standards.
 #![tactic(auto)]
 
 mod asked;

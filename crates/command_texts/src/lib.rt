@@ -1,5 +1,5 @@
-//! Answers to command lines of `osek` on the texts of a system: what is wrong with them, and what was made of them. No part
-//! of the standards.
+//! Answers to command lines of `osek` on the texts of a system: what is wrong with them, and what
+//! was made of them. No part of the standards.
 #![tactic(auto)]
 
 mod explaining;
