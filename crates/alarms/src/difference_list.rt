@@ -13,7 +13,7 @@ use osek_base::{AlarmId, MAX_ALARMS};
 use std::marker::Model;
 
 /// A running alarm: how many counts it expires after the next one of the list, and its cycle in counts, 0 for once.
-#[derive(Clone, Copy, Debug, Default)]
+#[derive(Clone, Copy, Default)]
 pub struct Waiting {
     pub alarm: AlarmId,
     pub difference: u32,
@@ -21,7 +21,7 @@ pub struct Waiting {
 }
 
 /// An alarm whose wait is over, with its cycle.
-#[derive(Clone, Copy, Debug)]
+#[derive(Clone, Copy)]
 pub struct Due {
     pub alarm: AlarmId,
     pub cycle: u32,

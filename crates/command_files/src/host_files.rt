@@ -5,7 +5,7 @@ use std::fs;
 use std::io::{Error, ErrorKind};
 
 /// Why a file can't be read or written.
-#[derive(Clone, Copy, Debug, PartialEq, Eq)]
+#[derive(Clone, Copy, Debug)]
 pub enum Refusal {
     /// There is no file of that name.
     Missing,
@@ -16,7 +16,7 @@ pub enum Refusal {
 }
 
 /// Why a file's bytes could not be had, or not be written.
-#[derive(Clone, Copy, Debug, PartialEq, Eq)]
+#[derive(Clone, Copy)]
 pub enum FileFault {
     /// The file refuses.
     Refused(Refusal),

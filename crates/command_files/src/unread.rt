@@ -6,7 +6,7 @@ use std::io::{self, Write};
 use thiserror::Error;
 
 /// Why a file of a command line could not be had.
-#[derive(Clone, Copy, Debug, PartialEq, Eq, Drop, Error)]
+#[derive(Clone, Copy, Debug, Drop, Error)]
 pub enum Unread<'a> {
     #[error("file: {0}")]
     File(&'a str, Refusal),

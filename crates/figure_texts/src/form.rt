@@ -1,7 +1,7 @@
 //! How figures are written.
 
 /// How figures are written.
-#[derive(Clone, Copy, Debug, PartialEq, Eq)]
+#[derive(Clone, Copy)]
 pub enum Form {
     /// As tables for people.
     Table,

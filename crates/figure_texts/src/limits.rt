@@ -1,7 +1,7 @@
 //! Limits on figures, for who checks a run by its exit status.
 
 /// How many ticks the responses of a task, or the latency of a routine, may take.
-#[derive(Clone, Copy, Debug, PartialEq, Eq)]
+#[derive(Clone, Copy)]
 pub struct Limit<'a> {
     /// The task's or the routine's name.
     pub name: &'a str,
@@ -9,7 +9,7 @@ pub struct Limit<'a> {
 }
 
 /// What a run has to keep.
-#[derive(Clone, Copy, Debug)]
+#[derive(Clone, Copy)]
 pub struct Limits<'a> {
     /// The limits on times.
     pub times: &'a [Limit<'a>],

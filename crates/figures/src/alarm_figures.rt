@@ -9,7 +9,7 @@ use crate::reached::first_tick;
 use observations::AlarmSeen;
 
 /// What is seen of an alarm in a tick, and the tick.
-#[derive(Clone, Copy, Debug, PartialEq, Eq)]
+#[derive(Clone, Copy)]
 pub struct AlarmTick {
     /// The number of the tick, from 0.
     pub tick: u32,
@@ -18,7 +18,7 @@ pub struct AlarmTick {
 }
 
 /// Figures of an alarm.
-#[derive(Clone, Copy, Debug, Default, PartialEq, Eq)]
+#[derive(Clone, Copy, Default)]
 pub struct AlarmFigures {
     /// In how many ticks it expired.
     pub expiries: u32,

@@ -4,7 +4,7 @@ ghost use Rattle.std.specs.Prelude.{◌≡◌};
 ghost use Rattle.figures.specs.Reaching.{first_tick, worse, worse_of};
 
 /// A number of ticks, and the tick at which it was reached first.
-#[derive(Clone, Copy, Debug, PartialEq, Eq)]
+#[derive(Clone, Copy)]
 pub struct Reached {
     /// How many ticks.
     pub ticks: u32,

@@ -27,7 +27,7 @@ fn is_got(holder: Holder, before: Holder) -> bool
 }
 
 /// Who holds a resource in a tick, and the tick.
-#[derive(Clone, Copy, Debug, PartialEq, Eq)]
+#[derive(Clone, Copy)]
 pub struct HolderTick {
     /// The number of the tick, from 0.
     pub tick: u32,
@@ -51,7 +51,7 @@ impl HolderTick {
 }
 
 /// Figures of a resource.
-#[derive(Clone, Copy, Debug, Default, PartialEq, Eq)]
+#[derive(Clone, Copy, Default)]
 pub struct ResourceFigures {
     /// In how many ticks a task held it that hadn't in the tick before.
     pub gets: u32,

@@ -10,7 +10,7 @@ use crate::reached::{Reached, first_tick, worse_of};
 use observations::RoutineSeen;
 
 /// What is seen of an interrupt routine in a tick, and the tick.
-#[derive(Clone, Copy, Debug, PartialEq, Eq)]
+#[derive(Clone, Copy)]
 pub struct RoutineTick {
     /// The number of the tick, from 0.
     pub tick: u32,
@@ -54,7 +54,7 @@ impl RoutineTick {
 }
 
 /// Figures of an interrupt routine.
-#[derive(Clone, Copy, Debug, Default, PartialEq, Eq)]
+#[derive(Clone, Copy, Default)]
 pub struct RoutineFigures {
     /// How many interrupts arrived.
     pub arrivals: u32,

@@ -9,7 +9,7 @@ use crate::counts::counted;
 use crate::reached::{Reached, worse_of};
 
 /// How some numbers of ticks lie.
-#[derive(Clone, Copy, Debug, PartialEq, Eq)]
+#[derive(Clone, Copy)]
 pub struct Spread {
     /// How many there are.
     pub count: u32,

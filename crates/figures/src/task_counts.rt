@@ -20,7 +20,7 @@ fn more_blockers(told: Option<u32>, most: Option<u32>) -> Option<u32>
 }
 
 /// What is counted of a task: jobs, and what was refused.
-#[derive(Clone, Copy, Debug, Default, PartialEq, Eq)]
+#[derive(Clone, Copy, Default)]
 pub struct TaskCounts {
     /// How many jobs were made.
     pub activations: u32,

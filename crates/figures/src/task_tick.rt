@@ -10,7 +10,7 @@ use observations::TaskSeen;
 use osek_base::TaskState;
 
 /// What is seen of a task in a tick, and what of the tick counts for it.
-#[derive(Clone, Copy, Debug, PartialEq, Eq)]
+#[derive(Clone, Copy)]
 pub struct TaskTick {
     /// The number of the tick, from 0.
     pub tick: u32,

@@ -4,7 +4,7 @@ ghost use Rattle.std.specs.Prelude.{◌≡◌};
 ghost use Rattle.figures.specs.StateSums.{is_executed, is_ready, is_preempted, is_blocked, is_waited};
 
 /// What a tick is for a task: exactly one of these.
-#[derive(Clone, Copy, Debug, PartialEq, Eq)]
+#[derive(Clone, Copy)]
 pub enum TaskTime {
     /// The task executes the tick's instruction.
     Executed,

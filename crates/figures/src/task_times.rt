@@ -10,7 +10,7 @@ use crate::task_tick::TaskTick;
 use crate::task_time::TaskTime;
 
 /// The ticks of a task by what they are for it.
-#[derive(Clone, Copy, Debug, Default, PartialEq, Eq)]
+#[derive(Clone, Copy, Default)]
 pub struct TaskTimes {
     /// In how many ticks the task executed.
     pub executed: u32,

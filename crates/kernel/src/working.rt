@@ -17,7 +17,7 @@ use ready_queues::ReadyQueues;
 
 /// Ticks in which the running task executed plain instructions: how many, and what the last of them
 /// executed, where there is any.
-#[derive(Clone, Copy, Debug)]
+#[derive(Clone, Copy)]
 pub struct Worked {
     pub ticks: u32,
     pub last: Option<Executed>,

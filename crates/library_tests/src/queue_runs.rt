@@ -1,11 +1,12 @@
 //! Runs over both kinds of ready queues, of each kind of object and service. Their records are
 //! compared with each other; the texts of such traces stand in `rows`.
 
+use crate::lines::push_lines;
 use crate::systems::system_of;
 use arrival_lists::read_arrivals;
 use kernel::Kernel;
 use osek_base::System;
-use ready_queues::{LevelQueues, ListQueues};
+use ready_queues::{LevelQueues, ListQueues, ReadyQueues};
 use std::alloc::{AllocError, Global};
 use std::fmt::Write;
 use std::test::Fail;
@@ -299,23 +300,26 @@ GETR INVALID\nSAI\nACT A\nRETI\n",
     },
 ];
 
-/// Whether a case has equal records over both kinds of queues, tick by tick.
-fn is_alike(alloc: Global, case: &Case) -> Result<bool, Fail> {
+/// The lines of a case over one kind of queues.
+fn lines<Q: ReadyQueues>(alloc: Global, case: &Case) -> Result<String, Fail> {
+    let mut text = String::new(alloc);
     let system = case.system(alloc)?;
-    let arrivals = case.arrivals.as_bytes();
-    let first = read_arrivals(alloc, arrivals, &system)?;
-    let second = read_arrivals(alloc, arrivals, &system)?;
-    let mut lists: Kernel<'_, ListQueues> = Kernel::boot(alloc, &system, "M", first)?;
-    let mut levels: Kernel<'_, LevelQueues> = Kernel::boot(alloc, &system, "M", second)?;
-    for _tick in 0..case.ticks {
-        if lists.is_over() || levels.is_over() {
+    let arrivals = read_arrivals(alloc, case.arrivals.as_bytes(), &system)?;
+    let mut kernel: Kernel<'_, Q> = Kernel::boot(alloc, &system, "M", arrivals)?;
+    for tick in 0..case.ticks {
+        if kernel.is_over() {
             break;
         }
-        if lists.tick().entries() != levels.tick().entries() {
-            return Ok(false);
-        }
+        push_lines(&mut text, &system, tick, &kernel.tick())?;
     }
-    Ok(lists.is_over() == levels.is_over())
+    Ok(text)
+}
+
+/// Whether a case has equal lines over both kinds of queues.
+fn is_alike(alloc: Global, case: &Case) -> Result<bool, Fail> {
+    let lists = lines::<ListQueues>(alloc, case)?;
+    let levels = lines::<LevelQueues>(alloc, case)?;
+    Ok(lists.as_str() == levels.as_str())
 }
 
 /// What the first case shows whose records differ.

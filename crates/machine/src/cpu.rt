@@ -9,7 +9,7 @@ use osek_base::{MAX_INSTRUCTIONS, Place, REGISTERS, Register, Results, Service, 
 use std::marker::Model;
 
 /// The registers of 32 bits and the place in the program. Contracts see both as one context.
-#[derive(Clone, Copy, Debug)]
+#[derive(Clone, Copy)]
 pub struct Cpu {
     registers: [u32; REGISTERS],
     place: Place,

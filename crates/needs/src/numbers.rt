@@ -7,7 +7,7 @@ use std::marker::Model;
 
 /// A set of numbers below 64: a word whose bit n is set exactly where n is in it. Contracts see the
 /// word.
-#[derive(Clone, Copy, Debug, PartialEq, Eq)]
+#[derive(Clone, Copy)]
 pub struct Numbers {
     word: u64,
 }

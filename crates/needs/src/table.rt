@@ -12,7 +12,7 @@ pub(crate) type Row = [Numbers; REGISTERS];
 
 /// What is needed of a task or routine: which registers, which words of its window, and at each
 /// place of its program the indices that each register may have.
-#[derive(Debug, Drop)]
+#[derive(Drop)]
 pub struct OwnerNeeds {
     pub(crate) registers: Numbers,
     pub(crate) words: Numbers,
@@ -21,7 +21,7 @@ pub struct OwnerNeeds {
 
 /// What is needed of each task and routine, which declared resources' windows, and of which counters
 /// the value.
-#[derive(Debug, Drop)]
+#[derive(Drop)]
 pub struct Needs {
     pub(crate) tasks: Vec<OwnerNeeds>,
     pub(crate) routines: Vec<OwnerNeeds>,

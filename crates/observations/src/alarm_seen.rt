@@ -1,7 +1,7 @@
 //! OSEK/VDX OS: alarms. What is seen of an alarm in a tick.
 
 /// What is seen of an alarm in a tick.
-#[derive(Clone, Copy, Debug, Default, PartialEq, Eq)]
+#[derive(Clone, Copy, Default)]
 pub struct AlarmSeen {
     /// Whether the alarm expires in the tick.
     pub has_expired: bool,

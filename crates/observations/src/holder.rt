@@ -6,7 +6,7 @@ use osek_base::TaskId;
 use std::marker::Model;
 
 /// The task whose job holds a resource, if one does. Contracts see the option.
-#[derive(Clone, Copy, Debug, PartialEq, Eq)]
+#[derive(Clone, Copy, PartialEq, Eq)]
 pub struct Holder {
     task: Option<TaskId>,
 }

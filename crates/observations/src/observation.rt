@@ -13,7 +13,7 @@ pub const MAX_HELD: usize = MAX_RESOURCES + 1;
 
 /// What is seen of one tick, at its instruction: of each task, routine, resource and alarm by number, behind the declared
 /// resources RES_SCHEDULER, where the system has it.
-#[derive(Debug, Drop)]
+#[derive(Drop)]
 pub struct Observation {
     /// The number of the tick, from 0.
     pub tick: u32,

@@ -1,7 +1,7 @@
 //! OSEK/VDX OS: interrupt processing. What is seen of an interrupt routine in a tick.
 
 /// What is seen of an interrupt routine in a tick.
-#[derive(Clone, Copy, Debug, Default, PartialEq, Eq)]
+#[derive(Clone, Copy, Default)]
 pub struct RoutineSeen {
     /// Whether the routine executes the tick's instruction. One that is active executes in each tick until it ends.
     pub executes: bool,

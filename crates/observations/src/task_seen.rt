@@ -3,7 +3,7 @@
 use osek_base::TaskState;
 
 /// What is seen of a task in a tick: what it is when the tick's instruction is executed, and what comes to it in the tick.
-#[derive(Clone, Copy, Debug, PartialEq, Eq)]
+#[derive(Clone, Copy)]
 pub struct TaskSeen {
     /// RUNNING where the task executes the tick's instruction; else the state that it has then, READY for RUNNING: a task
     /// that a routine interrupts doesn't execute.

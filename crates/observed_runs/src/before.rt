@@ -12,7 +12,7 @@ use osek_base::{IsrId, MAX_ROUTINES, MAX_TASKS, System, TaskId};
 use ready_queues::LevelQueues;
 
 /// What is known before a tick, of each task or routine by number.
-#[derive(Debug, Drop)]
+#[derive(Drop)]
 pub(crate) struct Before {
     /// How many jobs each task has; none before the first tick, so that those of boot are made in it.
     pub(crate) jobs: ArrayVec<u8, MAX_TASKS>,

@@ -26,7 +26,7 @@ use observations::Failure;
 use osek_base::{Executed, Instr, IsrId, Outcome, Owner, Service, Status, System, TaskId};
 
 /// What a tick executed, and the tasks that it concerns.
-#[derive(Clone, Copy, Debug)]
+#[derive(Clone, Copy)]
 pub struct Execution {
     /// What was executed; None in an idle tick.
     pub executed: Option<Executed>,

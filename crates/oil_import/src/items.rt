@@ -35,7 +35,7 @@ pub(crate) struct Item<'a> {
 }
 
 /// How far an item is read.
-#[derive(Clone, Copy, PartialEq, Eq)]
+#[derive(Clone, Copy)]
 enum Reading {
     /// Nothing of it.
     Begin,

@@ -5,7 +5,7 @@ use std::alloc::{AllocError, Global};
 use std::io::{self, Write};
 
 /// What became of something.
-#[derive(Clone, Copy, PartialEq, Eq)]
+#[derive(Clone, Copy)]
 pub enum Verdict {
     LeftOut,
     /// It didn't stand there.

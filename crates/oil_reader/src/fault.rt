@@ -11,7 +11,7 @@ use thiserror::Error;
 ///
 /// A fault of the tokens comes before a fault of the syntax, and both before the others. Of the others the one at the
 /// least place is answered, at one place the one of the lowest number.
-#[derive(Clone, Copy, Debug, PartialEq, Eq, Drop, Error)]
+#[derive(Clone, Copy, Debug, Drop, Error)]
 pub enum OilFault {
     /// No token, white space or comment begins there, or a NAME, NUMBER or comment that breaks its rule.
     #[error("fault 1 at {0}")]

@@ -19,7 +19,7 @@ use osek_base::{Counter, Hooks, Name, Property, Schedule};
 use std::marker::Model;
 
 /// The OS object: its hooks, and whether RES_SCHEDULER may be got.
-#[derive(Debug, Drop)]
+#[derive(Drop)]
 pub struct Os {
     pub name: Name,
     pub hooks: Hooks,
@@ -35,7 +35,7 @@ impl Model for Os {
 }
 
 /// A TASK. It starts by itself in the application modes of `autostart`, which are none at AUTOSTART = FALSE.
-#[derive(Debug, Drop)]
+#[derive(Drop)]
 pub struct TaskObject {
     pub name: Name,
     /// 0 to [`MAX_TASK_PRIORITY`](osek_base::MAX_TASK_PRIORITY); 0 is the lowest.
@@ -65,7 +65,7 @@ impl Model for TaskObject {
 }
 
 /// An ISR of category 2, with its PRIORITY (which is no attribute of OIL 2.5, and 0 where it is left out).
-#[derive(Debug, Drop)]
+#[derive(Drop)]
 pub struct IsrObject {
     pub name: Name,
     pub priority: u8,
@@ -80,7 +80,7 @@ impl Model for IsrObject {
 }
 
 /// A RESOURCE with its RESOURCEPROPERTY.
-#[derive(Debug, Drop)]
+#[derive(Drop)]
 pub struct ResourceObject {
     pub name: Name,
     pub property: Property,
@@ -95,14 +95,14 @@ impl Model for ResourceObject {
 }
 
 /// The MASK of an event: to be chosen, or these bits, of which there is at least one.
-#[derive(Clone, Copy, Debug, PartialEq, Eq)]
+#[derive(Clone, Copy)]
 pub enum Mask {
     Auto,
     Bits(u32),
 }
 
 /// An EVENT.
-#[derive(Debug, Drop)]
+#[derive(Drop)]
 pub struct EventObject {
     pub name: Name,
     pub mask: Mask,
@@ -117,7 +117,7 @@ impl Model for EventObject {
 }
 
 /// A COUNTER with its MAXALLOWEDVALUE, TICKSPERBASE and MINCYCLE.
-#[derive(Debug, Drop)]
+#[derive(Drop)]
 pub struct CounterObject {
     pub name: Name,
     pub counter: Counter,
@@ -132,14 +132,14 @@ impl Model for CounterObject {
 }
 
 /// The ACTION of an alarm, by the names of its block.
-#[derive(Debug, Drop)]
+#[derive(Drop)]
 pub enum ActionObject {
     ActivateTask { task: Name },
     SetEvent { task: Name, event: Name },
 }
 
 /// The block of an alarm's AUTOSTART = TRUE. Times are counts of the alarm's counter.
-#[derive(Debug, Drop)]
+#[derive(Drop)]
 pub struct AlarmStartObject {
     pub alarm_time: u32,
     pub cycle_time: u32,
@@ -155,7 +155,7 @@ impl Model for AlarmStartObject {
 }
 
 /// An ALARM on the counter of that name.
-#[derive(Debug, Drop)]
+#[derive(Drop)]
 pub struct AlarmObject {
     pub name: Name,
     pub counter: Name,
@@ -173,7 +173,7 @@ impl Model for AlarmObject {
 }
 
 /// What a file holds, by value. An object's place in its list is the order of declaration within its kind.
-#[derive(Debug, Drop)]
+#[derive(Drop)]
 pub struct OilParts {
     pub cpu: Name,
     pub os: Os,
@@ -206,7 +206,7 @@ impl Model for OilParts {
 
 /// A file that was read. Names are words of the grammar and not reserved, and none stands twice in one kind or list.
 /// Numbers are in range. There is an application mode, and an alarm that starts by itself has one.
-#[derive(Debug, Drop)]
+#[derive(Drop)]
 pub struct OilFile {
     parts: OilParts,
 }

@@ -6,7 +6,7 @@ ghost use Rattle.oil_reader.specs.Machine.{kind_of};
 use crate::ident::Ident;
 
 /// The kinds of objects.
-#[derive(Clone, Copy, Debug, PartialEq, Eq)]
+#[derive(Clone, Copy, PartialEq, Eq)]
 pub enum Kind {
     Os,
     AppMode,
@@ -19,14 +19,14 @@ pub enum Kind {
 }
 
 /// The value of an attribute.
-#[derive(Clone, Copy, Debug, PartialEq, Eq)]
+#[derive(Clone, Copy, PartialEq, Eq)]
 pub enum Value<'a> {
     Name(Ident<'a>),
     Number(u32),
 }
 
 /// `NAME = value`.
-#[derive(Clone, Copy, Debug)]
+#[derive(Clone, Copy)]
 pub struct Setting<'a> {
     pub name: Ident<'a>,
     pub name_place: usize,
@@ -35,14 +35,14 @@ pub struct Setting<'a> {
 }
 
 /// What stands in braces behind a value.
-#[derive(Debug, Drop)]
+#[derive(Drop)]
 pub struct Block<'a> {
     pub settings: Vec<Setting<'a>>,
     pub close: usize,
 }
 
 /// An attribute up to its semicolon.
-#[derive(Debug, Drop)]
+#[derive(Drop)]
 pub struct Attribute<'a> {
     pub setting: Setting<'a>,
     pub block: Option<Block<'a>>,
@@ -50,7 +50,7 @@ pub struct Attribute<'a> {
 }
 
 /// An object; its end is its closing brace, or without braces its semicolon.
-#[derive(Debug, Drop)]
+#[derive(Drop)]
 pub struct Object<'a> {
     pub kind: Kind,
     pub name: Ident<'a>,
@@ -60,7 +60,7 @@ pub struct Object<'a> {
 }
 
 /// A file as it is written.
-#[derive(Debug, Drop)]
+#[derive(Drop)]
 pub struct SyntaxTree<'a> {
     pub cpu: Ident<'a>,
     pub objects: Vec<Object<'a>>,

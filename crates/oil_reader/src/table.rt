@@ -9,7 +9,7 @@ use crate::syntax::{Kind, Value};
 use osek_base::{MAX_ACTIVATION, MAX_ROUTINE_PRIORITY, MAX_TASK_PRIORITY};
 
 /// The attributes of objects, and of the blocks behind a value.
-#[derive(Clone, Copy, Debug, PartialEq, Eq)]
+#[derive(Clone, Copy, PartialEq, Eq)]
 pub enum AttributeName {
     Status,
     StartupHook,
@@ -47,7 +47,7 @@ pub enum AttributeName {
 }
 
 /// How often an attribute stands.
-#[derive(Clone, Copy, Debug, PartialEq, Eq)]
+#[derive(Clone, Copy)]
 pub enum Presence {
     /// Once.
     Required,

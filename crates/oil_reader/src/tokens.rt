@@ -12,7 +12,7 @@ use osek_base::words::{line_len, number_at, word_at};
 use std::alloc::Global;
 
 /// The signs that are tokens: `{`, `}`, `=` and `;`.
-#[derive(Clone, Copy, Debug, PartialEq, Eq)]
+#[derive(Clone, Copy, PartialEq, Eq)]
 pub enum Sign {
     Open,
     Close,
@@ -33,7 +33,7 @@ pub enum Class {
 }
 
 /// A token.
-#[derive(Clone, Copy, Debug, PartialEq, Eq)]
+#[derive(Clone, Copy, PartialEq, Eq)]
 pub enum Token<'a> {
     Name(Ident<'a>),
     Number(u32),

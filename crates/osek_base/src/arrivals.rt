@@ -8,7 +8,7 @@ use crate::limits::{MAX_ARRIVALS, MAX_TICKS};
 use std::marker::Model;
 
 /// A routine's interrupt arrives at a tick.
-#[derive(Clone, Copy, Debug, PartialEq, Eq)]
+#[derive(Clone, Copy)]
 pub struct Arrival {
     /// The tick, below [`MAX_TICKS`] in a list of arrivals.
     pub tick: u32,
@@ -16,7 +16,7 @@ pub struct Arrival {
 }
 
 /// The arrivals of a run, at most [`MAX_ARRIVALS`], at ticks that don't fall and are below [`MAX_TICKS`]. Seen as the list.
-#[derive(Debug, Drop)]
+#[derive(Drop)]
 pub struct Arrivals {
     list: Vec<Arrival>,
 }

@@ -14,7 +14,7 @@ use crate::parts::Parts;
 use crate::task::{Schedule, Task};
 
 /// The ceilings of a system's resources and tasks.
-#[derive(Debug, Drop)]
+#[derive(Drop)]
 pub(crate) struct Ceilings {
     /// Of each resource number.
     pub(crate) declared: [u8; MAX_RESOURCES],

@@ -8,7 +8,7 @@ use crate::system::System;
 use crate::trace_event::{Outcome, TraceEvent};
 
 /// An instruction that was executed: by whom, at what place of the program, and what it came to.
-#[derive(Clone, Copy, Debug, PartialEq, Eq)]
+#[derive(Clone, Copy)]
 pub struct Executed {
     pub owner: Owner,
     pub place: Place,

@@ -1,13 +1,14 @@
 //! OSEK/VDX OS: system services; the modelled processor. Instructions and services, generic over their operands, with
 //! the words that name them.
 
-ghost use Rattle.std.specs.Prelude.{◌≡◌, ◌≤◌, length};
+ghost use Rattle.std.specs.Prelude.{◌≡◌, ◌≤◌, ⊤, length};
 ghost use Rattle.osek_base.specs.Mnemonics.{operation_word, comparison_word, plain_word, service_word, control_word};
 
 use crate::ids::{AlarmId, Place, Register, ResId, TaskId};
+use std::alloc::AllocError;
 
 /// The operations on two registers, mod 2^32 or bit by bit: ADD, SUB, MUL, AND, OR and XOR.
-#[derive(Clone, Copy, Debug, PartialEq, Eq)]
+#[derive(Clone, Copy)]
 pub enum Operation {
     Add,
     Sub,
@@ -35,7 +36,7 @@ impl Operation {
 }
 
 /// The tests of the jumps JEQ, JNE and JLT. Less is without sign.
-#[derive(Clone, Copy, Debug, PartialEq, Eq)]
+#[derive(Clone, Copy)]
 pub enum Comparison {
     Equal,
     NotEqual,
@@ -58,7 +59,7 @@ impl Comparison {
 
 /// The instructions that touch registers, words and the place alone, over what stands for a register, a number and a
 /// place.
-#[derive(Clone, Copy, Debug, Drop, PartialEq, Eq)]
+#[derive(Drop)]
 pub enum Plain<R = Register, N = u32, P = Place> {
     /// NOP: nothing.
     Nop,
@@ -77,6 +78,18 @@ pub enum Plain<R = Register, N = u32, P = Place> {
     /// The instruction at the place follows where the two registers pass the test, else the next one.
     JumpIf(Comparison, R, R, P),
 }
+
+impl<R: Copy, N: Copy, P: Copy> Clone for Plain<R, N, P> {
+    ghost is_clone = { λ x y. y ≡ x };
+
+    ghost is_infallible = { λ _. ⊤ };
+
+    fn clone(&self) -> Result<Self, AllocError> {
+        Ok(*self)
+    }
+}
+
+impl<R: Copy, N: Copy, P: Copy> Copy for Plain<R, N, P> {}
 
 impl<R, N, P> Plain<R, N, P> {
     /// The mnemonic.
@@ -100,7 +113,7 @@ impl<R, N, P> Plain<R, N, P> {
 /// The services with a status, by the standard's names, over what stands for a value, a task, a resource, an alarm and
 /// events. Of a system's services None is the operand INVALID, and events are a mask; a value is a register in a program
 /// and the register's value in a call.
-#[derive(Clone, Copy, Debug, Drop, PartialEq, Eq)]
+#[derive(Drop)]
 pub enum Service<V, T = Option<TaskId>, R = Option<ResId>, A = Option<AlarmId>, E = u32> {
     ActivateTask(T),
     TerminateTask,
@@ -127,6 +140,18 @@ pub enum Service<V, T = Option<TaskId>, R = Option<ResId>, A = Option<AlarmId>, 
     GetAlarm(A),
     GetAlarmBase(A),
 }
+
+impl<V: Copy, T: Copy, R: Copy, A: Copy, E: Copy> Clone for Service<V, T, R, A, E> {
+    ghost is_clone = { λ x y. y ≡ x };
+
+    ghost is_infallible = { λ _. ⊤ };
+
+    fn clone(&self) -> Result<Self, AllocError> {
+        Ok(*self)
+    }
+}
+
+impl<V: Copy, T: Copy, R: Copy, A: Copy, E: Copy> Copy for Service<V, T, R, A, E> {}
 
 impl<V, T, R, A, E> Service<V, T, R, A, E> {
     /// The mnemonic.
@@ -159,7 +184,7 @@ impl<V, T, R, A, E> Service<V, T, R, A, E> {
 }
 
 /// The services without a status, by the standard's names, and the return from a routine, over what stands for a number.
-#[derive(Clone, Copy, Debug, Drop, PartialEq, Eq)]
+#[derive(Clone, Copy, Drop)]
 pub enum Control<N = u32> {
     DisableAllInterrupts,
     EnableAllInterrupts,
@@ -193,7 +218,7 @@ impl<N> Control<N> {
 }
 
 /// An instruction of a program.
-#[derive(Clone, Copy, Debug, PartialEq, Eq)]
+#[derive(Clone, Copy)]
 pub enum Instr {
     Plain(Plain),
     Service(Service<Register>),

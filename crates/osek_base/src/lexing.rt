@@ -7,7 +7,7 @@ ghost use Rattle.osek_base.specs.declared.lexing.LexFault.TheVariants.{Memory};
 use std::alloc::{AllocFailed, Global};
 
 /// What stands at the front of some bytes: a token, or white space or a comment, which is none.
-#[derive(Clone, Copy, Debug)]
+#[derive(Clone, Copy)]
 pub struct Piece<T> {
     /// How many bytes it has.
     pub len: usize,
@@ -15,14 +15,14 @@ pub struct Piece<T> {
 }
 
 /// A token and the place of its first byte, counted from 0.
-#[derive(Clone, Copy, Debug, PartialEq, Eq)]
+#[derive(Clone, Copy, PartialEq, Eq)]
 pub struct Placed<T> {
     pub place: usize,
     pub token: T,
 }
 
 /// Why a text has no tokens.
-#[derive(Clone, Copy, Debug, PartialEq, Eq)]
+#[derive(Clone, Copy)]
 pub enum LexFault {
     /// The first byte at which no piece of the text begins.
     NoPiece(usize),

@@ -83,7 +83,7 @@ fn number_of(text: &str, names: &[Name]) -> Option<usize>
 }
 
 /// The names of a system's objects, each at its number.
-#[derive(Debug, Drop)]
+#[derive(Drop)]
 pub struct Names {
     pub tasks: Vec<Name>,
     pub routines: Vec<Name>,

@@ -12,7 +12,7 @@ use std::marker::Model;
 
 /// What a system is made of, checked or not. Tasks stand by their numbers, all else as declared; a resource is its
 /// property, an event its mask.
-#[derive(Debug, Drop)]
+#[derive(Drop)]
 pub struct Parts {
     pub names: Names,
     pub tasks: Vec<Task>,

@@ -7,7 +7,7 @@ ghost use Rattle.osek_base.specs.Tick.{status_number};
 
 /// The status of a service: E_OK, the standard's errors E_OS_ACCESS and so on, and E_OS_SYS_DISABLED, the answer while
 /// interrupts are off.
-#[derive(Clone, Copy, Debug, PartialEq, Eq)]
+#[derive(Clone, Copy, PartialEq, Eq)]
 pub enum Status {
     Ok,
     Access,
@@ -42,7 +42,7 @@ impl Status {
 }
 
 /// The states of a task, as GetTaskState answers them.
-#[derive(Clone, Copy, Debug, PartialEq, Eq)]
+#[derive(Clone, Copy, PartialEq, Eq)]
 pub enum TaskState {
     Running,
     Waiting,
@@ -65,7 +65,7 @@ impl TaskState {
 }
 
 /// The conformance classes.
-#[derive(Clone, Copy, Debug, PartialEq, Eq)]
+#[derive(Clone, Copy)]
 pub enum Class {
     Bcc1,
     Bcc2,

@@ -29,7 +29,7 @@ use crate::task::{Action, Counter, Hooks, Schedule};
 use std::marker::Model;
 
 /// A system within the limits and as generation checks it. Contracts see its parts.
-#[derive(Debug, Drop)]
+#[derive(Drop)]
 pub struct System {
     parts: Parts,
     ceilings: Ceilings,

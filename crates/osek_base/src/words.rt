@@ -70,7 +70,7 @@ pub fn line_len(bytes: &[u8]) -> usize
 }
 
 /// A NUMBER at the front of some bytes.
-#[derive(Clone, Copy, Debug, PartialEq, Eq)]
+#[derive(Clone, Copy, PartialEq, Eq)]
 pub struct Number {
     /// How many bytes it has.
     pub len: usize,

@@ -10,7 +10,7 @@ use crate::upper::{is_upper_alarm, is_upper_resource, is_upper_task};
 use osek_base::{AlarmId, Control, Instr, Register, ResId, Service, System, TaskId};
 
 /// What an operand names.
-#[derive(Clone, Copy, Debug, PartialEq, Eq)]
+#[derive(Clone, Copy)]
 pub enum Object {
     Task(TaskId),
     Resource(ResId),

@@ -11,7 +11,7 @@ use std::alloc::Global;
 use tracer::RunFault;
 
 /// What a run is of besides its system: its arrival list, the mode, and how many ticks, at most 1,000,000.
-#[derive(Clone, Copy, Debug)]
+#[derive(Clone, Copy)]
 pub struct RunInput<'a> {
     pub irqs: &'a [u8],
     pub mode: &'a str,

@@ -10,7 +10,7 @@ const VISITS_BETWEEN: u64 = 10_000;
 
 /// How far a run or a search through all runs is: a line on a terminal, which is written over and over, and nothing where
 /// there is no terminal.
-#[derive(Debug, Drop)]
+#[derive(Drop)]
 pub struct Progress<'e, E> {
     err: &'e mut E,
     is_shown: bool,

@@ -12,7 +12,7 @@ use std::io::Write;
 use tracer::RunFault;
 
 /// What is asked of the figures of a run.
-#[derive(Clone, Copy, Debug)]
+#[derive(Clone, Copy)]
 pub struct StatsInput<'a> {
     /// How they are written.
     pub form: Form,

@@ -1,7 +1,7 @@
 //! What a search comes to.
 
 /// How far a search may go.
-#[derive(Clone, Copy, Debug)]
+#[derive(Clone, Copy)]
 pub struct Limits {
     /// How many nodes may be kept.
     pub nodes: usize,
@@ -11,7 +11,7 @@ pub struct Limits {
 }
 
 /// How far a search came.
-#[derive(Clone, Copy, Debug, PartialEq, Eq)]
+#[derive(Clone, Copy, PartialEq, Eq)]
 pub struct Progress {
     /// How many nodes are kept.
     pub nodes: usize,
@@ -26,7 +26,7 @@ pub struct Progress {
 }
 
 /// Why a search stopped.
-#[derive(Clone, Copy, Debug, PartialEq, Eq)]
+#[derive(Clone, Copy, PartialEq, Eq)]
 pub enum Obstacle {
     /// As many nodes are kept as may be, and one more would be needed.
     Nodes,
@@ -37,7 +37,7 @@ pub enum Obstacle {
 }
 
 /// What a search comes to.
-#[derive(Clone, Copy, Debug, PartialEq, Eq)]
+#[derive(Clone, Copy, PartialEq, Eq)]
 pub enum Outcome {
     /// The nodes that are kept stand for all that can come, and what is seen is noted.
     Decided(Progress),

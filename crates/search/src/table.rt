@@ -10,7 +10,7 @@ use crate::steps::Steps;
 use std::alloc::{AllocError, Global};
 
 /// What became of a node that was to be admitted.
-#[derive(Clone, Copy, Debug, PartialEq, Eq)]
+#[derive(Clone, Copy)]
 pub enum Admitted {
     /// A node covers it.
     Covered,

@@ -15,7 +15,7 @@ use ready_queues::ReadyQueues;
 
 /// What a service answers: its status, None for a service without one, and at most three results, which come with E_OK
 /// alone.
-#[derive(Clone, Copy, Debug, PartialEq, Eq)]
+#[derive(Clone, Copy)]
 pub struct Answer {
     pub status: Option<Status>,
     pub results: Results,

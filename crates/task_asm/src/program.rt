@@ -8,7 +8,7 @@ use std::alloc::{AllocError, Global};
 use std::marker::Model;
 
 /// One or more events as an operand, of which the union is meant. Contracts see the list of their names.
-#[derive(Debug, Drop)]
+#[derive(Drop)]
 pub struct EventNames {
     names: Vec<Name>,
 }
@@ -56,7 +56,7 @@ impl EventNames {
 pub type NamedService = Service<Register, Option<Name>, Option<Name>, Option<Name>, EventNames>;
 
 /// An instruction as it stands in a program text, with places for labels.
-#[derive(Debug, Drop)]
+#[derive(Drop)]
 pub enum NamedInstr {
     Plain(Plain),
     Service(NamedService),
@@ -64,7 +64,7 @@ pub enum NamedInstr {
 }
 
 /// An instruction as an element of a program. Contracts see the instruction.
-#[derive(Debug, Drop)]
+#[derive(Drop)]
 pub struct NamedLine {
     instr: NamedInstr,
 }
@@ -94,14 +94,14 @@ impl NamedLine {
 }
 
 /// Whose a program is.
-#[derive(Clone, Copy, Debug, PartialEq, Eq)]
+#[derive(Clone, Copy, PartialEq, Eq)]
 pub enum ProgramKind {
     Task,
     Routine,
 }
 
 /// The program of a task or of an interrupt routine: its name and its instructions in order.
-#[derive(Debug, Drop)]
+#[derive(Drop)]
 pub struct NamedProgram {
     pub kind: ProgramKind,
     pub name: Name,

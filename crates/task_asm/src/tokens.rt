@@ -12,7 +12,7 @@ use osek_base::words::{line_len, number_at, word_at};
 use std::alloc::Global;
 
 /// The signs that are tokens.
-#[derive(Clone, Copy, Debug, PartialEq, Eq)]
+#[derive(Clone, Copy, PartialEq, Eq)]
 pub enum Sign {
     Comma,
     Colon,
@@ -33,7 +33,7 @@ pub enum Class {
 }
 
 /// A token. The end of a line is one, so that a text's lines are stretches of its tokens.
-#[derive(Clone, Copy, Debug, PartialEq, Eq)]
+#[derive(Clone, Copy, PartialEq, Eq)]
 pub enum Token<'a> {
     Word(&'a str),
     Number(u32),

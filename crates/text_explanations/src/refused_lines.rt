@@ -24,7 +24,7 @@ fn place_of(text: &[u8], line: usize) -> usize {
 }
 
 /// Why a line of an arrival list is refused.
-#[derive(Clone, Copy, Debug, PartialEq, Eq)]
+#[derive(Clone, Copy)]
 pub enum LineFault {
     /// The line isn't a tick, one space and a name.
     Syntax,

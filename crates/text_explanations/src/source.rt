@@ -7,7 +7,7 @@ use std::io::{self, Write};
 use text_positions::{Position, line_and_column};
 
 /// A text that was read, and the name of its file.
-#[derive(Clone, Copy, Debug)]
+#[derive(Clone, Copy)]
 pub struct Source<'a> {
     pub name: &'a str,
     pub text: &'a [u8],

@@ -4,7 +4,7 @@ ghost use Rattle.std.specs.Prelude.{◌≡◌, ◌<◌, ◌≤◌, length, take}
 ghost use Rattle.text_positions.specs.Positions.{line_ends, bytes_since, line_of, column_of};
 
 /// A line of a text and a column in bytes, both counted from 1.
-#[derive(Clone, Copy, Debug, PartialEq, Eq)]
+#[derive(Clone, Copy)]
 pub struct Position {
     pub line: usize,
     pub column: usize,

@@ -1,7 +1,7 @@
 //! OSEK/VDX OS: task state model, interrupt processing. What a task or a routine does in a tick.
 
 /// What a task or a routine does in a tick.
-#[derive(Clone, Copy, Debug, PartialEq, Eq)]
+#[derive(Clone, Copy)]
 pub enum Activity {
     /// The task is SUSPENDED; the routine neither executes nor is pending.
     Nothing,

@@ -4,7 +4,7 @@ use observations::{Holder, MAX_HELD};
 use osek_base::TaskId;
 
 /// The resources that a task holds, by number; behind those that are declared stands RES_SCHEDULER.
-#[derive(Clone, Copy, Debug, Default, PartialEq, Eq)]
+#[derive(Clone, Copy, Default, PartialEq, Eq)]
 pub struct Held {
     /// A bit for each number, that of number 0 the lowest.
     bits: u64,

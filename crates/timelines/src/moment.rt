@@ -11,7 +11,7 @@ use observations::{RoutineSeen, TaskSeen};
 use osek_base::TaskState;
 
 /// What a row shows of one tick.
-#[derive(Clone, Copy, Debug, PartialEq, Eq)]
+#[derive(Clone, Copy)]
 pub struct Moment {
     pub activity: Activity,
     /// The dynamic priority of a task's oldest job, 0 the lowest; the static one where it has no job. Of a routine its

@@ -1,7 +1,7 @@
 //! OSEK/VDX OS: task management, interrupt processing. Who has the processor.
 
 /// Who executes a tick's instruction.
-#[derive(Clone, Copy, Debug, PartialEq, Eq)]
+#[derive(Clone, Copy)]
 pub enum Processor {
     /// Nobody: the tick is idle.
     Idle,

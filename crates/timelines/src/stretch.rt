@@ -6,7 +6,7 @@ ghost use Rattle.timelines.specs.Stretches.{one_tick, longer};
 use crate::moment::Moment;
 
 /// A run of ticks in which a row shows the same.
-#[derive(Clone, Copy, Debug, PartialEq, Eq)]
+#[derive(Clone, Copy)]
 pub struct Stretch {
     pub moment: Moment,
     /// The number of its first tick.

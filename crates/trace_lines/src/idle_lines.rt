@@ -11,7 +11,7 @@ use crate::tick_text::TickText;
 use osek_base::MAX_TICKS;
 
 /// What the line of a tick says in which nobody executes and nothing else is recorded.
-#[derive(Clone, Copy, Debug, PartialEq, Eq)]
+#[derive(Clone, Copy)]
 pub enum IdleWord {
     /// `idle`, where all is shown.
     Idle,

@@ -8,7 +8,7 @@ use std::io::Write;
 use std::marker::Model;
 
 /// A write failed. It says no more, since nothing is tried again.
-#[derive(Clone, Copy, Debug, PartialEq, Eq)]
+#[derive(Clone, Copy)]
 pub struct SinkFault;
 
 /// Where bytes are written to. A write may take fewer bytes than it is given.
@@ -34,7 +34,7 @@ pub trait Sink {
 }
 
 /// A sink over a writer of std. Its bytes are those that the writer tells.
-#[derive(Debug, Drop)]
+#[derive(Drop)]
 pub struct StdSink<W> {
     writer: W,
     failed: bool,

@@ -1,7 +1,7 @@
 //! What of a run is written, no part of the standards.
 
 /// All records; all, with the number of blockers; or those of the view at a priority.
-#[derive(Clone, Copy, Debug)]
+#[derive(Clone, Copy)]
 pub enum Shown {
     All,
     /// Behind the first instruction of a job since it became ready stands how many blockers it had.

@@ -7,7 +7,7 @@ use std::marker::Model;
 
 /// The texts of an OIL file, of programs and of an arrival list, the name of a mode, and how many
 /// ticks, at most 1,000,000. Seen as the record of these.
-#[derive(Debug, Drop)]
+#[derive(Drop)]
 pub struct TraceInput<'a> {
     oil: &'a [u8],
     asm: &'a [u8],

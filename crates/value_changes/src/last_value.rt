@@ -6,7 +6,7 @@ ghost use Rattle.value_changes.specs.Changes.{written, shown};
 use std::marker::Model;
 
 /// The value with which a variable was last written, if it was. Seen as that option.
-#[derive(Clone, Copy, Debug)]
+#[derive(Clone, Copy)]
 pub struct LastValue<T> {
     value: Option<T>,
 }

@@ -39,7 +39,7 @@ const VALUES_SIZE: usize = 3886;
 
 /// What all variables of a system that aren't events were last written with, each by the number of
 /// its task, routine or resource.
-#[derive(Debug, Drop)]
+#[derive(Drop)]
 pub struct LastValues {
     pub executor: LastValue<Option<Owner>>,
     pub tasks: [TaskValues; MAX_TASKS],

@@ -10,7 +10,7 @@ use observations::RoutineSeen;
 use osek_base::IsrId;
 
 /// The values with which the wires of a routine were last written.
-#[derive(Clone, Copy, Debug)]
+#[derive(Clone, Copy)]
 pub struct RoutineValues {
     pub pending: LastValue<bool>,
     pub active: LastValue<bool>,

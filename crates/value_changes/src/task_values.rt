@@ -20,7 +20,7 @@ use observations::TaskSeen;
 use osek_base::{TaskId, TaskState};
 
 /// The values with which the variables of a task were last written.
-#[derive(Clone, Copy, Debug)]
+#[derive(Clone, Copy)]
 pub struct TaskValues {
     pub state: LastValue<TaskState>,
     pub priority: LastValue<Option<u8>>,

@@ -25,7 +25,7 @@ const RESOURCES: u16 = ROUTINES + OF_ROUTINE * MAX_ROUTINES as u16;
 const ALARMS: u16 = RESOURCES + MAX_HELD as u16;
 
 /// A variable of a dump. It is written as its identifier code, one or two printable characters.
-#[derive(Clone, Copy, Debug, PartialEq, Eq)]
+#[derive(Clone, Copy)]
 pub enum Variable {
     /// Who executes: the name of the task, or that of the routine behind `ISR.`.
     Executor,

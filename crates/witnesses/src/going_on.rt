@@ -5,7 +5,7 @@ use osek_base::{Arrival, IsrId, MAX_ROUTINES};
 use std::alloc::{AllocError, Global};
 
 /// How interrupts go on.
-#[derive(Clone, Copy, PartialEq)]
+#[derive(Clone, Copy)]
 pub(crate) enum GoingOn {
     /// None comes any more.
     Never,
