@@ -1,9 +1,7 @@
 -- The dump of a run, tick by tick.
-use Rattle.std.proofs.Common.{◌≡◌, ℕ, ◌+◌, ◌-◌, ◌<◌, ◌≤◌, nat_lt, Bool, true, false, List, [], ◌∷◌, ◌++◌, length, length-append, append-nil, Option, Result, Ok, Err, refl, sym, ap, subst, ◌∙◌, arith, ltb-true, ltb-false}
-use Rattle.std.specs.Prelude.{not}
+use Rattle.std.proofs.Common.{◌≡◌, ℕ, ◌+◌, ◌-◌, ◌<◌, List, [], ◌∷◌, ◌++◌, append-nil, Option, Result, Ok, Err, refl, sym, ap, subst, ◌∙◌, arith, false}
 use Rattle.std.specs.Io.KnownBytes.{Appends}
 use Rattle.std.specs.Result.{IsErrAnd}
-use Rattle.std.proofs.lemmas.Bool.{true≢false}
 use Rattle.observations.specs.declared.observation.Observation.{Observation}
 use Rattle.kernel.specs.Progress.{Progress, is_over}
 use Rattle.seen_ticks.specs.Observed.{IsObserved}
@@ -14,32 +12,22 @@ use Rattle.value_changes.specs.Ticks.{events_text}
 use Rattle.value_changes.specs.Writing.{Writes}
 use Rattle.value_changes.proofs.RunLemmas.{behind_appends, text_appends}
 use Rattle.value_changes.proofs.WriteLemmas.{stops, writes_behind}
-use Rattle.run_views.specs.Dumps.{AreSeen, DumpsTicks}
-use Rattle.run_views.proofs.SeenLemmas.{alike_seen, length-alike, no_event, seen_behind}
-
-pub goes_on : (over : Bool) → true ≡ not over → over ≡ false
-goes_on true h = absurd (true≢false h)
-goes_on false h = refl
+use Rattle.run_views.specs.Dumps.{DumpsTicks}
+use Rattle.run_views.proofs.SeenLemmas.{no_event}
+use Rattle.run_views.proofs.TickLemmas.{both, no_tick, one_tick, some_alike}
 
 -- ---- some ticks
 
-pub one_tick : {T E : Type 0} (r s : Progress) (d e : Dump) (a b : Option (List ℕ)) (answer : Result T E) (o : Observation)
+pub none_dumped : {T E : Type 0} (r s : Progress) (d : Dump) (a : Option (List ℕ)) (answer : Result T E) → s ≡ r → Writes a a [] answer
+    → DumpsTicks r s d d a a answer
+none_dumped r s d a answer same text = record { sees = no_tick false r s same; dumped = refl; text = text }
+
+pub tick_dumped : {T E : Type 0} (r s : Progress) (d e : Dump) (a b : Option (List ℕ)) (answer : Result T E) (o : Observation)
     → is_over r ≡ false → s ≡ record r { ticks = r.ticks + 1 } → IsObserved false s.system s.mode s.arrivals (s.ticks - 1) o
     → e ≡ observed d o → Writes a b (observed_text d o) answer → DumpsTicks r s d e a b answer
-one_tick r s d e a b answer o on next is behind text =
-    let ticks_are : s.ticks ≡ r.ticks + 1 = ap (λ (x : Progress). x.ticks) next in
-    let number : s.ticks - 1 ≡ r.ticks = omega (arith, ticks_are) in
+tick_dumped r s d e a b answer o on next is behind text =
     record {
-      seen = o ∷ [];
-      each = (
-        subst (λ n. IsObserved false r.system r.mode r.arrivals n o) number
-            (subst (λ (x : Progress). IsObserved false x.system x.mode x.arrivals (s.ticks - 1) o) next is),
-        tt,
-      );
-      going = λ k low.
-          let here : r.ticks + k ≡ r.ticks = omega (arith, low) in
-          ap (λ n. is_over (record r { ticks = n })) here ∙ on;
-      next = next;
+      sees = one_tick false r s o on next is;
       dumped = behind;
       text = subst (λ t. Writes a b t answer) (sym (append-nil (observed_text d o))) text;
     }
@@ -61,12 +49,8 @@ alike_dumped most n first end r s d e a b answer o some first_is end_is p is eac
     (p.none_arrive (n - 1) low) (p.none_due (n - 1) low) in
     let far : end ≡ first + n = omega (arith, ticks_are, first_is, end_is) in
     let whole : IsEach d o first end n = each n far none in
-    let count : length (alike_ticks o r.ticks n) ≡ n = length-alike o r.ticks n in
     record {
-      seen = alike_ticks o r.ticks n;
-      each = alike_seen r.system r.mode r.arrivals o r.ticks n (λ k below. p.alike k below o was);
-      going = λ k below. p.going k (omega (arith, below, count));
-      next = p.next ∙ ap (λ m. record r { ticks = r.ticks + m }) (sym count);
+      sees = some_alike false most n r s o some p is;
       dumped = behind ∙ whole.behind ∙ ap (λ t. dump_behind d (alike_ticks o t n)) first_is;
       text = subst (λ t. Writes a b t answer) (whole.text ∙ ap (λ t. dump_text d (alike_ticks o t n)) first_is) text;
     }
@@ -75,57 +59,24 @@ alike_dumped most n first end r s d e a b answer o some first_is end_is p is eac
 pub failed_too : {T E U F : Type 0} (r s : Progress) (d e : Dump) (a b : Option (List ℕ)) (x : E) (answer : Result U F) (Q : F → Type 0)
     → IsErrAnd answer Q → DumpsTicks {T = T} {E = E} r s d e a b (Err x) → DumpsTicks r s d e a b answer
 failed_too r s d e a b x answer Q failed p =
-    record {
-      seen = p.seen;
-      each = p.each;
-      going = p.going;
-      next = p.next;
-      dumped = p.dumped;
-      text = stops Q a b (dump_text d p.seen) answer failed p.text.beginning;
-    }
+    record { sees = p.sees; dumped = p.dumped; text = stops Q a b (dump_text d p.sees.seen) answer failed p.text.beginning }
 
 pub done_too : {T E U F : Type 0} (r s : Progress) (d e : Dump) (a b : Option (List ℕ)) (x : T) (y : U)
     → DumpsTicks {T = T} {E = E} r s d e a b (Ok x) → DumpsTicks {T = U} {E = F} r s d e a b (Ok y)
 done_too r s d e a b x y p =
-    record {
-      seen = p.seen;
-      each = p.each;
-      going = p.going;
-      next = p.next;
-      dumped = p.dumped;
-      text = record { written = p.text.written; beginning = tt };
-    }
+    record { sees = p.sees; dumped = p.dumped; text = record { written = p.text.written; beginning = tt } }
 
 -- some ticks, and others behind them
 pub ticks_behind : {T E U F : Type 0} (r s w : Progress) (d e f : Dump) (a b c : Option (List ℕ)) (first : Result T E) (answer : Result U F)
-    (p : DumpsTicks r s d e a b first) → Appends a b (dump_text d p.seen) → DumpsTicks s w e f b c answer → DumpsTicks r w d f a c answer
+    (p : DumpsTicks r s d e a b first) → Appends a b (dump_text d p.sees.seen) → DumpsTicks s w e f b c answer
+    → DumpsTicks r w d f a c answer
 ticks_behind r s w d e f a b c first answer p took q =
-    let ticks_are : s.ticks ≡ r.ticks + length p.seen = ap (λ (x : Progress). x.ticks) p.next in
-    let count : length (p.seen ++ q.seen) ≡ length p.seen + length q.seen = length-append p.seen q.seen in
     record {
-      seen = p.seen ++ q.seen;
-      each =
-          seen_behind r.system r.mode r.arrivals r.ticks p.seen q.seen p.each
-          (subst (λ (x : Progress). AreSeen x.system x.mode x.arrivals x.ticks q.seen) p.next q.each);
-      going = λ k low. still r s (length p.seen) (length q.seen) p.next p.going q.going k (nat_lt k (length p.seen)) refl (omega (arith, low, count));
-      next =
-          let sum : s.ticks + length q.seen ≡ r.ticks + length (p.seen ++ q.seen) = omega (arith, ticks_are, count) in
-          q.next ∙ ap (λ (x : Progress). record x { ticks = s.ticks + length q.seen }) p.next ∙ ap (λ n. record r { ticks = n }) sum;
-      dumped = q.dumped ∙ ap (λ x. dump_behind x q.seen) p.dumped ∙ sym (behind_appends d p.seen q.seen);
+      sees = both false r s w p.sees q.sees;
+      dumped = q.dumped ∙ ap (λ x. dump_behind x q.sees.seen) p.dumped ∙ sym (behind_appends d p.sees.seen q.sees.seen);
       text =
-          let texts : dump_text d p.seen ++ dump_text e q.seen ≡ dump_text d (p.seen ++ q.seen) =
-          ap (λ x. dump_text d p.seen ++ dump_text x q.seen) p.dumped ∙ sym (text_appends d p.seen q.seen) in
-          subst (λ t. Writes a c t answer) texts (writes_behind a b c (dump_text d p.seen) (dump_text e q.seen) answer took q.text);
+          let texts : dump_text d p.sees.seen ++ dump_text e q.sees.seen ≡ dump_text d (p.sees.seen ++ q.sees.seen) =
+          ap (λ x. dump_text d p.sees.seen ++ dump_text x q.sees.seen) p.dumped ∙ sym (text_appends d p.sees.seen q.sees.seen) in
+          subst (λ t. Writes a c t answer) texts
+          (writes_behind a b c (dump_text d p.sees.seen) (dump_text e q.sees.seen) answer took q.text);
     }
-  where
-    still : (r s : Progress) (m n : ℕ) → s ≡ record r { ticks = r.ticks + m }
-        → ((k : ℕ) → k < m → is_over (record r { ticks = r.ticks + k }) ≡ false)
-        → ((k : ℕ) → k < n → is_over (record s { ticks = s.ticks + k }) ≡ false)
-        → (k : ℕ) (before : Bool) → nat_lt k m ≡ before → k < m + n → is_over (record r { ticks = r.ticks + k }) ≡ false
-    still r s m n next first then k true is low = first k (ltb-true k m is)
-    still r s m n next first then k false is low =
-        let h : m ≤ k = ltb-false k m is in
-        let ticks_are : s.ticks ≡ r.ticks + m = ap (λ (x : Progress). x.ticks) next in
-        let here : s.ticks + (k - m) ≡ r.ticks + k = omega (arith, h, ticks_are) in
-        sym (ap (λ (x : Progress). is_over (record x { ticks = s.ticks + (k - m) })) next ∙ ap (λ t. is_over (record r { ticks = t })) here)
-        ∙ then (k - m) (omega (arith, h, low))

@@ -1,3 +1,7 @@
+pub mod CountLemmas
 pub mod DumpLemmas
+pub mod LawLemmas
+pub mod RunLemmas
 pub mod SeenLemmas
+pub mod TickLemmas
 pub mod WholeLemmas

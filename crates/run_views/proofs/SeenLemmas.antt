@@ -14,7 +14,7 @@ use Rattle.value_changes.specs.Lines.{event_line}
 use Rattle.value_changes.specs.Runs.{alike_ticks, numbered}
 use Rattle.value_changes.specs.Ticks.{events_from, events_text, expiry_text, loss_text}
 use Rattle.value_changes.specs.declared.variable.Variable.{Variable}
-use Rattle.run_views.specs.Dumps.{AreSeen}
+use Rattle.run_views.specs.Seen.{AreSeen}
 
 both : (a b : List ℕ) → a ≡ [] → b ≡ [] → a ++ b ≡ []
 both a b p q = ap₂ (λ (x y : List ℕ). x ++ y) p q
@@ -55,27 +55,27 @@ pub length-alike : (o : Observation) (t n : ℕ) → length (alike_ticks o t n) 
 length-alike o t zero = refl
 length-alike o t (suc n) = ap suc (length-alike o (suc t) n)
 
-pub alike_seen : (S : System) (mode : ℕ) (arrivals : List Arrival) (o : Observation) (t n : ℕ)
-    → ((k : ℕ) → k < n → IsObserved false S mode arrivals (t + k) (numbered (t + k) o)) → AreSeen S mode arrivals t (alike_ticks o t n)
-alike_seen S mode arrivals o t zero each = tt
-alike_seen S mode arrivals o t (suc n) each = (
+pub alike_seen : (counted : Bool) (S : System) (mode : ℕ) (arrivals : List Arrival) (o : Observation) (t n : ℕ)
+    → ((k : ℕ) → k < n → IsObserved counted S mode arrivals (t + k) (numbered (t + k) o)) → AreSeen counted S mode arrivals t (alike_ticks o t n)
+alike_seen counted S mode arrivals o t zero each = tt
+alike_seen counted S mode arrivals o t (suc n) each = (
   let here : t + 0 ≡ t = omega arith in
-      subst (λ m. IsObserved false S mode arrivals m (numbered m o)) here (each 0 (omega arith)),
-  alike_seen S mode arrivals o (suc t) n (λ k low.
+      subst (λ m. IsObserved counted S mode arrivals m (numbered m o)) here (each 0 (omega arith)),
+  alike_seen counted S mode arrivals o (suc t) n (λ k low.
       let next : t + suc k ≡ suc t + k = omega arith in
-      subst (λ m. IsObserved false S mode arrivals m (numbered m o)) next (each (suc k) (omega (arith, low)))),
+      subst (λ m. IsObserved counted S mode arrivals m (numbered m o)) next (each (suc k) (omega (arith, low)))),
 )
 
 -- ---- ticks behind others
 
-pub seen_behind : (S : System) (mode : ℕ) (arrivals : List Arrival) (t : ℕ) (seen more : List Observation) → AreSeen S mode arrivals t seen
-    → AreSeen S mode arrivals (t + length seen) more → AreSeen S mode arrivals t (seen ++ more)
-seen_behind S mode arrivals t [] more are and =
+pub seen_behind : (counted : Bool) (S : System) (mode : ℕ) (arrivals : List Arrival) (t : ℕ) (seen more : List Observation) → AreSeen counted S mode arrivals t seen
+    → AreSeen counted S mode arrivals (t + length seen) more → AreSeen counted S mode arrivals t (seen ++ more)
+seen_behind counted S mode arrivals t [] more are and =
     let same : t + 0 ≡ t = omega arith in
-    subst (λ m. AreSeen S mode arrivals m more) same and
-seen_behind S mode arrivals t (o ∷ seen) more are and =
+    subst (λ m. AreSeen counted S mode arrivals m more) same and
+seen_behind counted S mode arrivals t (o ∷ seen) more are and =
     let same : t + suc (length seen) ≡ suc t + length seen = omega arith in
-    (are.0, seen_behind S mode arrivals (suc t) seen more are.1 (subst (λ m. AreSeen S mode arrivals m more) same and))
+    (are.0, seen_behind counted S mode arrivals (suc t) seen more are.1 (subst (λ m. AreSeen counted S mode arrivals m more) same and))
 
 -- ---- of each tick something is seen
 
@@ -103,7 +103,7 @@ module _ (S : System) (mode : ℕ) (arrivals : List Arrival) where
   length-seen t zero = refl
   length-seen t (suc n) = ap suc (length-seen (suc t) n)
 
-  pub are_seen : (t n : ℕ) → AreSeen S mode arrivals t (seen_from t n)
+  pub are_seen : (t n : ℕ) → AreSeen false S mode arrivals t (seen_from t n)
   are_seen t zero = tt
   are_seen t (suc n) = (
     record {

@@ -2,6 +2,7 @@
 #![tactic(auto)]
 
 mod beginning;
+mod laws;
 mod progress;
 mod stats;
 mod timeline;
@@ -9,8 +10,9 @@ mod vcd;
 
 pub use beginning::RunInput;
 pub use figure_texts::{Form, Limit, Limits, unknown_limit};
+pub use laws::counted_are_run_figures;
 pub use progress::Progress;
-pub use stats::{StatsInput, write_stats};
+pub use stats::{StatsInput, counted_figures, write_stats};
 pub use timeline::write_timeline;
 pub use timelines::{MAX_DRAWN, unknown_row};
 pub use vcd::write_vcd;

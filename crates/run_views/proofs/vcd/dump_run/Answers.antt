@@ -1,4 +1,4 @@
-use Rattle.std.proofs.Common.{Ok, Err, sym, ap, subst, ◌∙◌, arith}
+use Rattle.std.proofs.Common.{rules, Ok, Err, refl, sym, ap, subst, ◌∙◌, arith}
 use Rattle.std.specs.Prelude.{not}
 use Rattle.kernel.specs.Progress.{Progress, is_over}
 use Rattle.osek_base.specs.System.{System}
@@ -7,7 +7,7 @@ use Rattle.value_changes.specs.Dumps.{Dump, started}
 use Rattle.value_changes.specs.Writing.{AppendsSome}
 use Rattle.std.specs.Io.KnownBytes.{Appends}
 use Rattle.run_views.specs.Dumps.{DumpsTicks}
-use Rattle.run_views.proofs.DumpLemmas.{done_too, ticks_behind}
+use Rattle.run_views.proofs.DumpLemmas.{done_too, none_dumped, ticks_behind}
 use Rattle.run_views.proofs.WholeLemmas.{IsDumped, dumped_asked, dumped_over, part, unbegun, whole}
 use Rattle.run_views.proofs.vcd.dump_run.Goals as goal
 use Rattle.run_views.proofs.vcd.dump_run.Goals.{else-ticks-test, then-ticks-test+in_ok-dump_next+then-not-branch}
@@ -39,6 +39,13 @@ returns-in_err-dump_next g c =
     part r c.dump_next.new.run c.requires.begun from c.dump_next.new.dump (contents c.begin.new.out) (contents c.dump_next.new.out)
     (Err c.in_err-dump_next.field-0.0) w (contents c.args.out.now) c.from_residual-in_err-dump_next.result _ c.args.ticks
     c.from_residual-in_err-dump_next.ensures.1 c.dump_next.ensures.within declared w.text.beginning
+
+pub ticks-init : goal.ticks-init
+ticks-init g c =
+    record {
+      dumps = none_dumped c.args.run.now c.args.run.now c.begin.new.self (g.O.Write.contents c.begin.new.out) (Ok tt) refl (search rules);
+      within = omega (arith, c.requires.begun);
+    }
 
 pub ticks-preserved : goal.ticks-preserved
 ticks-preserved g c =
