@@ -1,2 +1,5 @@
+pub mod RowLemmas
 pub mod StretchLemmas
 pub mod TilingLemmas
+pub mod TickLemmas
+pub mod AlikeLemmas

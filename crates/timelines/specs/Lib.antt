@@ -1,3 +1,5 @@
 pub mod Stretches
 pub mod Moments
 pub mod Tiling
+pub mod Rows
+pub mod RowSteps

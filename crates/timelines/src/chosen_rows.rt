@@ -1,5 +1,7 @@
 //! Which rows of a picture are drawn.
 
+ghost use Rattle.std.specs.Prelude.{◌≡◌};
+
 use crate::timeline::Timeline;
 use crate::track::Track;
 use osek_base::{Name, System};
@@ -35,9 +37,13 @@ pub fn unknown_row<'n>(system: &System, list: &'n str) -> Option<&'n str> {
     None
 }
 
-fn choose_tracks(tracks: &mut [Track], names: &[Name], list: &str) {
-    for (track, name) in tracks.iter_mut().zip(names) {
-        track.is_drawn = is_listed(list, name.as_str());
+fn choose_tracks(tracks: &mut [Track], names: &[Name], list: &str)
+    ensures { tracks.new ≡ tracks.old }
+{
+    for (number, track) in tracks.iter_mut().enumerate() {
+        if let Some(name) = names.get(number) {
+            track.choose(is_listed(list, name.as_str()));
+        }
     }
 }
 
@@ -49,7 +55,9 @@ pub(crate) fn drawn_count(tracks: &[Track]) -> usize {
 impl Timeline {
     /// From here on only the rows are drawn whose names stand in a list with commas between its names: a task and a routine of
     /// one name are both drawn.
-    pub fn choose_rows(&mut self, system: &System, list: &str) {
+    pub fn choose_rows(&mut self, system: &System, list: &str)
+        ensures { self.new ≡ self.old }
+    {
         let names = system.names();
         choose_tracks(
             self.routines.as_mut_slice(),

@@ -1,7 +1,9 @@
 //! OSEK/VDX OS: resource management. The resources that a task holds.
 
+ghost use Rattle.std.specs.Prelude.{◌≡◌, ◌≤◌, ◌<◌, ◌^◌, length};
+ghost use Rattle.timelines.specs.Rows.{held_bits, held_by, is_holder};
+
 use observations::{Holder, MAX_HELD};
-use osek_base::TaskId;
 
 /// The resources that a task holds, by number; behind those that are declared stands RES_SCHEDULER.
 #[derive(Clone, Copy, Default, PartialEq, Eq)]
@@ -12,14 +14,13 @@ pub struct Held {
 
 impl Held {
     /// Those of which the task of that number is the holder.
-    pub fn of_task(holders: &[Holder], task: usize) -> Self {
-        let mut bits = 0;
-        for (number, holder) in holders.iter().enumerate() {
-            if number < MAX_HELD && is_held_by(*holder, task) {
-                bits |= 1 << number;
-            }
+    pub fn of_task(holders: &[Holder], task: usize) -> Self
+        requires { length holders.now ≤ MAX_HELD }
+        ensures { result ≡ held_by holders.now task }
+    {
+        Held {
+            bits: held_bits(holders, task),
         }
-        Held { bits }
     }
 
     /// Whether it is none.
@@ -33,9 +34,26 @@ impl Held {
     }
 }
 
-fn is_held_by(holder: Holder, task: usize) -> bool {
+fn is_holder(holder: Holder, task: usize) -> bool
+    ensures { result ≡ is_holder holder task }
+{
     match holder.task() {
         Some(holder) => holder.number() as usize == task,
         None => false,
+    }
+}
+
+/// A bit for each of some holders, that of the first the lowest: 1 where it is the task.
+fn held_bits(holders: &[Holder], task: usize) -> u64
+    requires { length holders.now ≤ MAX_HELD }
+    ensures value { result ≡ held_bits holders.now task }
+    ensures fits { result < 2 ^ length holders.now }
+{
+    match holders.split_first() {
+        Some((first, later)) => {
+            let bit = u64::from(is_holder(*first, task));
+            bit + 2 * held_bits(later, task)
+        }
+        None => 0,
     }
 }

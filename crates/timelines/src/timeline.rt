@@ -1,21 +1,33 @@
 //! The ticks of a run that are drawn.
 
-use crate::begun::begun_behind;
-use crate::held::Held;
-use crate::mark::Sign;
-use crate::moment::Moment;
-use crate::processor::Processor;
-use crate::track::{Track, bare_tracks, mark_at};
-use observations::{AlarmSeen, Observation, RoutineSeen, TaskSeen};
-use osek_base::{
-    Action, Instr, Outcome, Owner, Service, Status, System, TaskId, TickRecord, TraceEvent,
+ghost use Rattle.std.specs.Prelude.{◌≡◌, ◌≤◌, ◌<◌, ◌+◌, ◌-◌, ◌++◌, ◌∷◌, [], List, length, max, min, IfOk, OnOk};
+ghost use Rattle.observations.specs.declared.observation.Observation.{Observation};
+ghost use Rattle.timelines.specs.Rows.{AreRows, alike_ticks};
+ghost use Rattle.osek_base.specs.System.{System};
+ghost use Rattle.timelines.specs.RowSteps.{
+  AreChanged,
+  AreDrawn,
+  ArePassed,
+  Drawn,
+  Passed,
+  begun_kept,
+  routine_drawn,
+  task_drawn,
 };
+
+use crate::rows::{draw_routines, draw_tasks, keep_begun};
+use crate::signs::{mark_alarms, mark_records};
+use crate::track::{Track, bare_tracks};
+use observations::Observation;
+use osek_base::{System, TickRecord};
 use std::alloc::{AllocError, Global};
+use std::marker::Model;
 
 /// How many ticks a picture has at most.
 pub const MAX_DRAWN: u32 = 5_000;
 
-/// The ticks of a run that are drawn: what each task and routine does, and what comes to it.
+/// The ticks of a run that are drawn: what each task and routine does, and what comes to it. Contracts see which ticks these
+/// are, the rows, and what tasks have begun.
 #[derive(Drop)]
 pub struct Timeline {
     /// The first tick that is drawn.
@@ -28,10 +40,27 @@ pub struct Timeline {
     pub(crate) tasks: Vec<Track>,
 }
 
+impl Model for Timeline {
+    ghost use Rattle.timelines.specs.Rows.{Picture};
+
+    ghost Value = { Picture };
+
+    ghost view = { λ t. record {
+      from = t.from;
+      to = t.to;
+      tasks = t.tasks.items;
+      routines = t.routines.items;
+    } };
+}
+
 impl Timeline {
     /// A picture of the ticks from `from` on and before `to`, of [`MAX_DRAWN`] ticks at most: later ones aren't drawn. An
     /// error is want of memory.
-    pub fn new(alloc: Global, system: &System, from: u32, to: u32) -> Result<Self, AllocError> {
+    pub fn new(alloc: Global, system: &System, from: u32, to: u32) -> Result<Self, AllocError>
+        ensures rows { IfOk result (λ picture. AreRows system.now [] picture) }
+        ensures from { IfOk result (λ picture. picture.from ≡ from) }
+        ensures to { IfOk result (λ picture. picture.to ≡ min to (from + 5000)) }
+    {
         let routines = bare_tracks(alloc, system.routine_count())?;
         let tasks = bare_tracks(alloc, system.task_count())?;
         Ok(Timeline {
@@ -50,12 +79,19 @@ impl Timeline {
         system: &System,
         observation: &Observation,
         records: &TickRecord,
-    ) -> Result<(), AllocError> {
+    ) -> Result<(), AllocError>
+        ensures rows { (seen : List Observation) → length seen ≡ observation.now.tick
+            → AreRows system.now seen self.old
+            → OnOk result (AreRows system.now (seen ++ observation.now ∷ []) self.new) }
+        ensures from { OnOk result (self.new.from ≡ self.old.from) }
+        ensures to { OnOk result (self.new.to ≡ self.old.to) }
+    {
         let tick = observation.tick;
-        if self.from <= tick && tick < self.to {
-            self.observe_drawn(system, tick, observation, records)?;
+        let (from, to) = self.ticks();
+        if from <= tick && tick < to {
+            return self.draw(system, tick, observation, records);
         }
-        keep_begun(observation.tasks.as_slice(), self.tasks.as_mut_slice());
+        self.pass(observation);
         Ok(())
     }
 
@@ -68,196 +104,116 @@ impl Timeline {
         records: &TickRecord,
         first: u32,
         end: u32,
-    ) -> Result<(), AllocError> {
-        // What a tick leaves of what tasks have begun, another such tick leaves as it is.
-        if first < self.from {
-            keep_begun(observation.tasks.as_slice(), self.tasks.as_mut_slice());
+    ) -> Result<(), AllocError>
+        ensures rows { (seen : List Observation) → length seen ≡ first → first ≤ end
+            → AreRows system.now seen self.old
+            → OnOk result (AreRows system.now
+                (seen ++ alike_ticks observation.now first (end - first)) self.new) }
+        ensures from { OnOk result (self.new.from ≡ self.old.from) }
+        ensures to { OnOk result (self.new.to ≡ self.old.to) }
+    {
+        let (from, to) = self.ticks();
+        let begins = first.max(from).min(end);
+        let ends = begins.max(end.min(to));
+        self.pass_alike(observation, first, begins);
+        self.draw_alike(system, observation, records, begins, ends)?;
+        self.pass_alike(observation, ends, end);
+        Ok(())
+    }
+
+    /// The first tick that is drawn, and the one behind the last.
+    fn ticks(&self) -> (u32, u32)
+        ensures { result ≡ (self.now.from, self.now.to) }
+    {
+        (self.from, self.to)
+    }
+
+    /// Keeps what is seen of ticks that aren't drawn. What a tick leaves of what tasks have begun,
+    /// another such tick leaves as it is.
+    fn pass_alike(&mut self, observation: &Observation, first: u32, end: u32)
+        requires { ArePassed self.old first end }
+        ensures rows { (S : System) (seen : List Observation) → length seen ≡ first → first ≤ end
+            → AreRows S seen self.old
+            → AreRows S (seen ++ alike_ticks observation.now first (end - first)) self.new }
+        ensures from { self.new.from ≡ self.old.from }
+        ensures to { self.new.to ≡ self.old.to }
+    {
+        if first < end {
+            self.pass(observation);
         }
-        for tick in first.max(self.from)..end.min(self.to) {
-            self.observe_drawn(system, tick, observation, records)?;
-            keep_begun(observation.tasks.as_slice(), self.tasks.as_mut_slice());
+    }
+
+    /// Keeps what is seen of ticks that are drawn. An error is want of memory.
+    fn draw_alike(
+        &mut self,
+        system: &System,
+        observation: &Observation,
+        records: &TickRecord,
+        first: u32,
+        end: u32,
+    ) -> Result<(), AllocError>
+        requires { AreDrawn self.old first end }
+        ensures rows { (seen : List Observation) → length seen ≡ first → first ≤ end
+            → AreRows system.now seen self.old
+            → OnOk result (AreRows system.now
+                (seen ++ alike_ticks observation.now first (end - first)) self.new) }
+        ensures from { OnOk result (self.new.from ≡ self.old.from) }
+        ensures to { OnOk result (self.new.to ≡ self.old.to) }
+    {
+        for tick in first..end {
+            self.draw(system, tick, observation, records)?;
         }
         Ok(())
     }
 
-    fn observe_drawn(
+    /// Keeps what is seen of a tick that is drawn, and its records. An error is want of memory.
+    fn draw(
         &mut self,
         system: &System,
         tick: u32,
         observation: &Observation,
         records: &TickRecord,
-    ) -> Result<(), AllocError> {
+    ) -> Result<(), AllocError>
+        ensures { OnOk result (Drawn system.now observation.now tick self.old self.new) }
+    {
         self.end = tick.saturating_add(1);
-        observe_tasks(system, tick, observation, self.tasks.as_mut_slice())?;
-        observe_routines(
-            system,
-            tick,
-            observation.routines.as_slice(),
-            self.routines.as_mut_slice(),
-        )?;
-        observe_alarms(
-            system,
-            tick,
-            observation.alarms.as_slice(),
+        draw_all(
             self.tasks.as_mut_slice(),
-        )?;
-        for entry in records.entries() {
-            self.observe_record(tick, entry.event())?;
-        }
-        Ok(())
+            self.routines.as_mut_slice(),
+            system,
+            tick,
+            observation,
+            records,
+        )
     }
 
-    fn observe_record(&mut self, tick: u32, event: &TraceEvent) -> Result<(), AllocError> {
-        match event {
-            TraceEvent::Executed(owner, _, instr, Outcome::Answer(status, _)) => match status {
-                Status::Ok => self.observe_accepted(tick, instr),
-                refused => self.observe_refused(tick, owner, *refused),
-            },
-            _ => Ok(()),
-        }
-    }
-
-    fn observe_accepted(&mut self, tick: u32, instr: &Instr) -> Result<(), AllocError> {
-        match instr {
-            Instr::Service(Service::SetEvent(Some(task), mask)) => mark_at(
-                self.tasks.as_mut_slice(),
-                task.number() as usize,
-                tick,
-                Sign::EventsSet(*mask),
-            ),
-            _ => Ok(()),
-        }
-    }
-
-    fn observe_refused(
-        &mut self,
-        tick: u32,
-        owner: &Owner,
-        status: Status,
-    ) -> Result<(), AllocError> {
-        let sign = Sign::Refused(status);
-        match owner {
-            Owner::Task(task) => mark_at(
-                self.tasks.as_mut_slice(),
-                task.number() as usize,
-                tick,
-                sign,
-            ),
-            Owner::Routine(routine) => {
-                mark_at(
-                    self.routines.as_mut_slice(),
-                    routine.number() as usize,
-                    tick,
-                    sign,
-                )
-            }
-        }
+    /// Keeps what tasks have begun behind a tick that isn't drawn.
+    fn pass(&mut self, observation: &Observation)
+        ensures { Passed observation.now self.old self.new }
+    {
+        keep_begun(self.tasks.as_mut_slice(), observation);
     }
 }
 
-/// Who has the processor where that task executes.
-fn task_executes(system: &System, task: TaskId) -> Processor {
-    match system.parts().tasks.get(task.number() as usize) {
-        Some(task) => Processor::Task(task.priority),
-        None => Processor::Idle,
-    }
-}
-
-/// Who has the processor where that one executes.
-fn processor(system: &System, executor: &Option<Owner>) -> Processor {
-    let Some(owner) = executor else {
-        return Processor::Idle;
-    };
-    match owner {
-        Owner::Task(task) => task_executes(system, *task),
-        Owner::Routine(_) => Processor::Routine,
-    }
-}
-
-fn observe_tasks(
+/// Draws a tick on all rows, and keeps what came in it.
+fn draw_all(
+    tasks: &mut [Track],
+    routines: &mut [Track],
     system: &System,
     tick: u32,
     observation: &Observation,
-    tracks: &mut [Track],
-) -> Result<(), AllocError> {
-    let processor = processor(system, &observation.executor);
-    let holders = observation.holders.as_slice();
-    let seen = observation.tasks.as_slice();
-    let tasks = system.parts().tasks.as_slice();
-    for (number, ((track, seen), task)) in tracks.iter_mut().zip(seen).zip(tasks).enumerate() {
-        let held = Held::of_task(holders, number);
-        let moment = Moment::of_task(*seen, processor, task.priority, track.has_begun, held);
-        track.row.add(tick, moment)?;
-        track.mark_if(seen.made > 0, tick, Sign::Activated(seen.made))?;
-    }
+    records: &TickRecord,
+) -> Result<(), AllocError>
+    ensures tasks { OnOk result (AreChanged
+        (λ k kept. begun_kept observation.now k (task_drawn system.now observation.now tick k kept))
+        tasks.old tasks.new) }
+    ensures routines { OnOk result (AreChanged (routine_drawn system.now observation.now tick)
+        routines.old routines.new) }
+{
+    draw_tasks(tasks, system, tick, observation)?;
+    draw_routines(routines, system, tick, observation)?;
+    mark_alarms(system, tick, observation.alarms.as_slice(), tasks)?;
+    mark_records(tick, records, tasks, routines)?;
+    keep_begun(tasks, observation);
     Ok(())
-}
-
-/// Keeps of each task whether its oldest job has executed since it became ready.
-fn keep_begun(seen: &[TaskSeen], tracks: &mut [Track]) {
-    for (track, seen) in tracks.iter_mut().zip(seen) {
-        track.has_begun = begun_behind(track.has_begun, *seen);
-    }
-}
-
-fn observe_routine(
-    track: &mut Track,
-    tick: u32,
-    seen: RoutineSeen,
-    priority: u8,
-) -> Result<(), AllocError> {
-    track.row.add(tick, Moment::of_routine(seen, priority))?;
-    track.mark_if(seen.arrived > 0, tick, Sign::Arrived(seen.arrived))?;
-    track.mark_if(seen.lost > 0, tick, Sign::Lost(seen.lost))
-}
-
-fn observe_routines(
-    system: &System,
-    tick: u32,
-    seen: &[RoutineSeen],
-    tracks: &mut [Track],
-) -> Result<(), AllocError> {
-    let routines = system.parts().routines.as_slice();
-    for ((track, seen), routine) in tracks.iter_mut().zip(seen).zip(routines) {
-        observe_routine(track, tick, *seen, routine.priority)?;
-    }
-    Ok(())
-}
-
-fn observe_alarms(
-    system: &System,
-    tick: u32,
-    seen: &[AlarmSeen],
-    tasks: &mut [Track],
-) -> Result<(), AllocError> {
-    let alarms = system.parts().alarms.as_slice();
-    for (number, seen) in seen.iter().enumerate() {
-        if number < alarms.len() && seen.has_expired {
-            let alarm = &alarms[number];
-            observe_expiry(tick, number, &alarm.action, seen.is_refused, tasks)?;
-        }
-    }
-    Ok(())
-}
-
-fn observe_expiry(
-    tick: u32,
-    alarm: usize,
-    action: &Action,
-    is_refused: bool,
-    tasks: &mut [Track],
-) -> Result<(), AllocError> {
-    let task = match action {
-        Action::ActivateTask(task) => task,
-        Action::SetEvent(task, _) => task,
-    };
-    let number = task.number() as usize;
-    if is_refused {
-        return mark_at(tasks, number, tick, Sign::ExpiryRefused(alarm));
-    }
-    mark_at(tasks, number, tick, Sign::Expired(alarm))?;
-    match action {
-        Action::ActivateTask(_) => Ok(()),
-        Action::SetEvent(_, mask) => mark_at(tasks, number, tick, Sign::EventsSet(*mask)),
-    }
 }

@@ -1,23 +1,42 @@
 //! What is kept of one task or routine.
 
+ghost use Rattle.std.specs.Prelude.{ℕ, ◌≡◌, ◌<◌, OnOk, IfOk, replicate};
+ghost use Rattle.timelines.specs.Moments.{begun_behind};
+ghost use Rattle.timelines.specs.Stretches.{added};
+ghost use Rattle.timelines.specs.Rows.{Kept, nothing_kept};
+
+use crate::begun::begun_behind;
 use crate::mark::{Mark, Sign};
 use crate::moment::Moment;
 use crate::row::Row;
+use observations::TaskSeen;
 use std::alloc::{AllocError, Global};
+use std::marker::Model;
 
-/// What is kept of one task or routine: its stretches, and what came to it, by falling age.
+/// What is kept of one task or routine: its stretches, and what came to it, by falling age. Contracts see the stretches, and
+/// what the task has begun.
 #[derive(Drop)]
 pub(crate) struct Track {
     pub(crate) row: Row,
     pub(crate) marks: Vec<Mark>,
     /// Whether a task's oldest job has executed since it became ready; of a routine no.
-    pub(crate) has_begun: bool,
+    has_begun: bool,
     /// Whether its row is drawn.
     pub(crate) is_drawn: bool,
 }
 
+impl Model for Track {
+    ghost use Rattle.timelines.specs.Rows.{Kept};
+
+    ghost Value = { Kept };
+
+    ghost view = { λ t. record { row = t.row; begun = t.has_begun } };
+}
+
 impl Track {
-    pub(crate) fn new(alloc: Global) -> Self {
+    pub(crate) fn new(alloc: Global) -> Self
+        ensures { result ≡ nothing_kept }
+    {
         Track {
             row: Row::new(alloc),
             marks: Vec::new(alloc),
@@ -26,8 +45,30 @@ impl Track {
         }
     }
 
+    pub(crate) fn has_begun(&self) -> bool
+        ensures { result ≡ self.now.begun }
+    {
+        self.has_begun
+    }
+
+    /// A tick more, which shows a moment. An error is want of memory.
+    pub(crate) fn draw(&mut self, tick: u32, moment: Moment) -> Result<(), AllocError>
+        ensures { OnOk result (self.new ≡ record self.old { row = added tick moment self.old.row }) }
+    {
+        self.row.add(tick, moment)
+    }
+
+    /// Keeps what the task has begun behind a tick in which that is seen of it.
+    pub(crate) fn keep_begun(&mut self, seen: TaskSeen)
+        ensures { self.new ≡ record self.old { begun = begun_behind self.old.begun seen } }
+    {
+        self.has_begun = begun_behind(self.has_begun, seen);
+    }
+
     /// Keeps what came in a tick. An error is want of memory.
-    pub(crate) fn mark(&mut self, tick: u32, sign: Sign) -> Result<(), AllocError> {
+    pub(crate) fn mark(&mut self, tick: u32, sign: Sign) -> Result<(), AllocError>
+        ensures { self.new ≡ self.old }
+    {
         self.marks.push(Mark { tick, sign })?;
         Ok(())
     }
@@ -38,16 +79,27 @@ impl Track {
         condition: bool,
         tick: u32,
         sign: Sign,
-    ) -> Result<(), AllocError> {
+    ) -> Result<(), AllocError>
+        ensures { self.new ≡ self.old }
+    {
         if condition {
             return self.mark(tick, sign);
         }
         Ok(())
     }
+
+    /// Whether the row is drawn.
+    pub(crate) fn choose(&mut self, is_drawn: bool)
+        ensures { self.new ≡ self.old }
+    {
+        self.is_drawn = is_drawn;
+    }
 }
 
 /// So many tracks, with nothing on them.
-pub(crate) fn bare_tracks(alloc: Global, count: usize) -> Result<Vec<Track>, AllocError> {
+pub(crate) fn bare_tracks(alloc: Global, count: usize) -> Result<Vec<Track>, AllocError>
+    ensures { IfOk result (λ tracks. tracks.items ≡ replicate count nothing_kept) }
+{
     let mut tracks = Vec::with_capacity(alloc, count)?;
     for _made in 0..count {
         tracks.push(Track::new(alloc))?;
@@ -61,9 +113,11 @@ pub(crate) fn mark_at(
     number: usize,
     tick: u32,
     sign: Sign,
-) -> Result<(), AllocError> {
-    match tracks.get_mut(number) {
-        Some(track) => track.mark(tick, sign),
-        None => Ok(()),
+) -> Result<(), AllocError>
+    ensures { tracks.new ≡ tracks.old }
+{
+    if number < tracks.len() {
+        return tracks[number].mark(tick, sign);
     }
+    Ok(())
 }

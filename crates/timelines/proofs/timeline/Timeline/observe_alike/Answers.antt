@@ -1,0 +1,27 @@
+use Rattle.std.proofs.Common.{◌≡◌, ◌≤◌, ◌∙◌, List, length, ◌++◌, ◌-◌, ap, subst, arith}
+use Rattle.observations.specs.declared.observation.Observation.{Observation}
+use Rattle.timelines.specs.Rows.{AreRows, alike_ticks}
+use Rattle.timelines.proofs.AlikeLemmas.{joined, reaches}
+use Rattle.timelines.proofs.timeline.Timeline.observe_alike.Goals as goal
+
+-- those before the first that is drawn, those that are drawn, and those behind
+pub returns-clause-rows : goal.returns-clause-rows
+returns-clause-rows c = λ seen counts le are.
+    let S = c.args.system.now in
+    let o = c.args.observation.now in
+    let first = c.args.first in
+    let begins = c.min-begins.result in
+    let ends = c.max-ends.result in
+    let before : first ≤ begins = omega (arith, c.max.ensures, c.min-begins.ensures, le) in
+    let within : begins ≤ ends = omega (arith, c.max-ends.ensures) in
+    let behind : ends ≤ c.args.end = omega (arith, c.min-begins.ensures, c.min.ensures, c.max-ends.ensures) in
+    let one : List Observation = seen ++ alike_ticks o first (begins - first) in
+    let two : List Observation = one ++ alike_ticks o begins (ends - begins) in
+    let at_begins : length one ≡ begins = reaches o first begins seen before counts in
+    let at_ends : length two ≡ ends = reaches o begins ends one within at_begins in
+    let all = c.pass_alike-2.ensures.rows S two at_ends behind
+    (c.in_ok-draw_alike.ensures.rows one at_begins within (c.pass_alike.ensures.rows S seen counts before are)) in
+    subst (λ ws. AreRows S ws c.pass_alike-2.new.self)
+    (ap (λ ws. ws ++ alike_ticks o ends (c.args.end - ends)) (joined o first begins ends seen before within)
+      ∙ joined o first ends c.args.end seen (omega (arith, before, within)) behind)
+    all

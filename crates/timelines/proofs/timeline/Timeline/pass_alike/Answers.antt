@@ -1,0 +1,8 @@
+use Rattle.std.proofs.Common.{arith}
+use Rattle.timelines.proofs.AlikeLemmas.{all_passed}
+use Rattle.timelines.proofs.timeline.Timeline.pass_alike.Goals as goal
+
+pub returns-then-first-end-clause-rows : goal.returns-then-first-end-clause-rows
+returns-then-first-end-clause-rows c = λ S seen counts _ are.
+    all_passed S c.args.observation.now c.args.first c.args.end c.args.self.now c.pass.new.self c.requires
+    (omega (arith, c.if-first-end.true)) c.pass.ensures seen counts are

@@ -1,0 +1,43 @@
+-- What a tick changes of what is kept of tasks and routines. No part of the standards.
+use Rattle.std.specs.Prelude.{ℕ, ◌≡◌, ◌<◌, ◌≤◌, ◌⊎◌, List, length, slice_index_or}
+use Rattle.osek_base.specs.System.{System}
+use Rattle.observations.specs.declared.observation.Observation.{Observation}
+use Rattle.timelines.specs.Moments.{begun_behind}
+use Rattle.timelines.specs.Stretches.{added}
+use Rattle.timelines.specs.Rows.{Kept, Picture, nothing_kept, task_seen, task_shown, routine_shown}
+
+-- a tick is drawn on the row of task k
+abbrev pub task_drawn : System → Observation → ℕ → ℕ → Kept → Kept
+task_drawn S o tick k kept = record kept { row = added tick (task_shown S o k kept.begun) kept.row }
+
+abbrev pub routine_drawn : System → Observation → ℕ → ℕ → Kept → Kept
+routine_drawn S o tick k kept = record kept { row = added tick (routine_shown S o k) kept.row }
+
+-- what task k has begun is kept
+abbrev pub begun_kept : Observation → ℕ → Kept → Kept
+begun_kept o k kept = record kept { begun = begun_behind kept.begun (task_seen o k) }
+
+-- the thing of each number changed by a function
+pub record AreChanged (change : ℕ → Kept → Kept) (old new : List Kept) : Type 0 where
+  pub count : length new ≡ length old
+  pub each : (k : ℕ) → k < length old → slice_index_or new k nothing_kept ≡ change k (slice_index_or old k nothing_kept)
+
+-- a tick, drawn or not, leaves a picture
+pub record Drawn (S : System) (o : Observation) (tick : ℕ) (old new : Picture) : Type 0 where
+  pub from : new.from ≡ old.from
+  pub to : new.to ≡ old.to
+  pub tasks : AreChanged (λ k kept. begun_kept o k (task_drawn S o tick k kept)) old.tasks new.tasks
+  pub routines : AreChanged (routine_drawn S o tick) old.routines new.routines
+
+pub record Passed (o : Observation) (old new : Picture) : Type 0 where
+  pub from : new.from ≡ old.from
+  pub to : new.to ≡ old.to
+  pub tasks : AreChanged (begun_kept o) old.tasks new.tasks
+  pub routines : new.routines ≡ old.routines
+
+-- of the ticks from one on and before another each is drawn, and none is
+abbrev pub AreDrawn : Picture → ℕ → ℕ → Type 0
+AreDrawn picture first end = first < end → (picture.from ≤ first) × (end ≤ picture.to)
+
+abbrev pub ArePassed : Picture → ℕ → ℕ → Type 0
+ArePassed picture first end = first < end → (end ≤ picture.from) ⊎ (picture.to ≤ first)

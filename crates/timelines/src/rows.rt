@@ -1,0 +1,82 @@
+//! A tick more on the rows of a picture.
+
+ghost use Rattle.std.specs.Prelude.{◌≡◌, OnOk};
+ghost use Rattle.timelines.specs.RowSteps.{AreChanged, begun_kept, routine_drawn, task_drawn};
+
+use crate::mark::Sign;
+use crate::seen::{routine_seen, routine_shown, task_seen, task_shown};
+use crate::track::Track;
+use observations::Observation;
+use osek_base::System;
+use std::alloc::AllocError;
+
+fn draw_task(
+    track: &mut Track,
+    system: &System,
+    tick: u32,
+    observation: &Observation,
+    number: usize,
+) -> Result<(), AllocError>
+    ensures { OnOk result (track.new ≡ task_drawn system.now observation.now tick number track.old) }
+{
+    let moment = task_shown(system, observation, number, track.has_begun());
+    track.draw(tick, moment)?;
+    let made = task_seen(observation, number).made;
+    track.mark_if(made > 0, tick, Sign::Activated(made))
+}
+
+/// Draws a tick on the row of each task.
+pub(crate) fn draw_tasks(
+    tracks: &mut [Track],
+    system: &System,
+    tick: u32,
+    observation: &Observation,
+) -> Result<(), AllocError>
+    ensures { OnOk result (AreChanged (task_drawn system.now observation.now tick) tracks.old tracks.new) }
+{
+    for (number, track) in tracks.iter_mut().enumerate() {
+        draw_task(track, system, tick, observation, number)?;
+    }
+    Ok(())
+}
+
+fn draw_routine(
+    track: &mut Track,
+    system: &System,
+    tick: u32,
+    observation: &Observation,
+    number: usize,
+) -> Result<(), AllocError>
+    ensures { OnOk result
+        (track.new ≡ routine_drawn system.now observation.now tick number track.old) }
+{
+    track.draw(tick, routine_shown(system, observation, number))?;
+    let seen = routine_seen(observation, number);
+    track.mark_if(seen.arrived > 0, tick, Sign::Arrived(seen.arrived))?;
+    track.mark_if(seen.lost > 0, tick, Sign::Lost(seen.lost))
+}
+
+/// Draws a tick on the row of each routine.
+pub(crate) fn draw_routines(
+    tracks: &mut [Track],
+    system: &System,
+    tick: u32,
+    observation: &Observation,
+) -> Result<(), AllocError>
+    ensures { OnOk result
+        (AreChanged (routine_drawn system.now observation.now tick) tracks.old tracks.new) }
+{
+    for (number, track) in tracks.iter_mut().enumerate() {
+        draw_routine(track, system, tick, observation, number)?;
+    }
+    Ok(())
+}
+
+/// Keeps of each task whether its oldest job has executed since it became ready.
+pub(crate) fn keep_begun(tracks: &mut [Track], observation: &Observation)
+    ensures { AreChanged (begun_kept observation.now) tracks.old tracks.new }
+{
+    for (number, track) in tracks.iter_mut().enumerate() {
+        track.keep_begun(task_seen(observation, number));
+    }
+}
