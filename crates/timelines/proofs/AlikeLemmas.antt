@@ -53,7 +53,7 @@ one_more_drawn S o first tick end old middle new all begins ends below drawn =
           let joined : so_far ++ numbered tick o ∷ [] ≡ seen ++ alike_ticks o first (tick + 1 - first) =
           append_assoc seen (alike_ticks o first (tick - first)) (numbered tick o ∷ [])
           ∙ ap (λ ws. seen ++ ws) (ap (λ t. alike_ticks o first (tick - first) ++ numbered t o ∷ []) (sym there)
-            ∙ sym (alike_more o first (tick - first)) ∙ ap (alike_ticks o first) (sym e)) in
+          ∙ sym (alike_more o first (tick - first)) ∙ ap (alike_ticks o first) (sym e)) in
           subst (λ ws. AreRows S ws new) joined after;
     }
 
@@ -101,7 +101,7 @@ joined o a b e seen first second =
     let there : a + (b - a) ≡ b = omega (arith, first) in
     append_assoc seen (alike_ticks o a (b - a)) (alike_ticks o b (e - b))
     ∙ ap (λ ws. seen ++ ws) (ap (λ t. alike_ticks o a (b - a) ++ alike_ticks o t (e - b)) (sym there)
-      ∙ sym (alike_append o a (b - a) (e - b)) ∙ ap (alike_ticks o a) count)
+    ∙ sym (alike_append o a (b - a) (e - b)) ∙ ap (alike_ticks o a) count)
 
 pub reaches : (o : Observation) (a b : ℕ) (seen : List Observation) → a ≤ b → length seen ≡ a
     → length (seen ++ alike_ticks o a (b - a)) ≡ b

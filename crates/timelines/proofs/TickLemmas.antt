@@ -11,7 +11,7 @@ use Rattle.timelines.specs.declared.moment.Moment.{Moment}
 use Rattle.timelines.specs.declared.stretch.Stretch.{Stretch}
 use Rattle.timelines.specs.Moments.{begun_behind, begun_in}
 use Rattle.timelines.specs.Stretches.{added, stretches}
-use Rattle.timelines.specs.Rows.{AreKept, AreRows, Kept, Picture, all_moments, alike_ticks, begun_after, drawn, nothing_kept, numbered, routine_kept, routine_shown, task_kept, task_seen, task_shown}
+use Rattle.timelines.specs.Rows.{AreKept, AreRows, Kept, Picture, all_moments, alike_ticks, begun_after, drawn, numbered, routine_kept, routine_shown, task_kept, task_seen, task_shown}
 use Rattle.timelines.specs.RowSteps.{AreChanged, Drawn, Passed, begun_kept, routine_drawn, task_drawn}
 use Rattle.timelines.proofs.StretchLemmas.{stretches_added}
 
@@ -106,7 +106,7 @@ task_outside : (S : System) (from to tick : ℕ) (seen : List Observation) (o : 
 task_outside S from to tick seen o k outside = same_kept _ _
     (sym (ap (λ ms. stretches from (drawn from to ms)) (moments_more S k false seen (numbered tick o))
     ∙ ap (stretches from) (drawn_outside from to (all_moments S k false seen) (task_shown S o k (begun_after k false seen))
-      (subst (IsOutside from to) (sym (moments_count S k false seen)) outside))))
+    (subst (IsOutside from to) (sym (moments_count S k false seen)) outside))))
     (sym (begun_more k false seen (numbered tick o)))
 
 routine_outside : (S : System) (from to tick : ℕ) (seen : List Observation) (o : Observation) (k : ℕ) → IsOutside from to (length seen)
@@ -114,7 +114,7 @@ routine_outside : (S : System) (from to tick : ℕ) (seen : List Observation) (o
 routine_outside S from to tick seen o k outside = same_kept _ _
     (sym (ap (λ ms. stretches from (drawn from to ms)) (map_more (λ p. routine_shown S p k) seen (numbered tick o))
     ∙ ap (stretches from) (drawn_outside from to (map (λ p. routine_shown S p k) seen) (routine_shown S o k)
-      (subst (IsOutside from to) (sym (map_count (λ p. routine_shown S p k) seen)) outside))))
+    (subst (IsOutside from to) (sym (map_count (λ p. routine_shown S p k) seen)) outside))))
     refl
 
 -- where what stood at each number changed as it has to
@@ -173,7 +173,7 @@ tasks_outside S from to o k (suc n) tick seen outside =
     let rest : AreOutside from to (length more) (suc n) =
     subst (λ m. AreOutside from to m (suc n)) (sym (length_more seen (numbered tick o))) (next_outside from to (length seen) (suc n) outside) in
     sym (same_kept (begun_kept o k (begun_kept o k (task_kept S from to seen k))) (begun_kept o k (task_kept S from to seen k))
-      refl (begun_again (task_seen o k).state (begun_after k false seen) (task_seen o k)))
+    refl (begun_again (task_seen o k).state (begun_after k false seen) (task_seen o k)))
     ∙ ap (begun_kept o k) one
     ∙ tasks_outside S from to o k n (suc tick) more rest
     ∙ ap (λ ws. task_kept S from to ws k) (append_assoc seen (numbered tick o ∷ []) (alike_ticks o (suc tick) (suc n)))

@@ -41,3 +41,12 @@ AreDrawn picture first end = first < end → (picture.from ≤ first) × (end �
 
 abbrev pub ArePassed : Picture → ℕ → ℕ → Type 0
 ArePassed picture first end = first < end → (end ≤ picture.from) ⊎ (picture.to ≤ first)
+
+-- the ticks from one on and before another are some that aren't drawn, then some that are, and again some that aren't
+pub record IsDrawnPart (picture : Picture) (first end begins ends : ℕ) : Type 0 where
+  pub before : first ≤ end → first ≤ begins
+  pub within : begins ≤ ends
+  pub behind : ends ≤ end
+  pub passed : ArePassed picture first begins
+  pub drawn : AreDrawn picture begins ends
+  pub later : ArePassed picture ends end

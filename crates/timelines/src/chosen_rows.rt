@@ -53,8 +53,8 @@ pub(crate) fn drawn_count(tracks: &[Track]) -> usize {
 }
 
 impl Timeline {
-    /// From here on only the rows are drawn whose names stand in a list with commas between its names: a task and a routine of
-    /// one name are both drawn.
+    /// From here on only the rows are drawn whose names stand in a list with commas between its
+    /// names: a task and a routine of one name are both drawn. What is kept of each stays.
     pub fn choose_rows(&mut self, system: &System, list: &str)
         ensures { self.new ≡ self.old }
     {

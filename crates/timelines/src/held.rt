@@ -5,7 +5,8 @@ ghost use Rattle.timelines.specs.Rows.{held_bits, held_by, is_holder};
 
 use observations::{Holder, MAX_HELD};
 
-/// The resources that a task holds, by number; behind those that are declared stands RES_SCHEDULER.
+/// The resources that a task holds, by number; behind those that are declared stands
+/// RES_SCHEDULER.
 #[derive(Clone, Copy, Default, PartialEq, Eq)]
 pub struct Held {
     /// A bit for each number, that of number 0 the lowest.

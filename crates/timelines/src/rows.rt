@@ -17,7 +17,8 @@ fn draw_task(
     observation: &Observation,
     number: usize,
 ) -> Result<(), AllocError>
-    ensures { OnOk result (track.new ≡ task_drawn system.now observation.now tick number track.old) }
+    ensures { OnOk result
+        (track.new ≡ task_drawn system.now observation.now tick number track.old) }
 {
     let moment = task_shown(system, observation, number, track.has_begun());
     track.draw(tick, moment)?;
@@ -32,7 +33,8 @@ pub(crate) fn draw_tasks(
     tick: u32,
     observation: &Observation,
 ) -> Result<(), AllocError>
-    ensures { OnOk result (AreChanged (task_drawn system.now observation.now tick) tracks.old tracks.new) }
+    ensures { OnOk result
+        (AreChanged (task_drawn system.now observation.now tick) tracks.old tracks.new) }
 {
     for (number, track) in tracks.iter_mut().enumerate() {
         draw_task(track, system, tick, observation, number)?;

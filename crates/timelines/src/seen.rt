@@ -17,6 +17,7 @@ use observations::{Observation, RoutineSeen, TaskSeen};
 use osek_base::{Owner, System, TaskState};
 
 /// What is seen of a task; nothing where there is none of that number.
+#[inline(always)]
 pub(crate) fn task_seen(observation: &Observation, number: usize) -> TaskSeen
     ensures { result ≡ task_seen observation.now number }
 {
@@ -35,6 +36,7 @@ pub(crate) fn task_seen(observation: &Observation, number: usize) -> TaskSeen
 }
 
 /// What is seen of a routine; nothing where there is none of that number.
+#[inline(always)]
 pub(crate) fn routine_seen(observation: &Observation, number: usize) -> RoutineSeen
     ensures { result ≡ routine_seen observation.now number }
 {

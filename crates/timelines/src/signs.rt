@@ -5,9 +5,7 @@ ghost use Rattle.std.specs.Prelude.{◌≡◌};
 use crate::mark::Sign;
 use crate::track::{Track, mark_at};
 use observations::AlarmSeen;
-use osek_base::{
-    Action, Instr, Outcome, Owner, Service, Status, System, TickRecord, TraceEvent,
-};
+use osek_base::{Action, Instr, Outcome, Owner, Service, Status, System, TickRecord, TraceEvent};
 use std::alloc::AllocError;
 
 /// Keeps the alarms that expire.

@@ -1,14 +1,32 @@
 //! The ticks of a run that are drawn.
 
-ghost use Rattle.std.specs.Prelude.{◌≡◌, ◌≤◌, ◌<◌, ◌+◌, ◌-◌, ◌++◌, ◌∷◌, [], List, length, max, min, IfOk, OnOk};
+ghost use Rattle.std.specs.Prelude.{
+  ◌≡◌,
+  ◌≤◌,
+  ◌<◌,
+  ◌+◌,
+  ◌-◌,
+  ◌++◌,
+  ◌∷◌,
+  ◌⊎◌,
+  [],
+  List,
+  length,
+  min,
+  IfOk,
+  IsFalse,
+  IsTrue,
+  OnOk,
+};
+ghost use Rattle.osek_base.specs.System.{System};
 ghost use Rattle.observations.specs.declared.observation.Observation.{Observation};
 ghost use Rattle.timelines.specs.Rows.{AreRows, alike_ticks};
-ghost use Rattle.osek_base.specs.System.{System};
 ghost use Rattle.timelines.specs.RowSteps.{
   AreChanged,
   AreDrawn,
   ArePassed,
   Drawn,
+  IsDrawnPart,
   Passed,
   begun_kept,
   routine_drawn,
@@ -26,8 +44,8 @@ use std::marker::Model;
 /// How many ticks a picture has at most.
 pub const MAX_DRAWN: u32 = 5_000;
 
-/// The ticks of a run that are drawn: what each task and routine does, and what comes to it. Contracts see which ticks these
-/// are, the rows, and what tasks have begun.
+/// The ticks of a run that are drawn: what each task and routine does, and what comes to it.
+/// Contracts see which ticks these are, the rows, and what tasks have begun.
 #[derive(Drop)]
 pub struct Timeline {
     /// The first tick that is drawn.
@@ -54,8 +72,8 @@ impl Model for Timeline {
 }
 
 impl Timeline {
-    /// A picture of the ticks from `from` on and before `to`, of [`MAX_DRAWN`] ticks at most: later ones aren't drawn. An
-    /// error is want of memory.
+    /// A picture of the ticks from `from` on and before `to`, of [`MAX_DRAWN`] ticks at most: later
+    /// ones aren't drawn. An error is want of memory.
     pub fn new(alloc: Global, system: &System, from: u32, to: u32) -> Result<Self, AllocError>
         ensures rows { IfOk result (λ picture. AreRows system.now [] picture) }
         ensures from { IfOk result (λ picture. picture.from ≡ from) }
@@ -72,8 +90,9 @@ impl Timeline {
         })
     }
 
-    /// Keeps what is seen of a tick and its records, if it is drawn. Ticks come in order, from the first of the run on, as
-    /// what a ready task shows depends on what it did before. An error is want of memory.
+    /// Keeps what is seen of a tick and its records, if it is drawn. Ticks come in order, from the
+    /// first of the run on, as what a ready task shows depends on what it did before: where the rows
+    /// were those of the ticks before, they are those of one more. An error is want of memory.
     pub fn observe(
         &mut self,
         system: &System,
@@ -87,16 +106,15 @@ impl Timeline {
         ensures to { OnOk result (self.new.to ≡ self.old.to) }
     {
         let tick = observation.tick;
-        let (from, to) = self.ticks();
-        if from <= tick && tick < to {
+        if self.draws(tick) {
             return self.draw(system, tick, observation, records);
         }
         self.pass(observation);
         Ok(())
     }
 
-    /// The same of the ticks from one on and before another, in each of which all but the number is
-    /// as in an observation.
+    /// The same of the ticks from one on and before another, in each of which all but the number
+    /// is as in an observation.
     pub fn observe_alike(
         &mut self,
         system: &System,
@@ -108,24 +126,32 @@ impl Timeline {
         ensures rows { (seen : List Observation) → length seen ≡ first → first ≤ end
             → AreRows system.now seen self.old
             → OnOk result (AreRows system.now
-                (seen ++ alike_ticks observation.now first (end - first)) self.new) }
+            (seen ++ alike_ticks observation.now first (end - first)) self.new) }
         ensures from { OnOk result (self.new.from ≡ self.old.from) }
         ensures to { OnOk result (self.new.to ≡ self.old.to) }
     {
-        let (from, to) = self.ticks();
-        let begins = first.max(from).min(end);
-        let ends = begins.max(end.min(to));
+        let (begins, ends) = self.drawn_part(first, end);
         self.pass_alike(observation, first, begins);
         self.draw_alike(system, observation, records, begins, ends)?;
         self.pass_alike(observation, ends, end);
         Ok(())
     }
 
-    /// The first tick that is drawn, and the one behind the last.
-    fn ticks(&self) -> (u32, u32)
-        ensures { result ≡ (self.now.from, self.now.to) }
+    /// Whether a tick is drawn.
+    fn draws(&self, tick: u32) -> bool
+        ensures drawn { IsTrue result → (self.now.from ≤ tick) × (tick < self.now.to) }
+        ensures passed { IsFalse result → (tick < self.now.from) ⊎ (self.now.to ≤ tick) }
     {
-        (self.from, self.to)
+        self.from <= tick && tick < self.to
+    }
+
+    /// Of the ticks from one on and before another those that are drawn: the first, and the one
+    /// behind the last.
+    fn drawn_part(&self, first: u32, end: u32) -> (u32, u32)
+        ensures { IsDrawnPart self.now first end result.0 result.1 }
+    {
+        let begins = first.max(self.from).min(end);
+        (begins, begins.max(end.min(self.to)))
     }
 
     /// Keeps what is seen of ticks that aren't drawn. What a tick leaves of what tasks have begun,
@@ -156,7 +182,7 @@ impl Timeline {
         ensures rows { (seen : List Observation) → length seen ≡ first → first ≤ end
             → AreRows system.now seen self.old
             → OnOk result (AreRows system.now
-                (seen ++ alike_ticks observation.now first (end - first)) self.new) }
+            (seen ++ alike_ticks observation.now first (end - first)) self.new) }
         ensures from { OnOk result (self.new.from ≡ self.old.from) }
         ensures to { OnOk result (self.new.to ≡ self.old.to) }
     {
@@ -205,7 +231,8 @@ fn draw_all(
     records: &TickRecord,
 ) -> Result<(), AllocError>
     ensures tasks { OnOk result (AreChanged
-        (λ k kept. begun_kept observation.now k (task_drawn system.now observation.now tick k kept))
+        (λ k kept. begun_kept observation.now k
+        (task_drawn system.now observation.now tick k kept))
         tasks.old tasks.new) }
     ensures routines { OnOk result (AreChanged (routine_drawn system.now observation.now tick)
         routines.old routines.new) }

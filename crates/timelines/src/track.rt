@@ -13,8 +13,8 @@ use observations::TaskSeen;
 use std::alloc::{AllocError, Global};
 use std::marker::Model;
 
-/// What is kept of one task or routine: its stretches, and what came to it, by falling age. Contracts see the stretches, and
-/// what the task has begun.
+/// What is kept of one task or routine: its stretches, and what came to it, by falling age.
+/// Contracts see the stretches, and what the task has begun.
 #[derive(Drop)]
 pub(crate) struct Track {
     pub(crate) row: Row,
@@ -53,7 +53,8 @@ impl Track {
 
     /// A tick more, which shows a moment. An error is want of memory.
     pub(crate) fn draw(&mut self, tick: u32, moment: Moment) -> Result<(), AllocError>
-        ensures { OnOk result (self.new ≡ record self.old { row = added tick moment self.old.row }) }
+        ensures { OnOk result
+            (self.new ≡ record self.old { row = added tick moment self.old.row }) }
     {
         self.row.add(tick, moment)
     }

@@ -10,18 +10,17 @@ returns-clause-rows c = λ seen counts le are.
     let S = c.args.system.now in
     let o = c.args.observation.now in
     let first = c.args.first in
-    let begins = c.min-begins.result in
-    let ends = c.max-ends.result in
-    let before : first ≤ begins = omega (arith, c.max.ensures, c.min-begins.ensures, le) in
-    let within : begins ≤ ends = omega (arith, c.max-ends.ensures) in
-    let behind : ends ≤ c.args.end = omega (arith, c.min-begins.ensures, c.min.ensures, c.max-ends.ensures) in
+    let part = c.drawn_part-begins.ensures in
+    let begins = c.drawn_part-begins.result.0 in
+    let ends = c.drawn_part-begins.result.1 in
+    let before : first ≤ begins = part.before le in
     let one : List Observation = seen ++ alike_ticks o first (begins - first) in
     let two : List Observation = one ++ alike_ticks o begins (ends - begins) in
     let at_begins : length one ≡ begins = reaches o first begins seen before counts in
-    let at_ends : length two ≡ ends = reaches o begins ends one within at_begins in
-    let all = c.pass_alike-2.ensures.rows S two at_ends behind
-    (c.in_ok-draw_alike.ensures.rows one at_begins within (c.pass_alike.ensures.rows S seen counts before are)) in
+    let at_ends : length two ≡ ends = reaches o begins ends one part.within at_begins in
+    let all = c.pass_alike-2.ensures.rows S two at_ends part.behind
+    (c.in_ok-draw_alike.ensures.rows one at_begins part.within (c.pass_alike.ensures.rows S seen counts before are)) in
     subst (λ ws. AreRows S ws c.pass_alike-2.new.self)
-    (ap (λ ws. ws ++ alike_ticks o ends (c.args.end - ends)) (joined o first begins ends seen before within)
-      ∙ joined o first ends c.args.end seen (omega (arith, before, within)) behind)
+    (ap (λ ws. ws ++ alike_ticks o ends (c.args.end - ends)) (joined o first begins ends seen before part.within)
+    ∙ joined o first ends c.args.end seen (omega (arith, before, part.within)) part.behind)
     all
