@@ -72,8 +72,8 @@ impl Model for Timeline {
 }
 
 impl Timeline {
-    /// A picture of the ticks from `from` on and before `to`, of [`MAX_DRAWN`] ticks at most: later
-    /// ones aren't drawn. An error is want of memory.
+    /// A picture of the ticks from `from` on and before `to`, of [`MAX_DRAWN`] ticks at most:
+    /// later ones aren't drawn. An error is want of memory.
     pub fn new(alloc: Global, system: &System, from: u32, to: u32) -> Result<Self, AllocError>
         ensures rows { IfOk result (λ picture. AreRows system.now [] picture) }
         ensures from { IfOk result (λ picture. picture.from ≡ from) }
@@ -91,8 +91,8 @@ impl Timeline {
     }
 
     /// Keeps what is seen of a tick and its records, if it is drawn. Ticks come in order, from the
-    /// first of the run on, as what a ready task shows depends on what it did before: where the rows
-    /// were those of the ticks before, they are those of one more. An error is want of memory.
+    /// first of the run on, as what a ready task shows depends on what it did before: where the
+    /// rows were those of the ticks before, they are those of one more. An error is want of memory.
     pub fn observe(
         &mut self,
         system: &System,
