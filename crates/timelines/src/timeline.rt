@@ -92,7 +92,8 @@ impl Timeline {
 
     /// Keeps what is seen of a tick and its records, if it is drawn. Ticks come in order, from the
     /// first of the run on, as what a ready task shows depends on what it did before: where the
-    /// rows were those of the ticks before, they are those of one more. An error is want of memory.
+    /// rows were those of the ticks before, they are those of one more. An error is want of
+    /// memory.
     pub fn observe(
         &mut self,
         system: &System,
