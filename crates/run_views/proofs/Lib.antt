@@ -1,4 +1,5 @@
 pub mod CountLemmas
+pub mod DrawLemmas
 pub mod DumpLemmas
 pub mod LawLemmas
 pub mod RunLemmas

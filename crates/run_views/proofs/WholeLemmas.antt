@@ -1,5 +1,5 @@
 -- The whole dump of a run, and its beginnings.
-use Rattle.std.proofs.Common.{◌≡◌, ℕ, zero, suc, ◌+◌, ◌-◌, ◌<◌, ◌≤◌, min, false, List, [], ◌∷◌, ◌++◌, length, length-append, append_assoc, Option, Result, Ok, refl, sym, ap, subst, ◌∙◌, arith}
+use Rattle.std.proofs.Common.{◌≡◌, ℕ, ◌+◌, ◌-◌, ◌≤◌, min, false, List, ◌++◌, length, length-append, append_assoc, Option, Result, Ok, refl, sym, ap, subst, ◌∙◌, arith}
 use Rattle.std.specs.Prelude.{not}
 use Rattle.std.specs.Io.KnownBytes.{Appends}
 use Rattle.std.specs.Result.{IsErrAnd}
@@ -14,7 +14,7 @@ use Rattle.value_changes.specs.Writing.{AppendsSome, Writes}
 use Rattle.value_changes.proofs.RunLemmas.{text_appends}
 use Rattle.value_changes.proofs.WriteLemmas.{appends_more, begins_behind, begins_longer, stops, writes_behind}
 use Rattle.run_views.specs.Dumps.{DumpsTicks, IsDumpOf}
-use Rattle.run_views.specs.Seen.{AreSeen, SeesRun}
+use Rattle.run_views.specs.Seen.{AreSeen}
 use Rattle.run_views.proofs.RunLemmas.{among, done, done_asked, done_over, each, on, sees_run, steps}
 use Rattle.run_views.proofs.SeenLemmas.{are_seen, length-seen, seen_behind, seen_from}
 

@@ -13,6 +13,6 @@ pub use figure_texts::{Form, Limit, Limits, unknown_limit};
 pub use laws::counted_are_run_figures;
 pub use progress::Progress;
 pub use stats::{StatsInput, counted_figures, write_stats};
-pub use timeline::write_timeline;
+pub use timeline::{drawn_timeline, write_timeline};
 pub use timelines::{MAX_DRAWN, unknown_row};
 pub use vcd::write_vcd;

@@ -31,8 +31,8 @@ pub struct StatsInput<'a> {
     pub limits: Limits<'a>,
 }
 
-/// Runs a system and writes the figures of its ticks from one on. A refusal comes before the first byte. What is answered
-/// is a line for each limit that is broken.
+/// Runs a system and writes the figures of its ticks from one on, those of [`counted_figures`]. A
+/// refusal comes before the first byte. What is answered is a line for each limit that is broken.
 pub fn write_stats<O: Write, E: Write>(
     alloc: Global,
     system: &System,
