@@ -22,7 +22,7 @@ ready_once false true = refl
 ready_once false false = refl
 
 -- what a tick is for a task in a state
-abbrev time_in : TaskState → Bool → Bool → TaskTime
+abbrev pub time_in : TaskState → Bool → Bool → TaskTime
 time_in state lower had = elim state [ Running ↦ Executed | Waiting ↦ Waits | Ready ↦ ready_time lower had | Suspended ↦ HasNoJob ]
 
 -- each tick counts once

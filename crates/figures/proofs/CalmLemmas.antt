@@ -6,6 +6,8 @@ use Rattle.figures.specs.declared.task_tick.TaskTick.{TaskTick}
 use Rattle.figures.specs.declared.task_figures.TaskFigures.{TaskFigures}
 use Rattle.figures.specs.declared.task_counts.TaskCounts.{TaskCounts}
 use Rattle.figures.specs.declared.task_times.TaskTimes.{TaskTimes}
+use Rattle.figures.specs.declared.task_time.TaskTime.{TaskTime}
+use Rattle.osek_base.specs.declared.status.TaskState.TheVariants.{Running, Waiting, Ready, Suspended}
 use Rattle.figures.specs.Counts.{capped}
 use Rattle.figures.specs.Reaching.{first_tick}
 use Rattle.figures.specs.TaskSums.{task_counts, left_jobs, more_blockers}
@@ -13,9 +15,10 @@ use Rattle.figures.specs.StateSums.{task_times, time_of, begun, has_begun, leave
 use Rattle.figures.specs.ResponseSums.{Responses, response_figures, entered, later, some_more, standing, ready_since}
 use Rattle.figures.specs.FigureSums.{task_figures}
 use Rattle.figures.specs.Quiet.{gets_nothing}
-use Rattle.figures.specs.Calm.{is_calm_task, is_calm_next, times_on}
+use Rattle.figures.specs.Calm.{is_calm_task, is_calm_next, stayed, times_on, times_stayed}
 use Rattle.figures.proofs.StepLemmas.{task_more, times_more}
 use Rattle.figures.proofs.QuietLemmas.{kept_count, first_stays}
+use Rattle.figures.proofs.AddLemmas.{time_in}
 use Rattle.figures.proofs.EnterLemmas.{enters_once}
 
 -- a task's tick of another number
@@ -157,14 +160,23 @@ task_go t u n before seen f q first e =
     let r = responses_stay t u seen f.responses (ap (λ (g : TaskFigures). g.responses) e) q (s.entered u) in
     cc
 
--- a tick in which the jobs that stand were all followed before
-pub task_calm : (t : TaskTick) (before : List TaskTick) (f : TaskFigures) (times : TaskTimes)
-    → is_calm_next t f ≡ true → f ≡ task_figures before
-    → times ≡ task_times (t ∷ before)
-    → (record { counts = record f.counts { unfinished = left_jobs t }; times = times; responses = f.responses })
-    ≡ task_figures (t ∷ before)
+pub task_times_of : (t : TaskTick) (before : List TaskTick) (f : TaskFigures) → f ≡ task_figures (t ∷ before)
+    → f.times ≡ task_times (t ∷ before)
 unfolding task_figures
-task_calm t before f times is e more =
+task_times_of t before f e = ap (λ (g : TaskFigures). g.times) e
+
+-- behind the first tick it's known whether the oldest job has begun
+pub settles : (t : TaskTick) (before : List TaskTick) (f : TaskFigures) (times : TaskTimes) (n : ℕ) → IsCalm t
+    → f ≡ task_figures (t ∷ before) → times ≡ times_stayed t n f.times → (record f { times = times }) ≡ task_on t f n
+settles t before f times n q first e =
+    let s = settled t before f q first in
+    ap (λ (times : TaskTimes). record f { times = times }) (e ∙ ap (λ had. record (times_on t n f.times) { has_begun = had }) s.begun)
+
+-- a tick in which the jobs that stand were all followed before
+pub task_stays : (t : TaskTick) (before : List TaskTick) (f : TaskFigures) → is_calm_next t f ≡ true → f ≡ task_figures before
+    → stayed t 1 f ≡ task_figures (t ∷ before)
+unfolding task_figures
+task_stays t before f is e =
     let both = and_parts (is_calm_task t) (nat_le (standing t) (length f.responses.ready_since)) is in
     let q = calm t both.0 in
     let all : standing t ≤ length f.responses.ready_since = leb-true (standing t) (length f.responses.ready_since) both.1 in
@@ -172,5 +184,45 @@ task_calm t before f times is e more =
     let once : entered t f.responses.ready_since ≡ f.responses.ready_since =
     ap (λ n. some_more t.tick n f.responses.ready_since) none in
     let c = counts_pass t t.tick before f.counts (ap (λ (g : TaskFigures). g.counts) e) q in
+    let x = times_more t before f.times (ap (λ (g : TaskFigures). g.times) e) in
     let r = responses_stay t t.tick before f.responses (ap (λ (g : TaskFigures). g.responses) e) q once in
     cc
+
+-- a tick is the same for a task where its oldest job has begun in it
+same_time : (t : TaskTick) (had : Bool) → leaves t ≡ false → time_of t (begun t had) ≡ time_of t had
+same_time t had stays =
+    ap (λ l. time_of t (cond l false (is_running t || had))) stays
+    ∙ elim t.seen.state as (λ s.
+    time_in s t.lower_executes (elim s [ Running ↦ true | Waiting ↦ false | Ready ↦ false | Suspended ↦ false ] || had)
+    ≡ time_in s t.lower_executes had) [ Running ↦ refl | Waiting ↦ refl | Ready ↦ refl | Suspended ↦ refl ]
+
+more_once : (x n : ℕ) (b : Bool) → capped (capped (x + cond b 1 0) + cond b n 0) ≡ capped (x + cond b (suc n) 0)
+more_once x n true = omega arith
+more_once x n false = omega arith
+
+-- so many ticks more of a task, by what they are for it
+abbrev task_noted : TaskTime → TaskTick → TaskFigures → ℕ → TaskFigures
+task_noted time t f n = record f {
+  times = record {
+    executed = capped (f.times.executed + cond (is_executed time) n 0);
+    ready = capped (f.times.ready + cond (is_ready time) n 0);
+    preempted = capped (f.times.preempted + cond (is_preempted time) n 0);
+    blocked = capped (f.times.blocked + cond (is_blocked time) n 0);
+    waiting = capped (f.times.waiting + cond (is_waited time) n 0);
+    has_begun = f.times.has_begun;
+  };
+}
+
+-- the first tick and then so many more are one more at once
+pub stays_on : (t : TaskTick) (f : TaskFigures) (n : ℕ) → is_calm_task t ≡ true → task_on t (stayed t 1 f) n ≡ stayed t (suc n) f
+stays_on t f n is =
+    let q = calm t is in
+    let no : leaves t ≡ false = ap₂ (λ x y. x || y) q.ended q.waits in
+    let time = time_of t f.times.has_begun in
+    let same = same_time t f.times.has_begun no in
+    let x = more_once f.times.executed n (is_executed time) in
+    let r = more_once f.times.ready n (is_ready time) in
+    let p = more_once f.times.preempted n (is_preempted time) in
+    let b = more_once f.times.blocked n (is_blocked time) in
+    let w = more_once f.times.waiting n (is_waited time) in
+    ap (λ k. task_noted k t (stayed t 1 f) n) same ∙ (cc)

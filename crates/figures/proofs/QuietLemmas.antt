@@ -20,7 +20,7 @@ use Rattle.figures.specs.declared.routine_figures.RoutineTick.{RoutineTick}
 use Rattle.figures.specs.declared.routine_figures.RoutineFigures.{RoutineFigures}
 use Rattle.figures.specs.Counts.{capped}
 use Rattle.figures.specs.Reaching.{first_tick, worse_of}
-use Rattle.figures.specs.TaskSums.{task_counts, left_jobs, more_blockers}
+use Rattle.figures.specs.TaskSums.{task_counts, jobs_on, left_jobs, more_blockers}
 use Rattle.figures.specs.declared.task_time.TaskTime.TheVariants.{Executed, Waits, HasNoJob}
 use Rattle.figures.specs.StateSums.{task_times, time_of, begun, leaves, is_executed, is_ready, is_preempted, is_blocked, is_waited, is_running, ready_time}
 use Rattle.figures.specs.ResponseSums.{Responses, response_figures, entered, standing, some_more, ready_since}
@@ -38,6 +38,24 @@ kept_count old n m e none = omega (arith, e, none)
 pub first_stays : (tick : ℕ) (first : Option ℕ) → first_tick false tick first ≡ first
 first_stays tick None = refl
 first_stays tick (Some u) = refl
+
+-- a tick that makes, refuses and ends no job
+pub no_jobs : (t : TaskTick) (before : List TaskTick) (old : TaskCounts) → old ≡ task_counts before → gets_nothing t.seen ≡ true
+    → old ≡ jobs_on t old
+unfolding task_counts
+no_jobs t before old e nothing =
+    let s = t.seen in
+    let gets = and_parts (s.made == 0) ((s.refused == 0) && (not s.ended && not s.waits)) nothing in
+    let more = and_parts (s.refused == 0) (not s.ended && not s.waits) gets.1 in
+    let last = and_parts (not s.ended) (not s.waits) more.1 in
+    let refused = eqb-true s.refused 0 more.0 in
+    let a = kept_count old.activations _ s.made (ap (λ (f : TaskCounts). f.activations) e) (eqb-true s.made 0 gets.0) in
+    let r = kept_count old.refused _ s.refused (ap (λ (f : TaskCounts). f.refused) e) refused in
+    let d = kept_count old.ended _ (cond s.ended 1 0) (ap (λ (f : TaskCounts). f.ended) e)
+    (ap (λ b. cond b 1 0) (not-true s.ended last.0)) in
+    let f : first_tick (nat_lt 0 s.refused) t.tick old.first_refusal ≡ old.first_refusal =
+    rw refused (first_stays t.tick old.first_refusal) in
+    cc
 
 suspended : (s : TaskState) → is_suspended s ≡ true → s ≡ Suspended
 suspended s h = elim s as (λ s. is_suspended s ≡ true → s ≡ Suspended) [

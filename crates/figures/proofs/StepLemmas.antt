@@ -1,5 +1,5 @@
 -- A tick more of each kind of figures, field by field.
-use Rattle.std.proofs.Common.{ℕ, suc, ◌≡◌, ◌+◌, List, ◌∷◌, cond, Option, None, min, length, nat_lt, sym, ◌∙◌, ap, arith}
+use Rattle.std.proofs.Common.{ℕ, suc, ◌≡◌, ◌+◌, true, false, List, ◌∷◌, cond, Option, None, min, length, nat_lt, sym, ◌∙◌, ap, arith}
 use Rattle.std.specs.List.{sum_by}
 use Rattle.std.proofs.lemmas.List.Sums.{sum_by-cons}
 use Rattle.figures.specs.declared.task_tick.TaskTick.{TaskTick}
@@ -15,7 +15,7 @@ use Rattle.figures.specs.declared.resource_figures.ResourceFigures.{ResourceFigu
 use Rattle.figures.specs.declared.spread.Spread.{Spread}
 use Rattle.figures.specs.Counts.{capped, capped_sum}
 use Rattle.figures.specs.Reaching.{worse, worse_of, put, first_tick}
-use Rattle.figures.specs.TaskSums.{task_counts, left_jobs, more_blockers}
+use Rattle.figures.specs.TaskSums.{task_counts, jobs_on, left_jobs, more_blockers}
 use Rattle.figures.specs.StateSums.{task_times, times, time_of, begun, has_begun, leaves, is_executed, is_ready, is_preempted, is_blocked, is_waited}
 use Rattle.figures.specs.AlarmSums.{alarm_figures}
 use Rattle.figures.specs.RoutineSums.{routine_figures, since, still, latency}
@@ -41,6 +41,15 @@ task_more t before old e =
     let x = count_more (λ (y : TaskTick). y.has_failed) t before old.errors (ap (λ (f : TaskCounts). f.errors) e) in
     let b = ap (λ (f : TaskCounts). more_blockers t.blockers f.blockers) e in
     let n = ap (λ (f : TaskCounts). first_tick (nat_lt 0 t.seen.refused) t.tick f.first_refusal) e in
+    cc
+
+-- what is counted of jobs, and then the rest
+pub counts_noted : (t : TaskTick) (before : List TaskTick) (old noted : TaskCounts) (unfinished errors : ℕ) (blockers : Option ℕ)
+    → old ≡ task_counts before → noted ≡ jobs_on t old → unfinished ≡ left_jobs t
+    → errors ≡ capped (noted.errors + cond t.has_failed 1 0) → blockers ≡ more_blockers t.blockers noted.blockers
+    → (record noted { unfinished = unfinished; errors = errors; blockers = blockers }) ≡ task_counts (t ∷ before)
+counts_noted t before old noted unfinished errors blockers e jobs left fails told =
+    let more = task_more t before old e in
     cc
 
 pub times_more : (t : TaskTick) (before : List TaskTick) (old : TaskTimes) → old ≡ task_times before
@@ -154,3 +163,25 @@ response_more t before jobs left r old new e el er step =
     let n : new ≡ spread (responses (t ∷ before)) =
     step (responses before) o ∙ ap (λ (a : Option Reached). spread (put a (responses before))) q in
     cc
+
+-- the oldest of those that stood is left
+pub response_left : (t : TaskTick) (before : List TaskTick) (jobs stood left : List ℕ) (old new : Spread)
+    → (record { ready_since = jobs; spread = old }) ≡ response_figures before → leaves t ≡ true → stood ≡ entered t jobs
+    → left ≡ later stood
+    → ((rs : List Reached) → old ≡ spread rs → new ≡ spread (put (oldest_response t.tick stood) rs))
+    → (record { ready_since = left; spread = new }) ≡ response_figures (t ∷ before)
+response_left t before jobs stood left old new e leave enter goes step =
+    response_more t before jobs left (oldest_response t.tick stood) old new e
+    (goes ∙ ap later enter ∙ ap (λ b. cond b (later (entered t jobs)) (entered t jobs)) (sym leave))
+    (ap (oldest_response t.tick) enter ∙ ap (λ b. cond b (oldest_response t.tick (entered t jobs)) None) (sym leave))
+    step
+
+-- each of those that stood stays
+pub response_stays : (t : TaskTick) (before : List TaskTick) (jobs stood : List ℕ) (old : Spread)
+    → (record { ready_since = jobs; spread = old }) ≡ response_figures before → leaves t ≡ false → stood ≡ entered t jobs
+    → (record { ready_since = stood; spread = old }) ≡ response_figures (t ∷ before)
+response_stays t before jobs stood old e stay enter =
+    response_more t before jobs stood None old old e
+    (enter ∙ ap (λ b. cond b (later (entered t jobs)) (entered t jobs)) (sym stay))
+    (ap (λ b. cond b (oldest_response t.tick (entered t jobs)) None) (sym stay))
+    (λ rs o. o)

@@ -10,7 +10,8 @@ use Rattle.figures.specs.declared.resource_figures.HolderTick.{HolderTick}
 use Rattle.figures.specs.declared.resource_figures.ResourceFigures.{ResourceFigures}
 use Rattle.figures.specs.Counts.{capped}
 use Rattle.figures.specs.Reaching.{worse_of}
-use Rattle.figures.specs.StateSums.{time_of, is_executed, is_ready, is_preempted, is_blocked, is_waited}
+use Rattle.figures.specs.TaskSums.{left_jobs}
+use Rattle.figures.specs.StateSums.{begun, time_of, is_executed, is_ready, is_preempted, is_blocked, is_waited}
 use Rattle.figures.specs.ResponseSums.{standing}
 use Rattle.figures.specs.ResourceSums.{is_got, hold_on, hold_at}
 use Rattle.figures.specs.Quiet.{gets_nothing}
@@ -51,14 +52,14 @@ held_on h more f = record {
   held = hold_on h.holder f.holder f.held + more;
 }
 
--- a tick more, by what it is for a task
-abbrev pub time_on : TaskTime → TaskTimes → TaskTimes
-time_on time f = elim time [
-  | Executed ↦ record f { executed = capped (f.executed + 1) }
-  | StandsReady ↦ record f { ready = capped (f.ready + 1) }
-  | Preempted ↦ record f { preempted = capped (f.preempted + 1) }
-  | Blocked ↦ record f { blocked = capped (f.blocked + 1) }
-  | Waits ↦ record f { waiting = capped (f.waiting + 1) }
+-- so many ticks more, by what they are for a task
+abbrev pub time_on : TaskTime → ℕ → TaskTimes → TaskTimes
+time_on time more f = elim time [
+  | Executed ↦ record f { executed = capped (f.executed + more) }
+  | StandsReady ↦ record f { ready = capped (f.ready + more) }
+  | Preempted ↦ record f { preempted = capped (f.preempted + more) }
+  | Blocked ↦ record f { blocked = capped (f.blocked + more) }
+  | Waits ↦ record f { waiting = capped (f.waiting + more) }
   | HasNoJob ↦ f
 ]
 
@@ -71,4 +72,15 @@ times_on t more f = record {
   blocked = capped (f.blocked + cond (is_blocked (time_of t f.has_begun)) more 0);
   waiting = capped (f.waiting + cond (is_waited (time_of t f.has_begun)) more 0);
   has_begun = f.has_begun;
+}
+
+-- and its oldest job may have begun
+abbrev pub times_stayed : TaskTick → ℕ → TaskTimes → TaskTimes
+times_stayed t more f = record (times_on t more f) { has_begun = begun t f.has_begun }
+
+-- so many ticks more of a task in which its times alone grow
+abbrev pub stayed : TaskTick → ℕ → TaskFigures → TaskFigures
+stayed t more f = record f {
+  counts = record f.counts { unfinished = left_jobs t };
+  times = times_stayed t more f.times;
 }

@@ -1,5 +1,7 @@
 -- Ticks in which nothing comes to a thing, and it does nothing.
-use Rattle.std.specs.Prelude.{ℕ, Bool, true, false, not, ◌&&◌, ◌==◌, is_none, slice_index_or, None}
+use Rattle.std.specs.Prelude.{ℕ, Bool, true, false, not, ◌&&◌, ◌==◌, is_none, slice_index_or, Option, Some, None, ◌-◌, ◌^◌}
+use Rattle.osek_base.specs.declared.ids.Owner.{Owner}
+use Rattle.osek_base.specs.declared.ids.Owner.TheVariants.{Task, Routine}
 use Rattle.osek_base.specs.declared.status.TaskState.{TaskState}
 use Rattle.osek_base.specs.declared.status.TaskState.TheVariants.{Running, Waiting, Ready, Suspended}
 use Rattle.observations.specs.declared.task_seen.TaskSeen.{TaskSeen}
@@ -18,6 +20,12 @@ has_nothing s = is_suspended s.state && (s.jobs == 0)
 -- no job of it is made, refused or left
 abbrev pub gets_nothing : TaskSeen → Bool
 gets_nothing s = (s.made == 0) && ((s.refused == 0) && (not s.ended && not s.waits))
+
+-- the number of the task that executes; where none does, one that no task has
+abbrev pub executing_number : Option Owner → ℕ
+executing_number None = 2 ^ 64 - 1
+executing_number (Some (Task t)) = t
+executing_number (Some (Routine i)) = 2 ^ 64 - 1
 
 -- of task k nothing is seen, and it doesn't execute
 abbrev pub is_quiet_task : Observation → ℕ → Bool

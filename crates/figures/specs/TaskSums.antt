@@ -1,5 +1,5 @@
 -- What is counted of a task, over the ticks that were seen, newest first.
-use Rattle.std.specs.Prelude.{ℕ, List, [], ◌∷◌, Option, Some, None, sum_by, count_by, cond, max, nat_lt, ◌-◌}
+use Rattle.std.specs.Prelude.{ℕ, List, [], ◌∷◌, Option, Some, None, sum_by, count_by, cond, max, nat_lt, ◌-◌, ◌+◌}
 use Rattle.figures.specs.declared.task_tick.TaskTick.{TaskTick}
 use Rattle.figures.specs.declared.task_counts.TaskCounts.{TaskCounts}
 use Rattle.figures.specs.Counts.{capped}
@@ -38,4 +38,13 @@ task_counts seen = record {
   errors = capped (count_by (λ t. t.has_failed) seen);
   blockers = most_blockers seen;
   first_refusal = first_refusal seen;
+}
+
+-- the jobs that a tick makes and ends, and the activations that it refuses
+abbrev pub jobs_on : TaskTick → TaskCounts → TaskCounts
+jobs_on t f = record f {
+  activations = capped (f.activations + t.seen.made);
+  refused = capped (f.refused + t.seen.refused);
+  ended = capped (f.ended + cond t.seen.ended 1 0);
+  first_refusal = first_tick (nat_lt 0 t.seen.refused) t.tick f.first_refusal;
 }

@@ -4,8 +4,8 @@ ghost use Rattle.std.specs.Prelude.{List, [], ◌∷◌, ◌≡◌};
 ghost use Rattle.figures.specs.declared.alarm_figures.AlarmTick.{AlarmTick};
 ghost use Rattle.figures.specs.AlarmSums.{alarm_figures};
 
-use crate::counts::counted;
-use crate::reached::first_tick;
+use crate::counts::add_where;
+use crate::reached::note_first;
 use observations::AlarmSeen;
 
 /// What is seen of an alarm in a tick, and the tick.
@@ -42,12 +42,13 @@ impl AlarmFigures {
     }
 
     /// A tick more is seen.
+    #[inline(always)]
     pub fn observe(&mut self, tick: &AlarmTick)
         ensures { (before : List AlarmTick) → self.old ≡ alarm_figures before
             → self.new ≡ alarm_figures (tick.now ∷ before) }
     {
-        self.expiries = counted(self.expiries, tick.seen.has_expired);
-        self.refused = counted(self.refused, tick.seen.is_refused);
-        self.first_refusal = first_tick(tick.seen.is_refused, tick.tick, self.first_refusal);
+        add_where(&mut self.expiries, 1, tick.seen.has_expired);
+        add_where(&mut self.refused, 1, tick.seen.is_refused);
+        note_first(&mut self.first_refusal, tick.seen.is_refused, tick.tick);
     }
 }

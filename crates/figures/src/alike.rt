@@ -18,18 +18,20 @@ ghost use Rattle.figures.specs.RoutineSums.{routine_figures};
 ghost use Rattle.figures.specs.ResourceSums.{resource_figures};
 ghost use Rattle.figures.specs.AlarmSums.{alarm_figures};
 ghost use Rattle.figures.specs.Calm.{IsListRow, ticks_from};
+ghost use Rattle.figures.specs.Quiet.{executing_number};
 
 use crate::alarm_figures::AlarmFigures;
 use crate::calm::{is_calm_routine, is_calm_task};
-use crate::lists::{note_alarm, note_resource, note_routine, note_task};
+use crate::lists::{note_routine, observe_alarm, observe_resource, observe_task};
 use crate::quiet::{is_free, is_quiet_alarm, is_quiet_routine, is_quiet_task};
 use crate::resource_figures::ResourceFigures;
 use crate::routine_figures::RoutineFigures;
-use crate::seen::{holder_tick, routine_tick, task_tick};
+use crate::seen::{executing, holder_tick, routine_tick, task_tick};
 use crate::task_figures::TaskFigures;
 use observations::Observation;
 
 // The ticks of a task, one by one.
+#[inline(never)]
 fn note_each_task(
     figures: &mut TaskFigures,
     levels: &[u8],
@@ -44,12 +46,20 @@ fn note_each_task(
         ≡ task_figures (ticks_from (λ t. task_tick levels.now (numbered t observation.now) number)
         first (end - first) before) }
 {
+    let executing = executing(&observation.executor);
     for passed in 0..end.saturating_sub(first) {
-        note_task(figures, levels, first + passed, observation, number);
+        observe_task(
+            figures,
+            levels,
+            first + passed,
+            observation,
+            executing,
+            number,
+        );
     }
 }
 
-// The ticks of a task that has a job, or to which something comes.
+// The ticks of a task to which something comes, or a job of which wasn't followed before.
 #[inline(never)]
 fn note_task_alike(
     figures: &mut TaskFigures,
@@ -66,10 +76,11 @@ fn note_task_alike(
         ≡ task_figures (ticks_from (λ t. task_tick levels.now (numbered t observation.now) number)
         first (end - first) before) }
 {
-    let tick = task_tick(levels, first, observation, number);
+    let executing = executing(&observation.executor);
+    let tick = task_tick(levels, first, observation, executing, number);
     if is_calm_task(&tick) {
-        figures.note(&tick);
-        figures.go_on(&tick, end - first - 1);
+        figures.observe(&tick);
+        figures.times.stay(&tick, end - first - 1);
     } else {
         note_each_task(figures, levels, first, end, observation, number);
     }
@@ -83,17 +94,23 @@ fn observe_task_alike(
     first: u32,
     end: u32,
     observation: &Observation,
+    executing: usize,
     number: usize,
 )
     requires known { number < length levels.now }
+    requires one { executing ≡ executing_number observation.now.executor }
     requires some { first < end }
     ensures { (before : List TaskTick) → figures.old ≡ task_figures before
         → figures.new
         ≡ task_figures (ticks_from (λ t. task_tick levels.now (numbered t observation.now) number)
         first (end - first) before) }
 {
-    if is_quiet_task(observation, number) {
-        figures.pass();
+    if is_quiet_task(levels, observation, executing, number) {
+        return figures.pass();
+    }
+    let now = task_tick(levels, first, observation, executing, number);
+    if figures.is_calm(&now) {
+        figures.stay(&now, end - first);
     } else {
         note_task_alike(figures, levels, first, end, observation, number);
     }
@@ -176,7 +193,7 @@ fn note_each_resource(
         first (end - first) before) }
 {
     for passed in 0..end.saturating_sub(first) {
-        note_resource(figures, first + passed, observation, number);
+        observe_resource(figures, first + passed, observation, number);
     }
 }
 
@@ -241,7 +258,7 @@ fn note_each_alarm(
         first (end - first) before) }
 {
     for passed in 0..end.saturating_sub(first) {
-        note_alarm(figures, first + passed, observation, number);
+        observe_alarm(figures, first + passed, observation, number);
     }
 }
 
@@ -280,8 +297,9 @@ pub fn observe_tasks_alike(
     ensures { IsListRow task_figures (λ t. task_tick levels.now (numbered t observation.now))
         first (end - first) figures.old figures.new }
 {
+    let executing = executing(&observation.executor);
     for (number, figures) in figures.iter_mut().enumerate() {
-        observe_task_alike(figures, levels, first, end, observation, number);
+        observe_task_alike(figures, levels, first, end, observation, executing, number);
     }
 }
 

@@ -3,17 +3,6 @@
 ghost use Rattle.std.specs.Prelude.{◌≡◌, ◌+◌, cond};
 ghost use Rattle.figures.specs.Counts.{capped};
 
-/// A count, one more where something holds.
-pub fn counted(count: u32, is_one_more: bool) -> u32
-    ensures { result ≡ capped (count + cond is_one_more 1 0) }
-{
-    if is_one_more {
-        count.saturating_add(1)
-    } else {
-        count
-    }
-}
-
 /// A count, some more.
 pub fn added(count: u32, more: u32) -> u32
     ensures { result ≡ capped (count + more) }
@@ -21,13 +10,13 @@ pub fn added(count: u32, more: u32) -> u32
     count.saturating_add(more)
 }
 
-/// A count, some more where something holds.
-pub fn added_where(count: u32, more: u32, holds: bool) -> u32
-    ensures { result ≡ capped (count + cond holds more 0) }
+/// A count goes up by some where something holds.
+#[inline(always)]
+pub fn add_where(count: &mut u32, more: u32, holds: bool)
+    ensures { count.new ≡ capped (count.old + cond holds more 0) }
 {
+    let now = *count;
     if holds {
-        count.saturating_add(more)
-    } else {
-        count
+        *count = now.saturating_add(more);
     }
 }

@@ -9,7 +9,7 @@ use crate::alarm_figures::AlarmFigures;
 use crate::alike::{
     observe_alarms_alike, observe_resources_alike, observe_routines_alike, observe_tasks_alike,
 };
-use crate::counts::{added, added_where, counted};
+use crate::counts::{add_where, added};
 use crate::lists::{observe_alarms, observe_resources, observe_routines, observe_tasks};
 use crate::new_lists::{held_count, levels_of, new_alarms, new_resources, new_routines, new_tasks};
 use crate::resource_figures::ResourceFigures;
@@ -99,7 +99,7 @@ impl Figures {
         let count = end - first;
         self.ticks = added(self.ticks, count);
         self.last = end - 1;
-        self.idle = added_where(self.idle, count, is_idle(observation));
+        add_where(&mut self.idle, count, is_idle(observation));
         let levels = self.levels.as_slice();
         observe_tasks_alike(self.tasks.as_mut_slice(), levels, first, end, observation);
         observe_routines_alike(self.routines.as_mut_slice(), first, end, observation);
@@ -112,9 +112,9 @@ impl Figures {
         ensures { (S : System) (before : List Observation) → AreFigures S before self.old
             → AreFigures S (numbered tick observation.now ∷ before) self.new }
     {
-        self.ticks = counted(self.ticks, true);
+        self.ticks = added(self.ticks, 1);
         self.last = tick;
-        self.idle = counted(self.idle, is_idle(observation));
+        add_where(&mut self.idle, 1, is_idle(observation));
         let levels = self.levels.as_slice();
         observe_tasks(self.tasks.as_mut_slice(), levels, tick, observation);
         observe_routines(self.routines.as_mut_slice(), tick, observation);

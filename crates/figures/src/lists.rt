@@ -14,55 +14,65 @@ ghost use Rattle.figures.specs.FigureSums.{
   alarm_tick,
   numbered,
 };
+ghost use Rattle.figures.specs.Quiet.{executing_number};
 ghost use Rattle.figures.specs.RoutineSums.{routine_figures};
 ghost use Rattle.figures.specs.ResourceSums.{resource_figures};
 ghost use Rattle.figures.specs.AlarmSums.{alarm_figures};
 
 use crate::alarm_figures::AlarmFigures;
-use crate::quiet::{is_free, is_quiet_alarm, is_quiet_routine, is_quiet_task};
+use crate::quiet::{gets_nothing, is_free, is_quiet_alarm, is_quiet_routine, is_quiet_task};
 use crate::resource_figures::ResourceFigures;
 use crate::routine_figures::RoutineFigures;
-use crate::seen::{alarm_tick, holder_tick, routine_tick, task_tick};
+use crate::seen::{alarm_tick, executing, holder_tick, routine_tick, task_seen, task_tick};
 use crate::task_figures::TaskFigures;
 use observations::Observation;
 
-// A tick more of a task. In a quiet one nothing has to be counted.
-#[inline(always)]
-fn observe_task(
-    figures: &mut TaskFigures,
-    levels: &[u8],
-    tick: u32,
-    observation: &Observation,
-    number: usize,
-)
-    requires { number < length levels.now }
-    ensures { (before : List TaskTick) → figures.old ≡ task_figures before
-        → figures.new
-        ≡ task_figures (task_tick levels.now (numbered tick observation.now) number ∷ before) }
-{
-    if is_quiet_task(observation, number) {
-        figures.pass();
-    } else {
-        note_task(figures, levels, tick, observation, number);
-    }
-}
-
-/// A tick more of a task that has a job, or to which something comes. In most of them its times
+/// A tick more of a task. In a quiet one nothing has to be counted, and in most others its times
 /// alone grow.
 #[inline(always)]
-pub fn note_task(
+pub fn observe_task(
     figures: &mut TaskFigures,
     levels: &[u8],
     tick: u32,
     observation: &Observation,
+    executing: usize,
     number: usize,
 )
-    requires { number < length levels.now }
+    requires known { number < length levels.now }
+    requires one { executing ≡ executing_number observation.now.executor }
     ensures { (before : List TaskTick) → figures.old ≡ task_figures before
         → figures.new
         ≡ task_figures (task_tick levels.now (numbered tick observation.now) number ∷ before) }
 {
-    figures.note(&task_tick(levels, tick, observation, number));
+    if is_quiet_task(levels, observation, executing, number) {
+        return figures.pass();
+    }
+    if gets_nothing(task_seen(observation.tasks.as_slice(), number)) {
+        let now = task_tick(levels, tick, observation, executing, number);
+        if figures.is_calm(&now) {
+            return figures.stay(&now, 1);
+        }
+    }
+    change_task(figures, levels, tick, observation, executing, number);
+}
+
+// A tick more of a task to which something comes.
+#[inline(never)]
+fn change_task(
+    figures: &mut TaskFigures,
+    levels: &[u8],
+    tick: u32,
+    observation: &Observation,
+    executing: usize,
+    number: usize,
+)
+    requires known { number < length levels.now }
+    requires one { executing ≡ executing_number observation.now.executor }
+    ensures { (before : List TaskTick) → figures.old ≡ task_figures before
+        → figures.new
+        ≡ task_figures (task_tick levels.now (numbered tick observation.now) number ∷ before) }
+{
+    figures.observe(&task_tick(levels, tick, observation, executing, number));
 }
 
 // A tick more of a routine. In a quiet one nothing has to be counted.
@@ -98,9 +108,9 @@ pub fn note_routine(
     figures.observe(&routine_tick(tick, observation, number));
 }
 
-// A tick more of a resource. While it is free nothing has to be counted.
+/// A tick more of a resource. While it is free nothing has to be counted.
 #[inline(always)]
-fn observe_resource(
+pub fn observe_resource(
     figures: &mut ResourceFigures,
     tick: u32,
     observation: &Observation,
@@ -113,28 +123,18 @@ fn observe_resource(
     if is_free(observation, number) {
         figures.pass();
     } else {
-        note_resource(figures, tick, observation, number);
+        figures.observe(&holder_tick(tick, observation, number));
     }
 }
 
-/// A tick more of a resource that is held.
+/// A tick more of an alarm. In a quiet one nothing has to be counted.
 #[inline(always)]
-pub fn note_resource(
-    figures: &mut ResourceFigures,
+pub fn observe_alarm(
+    figures: &mut AlarmFigures,
     tick: u32,
     observation: &Observation,
     number: usize,
 )
-    ensures { (before : List HolderTick) → figures.old ≡ resource_figures before
-        → figures.new
-        ≡ resource_figures (holder_tick (numbered tick observation.now) number ∷ before) }
-{
-    figures.observe(&holder_tick(tick, observation, number));
-}
-
-// A tick more of an alarm. In a quiet one nothing has to be counted.
-#[inline(always)]
-fn observe_alarm(figures: &mut AlarmFigures, tick: u32, observation: &Observation, number: usize)
     ensures { (before : List AlarmTick) → figures.old ≡ alarm_figures before
         → figures.new
         ≡ alarm_figures (alarm_tick (numbered tick observation.now) number ∷ before) }
@@ -142,16 +142,6 @@ fn observe_alarm(figures: &mut AlarmFigures, tick: u32, observation: &Observatio
     if is_quiet_alarm(observation, number) {
         return;
     }
-    note_alarm(figures, tick, observation, number);
-}
-
-/// A tick more of an alarm that expires.
-#[inline(never)]
-pub fn note_alarm(figures: &mut AlarmFigures, tick: u32, observation: &Observation, number: usize)
-    ensures { (before : List AlarmTick) → figures.old ≡ alarm_figures before
-        → figures.new
-        ≡ alarm_figures (alarm_tick (numbered tick observation.now) number ∷ before) }
-{
     figures.observe(&alarm_tick(tick, observation, number));
 }
 
@@ -166,8 +156,9 @@ pub fn observe_tasks(
     ensures { IsListStep task_figures (task_tick levels.now (numbered tick observation.now))
         figures.old figures.new }
 {
+    let executing = executing(&observation.executor);
     for (number, figures) in figures.iter_mut().enumerate() {
-        observe_task(figures, levels, tick, observation, number);
+        observe_task(figures, levels, tick, observation, executing, number);
     }
 }
 

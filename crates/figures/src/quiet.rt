@@ -1,10 +1,11 @@
 //! Ticks in which nothing comes to a thing, and it does nothing: most ticks, of most things.
 
-ghost use Rattle.std.specs.Prelude.{◌≡◌};
+ghost use Rattle.std.specs.Prelude.{◌≡◌, ◌<◌, length};
 ghost use Rattle.figures.specs.Quiet.{
   is_suspended,
   has_nothing,
   gets_nothing,
+  executing_number,
   is_quiet_task,
   is_unasked,
   is_quiet_routine,
@@ -13,7 +14,7 @@ ghost use Rattle.figures.specs.Quiet.{
   is_quiet_alarm,
 };
 
-use crate::seen::{alarm_seen, holder_seen, is_routine, is_task};
+use crate::seen::{alarm_seen, executes, holder_seen, is_routine};
 use observations::{AlarmSeen, Observation, RoutineSeen, TaskSeen};
 use osek_base::TaskState;
 
@@ -42,16 +43,21 @@ pub fn gets_nothing(seen: TaskSeen) -> bool
 
 /// Whether a task has no job in a tick and doesn't execute, and nothing comes to it.
 #[inline(always)]
-pub fn is_quiet_task(observation: &Observation, number: usize) -> bool
+pub fn is_quiet_task(
+    levels: &[u8],
+    observation: &Observation,
+    executing: usize,
+    number: usize,
+) -> bool
+    requires known { number < length levels.now }
+    requires one { executing ≡ executing_number observation.now.executor }
     ensures { result ≡ is_quiet_task observation.now number }
 {
-    match observation.tasks.as_slice().get(number) {
-        Some(seen) => {
-            let rests = has_nothing(*seen) && gets_nothing(*seen);
-            rests && !is_task(&observation.executor, number)
-        }
-        None => !is_task(&observation.executor, number),
-    }
+    let rests = match observation.tasks.as_slice().get(number) {
+        Some(seen) => has_nothing(*seen) && gets_nothing(*seen),
+        None => true,
+    };
+    rests && !executes(levels, observation, executing, number)
 }
 
 // Whether no interrupt of a routine arrives or is pending, and it isn't started.

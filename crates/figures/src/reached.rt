@@ -1,7 +1,7 @@
 //! Numbers of ticks, and when they were reached.
 
 ghost use Rattle.std.specs.Prelude.{◌≡◌};
-ghost use Rattle.figures.specs.Reaching.{first_tick, worse, worse_of};
+ghost use Rattle.figures.specs.Reaching.{first_tick, worse_of};
 
 /// A number of ticks, and the tick at which it was reached first.
 #[derive(Clone, Copy)]
@@ -12,33 +12,35 @@ pub struct Reached {
     pub at: u32,
 }
 
-// The greater of the greatest number so far and a new one, of equal ones the earlier.
-fn worse(worst: Option<Reached>, reached: Reached) -> Option<Reached>
-    ensures { result ≡ worse worst reached }
+/// The greatest number so far rises where a new one, if there is one, is greater.
+#[inline(always)]
+pub fn raise(worst: &mut Option<Reached>, reached: Option<Reached>)
+    ensures { worst.new ≡ worse_of worst.old reached }
 {
-    match worst {
-        Some(worst) if worst.ticks >= reached.ticks => Some(worst),
-        _ => Some(reached),
+    if let Some(reached) = reached {
+        match *worst {
+            Some(worst) if worst.ticks >= reached.ticks => {}
+            _ => *worst = Some(reached),
+        }
     }
 }
 
-/// The greatest number so far and a new one, if there is one: the greater, of equal ones the earlier.
+/// The greatest number so far and a new one, if there is one: the greater, of equal ones the
+/// earlier.
 pub fn worse_of(worst: Option<Reached>, reached: Option<Reached>) -> Option<Reached>
     ensures { result ≡ worse_of worst reached }
 {
-    match reached {
-        Some(reached) => worse(worst, reached),
-        None => worst,
-    }
+    let mut worse = worst;
+    raise(&mut worse, reached);
+    worse
 }
 
-/// The first tick of something, that may hold in this tick.
-pub fn first_tick(holds: bool, tick: u32, first: Option<u32>) -> Option<u32>
-    ensures { result ≡ first_tick holds tick first }
+/// The first tick of something is kept, that may hold in this tick.
+#[inline(always)]
+pub fn note_first(first: &mut Option<u32>, holds: bool, tick: u32)
+    ensures { first.new ≡ first_tick holds tick first.old }
 {
-    match first {
-        Some(first) => Some(first),
-        None if holds => Some(tick),
-        None => None,
+    if holds && first.is_none() {
+        *first = Some(tick);
     }
 }

@@ -5,8 +5,8 @@ ghost use Rattle.figures.specs.declared.resource_figures.HolderTick.{HolderTick}
 ghost use Rattle.figures.specs.ResourceSums.{resource_figures, is_same, is_got, hold_on, hold_at};
 ghost use Rattle.figures.specs.Calm.{can_hold_on, held_on};
 
-use crate::counts::counted;
-use crate::reached::{Reached, worse_of};
+use crate::counts::add_where;
+use crate::reached::{Reached, raise};
 use observations::Holder;
 
 // Whether a task holds it, and held it before.
@@ -105,9 +105,9 @@ impl ResourceFigures {
         ensures { (before : List HolderTick) → self.old ≡ resource_figures before
             → self.new ≡ resource_figures (tick.now ∷ before) }
     {
-        self.gets = counted(self.gets, is_got(tick.holder, self.holder));
+        add_where(&mut self.gets, 1, is_got(tick.holder, self.holder));
         self.held = self.hold_on(tick.holder);
-        self.longest = worse_of(self.longest, tick.hold(self.held));
+        raise(&mut self.longest, tick.hold(self.held));
         self.holder = tick.holder;
     }
 
@@ -125,13 +125,13 @@ impl ResourceFigures {
         requires fits { can_hold_on tick.now more self.old ≡ true }
         ensures { self.new ≡ held_on tick.now more self.old }
     {
-        self.gets = counted(self.gets, is_got(tick.holder, self.holder));
+        add_where(&mut self.gets, 1, is_got(tick.holder, self.holder));
         self.held = self.hold_on(tick.holder) + more;
         let last = HolderTick {
             tick: tick.tick + more,
             holder: tick.holder,
         };
-        self.longest = worse_of(self.longest, last.hold(self.held));
+        raise(&mut self.longest, last.hold(self.held));
         self.holder = tick.holder;
     }
 }

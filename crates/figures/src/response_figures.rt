@@ -1,7 +1,9 @@
 //! OSEK/VDX OS: task management. Responses of a task's jobs.
 
-ghost use Rattle.std.specs.Prelude.{List, [], ◌∷◌, ◌≡◌, None, cond, nat_le, length};
+ghost use Rattle.std.specs.Prelude.{List, [], ◌∷◌, ◌≡◌, nat_le, length};
 ghost use Rattle.figures.specs.declared.task_tick.TaskTick.{TaskTick};
+ghost use Rattle.figures.specs.declared.reached.Reached.{Reached};
+ghost use Rattle.figures.specs.Reaching.{put};
 ghost use Rattle.figures.specs.ResponseSums.{
   response_figures,
   response,
@@ -10,6 +12,7 @@ ghost use Rattle.figures.specs.ResponseSums.{
   later,
   entered,
   some_more,
+  spread,
   one_more,
 };
 
@@ -80,12 +83,25 @@ impl ResponseFigures {
     }
 
     /// A tick more is seen.
+    #[inline(always)]
     pub fn observe(&mut self, tick: &TaskTick)
         ensures { (before : List TaskTick) → self.old ≡ response_figures before
             → self.new ≡ response_figures (tick.now ∷ before) }
     {
         enter(&mut self.ready_since, tick);
-        let response = leave(&mut self.ready_since, tick.tick, tick.leaves());
+        if tick.leaves() {
+            self.respond(tick.tick);
+        }
+    }
+
+    // The oldest job ends or waits in a tick.
+    #[inline(never)]
+    fn respond(&mut self, tick: u32)
+        ensures left { self.new.ready_since ≡ later self.old.ready_since }
+        ensures response { (before : List Reached) → self.old.spread ≡ spread before
+            → self.new.spread ≡ spread (put (oldest_response tick self.old.ready_since) before) }
+    {
+        let response = leave(&mut self.ready_since, tick);
         self.spread.note(response);
     }
 }
@@ -101,12 +117,12 @@ fn oldest(since: &ArrayVec<u32, MAX_UNFINISHED>, tick: u32) -> Option<Reached>
     })
 }
 
-// The oldest job ends or waits in a tick, if it does: its response, where there is one.
-fn leave(since: &mut ArrayVec<u32, MAX_UNFINISHED>, tick: u32, leaves: bool) -> Option<Reached>
-    ensures response { result ≡ cond leaves (oldest_response tick since.old.items) None }
-    ensures left { since.new.items ≡ cond leaves (later since.old.items) since.old.items }
+// The oldest job ends or waits in a tick: its response, where there is one.
+fn leave(since: &mut ArrayVec<u32, MAX_UNFINISHED>, tick: u32) -> Option<Reached>
+    ensures response { result ≡ oldest_response tick since.old.items }
+    ensures left { since.new.items ≡ later since.old.items }
 {
-    if !leaves || since.is_empty() {
+    if since.is_empty() {
         return None;
     }
     let oldest = since.remove(0);
@@ -120,11 +136,14 @@ fn leave(since: &mut ArrayVec<u32, MAX_UNFINISHED>, tick: u32, leaves: bool) -> 
 fn enter(since: &mut ArrayVec<u32, MAX_UNFINISHED>, tick: &TaskTick)
     ensures { since.new.items ≡ entered tick.now since.old.items }
 {
-    let count = usize::from(tick.standing()).saturating_sub(since.len());
-    enter_some(since, tick.tick, count);
+    let stands = usize::from(tick.standing());
+    if stands > since.len() {
+        enter_some(since, tick.tick, stands - since.len());
+    }
 }
 
 // Some jobs are ready since a tick.
+#[inline(never)]
 fn enter_some(since: &mut ArrayVec<u32, MAX_UNFINISHED>, tick: u32, count: usize)
     ensures { since.new.items ≡ some_more tick count since.old.items }
 {

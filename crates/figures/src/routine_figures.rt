@@ -5,8 +5,8 @@ ghost use Rattle.figures.specs.declared.routine_figures.RoutineTick.{RoutineTick
 ghost use Rattle.figures.specs.Reaching.{worse_of};
 ghost use Rattle.figures.specs.RoutineSums.{routine_figures, since, still, latency, pending_age};
 
-use crate::counts::{added, counted};
-use crate::reached::{Reached, first_tick, worse_of};
+use crate::counts::{add_where, added};
+use crate::reached::{Reached, note_first, raise, worse_of};
 use observations::RoutineSeen;
 
 /// What is seen of an interrupt routine in a tick, and the tick.
@@ -25,11 +25,10 @@ impl RoutineTick {
     fn since(&self, pending: Option<u32>) -> Option<u32>
         ensures { result ≡ since self.now pending }
     {
-        first_tick(
-            self.seen.is_pending || self.seen.is_started,
-            self.tick,
-            pending,
-        )
+        let mut since = pending;
+        let is_asked = self.seen.is_pending || self.seen.is_started;
+        note_first(&mut since, is_asked, self.tick);
+        since
     }
 
     // what of it is left after the tick
@@ -96,12 +95,12 @@ impl RoutineFigures {
     {
         self.arrivals = added(self.arrivals, tick.seen.arrived);
         self.losses = added(self.losses, tick.seen.lost);
-        self.starts = counted(self.starts, tick.seen.is_started);
+        add_where(&mut self.starts, 1, tick.seen.is_started);
         let since = tick.since(self.pending_since);
-        self.latency = worse_of(self.latency, tick.latency(since));
+        raise(&mut self.latency, tick.latency(since));
         self.pending_since = tick.still(since);
-        self.errors = counted(self.errors, tick.has_failed);
-        self.first_loss = first_tick(tick.seen.lost > 0, tick.tick, self.first_loss);
+        add_where(&mut self.errors, 1, tick.has_failed);
+        note_first(&mut self.first_loss, tick.seen.lost > 0, tick.tick);
     }
 
     /// The greatest latency, or the age of what is pending behind a last tick, if that is greater.

@@ -16,6 +16,7 @@ ghost use Rattle.figures.specs.FigureSums.{
   is_task,
   is_routine,
 };
+ghost use Rattle.figures.specs.Quiet.{executing_number};
 
 use crate::alarm_figures::AlarmTick;
 use crate::resource_figures::HolderTick;
@@ -137,32 +138,56 @@ pub fn is_routine(executor: &Option<Owner>, number: usize) -> bool
     }
 }
 
-// Whether a task executes whose static priority is lower than a task's.
-fn lower_executes(levels: &[u8], executor: &Option<Owner>, number: usize) -> bool
-    requires { number < length levels.now }
-    ensures { result ≡ lower_executes levels.now executor.now number }
+/// The number of the task that executes; where none does, one that no task has.
+#[inline(always)]
+pub fn executing(executor: &Option<Owner>) -> usize
+    ensures { result ≡ executing_number executor.now }
 {
     match executor {
-        Some(Owner::Task(task)) => {
-            let task = task.number() as usize;
-            task < levels.len() && levels[task] < levels[number]
-        }
-        _ => false,
+        Some(Owner::Task(task)) => task.number() as usize,
+        _ => usize::MAX,
     }
+}
+
+/// Whether a task executes, where the number of the one that does is known.
+#[inline(always)]
+pub fn executes(levels: &[u8], observation: &Observation, executing: usize, number: usize) -> bool
+    requires known { number < length levels.now }
+    requires one { executing ≡ executing_number observation.now.executor }
+    ensures { result ≡ is_task observation.now.executor number }
+{
+    executing == number
+}
+
+// Whether a task executes whose static priority is lower than a task's.
+#[inline(always)]
+fn lower_executes(levels: &[u8], observation: &Observation, executing: usize, number: usize) -> bool
+    requires known { number < length levels.now }
+    requires one { executing ≡ executing_number observation.now.executor }
+    ensures { result ≡ lower_executes levels.now observation.now.executor number }
+{
+    executing < levels.len() && levels[executing] < levels[number]
 }
 
 /// What an observation has of a task, as of a tick of that number, by the static priorities of all
 /// tasks.
 #[inline(always)]
-pub fn task_tick(levels: &[u8], tick: u32, observation: &Observation, number: usize) -> TaskTick
-    requires { number < length levels.now }
+pub fn task_tick(
+    levels: &[u8],
+    tick: u32,
+    observation: &Observation,
+    executing: usize,
+    number: usize,
+) -> TaskTick
+    requires known { number < length levels.now }
+    requires one { executing ≡ executing_number observation.now.executor }
     ensures { result ≡ task_tick levels.now (numbered tick observation.now) number }
 {
-    let executes = is_task(&observation.executor, number);
+    let executes = executes(levels, observation, executing, number);
     TaskTick {
         tick,
         seen: task_seen(observation.tasks.as_slice(), number),
-        lower_executes: lower_executes(levels, &observation.executor, number),
+        lower_executes: lower_executes(levels, observation, executing, number),
         has_failed: executes && is_error(&observation.answered),
         blockers: if executes { observation.blockers } else { None },
     }

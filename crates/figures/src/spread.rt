@@ -5,8 +5,8 @@ ghost use Rattle.figures.specs.declared.reached.Reached.{Reached};
 ghost use Rattle.figures.specs.ResponseSums.{spread};
 ghost use Rattle.figures.specs.Reaching.{put};
 
-use crate::counts::counted;
-use crate::reached::{Reached, worse_of};
+use crate::counts::added;
+use crate::reached::{Reached, raise};
 
 /// How some numbers of ticks lie.
 #[derive(Clone, Copy)]
@@ -40,10 +40,10 @@ impl Spread {
         ensures { (before : List Reached) → self.old ≡ spread before
             → self.new ≡ spread (reached ∷ before) }
     {
-        self.count = counted(self.count, true);
+        self.count = added(self.count, 1);
         self.sum = self.sum.saturating_add(u64::from(reached.ticks));
         self.least = self.least.min(reached.ticks);
-        self.greatest = worse_of(self.greatest, Some(reached));
+        raise(&mut self.greatest, Some(reached));
     }
 
     /// A number more, if there is one.

@@ -2,20 +2,23 @@
 
 ghost use Rattle.std.specs.Prelude.{List, [], ◌∷◌, ◌≡◌};
 ghost use Rattle.figures.specs.declared.task_tick.TaskTick.{TaskTick};
-ghost use Rattle.figures.specs.TaskSums.{more_blockers, task_counts};
+ghost use Rattle.figures.specs.TaskSums.{jobs_on, more_blockers, task_counts};
 
-use crate::counts::{added, counted};
-use crate::reached::first_tick;
+use crate::counts::{add_where, added};
+use crate::quiet::gets_nothing;
+use crate::reached::note_first;
 use crate::task_tick::TaskTick;
 
 // The greatest number of blockers, one more of which may be told.
-fn more_blockers(told: Option<u32>, most: Option<u32>) -> Option<u32>
-    ensures { result ≡ more_blockers told most }
+#[inline(always)]
+fn raise_blockers(most: &mut Option<u32>, told: Option<u32>)
+    ensures { most.new ≡ more_blockers told most.old }
 {
-    match (told, most) {
-        (None, most) => most,
-        (Some(told), None) => Some(told),
-        (Some(told), Some(most)) => Some(most.max(told)),
+    if let Some(told) = told {
+        match *most {
+            Some(most) if most >= told => {}
+            _ => *most = Some(told),
+        }
     }
 }
 
@@ -55,17 +58,31 @@ impl TaskCounts {
         }
     }
 
+    // Jobs that are made or ended, and activations that are refused: none in most ticks.
+    #[inline(always)]
+    fn count_jobs(&mut self, tick: &TaskTick)
+        ensures { (before : List TaskTick) → self.old ≡ task_counts before
+            → self.new ≡ jobs_on tick.now self.old }
+    {
+        if gets_nothing(tick.seen) {
+            return;
+        }
+        self.activations = added(self.activations, u32::from(tick.seen.made));
+        let refused = tick.seen.refused;
+        add_where(&mut self.refused, u32::from(refused), refused > 0);
+        note_first(&mut self.first_refusal, refused > 0, tick.tick);
+        add_where(&mut self.ended, 1, tick.seen.ended);
+    }
+
     /// A tick more is seen.
+    #[inline(always)]
     pub fn observe(&mut self, tick: &TaskTick)
         ensures { (before : List TaskTick) → self.old ≡ task_counts before
             → self.new ≡ task_counts (tick.now ∷ before) }
     {
-        self.activations = added(self.activations, u32::from(tick.seen.made));
-        self.refused = added(self.refused, u32::from(tick.seen.refused));
-        self.ended = counted(self.ended, tick.seen.ended);
+        self.count_jobs(tick);
         self.unfinished = u32::from(tick.left_jobs());
-        self.errors = counted(self.errors, tick.has_failed);
-        self.blockers = more_blockers(tick.blockers, self.blockers);
-        self.first_refusal = first_tick(tick.seen.refused > 0, tick.tick, self.first_refusal);
+        add_where(&mut self.errors, 1, tick.has_failed);
+        raise_blockers(&mut self.blockers, tick.blockers);
     }
 }

@@ -5,7 +5,7 @@ ghost use Rattle.figures.specs.declared.task_tick.TaskTick.{TaskTick};
 ghost use Rattle.figures.specs.FigureSums.{task_figures};
 ghost use Rattle.figures.specs.ResponseSums.{oldest_response};
 ghost use Rattle.figures.specs.Reaching.{worse_of};
-ghost use Rattle.figures.specs.Calm.{is_calm_next, times_on};
+ghost use Rattle.figures.specs.Calm.{is_calm_next, stayed};
 
 use crate::calm::is_calm_task;
 use crate::reached::{Reached, worse_of};
@@ -56,7 +56,7 @@ impl TaskFigures {
     }
 
     /// A tick more is seen.
-    #[inline(never)]
+    #[inline(always)]
     pub fn observe(&mut self, tick: &TaskTick)
         ensures { (before : List TaskTick) → self.old ≡ task_figures before
             → self.new ≡ task_figures (tick.now ∷ before) }
@@ -74,37 +74,16 @@ impl TaskFigures {
         is_calm_task(tick) && self.responses.follows(tick)
     }
 
-    /// A tick more is seen, in which nothing comes to the task, and its jobs that stand were
-    /// followed before: its times alone grow.
+    /// Some ticks more are seen, in each of which nothing comes to the task, and its jobs that
+    /// stand were followed before: its times alone grow.
     #[inline(always)]
-    pub(crate) fn observe_calm(&mut self, tick: &TaskTick)
+    pub(crate) fn stay(&mut self, tick: &TaskTick, more: u32)
         requires { is_calm_next tick.now self.old ≡ true }
         ensures { (before : List TaskTick) → self.old ≡ task_figures before
-            → self.new ≡ task_figures (tick.now ∷ before) }
+            → self.new ≡ stayed tick.now more self.old }
     {
         self.counts.unfinished = u32::from(tick.left_jobs());
-        self.times.observe(tick);
-    }
-
-    /// A tick more is seen, of which maybe the times alone grow.
-    #[inline(always)]
-    pub(crate) fn note(&mut self, tick: &TaskTick)
-        ensures { (before : List TaskTick) → self.old ≡ task_figures before
-            → self.new ≡ task_figures (tick.now ∷ before) }
-    {
-        if self.is_calm(tick) {
-            self.observe_calm(tick);
-        } else {
-            self.observe(tick);
-        }
-    }
-
-    /// Some ticks more are seen that are like the last one, in which nothing came to the task. Its
-    /// times alone grow: the jobs that stand have been followed since that one.
-    pub(crate) fn go_on(&mut self, tick: &TaskTick, more: u32)
-        ensures { self.new ≡ record self.old { times = times_on tick.now more self.old.times } }
-    {
-        self.times.go_on(tick, more);
+        self.times.stay(tick, more);
     }
 
     /// The greatest response, or the age of the oldest job behind a last tick, if that is greater.

@@ -1,7 +1,7 @@
 //! OSEK/VDX OS: task management, task state model. What a tick is for a task.
 
 ghost use Rattle.std.specs.Prelude.{◌≡◌};
-ghost use Rattle.figures.specs.StateSums.{is_executed, is_ready, is_preempted, is_blocked, is_waited};
+ghost use Rattle.figures.specs.StateSums.{is_blocked};
 
 /// What a tick is for a task: exactly one of these.
 #[derive(Clone, Copy)]
@@ -21,38 +21,10 @@ pub enum TaskTime {
 }
 
 impl TaskTime {
-    /// Whether the task executes.
-    pub fn is_executed(self) -> bool
-        ensures { result ≡ is_executed self }
-    {
-        matches!(self, TaskTime::Executed)
-    }
-
-    /// Whether it is ready, and neither preempted nor blocked.
-    pub fn is_ready(self) -> bool
-        ensures { result ≡ is_ready self }
-    {
-        matches!(self, TaskTime::StandsReady)
-    }
-
-    /// Whether it is preempted.
-    pub fn is_preempted(self) -> bool
-        ensures { result ≡ is_preempted self }
-    {
-        matches!(self, TaskTime::Preempted)
-    }
-
     /// Whether it is blocked.
     pub fn is_blocked(self) -> bool
         ensures { result ≡ is_blocked self }
     {
         matches!(self, TaskTime::Blocked)
-    }
-
-    /// Whether it waits for an event.
-    pub fn is_waited(self) -> bool
-        ensures { result ≡ is_waited self }
-    {
-        matches!(self, TaskTime::Waits)
     }
 }

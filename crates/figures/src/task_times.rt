@@ -3,9 +3,9 @@
 ghost use Rattle.std.specs.Prelude.{List, [], ◌∷◌, ◌≡◌};
 ghost use Rattle.figures.specs.declared.task_tick.TaskTick.{TaskTick};
 ghost use Rattle.figures.specs.StateSums.{task_times};
-ghost use Rattle.figures.specs.Calm.{time_on, times_on};
+ghost use Rattle.figures.specs.Calm.{time_on, times_stayed};
 
-use crate::counts::{added, added_where};
+use crate::counts::added;
 use crate::task_tick::TaskTick;
 use crate::task_time::TaskTime;
 
@@ -42,19 +42,29 @@ impl TaskTimes {
         }
     }
 
-    // A tick more, by what it is for the task.
+    // Some ticks more, by what they are for the task.
     #[inline(always)]
-    fn note(&mut self, time: TaskTime)
-        ensures { self.new ≡ time_on time self.old }
+    fn note(&mut self, time: TaskTime, more: u32)
+        ensures { self.new ≡ time_on time more self.old }
     {
         match time {
-            TaskTime::Executed => self.executed = added(self.executed, 1),
-            TaskTime::StandsReady => self.ready = added(self.ready, 1),
-            TaskTime::Preempted => self.preempted = added(self.preempted, 1),
-            TaskTime::Blocked => self.blocked = added(self.blocked, 1),
-            TaskTime::Waits => self.waiting = added(self.waiting, 1),
+            TaskTime::Executed => self.executed = added(self.executed, more),
+            TaskTime::StandsReady => self.ready = added(self.ready, more),
+            TaskTime::Preempted => self.preempted = added(self.preempted, more),
+            TaskTime::Blocked => self.blocked = added(self.blocked, more),
+            TaskTime::Waits => self.waiting = added(self.waiting, more),
             TaskTime::HasNoJob => {}
         }
+    }
+
+    /// Some ticks more are seen, each of which is the same for the task.
+    #[inline(always)]
+    pub(crate) fn stay(&mut self, tick: &TaskTick, more: u32)
+        ensures { (before : List TaskTick) → self.old ≡ task_times before
+            → self.new ≡ times_stayed tick.now more self.old }
+    {
+        self.note(tick.time(self.has_begun), more);
+        self.has_begun = tick.begun(self.has_begun);
     }
 
     /// A tick more is seen.
@@ -63,19 +73,6 @@ impl TaskTimes {
         ensures { (before : List TaskTick) → self.old ≡ task_times before
             → self.new ≡ task_times (tick.now ∷ before) }
     {
-        self.note(tick.time(self.has_begun));
-        self.has_begun = tick.begun(self.has_begun);
-    }
-
-    /// Some ticks more are seen, each of which is the same for the task.
-    pub(crate) fn go_on(&mut self, tick: &TaskTick, more: u32)
-        ensures { self.new ≡ times_on tick.now more self.old }
-    {
-        let time = tick.time(self.has_begun);
-        self.executed = added_where(self.executed, more, time.is_executed());
-        self.ready = added_where(self.ready, more, time.is_ready());
-        self.preempted = added_where(self.preempted, more, time.is_preempted());
-        self.blocked = added_where(self.blocked, more, time.is_blocked());
-        self.waiting = added_where(self.waiting, more, time.is_waited());
+        self.stay(tick, 1);
     }
 }

@@ -9,7 +9,7 @@ use Rattle.figures.proofs.alike.note_each_resource.Goals as goal
 pub loop-passed-preserved : goal.loop-passed-preserved
 loop-passed-preserved c = λ before e.
     one_by_one resource_figures (λ t. holder_tick (numbered t c.args.observation.now) c.args.number) c.args.first c.loop-passed.passed before
-    c.loop-passed.figures _ (c.loop-passed.invariant before e) c.note_resource.ensures
+    c.loop-passed.figures _ (c.loop-passed.invariant before e) c.observe_resource.ensures
 
 -- all of them
 pub returns : goal.returns

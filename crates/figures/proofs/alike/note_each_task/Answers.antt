@@ -8,7 +8,7 @@ use Rattle.figures.proofs.alike.note_each_task.Goals as goal
 pub loop-passed-preserved : goal.loop-passed-preserved
 loop-passed-preserved c = λ before e.
     one_by_one task_figures (λ t. task_tick c.args.levels.now (numbered t c.args.observation.now) c.args.number) c.args.first c.loop-passed.passed before
-    c.loop-passed.figures _ (c.loop-passed.invariant before e) c.note_task.ensures
+    c.loop-passed.figures _ (c.loop-passed.invariant before e) c.observe_task.ensures
 
 -- all of them
 pub returns : goal.returns

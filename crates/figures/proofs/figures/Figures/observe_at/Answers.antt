@@ -10,8 +10,8 @@ returns c = λ S before are.
     figures_more S before (numbered c.args.tick c.args.observation.now) _ c.as_slice-levels.result.now
     c.as_mut_slice.result.now c.observe_tasks.new.figures c.as_mut_slice-2.result.now c.observe_routines.new.figures
     c.as_mut_slice-3.result.now c.observe_resources.new.figures c.as_mut_slice-4.result.now c.observe_alarms.new.figures
-    c.counted-self-inside.result c.counted-self-inside-2.result c.counted-self-inside.ensures
-    (rw c.is_idle.ensures at c.counted-self-inside-2.ensures)
+    c.added-self-inside.result c.add_where.new.count c.added-self-inside.ensures
+    (rw c.is_idle.ensures at c.add_where.ensures)
     (record {
       lent_levels = c.as_slice-levels.ensures.value;
       lent_tasks = c.as_mut_slice.ensures.value;

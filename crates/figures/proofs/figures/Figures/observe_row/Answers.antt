@@ -12,8 +12,8 @@ returns c = λ S before are.
     figures_alike S before c.args.observation.now c.args.first count _ c.as_slice-levels.result.now
     c.as_mut_slice.result.now c.observe_tasks_alike.new.figures c.as_mut_slice-2.result.now c.observe_routines_alike.new.figures
     c.as_mut_slice-3.result.now c.observe_resources_alike.new.figures c.as_mut_slice-4.result.now c.observe_alarms_alike.new.figures
-    c.added-self-inside.result (c.args.end - 1) c.added_where-self-inside.result c.added-self-inside.ensures ends some
-    (rw c.is_idle.ensures at c.added_where-self-inside.ensures)
+    c.added-self-inside.result (c.args.end - 1) c.add_where.new.count c.added-self-inside.ensures ends some
+    (rw c.is_idle.ensures at c.add_where.ensures)
     (record {
       lent_levels = c.as_slice-levels.ensures.value;
       lent_tasks = c.as_mut_slice.ensures.value;
