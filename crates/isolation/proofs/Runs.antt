@@ -3,7 +3,7 @@ use Rattle.std.proofs.Common.{◌≡◌, ℕ, zero, suc, ◌<◌, true, ◌&&◌
 use Rattle.std.specs.Prelude.{IsOk, OnOk, Ok, Err, None, Result, slice_index_or}
 use Rattle.std.proofs.lemmas.Simd.{map-map}
 use Rattle.osek_base.specs.declared.arrivals.Arrival.{Arrival}
-use Rattle.osek_base.specs.Agree.{Agree, upper_part}
+use Rattle.osek_base.specs.Agree.{upper_part}
 use Rattle.osek_base.specs.Proper.{IsProper}
 use Rattle.osek_base.specs.Separable.{Separable}
 use Rattle.osek_base.specs.System.{System}
@@ -22,7 +22,7 @@ use Rattle.upper_bounds.specs.Above.{AreOneAbove, IsTheSameAlarm, IsTheSameResou
 use Rattle.upper_bounds.proofs.Sides.{routine_count, upper_there, with_part}
 use Rattle.upper_figures.specs.ShownAbove.{ShowTheSameAbove, TicksShowTheSame}
 use Rattle.upper_figures.proofs.Carried.{alarms_same, declared_same, last_same, routines_same, scheduler_same}
-use Rattle.upper_figures.proofs.Part.{upper_parts_show_the_same}
+use Rattle.upper_figures.proofs.Part.{itself, upper_parts_show_the_same}
 use Rattle.isolation.specs.Everywhere.{IsTheSameEverywhere}
 use Rattle.isolation.specs.SameFigures.{AreTheSameAbove, FiguresAreTheSame, but_blockers}
 use Rattle.isolation.proofs.ByTicks.{plain_tick, task_figures_same}
@@ -36,19 +36,6 @@ length_is S mode arrivals zero (o ∷ before) are = absurd are
 length_is S mode arrivals (suc n) [] are = absurd are
 length_is S mode arrivals (suc n) (o ∷ before) are =
     ap suc (length_is S mode arrivals n before are.1)
-
-itself : (S : System) (p : ℕ) → Agree S S p
-itself S p = record {
-  names = refl;
-  tasks = refl;
-  routines = refl;
-  resources = refl;
-  ceilings = refl;
-  alarms = refl;
-  counters = refl;
-  hooks = refl;
-  use_res_scheduler = refl;
-}
 
 -- ---- ticks of two systems
 

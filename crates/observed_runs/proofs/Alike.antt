@@ -37,7 +37,7 @@ use Rattle.seen_ticks.specs.Told.{refused_of, task_at, task_at_in}
 use Rattle.seen_ticks.proofs.SeenLemmas.{counted as counted_jobs, task_is}
 use Rattle.observed_runs.specs.declared.before.Before.{Before}
 use Rattle.observed_runs.specs.declared.execution.Execution.{Execution}
-use Rattle.observed_runs.specs.Keeping.{IsTold, KnowsNext}
+use Rattle.observed_runs.specs.Keeping.{IsBefore, IsTold, coming}
 use Rattle.seen_ticks.specs.Observed.{IsObserved, IsSeen, Ticked, activates, active_routine, alarm_seen, answered, ending, executed_in, failure_by, failure_of, holders_seen, instruction, is_accepted, is_by, is_end, is_limit, is_number, is_pending, is_waiting, jobs_before, lost_of, one_if, owner_of, refusing, routine_seen, state_seen, status_of, task_of, task_seen, tick_at}
 use Rattle.observed_runs.specs.Passing.{HasStayed, LeavesAll, PassesAlike, StaysAlike, task_left}
 use Rattle.observed_runs.proofs.Staying.{holding}
@@ -271,58 +271,30 @@ module _ (counted : Bool) (S : System) (proper : IsProper S) (mode : ℕ) (arriv
 
   -- ---- what is told of it, by the state behind it
 
-  module _ (ticks : ℕ) (now : State) (behind : now ≡ after) (some : 1 ≤ ticks) where
-    later_still : (ticks == 0) ≡ false
-    later_still = grind (arith, some)
-
-    jobs_known : (t : ℕ) → jobs_before (ticks == 0) now t ≡ jobs_before (n == 0) before t
-    jobs_known t =
-        ap₂ (λ first (s : State). jobs_before first s t) later_still behind ∙ same_count t
-        ∙ sym (ap (λ first. jobs_before first before t) later_on)
-
-    pending_known : now.pending ≡ before.pending
-    pending_known =
-        ap (λ (s : State). s.pending) behind ∙ ap (λ (x : Kept). x.pending) stays.behind
-        ∙ sym (ap (λ (x : Kept). x.pending) stays.before)
-
-    active_known : active_routine now ≡ active_routine before
-    active_known =
-        ap active_routine behind ∙ ap (λ (x : Kept). active_of x) stays.behind
-        ∙ sym (ap (λ (x : Kept). active_of x) stays.before)
-
-    pub alike_told : (known : Before) (x : Execution) (ahead behind_it : List TraceEvent) (last : Option Executed)
-        → known.jobs.items ≡ map (jobs_before (ticks == 0) now) (below (length S.tasks))
-        → known.pending.items ≡ map (is_pending now) (below (length S.routines)) → known.active ≡ active_routine now
-        → x.executed ≡ last → x.ending ≡ ending S last → x.refusing ≡ refusing S last
-        → IfSome last (StandsIn S) → ahead ≡ [] → behind_it ≡ []
-        → record_at S mode arrivals n ≡ idle_or_executed S last ∷ []
-        → IsTold S mode arrivals n now known x ahead behind_it
-    alike_told known x ahead behind_it last jobs pending active executed ends refuses there none_ahead none_behind recorded =
-        let last_is : executed_in (record_at S mode arrivals n) ≡ last = ap executed_in recorded ∙ executed_again S last in
-        let few_ahead = ap (λ (v : List TraceEvent). length v) none_ahead in
-        let few_behind = ap (λ (v : List TraceEvent). length v) none_behind in
-        record {
-          behind = behind;
-          known = record {
-            jobs = jobs ∙ ap (λ (f : ℕ → ℕ). map f (below (length S.tasks))) (fun_ext jobs_known);
-            pending =
-                pending
-                ∙ ap (λ (v : List Bool). map (λ i. slice_index_or v i false) (below (length S.routines))) pending_known;
-            active = active ∙ active_known;
-          };
-          done = record {
-            executed = executed ∙ sym last_is;
-            ending = ends ∙ sym (ap (ending S) last_is);
-            refusing = refuses ∙ sym (ap (refusing S) last_is);
-          };
-          records = record {
-            recorded =
-                ap₂ (λ (u v : List TraceEvent). u ++ idle_or_executed S x.executed ∷ v) none_ahead none_behind
-                ∙ ap (λ v. idle_or_executed S v ∷ []) executed ∙ sym recorded;
-            there = subst (λ v. IfSome v (StandsIn S)) (sym executed) there;
-            few = omega (arith, few_ahead, few_behind);
-          };
-        }
+  pub alike_told : (now : State) → now ≡ after → (x : Execution) (ahead behind_it : List TraceEvent) (last : Option Executed)
+      → x.executed ≡ last → x.ending ≡ ending S last → x.refusing ≡ refusing S last
+      → IfSome last (StandsIn S) → ahead ≡ [] → behind_it ≡ []
+      → record_at S mode arrivals n ≡ idle_or_executed S last ∷ []
+      → IsTold S mode arrivals n now x ahead behind_it
+  alike_told now behind x ahead behind_it last executed ends refuses there none_ahead none_behind recorded =
+      let last_is : executed_in (record_at S mode arrivals n) ≡ last = ap executed_in recorded ∙ executed_again S last in
+      let few_ahead = ap (λ (v : List TraceEvent). length v) none_ahead in
+      let few_behind = ap (λ (v : List TraceEvent). length v) none_behind in
+      record {
+        behind = behind;
+        done = record {
+          executed = executed ∙ sym last_is;
+          ending = ends ∙ sym (ap (ending S) last_is);
+          refusing = refuses ∙ sym (ap (refusing S) last_is);
+        };
+        records = record {
+          recorded =
+              ap₂ (λ (u v : List TraceEvent). u ++ idle_or_executed S x.executed ∷ v) none_ahead none_behind
+              ∙ ap (λ v. idle_or_executed S v ∷ []) executed ∙ sym recorded;
+          there = subst (λ v. IfSome v (StandsIn S)) (sym executed) there;
+          few = omega (arith, few_ahead, few_behind);
+        };
+      }
 
 -- ---- ticks of a kernel
 
@@ -389,9 +361,7 @@ work_stays counted most n old new last worked = record {
 -- ---- a kernel that passes such ticks
 
 -- what is noted behind a run's last tick, in which that was executed
-pub record IsNoted (r : Progress) (last : Option Executed) (known : Before) (e : Execution)
-    (ahead behind : List TraceEvent) : Type 0 where
-  pub next : KnowsNext r known
+pub record IsNoted (r : Progress) (last : Option Executed) (e : Execution) (ahead behind : List TraceEvent) : Type 0 where
   pub executed : e.executed ≡ last
   pub ending : e.ending ≡ ending r.system last
   pub refusing : e.refusing ≡ refusing r.system last
@@ -425,21 +395,69 @@ module _ (counted : Bool) (most n : ℕ) (k new : Progress) (last : Option Execu
   not_first_at : (i : ℕ) → 1 ≤ k.ticks + i
   not_first_at i = let begun = stayed.not_first some in omega (arith, begun)
 
-  pub stayed_told : IsProper k.system → (known : Before) (e : Execution) (ahead behind : List TraceEvent)
-      → IsNoted new last known e ahead behind
-      → IsTold new.system new.mode new.arrivals (new.ticks - 1) (run_of new).state known e ahead behind
-  stayed_told proper known e ahead behind noted =
-      let is : IsNoted (record k { ticks = k.ticks + n }) last known e ahead behind =
-      subst (λ r. IsNoted r last known e ahead behind) stayed.next noted in
+  pub stayed_told : IsProper k.system → (e : Execution) (ahead behind : List TraceEvent) → IsNoted new last e ahead behind
+      → IsTold new.system new.mode new.arrivals (new.ticks - 1) (run_of new).state e ahead behind
+  stayed_told proper e ahead behind noted =
+      let is : IsNoted (record k { ticks = k.ticks + n }) last e ahead behind =
+      subst (λ r. IsNoted r last e ahead behind) stayed.next noted in
       let state_is : (run_of new).state ≡ (run k.system k.mode k.arrivals (k.ticks + n)).state =
       ap (λ (r : Progress). (run_of r).state) stayed.next in
-      last_on k new n (λ S mode arrivals m. IsTold S mode arrivals m (run_of new).state known e ahead behind) stayed.next some
-      (subst (λ s. IsTold k.system k.mode k.arrivals (k.ticks + (n - 1)) s known e ahead behind) (sym state_is)
+      last_on k new n (λ S mode arrivals m. IsTold S mode arrivals m (run_of new).state e ahead behind) stayed.next some
       (alike_told counted k.system proper k.mode k.arrivals (k.ticks + (n - 1)) kept_then stayed.who (not_first_at (n - 1))
       (stayed.going (n - 1) last_low) (stayed.stays (n - 1) last_low)
-      (k.ticks + n) (run k.system k.mode k.arrivals (k.ticks + n)).state state_behind (not_first_at n)
-      known e ahead behind last is.next.jobs is.next.pending is.next.active
-      is.executed is.ending is.refusing is.there is.none_ahead is.none_behind (stayed.recorded some)))
+      (run_of new).state (state_is ∙ state_behind)
+      e ahead behind last is.executed is.ending is.refusing is.there is.none_ahead is.none_behind (stayed.recorded some))
+
+  -- ---- what is known before the tick that comes next, is known behind them, too
+  abbrev behind_all : State
+  behind_all = (step_at k.system k.mode k.arrivals (k.ticks + (n - 1))).after
+
+  new_state : (run_of new).state ≡ behind_all
+  new_state = ap (λ (r : Progress). (run_of r).state) stayed.next ∙ state_behind
+
+  count_stays : (t : ℕ) → length (jobs_of t (run_of k).state.jobs) ≡ length (jobs_of t (run_of new).state.jobs)
+  count_stays t =
+      sym (counted_jobs (jobs_of t (run_of k).state.jobs))
+      ∙ sym (ap (λ (x : Kept). (x.slots t).count) (stayed.stays (n - 1) last_low).behind)
+      ∙ counted_jobs (jobs_of t behind_all.jobs) ∙ sym (ap (λ (s : State). length (jobs_of t s.jobs)) new_state)
+
+  later_jobs : (t : ℕ) → (coming k).first ≡ false → (coming new).first ≡ false
+      → jobs_before (coming k).first (coming k).before t ≡ jobs_before (coming new).first (coming new).before t
+  later_jobs t was is =
+      ap (λ first. jobs_before first (run_of k).state t) was ∙ count_stays t
+      ∙ sym (ap (λ first. jobs_before first (run_of new).state t) is)
+
+  pending_stays_so : (run_of k).state.pending ≡ (run_of new).state.pending
+  pending_stays_so =
+      sym (ap (λ (x : Kept). x.pending) (stayed.stays (n - 1) last_low).behind)
+      ∙ sym (ap (λ (s : State). s.pending) new_state)
+
+  active_stays : active_routine (run_of k).state ≡ active_routine (run_of new).state
+  active_stays =
+      sym (ap (λ (x : Kept). active_of x) (stayed.stays (n - 1) last_low).behind) ∙ sym (ap active_routine new_state)
+
+  pub stayed_known : (known : Before) → IsBefore k.system (coming k) known → IsBefore new.system (coming new) known
+  stayed_known known is =
+      let ticks_are : new.ticks ≡ k.ticks + n = ap (λ (r : Progress). r.ticks) stayed.next in
+      let begun = stayed.not_first some in
+      let was : (k.ticks == 0) ≡ false = grind (arith, begun) in
+      let later : (new.ticks == 0) ≡ false = grind (arith, begun, ticks_are) in
+      subst (λ (S : System). IsBefore S (coming new) known) (sym (ap (λ (r : Progress). r.system) stayed.next))
+      (record {
+        jobs =
+            is.jobs
+            ∙ ap (λ (f : ℕ → ℕ). map f (below (length k.system.tasks))) (fun_ext (λ t. later_jobs t was later));
+        pending =
+            is.pending
+            ∙ ap (λ (v : List Bool). map (λ i. slice_index_or v i false) (below (length k.system.routines))) pending_stays_so;
+        active = is.active ∙ active_stays;
+      })
+
+  pub stayed_active : active_routine (run_of k).state
+      ≡ active_routine (tick_at new.system new.mode new.arrivals (new.ticks - 1)).before
+  stayed_active =
+      last_on k new n (λ S mode arrivals m. active_routine (run_of k).state ≡ active_routine (tick_at S mode arrivals m).before)
+      stayed.next some (sym (ap (λ (x : Kept). active_of x) (stayed.stays (n - 1) last_low).before))
 
   -- nothing comes to anything in the last of them
   pub stayed_all : IsProper new.system

@@ -8,3 +8,4 @@ pub mod Left
 pub mod Seeing
 pub mod Staying
 pub mod Telling
+pub mod Replacing

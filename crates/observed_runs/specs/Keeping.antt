@@ -1,5 +1,5 @@
 -- What an observed run keeps, no part of the standards.
-use Rattle.std.specs.Prelude.{ℕ, ◌≡◌, ◌<◌, ◌≤◌, ◌+◌, ◌-◌, ◌==◌, ◌∷◌, ◌++◌, Bool, true, List, Option, IfSome, map, length}
+use Rattle.std.specs.Prelude.{ℕ, ◌≡◌, ◌<◌, ◌≤◌, ◌+◌, ◌-◌, ◌∷◌, ◌++◌, Bool, true, List, Option, IfSome, map, length}
 use Rattle.osek_base.specs.declared.arrivals.Arrival.{Arrival}
 use Rattle.osek_base.specs.declared.trace_event.TraceEvent.{TraceEvent}
 use Rattle.osek_base.specs.declared.executed.Executed.{Executed}
@@ -19,17 +19,15 @@ use Rattle.seen_ticks.specs.Observed.{IsObserved, Ticked, active_routine, ending
 abbrev pub last_tick : Progress → Ticked
 last_tick r = tick_at r.system r.mode r.arrivals (r.ticks - 1)
 
+-- the one that comes next
+abbrev pub coming : Progress → Ticked
+coming r = tick_at r.system r.mode r.arrivals r.ticks
+
 -- what was known before a tick
 pub record IsBefore (S : System) (k : Ticked) (before : Before) : Type 0 where
   pub jobs : before.jobs.items ≡ map (jobs_before k.first k.before) (below (length S.tasks))
   pub pending : before.pending.items ≡ map (is_pending k.before) (below (length S.routines))
   pub active : before.active ≡ active_routine k.before
-
--- what is known before the tick that comes next
-pub record KnowsNext (r : Progress) (before : Before) : Type 0 where
-  pub jobs : before.jobs.items ≡ map (jobs_before (r.ticks == 0) (run_of r).state) (below (length r.system.tasks))
-  pub pending : before.pending.items ≡ map (is_pending (run_of r).state) (below (length r.system.routines))
-  pub active : before.active ≡ active_routine (run_of r).state
 
 -- the records of a tick, before and behind that of what it executed
 pub record AreRecords (S : System) (executed : Option Executed) (ahead behind all : List TraceEvent) : Type 0 where
@@ -43,23 +41,21 @@ pub record IsExecution (S : System) (k : Ticked) (e : Execution) : Type 0 where
   pub ending : e.ending ≡ ending S k.executed
   pub refusing : e.refusing ≡ refusing S k.executed
 
--- of tick n of a run, the state behind it, what was known before it, what it executed, and its records
-pub record IsTold (S : System) (mode : ℕ) (arrivals : List Arrival) (n : ℕ) (now : State) (before : Before) (e : Execution) (ahead behind_it : List TraceEvent) : Type 0 where
+-- of tick n of a run, the state behind it, what it executed, and its records
+pub record IsTold (S : System) (mode : ℕ) (arrivals : List Arrival) (n : ℕ) (now : State) (e : Execution) (ahead behind_it : List TraceEvent) : Type 0 where
   pub behind : now ≡ (tick_at S mode arrivals n).after
-  pub known : IsBefore S (tick_at S mode arrivals n) before
   pub done : IsExecution S (tick_at S mode arrivals n) e
   pub records : AreRecords S e.executed ahead behind_it (record_at S mode arrivals n)
 
--- beside a run, its system, that its arrivals are few, what is told of the tick done last, and whether what was known before
--- that is known before the next, too
-pub record IsTelling (r : Progress) (S : System) (before : Before) (is_noted : Bool) (e : Execution)
-    (ahead behind : List TraceEvent) : Type 0 where
+-- beside a run, its system, that its arrivals are few, and what is told of the tick done last
+pub record IsTelling (r : Progress) (S : System) (e : Execution) (ahead behind : List TraceEvent) : Type 0 where
   pub system : r.system ≡ S
   pub few : length r.arrivals ≤ MAX_ARRIVALS
-  pub told : 1 ≤ r.ticks → IsTold r.system r.mode r.arrivals (r.ticks - 1) (run_of r).state before e ahead behind
-  pub next : is_noted ≡ true → KnowsNext r before
+  pub told : 1 ≤ r.ticks → IsTold r.system r.mode r.arrivals (r.ticks - 1) (run_of r).state e ahead behind
 
--- what is seen of it, and whether its holders are those before the next tick, too
-pub record IsObservedRun (counted : Bool) (r : Progress) (o : Observation) (is_held : Bool) : Type 0 where
+-- what is known before the tick that comes next, what is seen of the last one, and whether its holders are those before the
+-- next, too
+pub record IsObservedRun (counted : Bool) (r : Progress) (before : Before) (o : Observation) (is_held : Bool) : Type 0 where
+  pub known : IsBefore r.system (coming r) before
   pub observed : 1 ≤ r.ticks → IsObserved counted r.system r.mode r.arrivals (r.ticks - 1) o
   pub held : is_held ≡ true → o.holders.items ≡ holders_seen r.system (run_of r).state

@@ -1,9 +1,9 @@
 //! What has to be known of the state before a tick, to tell what comes in it. No part of the standards.
 
-ghost use Rattle.std.specs.Prelude.{◌≡◌, ◌<◌, ◌==◌, true, map, length};
+ghost use Rattle.std.specs.Prelude.{◌≡◌, ◌<◌, ◌==◌, map, length};
 ghost use Rattle.osek_base.specs.Lists.{below};
 ghost use Rattle.kernel.specs.Progress.{run_of};
-ghost use Rattle.observed_runs.specs.Keeping.{KnowsNext};
+ghost use Rattle.observed_runs.specs.Keeping.{IsBefore, coming};
 ghost use Rattle.seen_ticks.specs.Observed.{is_pending, jobs_before};
 
 use arrayvec::ArrayVec;
@@ -23,40 +23,20 @@ pub(crate) struct Before {
 }
 
 impl Before {
-    /// Nothing yet.
-    pub(crate) fn new() -> Self {
-        Before {
-            jobs: ArrayVec::new(),
-            pending: ArrayVec::new(),
-            active: None,
-        }
-    }
-
-    /// As [`note`](Before::note), where it isn't noted already.
-    #[inline(always)]
-    pub(crate) fn note_once<B: Blockers>(
-        &mut self,
-        is_noted: bool,
-        kernel: &Kernel<'_, LevelQueues, B>,
-        system: &System,
-    )
-        requires system { kernel.now.system ≡ system.now }
-        requires noted { is_noted ≡ true → KnowsNext kernel.now self.old }
-        ensures { KnowsNext kernel.now self.new }
-    {
-        if !is_noted {
-            self.note(kernel, system);
-        }
-    }
-
-    /// Notes what is known before the tick that a kernel does next.
-    pub(crate) fn note<B: Blockers>(&mut self, kernel: &Kernel<'_, LevelQueues, B>, system: &System)
+    /// What is known before the tick that a kernel does next.
+    pub(crate) fn of<B: Blockers>(kernel: &Kernel<'_, LevelQueues, B>, system: &System) -> Self
         requires { kernel.now.system ≡ system.now }
-        ensures { KnowsNext kernel.now self.new }
+        ensures { IsBefore kernel.now.system (coming kernel.now) result }
     {
-        see_jobs(kernel, system, &mut self.jobs);
-        see_pending(kernel, system, &mut self.pending);
-        self.active = kernel.active_routine();
+        let mut jobs = ArrayVec::new();
+        see_jobs(kernel, system, &mut jobs);
+        let mut pending = ArrayVec::new();
+        see_pending(kernel, system, &mut pending);
+        Before {
+            jobs,
+            pending,
+            active: kernel.active_routine(),
+        }
     }
 }
 

@@ -9,22 +9,24 @@ ghost use Rattle.kernel.specs.declared.boot.BootFault.{BootFault};
 ghost use Rattle.kernel.specs.Progress.{AreKnown, is_over};
 ghost use Rattle.kernel.specs.Stamping.{IsNumber};
 ghost use Rattle.blocking_laws.specs.Steps.{record_at, step_at};
-ghost use Rattle.observed_runs.specs.Keeping.{last_tick};
+ghost use Rattle.observed_runs.specs.Keeping.{IsBefore, coming, last_tick};
 ghost use Rattle.observed_runs.specs.Passing.{LeavesAll, PassesAlike};
 ghost use Rattle.seen_ticks.specs.Told.{task_at};
 ghost use Rattle.seen_ticks.specs.Observed.{
   IsObserved,
+  active_routine,
   answered,
   failure_of,
   holders_seen,
   owner_of,
 };
 
+use crate::before::Before;
 use crate::execution::{answered, executor, failure};
 use crate::told_run::ToldRun;
 use kernel::{AtInstruction, Blockers, BootFault};
 use observations::Observation;
-use osek_base::{Arrivals, MAX_TICKS, System, TickRecord};
+use osek_base::{Arrivals, IsrId, MAX_TICKS, System, TickRecord};
 use std::alloc::Global;
 use std::cmp;
 use std::marker::Model;
@@ -34,6 +36,8 @@ use std::marker::Model;
 #[derive(Drop)]
 pub struct ObservedRun<'s, B: Blockers> {
     told: ToldRun<'s, B>,
+    /// What is known before the tick that comes next.
+    before: Before,
     /// Room for what the tasks are at a tick's instruction.
     at: AtInstruction,
     seen: Observation,
@@ -49,7 +53,7 @@ impl<'s, B: Blockers> Model for ObservedRun<'s, B> {
 
     ghost view = { λ r. r.told };
 
-    ghost invariant = { λ r. IsObservedRun B.are_counted r.told r.seen r.is_held };
+    ghost invariant = { λ r. IsObservedRun B.are_counted r.told r.before r.seen r.is_held };
 }
 
 impl<'s, B: Blockers> ToldRun<'s, B> {
@@ -74,30 +78,35 @@ impl<'s, B: Blockers> ToldRun<'s, B> {
         seen.blockers = self.kernel.blockers();
     }
 
-    /// Leaves what is seen of the tick that was done last, by what the tasks were at its instruction.
-    /// Its holders stand already.
+    /// Leaves what is seen of the tick that was done last, by what the tasks were at its instruction,
+    /// and by what was known before it. Its holders stand already. What is known before the next tick
+    /// is left, too.
     #[inline(always)]
-    fn see(&self, at: &AtInstruction, seen: &mut Observation)
+    fn see(&self, at: &AtInstruction, before: &mut Before, seen: &mut Observation)
         requires ticked { 1 ≤ self.now.ticks }
         requires each { at.now.tasks.items
             ≡ map (task_at self.now.system (last_tick self.now).at)
             (below (length self.now.system.tasks)) }
+        requires known { IsBefore self.now.system (last_tick self.now) before.old }
         requires holders { seen.old.holders.items
             ≡ holders_seen self.now.system (last_tick self.now).at }
-        ensures { IsObserved B.are_counted self.now.system self.now.mode self.now.arrivals
+        ensures seen { IsObserved B.are_counted self.now.system self.now.mode self.now.arrivals
             (self.now.ticks - 1) seen.new }
+        ensures next { IsBefore self.now.system (coming self.now) before.new }
     {
         self.see_executed(seen);
-        self.see_tasks(at, &mut seen.tasks);
-        self.see_routines(&mut seen.routines);
+        self.see_tasks(at, &mut before.jobs, &mut seen.tasks);
+        self.see_routines(&before.active, &mut before.pending, &mut seen.routines);
         self.see_alarms(&mut seen.alarms);
+        before.active = self.kernel.active_routine();
     }
 
-    /// Leaves what is seen of the tick that was done last, in which nothing comes to anything. Its
-    /// holders stand already.
+    /// Leaves what is seen of the tick that was done last, in which nothing comes to anything, by which
+    /// routine was active before it. Its holders stand already.
     #[inline(always)]
-    fn see_alike(&self, seen: &mut Observation)
+    fn see_alike(&self, active: &Option<IsrId>, seen: &mut Observation)
         requires ticked { 1 ≤ self.now.ticks }
+        requires active { active.now ≡ active_routine (last_tick self.now).before }
         requires leaves { LeavesAll self.now.system (last_tick self.now) }
         requires holders { seen.old.holders.items
             ≡ holders_seen self.now.system (last_tick self.now).at }
@@ -106,7 +115,7 @@ impl<'s, B: Blockers> ToldRun<'s, B> {
     {
         self.see_executed(seen);
         self.see_tasks_left(&mut seen.tasks);
-        self.see_routines_left(&mut seen.routines);
+        self.see_routines_left(active, &mut seen.routines);
         self.see_alarms_left(&mut seen.alarms);
     }
 }
@@ -127,8 +136,10 @@ impl<'s, B: Blockers> ObservedRun<'s, B> {
             → number_of mode.now system.now.names.modes ≡ None }
     {
         let told = ToldRun::boot(alloc, system, mode, arrivals)?;
+        let before = told.known();
         Ok(ObservedRun {
             told,
+            before,
             at: AtInstruction::new(),
             seen: Observation::new(),
             is_held: false,
@@ -148,7 +159,7 @@ impl<'s, B: Blockers> ObservedRun<'s, B> {
         self.told
             .see_holders_once(self.is_held, &mut self.seen.holders);
         self.told.advance(&mut self.at);
-        self.told.see(&self.at, &mut self.seen);
+        self.told.see(&self.at, &mut self.before, &mut self.seen);
         self.is_held = false;
         true
     }
@@ -183,7 +194,7 @@ impl<'s, B: Blockers> ObservedRun<'s, B> {
             return 0;
         }
         self.told.see_holders(&mut self.seen.holders);
-        self.told.see_alike(&mut self.seen);
+        self.told.see_alike(&self.before.active, &mut self.seen);
         self.is_held = true;
         passed
     }

@@ -9,7 +9,6 @@ ghost use Rattle.kernel.specs.Progress.{run_of};
 ghost use Rattle.observed_runs.specs.Keeping.{last_tick};
 ghost use Rattle.seen_ticks.specs.Told.{task_at};
 ghost use Rattle.seen_ticks.specs.Observed.{
-  active_routine,
   activations_by,
   ending,
   is_activation,
@@ -17,7 +16,6 @@ ghost use Rattle.seen_ticks.specs.Observed.{
   is_by,
   is_number,
   is_pending,
-  jobs_before,
   refusing,
   times,
 };
@@ -126,15 +124,6 @@ impl<'s, B: Blockers> ToldRun<'s, B> {
         self.kernel.task_at(task)
     }
 
-    /// How many jobs a task had before the tick; before the first one none.
-    pub(crate) fn jobs_before(&self, task: TaskId) -> u8
-        requires ticked { 1 ≤ self.now.ticks }
-        requires task { task < length self.now.system.tasks }
-        ensures { result ≡ jobs_before (last_tick self.now).first (last_tick self.now).before task }
-    {
-        self.before.jobs[task.number() as usize]
-    }
-
     /// How many jobs it has behind the tick.
     pub(crate) fn jobs_behind(&self, task: TaskId) -> u8
         requires ticked { 1 ≤ self.now.ticks }
@@ -225,28 +214,12 @@ impl<'s, B: Blockers> ToldRun<'s, B> {
         activations_by(self.system, task, refused)
     }
 
-    /// Whether a routine was pending before the tick.
-    pub(crate) fn was_pending(&self, routine: IsrId) -> bool
-        requires ticked { 1 ≤ self.now.ticks }
-        requires routine { routine < length self.now.system.routines }
-        ensures { result ≡ is_pending (last_tick self.now).before routine }
-    {
-        self.before.pending[routine.number() as usize]
-    }
-
-    /// Whether it was active then.
-    pub(crate) fn was_active(&self, routine: IsrId) -> bool
-        requires { 1 ≤ self.now.ticks }
-        ensures { result ≡ is_number routine (active_routine (last_tick self.now).before) }
-    {
-        is_routine(routine, self.before.active)
-    }
-
-    /// Whether it was pending when the instruction was executed, as it is still.
+    /// Whether a routine was pending when the instruction was executed, as it is still.
     pub(crate) fn is_pending(&self, routine: IsrId) -> bool
         requires ticked { 1 ≤ self.now.ticks }
         requires routine { routine < length self.now.system.routines }
-        ensures { result ≡ is_pending (last_tick self.now).at routine }
+        ensures at { result ≡ is_pending (last_tick self.now).at routine }
+        ensures behind { result ≡ is_pending (last_tick self.now).after routine }
     {
         self.kernel.is_pending(routine)
     }

@@ -3,8 +3,15 @@
 ghost use Rattle.std.specs.Prelude.{◌≡◌, ◌<◌, ◌≤◌, [], map, length};
 ghost use Rattle.osek_base.specs.Lists.{below};
 ghost use Rattle.observed_runs.specs.Keeping.{last_tick};
-ghost use Rattle.seen_ticks.specs.Observed.{lost_of, routine_seen};
+ghost use Rattle.seen_ticks.specs.Observed.{
+  active_routine,
+  is_number,
+  is_pending,
+  lost_of,
+  routine_seen,
+};
 
+use crate::readers::is_routine;
 use crate::told_run::ToldRun;
 use arrayvec::ArrayVec;
 use kernel::{Blockers, give_places};
@@ -23,30 +30,40 @@ pub fn lost_of(was_pending: bool, arrived: u32) -> u32
 }
 
 impl<'s, B: Blockers> ToldRun<'s, B> {
-    /// What is seen of a routine in the tick that was done last.
+    /// What is seen of a routine in the tick that was done last, by whether it was active and pending
+    /// before the tick. Whether it is pending now is left.
     #[inline(always)]
-    fn routine_seen(&self, routine: IsrId) -> RoutineSeen
+    fn routine_seen(&self, routine: IsrId, was_active: bool, pending: &mut bool) -> RoutineSeen
         requires ticked { 1 ≤ self.now.ticks }
         requires routine { routine < length self.now.system.routines }
-        ensures { result ≡ routine_seen (last_tick self.now) routine }
+        requires active { was_active
+            ≡ is_number routine (active_routine (last_tick self.now).before) }
+        requires pending { pending.old ≡ is_pending (last_tick self.now).before routine }
+        ensures seen { result ≡ routine_seen (last_tick self.now) routine }
+        ensures pending { pending.new ≡ is_pending (last_tick self.now).after routine }
     {
         let executes = self.is_by(Owner::Routine(routine));
         let arrived = self.arrived(routine);
+        let was_pending = *pending;
+        *pending = self.is_pending(routine);
         RoutineSeen {
             executes,
-            is_pending: self.is_pending(routine),
-            is_started: executes && !self.was_active(routine),
+            is_pending: *pending,
+            is_started: executes && !was_active,
             arrived,
-            lost: lost_of(self.was_pending(routine), arrived),
+            lost: lost_of(was_pending, arrived),
         }
     }
 
-    /// What is seen of a routine in the tick that was done last, in which no interrupt arrives.
+    /// What is seen of a routine in the tick that was done last, in which no interrupt arrives, by
+    /// whether it was active before the tick.
     #[inline(always)]
     #[tactic(auto, using(crate::proofs::Left::none_arrived))]
-    fn routine_left(&self, routine: IsrId) -> RoutineSeen
+    fn routine_left(&self, routine: IsrId, was_active: bool) -> RoutineSeen
         requires ticked { 1 ≤ self.now.ticks }
         requires routine { routine < length self.now.system.routines }
+        requires active { was_active
+            ≡ is_number routine (active_routine (last_tick self.now).before) }
         requires none { (last_tick self.now).arrived ≡ [] }
         ensures { result ≡ routine_seen (last_tick self.now) routine }
     {
@@ -54,18 +71,23 @@ impl<'s, B: Blockers> ToldRun<'s, B> {
         RoutineSeen {
             executes,
             is_pending: self.is_pending(routine),
-            is_started: executes && !self.was_active(routine),
+            is_started: executes && !was_active,
             arrived: 0,
             lost: 0,
         }
     }
 
     /// Leaves what is seen of the routines in the tick that was done last, in which no interrupt
-    /// arrives.
+    /// arrives, by which was active before the tick.
     #[tactic(auto, using(kernel::proofs::Filled::one_more, kernel::proofs::Filled::all_of))]
     #[inline(always)]
-    pub(crate) fn see_routines_left(&self, routines: &mut ArrayVec<RoutineSeen, MAX_ROUTINES>)
+    pub(crate) fn see_routines_left(
+        &self,
+        active: &Option<IsrId>,
+        routines: &mut ArrayVec<RoutineSeen, MAX_ROUTINES>,
+    )
         requires ticked { 1 ≤ self.now.ticks }
+        requires active { active.now ≡ active_routine (last_tick self.now).before }
         requires none { (last_tick self.now).arrived ≡ [] }
         ensures { routines.new.items
             ≡ map (routine_seen (last_tick self.now)) (below (length self.now.system.routines)) }
@@ -74,23 +96,40 @@ impl<'s, B: Blockers> ToldRun<'s, B> {
         give_places(routines, count);
         let places = routines.as_mut_slice();
         for number in 0..count {
-            places[number] = self.routine_left(IsrId::new(number as u8));
+            let routine = IsrId::new(number as u8);
+            places[number] = self.routine_left(routine, is_routine(routine, *active));
         }
     }
 
-    /// Leaves what is seen of the routines in the tick that was done last.
+    /// Leaves what is seen of the routines in the tick that was done last, by which was active and
+    /// which were pending before the tick. Which are pending now is left, too.
     #[inline(always)]
     #[tactic(auto, using(kernel::proofs::Filled::one_more, kernel::proofs::Filled::all_of))]
-    pub(crate) fn see_routines(&self, routines: &mut ArrayVec<RoutineSeen, MAX_ROUTINES>)
-        requires { 1 ≤ self.now.ticks }
-        ensures { routines.new.items
+    pub(crate) fn see_routines(
+        &self,
+        active: &Option<IsrId>,
+        pending: &mut ArrayVec<bool, MAX_ROUTINES>,
+        routines: &mut ArrayVec<RoutineSeen, MAX_ROUTINES>,
+    )
+        requires ticked { 1 ≤ self.now.ticks }
+        requires active { active.now ≡ active_routine (last_tick self.now).before }
+        requires pending { pending.old.items
+            ≡ map (is_pending (last_tick self.now).before)
+            (below (length self.now.system.routines)) }
+        ensures seen { routines.new.items
             ≡ map (routine_seen (last_tick self.now)) (below (length self.now.system.routines)) }
+        ensures pending { pending.new.items
+            ≡ map (is_pending (last_tick self.now).after)
+            (below (length self.now.system.routines)) }
     {
         let count = self.system().routine_count();
         give_places(routines, count);
         let places = routines.as_mut_slice();
+        let were = pending.as_mut_slice();
         for number in 0..count {
-            places[number] = self.routine_seen(IsrId::new(number as u8));
+            let routine = IsrId::new(number as u8);
+            let was_active = is_routine(routine, *active);
+            places[number] = self.routine_seen(routine, was_active, &mut were[number]);
         }
     }
 }

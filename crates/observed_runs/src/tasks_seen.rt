@@ -11,6 +11,7 @@ ghost use Rattle.seen_ticks.specs.Observed.{
   is_by,
   is_number,
   is_waiting,
+  jobs_before,
   one_if,
   refusing,
   state_seen,
@@ -87,12 +88,14 @@ impl<'s, B: Blockers> ToldRun<'s, B> {
     }
 
     /// Leaves what is seen of a task in the tick that was done last, by what it was at the tick's
-    /// instruction, the task of which that was, and whether any activation may have been refused.
+    /// instruction, how many jobs it had before the tick, the task of which the instruction was, and
+    /// whether any activation may have been refused. How many jobs it has now is left, too.
     #[inline(always)]
     fn see_task(
         &self,
         task: TaskId,
         at: TaskAt,
+        jobs: &mut u8,
         by: &Option<TaskId>,
         is_any_refused: bool,
         seen: &mut TaskSeen,
@@ -100,20 +103,25 @@ impl<'s, B: Blockers> ToldRun<'s, B> {
         requires ticked { 1 ≤ self.now.ticks }
         requires task { task < length self.now.system.tasks }
         requires at { at ≡ task_at self.now.system (last_tick self.now).at task }
+        requires jobs { jobs.old
+            ≡ jobs_before (last_tick self.now).first (last_tick self.now).before task }
         requires by { (t : ℕ) → is_number t by.now
             ≡ is_by (Owner.Task t) (last_tick self.now).executed }
         requires instruction { is_any_refused ≡ false
             → refusing self.now.system (last_tick self.now).executed ≡ None }
         requires alarms { is_any_refused ≡ false → (last_tick self.now).refused ≡ [] }
-        ensures { seen.new ≡ task_seen self.now.system (last_tick self.now) task }
+        ensures seen { seen.new ≡ task_seen self.now.system (last_tick self.now) task }
+        ensures jobs { jobs.new ≡ jobs_before false (last_tick self.now).after task }
     {
         let is_own = is_task(task, *by);
         let ended = self.is_ended(task);
+        let before = *jobs;
+        *jobs = self.jobs_behind(task);
         *seen = TaskSeen {
             state: state_seen(is_own, at.state),
             priority: at.priority,
             jobs: at.jobs,
-            made: made(self.jobs_behind(task), ended, self.jobs_before(task)),
+            made: made(*jobs, ended, before),
             refused: self.refused(task, is_any_refused),
             ended,
             waits: is_own && is_waiting(self.state_behind(task)),
@@ -121,28 +129,41 @@ impl<'s, B: Blockers> ToldRun<'s, B> {
     }
 
     /// Leaves what is seen of the tasks in the tick that was done last, by what they were at its
-    /// instruction.
+    /// instruction, and how many jobs each had before the tick. How many each has now is left, too.
     #[tactic(auto, using(kernel::proofs::Filled::one_more, kernel::proofs::Filled::all_of))]
     #[inline(always)]
-    pub(crate) fn see_tasks(&self, at: &AtInstruction, tasks: &mut ArrayVec<TaskSeen, MAX_TASKS>)
+    pub(crate) fn see_tasks(
+        &self,
+        at: &AtInstruction,
+        jobs: &mut ArrayVec<u8, MAX_TASKS>,
+        tasks: &mut ArrayVec<TaskSeen, MAX_TASKS>,
+    )
         requires ticked { 1 ≤ self.now.ticks }
         requires each { at.now.tasks.items
             ≡ map (task_at self.now.system (last_tick self.now).at)
             (below (length self.now.system.tasks)) }
-        ensures { tasks.new.items
+        requires jobs { jobs.old.items
+            ≡ map (jobs_before (last_tick self.now).first (last_tick self.now).before)
+            (below (length self.now.system.tasks)) }
+        ensures tasks { tasks.new.items
             ≡ map (task_seen self.now.system (last_tick self.now))
+            (below (length self.now.system.tasks)) }
+        ensures jobs { jobs.new.items
+            ≡ map (jobs_before false (last_tick self.now).after)
             (below (length self.now.system.tasks)) }
     {
         let count = self.system().task_count();
         give_places(tasks, count);
         let places = tasks.as_mut_slice();
         let stood = at.tasks.as_slice();
+        let had = jobs.as_mut_slice();
         let by = executing_task(&self.executed());
         let is_any_refused = self.is_any_refused();
         for number in 0..count {
             let task = TaskId::new(number as u8);
+            let before = &mut had[number];
             let place = &mut places[number];
-            self.see_task(task, stood[number], &by, is_any_refused, place);
+            self.see_task(task, stood[number], before, &by, is_any_refused, place);
         }
     }
 

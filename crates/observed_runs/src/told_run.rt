@@ -8,7 +8,7 @@ ghost use Rattle.osek_base.specs.Proper.{IsProper};
 ghost use Rattle.kernel.specs.declared.boot.BootFault.{BootFault};
 ghost use Rattle.kernel.specs.Progress.{AreKnown, HasIdled, is_over, run_of};
 ghost use Rattle.blocking_laws.specs.Steps.{record_at};
-ghost use Rattle.observed_runs.specs.Keeping.{last_tick};
+ghost use Rattle.observed_runs.specs.Keeping.{IsBefore, coming, last_tick};
 ghost use Rattle.observed_runs.specs.Passing.{StaysOn};
 ghost use Rattle.seen_ticks.specs.Observed.{executed_in, holders_seen};
 ghost use Rattle.seen_ticks.specs.Told.{task_at};
@@ -29,9 +29,6 @@ use std::marker::Model;
 pub(crate) struct ToldRun<'s, B: Blockers> {
     pub(crate) system: &'s System,
     pub(crate) kernel: Kernel<'s, LevelQueues, B>,
-    pub(crate) before: Before,
-    /// Whether the same is known before the tick that comes next.
-    is_noted: bool,
     pub(crate) execution: Execution,
     /// The records before and behind that of the last tick's instruction.
     ahead: TickRecord,
@@ -48,8 +45,7 @@ impl<'s, B: Blockers> Model for ToldRun<'s, B> {
 
     ghost view = { λ r. r.kernel };
 
-    ghost invariant = { λ r. IsTelling r.kernel r.system.now r.before r.is_noted r.execution
-        r.ahead r.behind };
+    ghost invariant = { λ r. IsTelling r.kernel r.system.now r.execution r.ahead r.behind };
 }
 
 impl<'s, B: Blockers> ToldRun<'s, B> {
@@ -72,13 +68,18 @@ impl<'s, B: Blockers> ToldRun<'s, B> {
         Ok(ToldRun {
             system,
             kernel,
-            before: Before::new(),
-            is_noted: false,
             execution: Execution::nothing(),
             ahead: TickRecord::new(),
             behind: TickRecord::new(),
             room: TickRecord::new(),
         })
+    }
+
+    /// What is known before its next tick.
+    pub(crate) fn known(&self) -> Before
+        ensures { IsBefore self.now.system (coming self.now) result }
+    {
+        Before::of(&self.kernel, self.system)
     }
 
     /// Its system.
@@ -110,10 +111,7 @@ impl<'s, B: Blockers> ToldRun<'s, B> {
             ≡ map (task_at self.new.system (last_tick self.new).at)
             (below (length self.new.system.tasks)) }
     {
-        self.before
-            .note_once(self.is_noted, &self.kernel, self.system);
         let executed = self.kernel.tick_seen(&mut self.ahead, &mut self.behind, at);
-        self.is_noted = false;
         self.execution = Execution::of(self.system, executed);
     }
 
@@ -127,8 +125,6 @@ impl<'s, B: Blockers> ToldRun<'s, B> {
         if passed == 0 {
             return 0;
         }
-        self.before.note(&self.kernel, self.system);
-        self.is_noted = true;
         let _proper = self.system.task_count();
         self.execution = Execution::of(self.system, None);
         self.ahead.clear();
@@ -147,8 +143,6 @@ impl<'s, B: Blockers> ToldRun<'s, B> {
         if worked.ticks == 0 {
             return 0;
         }
-        self.before.note(&self.kernel, self.system);
-        self.is_noted = true;
         let _proper = self.system.task_count();
         self.execution = Execution::of(self.system, worked.last);
         self.ahead.clear();

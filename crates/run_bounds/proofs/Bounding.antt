@@ -282,7 +282,7 @@ module _ (s : Setting) (peaks : Peaks) (count : ℕ) (levels : ℕ → List Node
 -- ---- the law
 
 -- a run isn't over before a tick that is observed
-going_at : (S : System) (mode : ℕ) (arrivals : List Arrival) (n : ℕ) (seen : List Observation)
+pub going_at : (S : System) (mode : ℕ) (arrivals : List Arrival) (n : ℕ) (seen : List Observation)
     → AreTicksOf S mode arrivals n seen → (i : ℕ) → i < n
     → (run S mode arrivals i).state.over ≡ false
 going_at S mode arrivals zero seen are i low = absurd (omega (arith, low))

@@ -1,4 +1,3 @@
-pub mod Filled
 pub mod Acting
 pub mod Executing
 pub mod Stays

@@ -47,7 +47,7 @@ fn alarm_seen<Q: ReadyQueues, B: Blockers>(
 }
 
 /// Leaves what is seen of the alarms.
-#[tactic(auto, using(crate::proofs::Filled::one_more, crate::proofs::Filled::all_of))]
+#[tactic(auto, using(kernel::proofs::Filled::one_more, kernel::proofs::Filled::all_of))]
 pub(crate) fn see_alarms<Q: ReadyQueues, B: Blockers>(
     machine: &Machine<'_, Q, B>,
     alarms: &mut ArrayVec<AlarmSeen, MAX_ALARMS>,

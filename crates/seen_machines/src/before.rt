@@ -50,7 +50,7 @@ impl Before {
 }
 
 /// Leaves how many jobs each task has.
-#[tactic(auto, using(crate::proofs::Filled::one_more, crate::proofs::Filled::all_of))]
+#[tactic(auto, using(kernel::proofs::Filled::one_more, kernel::proofs::Filled::all_of))]
 fn see_jobs<Q: ReadyQueues, B: Blockers>(
     machine: &Machine<'_, Q, B>,
     jobs: &mut ArrayVec<u8, MAX_TASKS>,
@@ -67,7 +67,7 @@ fn see_jobs<Q: ReadyQueues, B: Blockers>(
 }
 
 /// Leaves which routines are pending.
-#[tactic(auto, using(crate::proofs::Filled::one_more, crate::proofs::Filled::all_of))]
+#[tactic(auto, using(kernel::proofs::Filled::one_more, kernel::proofs::Filled::all_of))]
 fn see_pending<Q: ReadyQueues, B: Blockers>(
     machine: &Machine<'_, Q, B>,
     pending: &mut ArrayVec<bool, MAX_ROUTINES>,

@@ -45,7 +45,7 @@ fn holder_of<Q: ReadyQueues, B: Blockers>(
 }
 
 /// Leaves who holds each declared resource, and behind them RES_SCHEDULER where the system has it.
-#[tactic(auto, using(crate::proofs::Filled::one_more, crate::proofs::Filled::all_of, crate::proofs::Filled::one_behind))]
+#[tactic(auto, using(kernel::proofs::Filled::one_more, kernel::proofs::Filled::all_of, kernel::proofs::Filled::one_behind))]
 pub(crate) fn see_holders<Q: ReadyQueues, B: Blockers>(
     machine: &Machine<'_, Q, B>,
     holders: &mut ArrayVec<Holder, MAX_HELD>,

@@ -40,7 +40,7 @@ impl Told {
     }
 
     /// Leaves what is seen of the routines.
-    #[tactic(auto, using(crate::proofs::Filled::one_more, crate::proofs::Filled::all_of))]
+    #[tactic(auto, using(kernel::proofs::Filled::one_more, kernel::proofs::Filled::all_of))]
     pub(crate) fn see_routines<Q: ReadyQueues, B: Blockers>(
         &self,
         machine: &Machine<'_, Q, B>,

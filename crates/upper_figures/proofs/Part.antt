@@ -34,7 +34,7 @@ upper_parts_show_the_same = of_the_part TicksShowTheSame ticks_show
 
 -- ---- systems that agree agree with each other's part
 
-itself : (S : System) (p : ℕ) → Agree S S p
+pub itself : (S : System) (p : ℕ) → Agree S S p
 itself S p = record {
   names = refl;
   tasks = refl;

@@ -1,8 +1,7 @@
 -- Where each tick shows the same of the upper part, bounds of one system hold in the other.
-use Rattle.std.proofs.Common.{◌≡◌, ℕ, zero, suc, ◌<◌, ◌≤◌, inl, inr, Bool, true, false, List, [], ◌∷◌, map, length, sym, ◌∙◌, ap, ap₂, subst, arith}
+use Rattle.std.proofs.Common.{◌≡◌, ℕ, suc, ◌<◌, ◌≤◌, Bool, true, false, List, [], map, length, sym, ◌∙◌, ap, ap₂, subst, arith}
 use Rattle.std.specs.Prelude.{Contains, IfSome, IsTrue, Option, Some, None, if◌then◌else◌, slice_index_or}
 use Rattle.std.specs.List.{AllByRecursion}
-use Rattle.std.proofs.lemmas.Bool.{cases_lt}
 use Rattle.osek_base.specs.declared.arrivals.Arrival.{Arrival}
 use Rattle.osek_base.specs.Agree.{is_upper_declared}
 use Rattle.osek_base.specs.Proper.{IsProper}
@@ -24,10 +23,11 @@ use Rattle.figures.specs.ResponseSums.{Responses}
 use Rattle.figures.specs.RoutineSums.{routine_figures}
 use Rattle.figure_laws.specs.Labels.{IsWithin}
 use Rattle.figure_laws.specs.Times.{response_time, routine_time}
-use Rattle.run_figures.specs.RunFigures.{AreRunFigures, AreTicksOf}
+use Rattle.run_figures.specs.RunFigures.{AreRunFigures}
 use Rattle.bound_peaks.specs.Peaks.{Peaks, peak}
 use Rattle.run_bounds.specs.Bounds.{AreBounds, AreBoundsUpTo, AreWithin, IsTickWithin, KeepDistances}
 use Rattle.run_bounds.proofs.Blockers.{figures_low}
+use Rattle.run_bounds.proofs.Bounding.{going_at}
 use Rattle.upper_bounds.specs.Above.{IsTheSameAlarm, IsTheSameResource, IsUpperTask}
 use Rattle.upper_figures.specs.FiguresAbove.{AreBoundsAbove, AreBoundsAboveUpTo, AreWithinAbove, alarm_in_part, resource_in_part}
 use Rattle.upper_figures.specs.ShownAbove.{TicksShowTheSame, if_upper}
@@ -35,19 +35,6 @@ use Rattle.upper_figures.proofs.Bare.{bare_task, task_errors_bare, task_refused_
 use Rattle.upper_figures.proofs.Blocked.{blocked_at_same}
 use Rattle.upper_figures.proofs.Carried.{alarms_same, declared_same, last_same, routines_same, scheduler_same, tasks_same}
 use Rattle.upper_figures.proofs.Observed.{are_figures, are_run_figures, figures_of, observed_before}
-
--- a run isn't over before a tick that is observed
-going_at : (S : System) (mode : ℕ) (arrivals : List Arrival) (n : ℕ) (seen : List Observation)
-    → AreTicksOf S mode arrivals n seen → (i : ℕ) → i < n
-    → (run S mode arrivals i).state.over ≡ false
-going_at S mode arrivals zero seen are i low = absurd (omega (arith, low))
-going_at S mode arrivals (suc n) [] are i low = absurd are
-going_at S mode arrivals (suc n) (o ∷ before) are i low = elim (cases_lt i n) [
-  | inl less ↦ going_at S mode arrivals n before are.1 i less
-  | inr last ↦
-      let same : n ≡ i = omega (arith, low, last) in
-      subst (λ k. (run S mode arrivals k).state.over ≡ false) same are.0.going
-]
 
 -- the things of one system's upper part have these numbers in the other, which is that part alone
 pub record AreNumbered (S B : System) (p : ℕ) : Type 0 where

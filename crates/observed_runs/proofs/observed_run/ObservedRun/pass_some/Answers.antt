@@ -2,7 +2,7 @@ use Rattle.std.proofs.Common.{◌≡◌, ◌+◌, ◌≤◌, ◌<◌, false, sym
 use Rattle.kernel.specs.Progress.{Progress, is_over}
 use Rattle.kernel.proofs.RunLemmas.{going}
 use Rattle.observed_runs.specs.Passing.{PassesAlike}
-use Rattle.observed_runs.proofs.Alike.{passes_alike, stayed_all, stayed_holders}
+use Rattle.observed_runs.proofs.Alike.{passes_alike, stayed_active, stayed_all, stayed_holders, stayed_known}
 use Rattle.observed_runs.proofs.observed_run.ObservedRun.pass_some.Goals as goal
 
 pub see_alike-requires-clause-holders : goal.see_alike-requires-clause-holders
@@ -11,6 +11,13 @@ see_alike-requires-clause-holders g c =
     let some : 0 < p.result = omega (arith, c.if-passed-eq0.false) in
     c.see_holders.ensures.holders
     ∙ stayed_holders g.B.Blockers.are_counted c.min.result p.result c.self.inside.told p.new.self p.ensures.last p.ensures.stayed some
+
+pub see_alike-requires-clause-active : goal.see_alike-requires-clause-active
+see_alike-requires-clause-active g c =
+    let p = c.pass_alike-passed in
+    let some : 0 < p.result = omega (arith, c.if-passed-eq0.false) in
+    c.self.invariant.known.active
+    ∙ stayed_active g.B.Blockers.are_counted c.min.result p.result c.self.inside.told p.new.self p.ensures.last p.ensures.stayed some
 
 pub see_alike-requires-clause-leaves : goal.see_alike-requires-clause-leaves
 see_alike-requires-clause-leaves g c =
@@ -24,6 +31,9 @@ invariant_of-self-2 g c =
     let p = c.pass_alike-passed in
     let some : 0 < p.result = omega (arith, c.if-passed-eq0.false) in
     record {
+      known =
+          stayed_known g.B.Blockers.are_counted c.min.result p.result c.self.inside.told p.new.self p.ensures.last p.ensures.stayed some
+          c.self.inside.before c.self.invariant.known;
       observed = λ later. c.see_alike.ensures;
       held = λ _.
           c.see_alike.ensures.seen.holders

@@ -1,4 +1,4 @@
-use Rattle.std.proofs.Common.{◌≡◌, false, ◌≤◌, ◌++◌, ◌∷◌, length, map, sym, ◌∙◌, ap, subst, arith}
+use Rattle.std.proofs.Common.{◌≡◌, false, ◌≤◌, ◌++◌, ◌∷◌, length, map, sym, ◌∙◌, ap, subst}
 use Rattle.std.specs.Prelude.{IfSome}
 use Rattle.osek_base.specs.declared.limits.TheConstants.{MAX_ARRIVALS}
 use Rattle.osek_base.specs.Executed.{StandsIn, idle_or_executed}
@@ -25,15 +25,10 @@ invariant_of-self g c =
       few = subst (λ (r : Progress). length r.arrivals ≤ MAX_ARRIVALS) (sym t.ensures.done.next) v.few;
       told = λ later.
           one_on k new
-          (λ S mode arrivals n. IsTold S mode arrivals n (run_of new).state c.note_once.new.self e.result t.new.before t.new.behind)
+          (λ S mode arrivals n. IsTold S mode arrivals n (run_of new).state e.result t.new.before t.new.behind)
           t.ensures.done.next
           (record {
             behind = state_more k new t.ensures.done.next (subst (λ (r : Progress). is_over r ≡ false) (sym c.self.view_is) c.requires);
-            known = record {
-              jobs = c.note_once.ensures.jobs;
-              pending = c.note_once.ensures.pending;
-              active = c.note_once.ensures.active;
-            };
             done = record {
               executed = e.ensures.executed ∙ told;
               ending = e.ensures.ending ∙ ap (λ S. ending S t.result) here ∙ ap (ending k.system) told;
@@ -47,7 +42,6 @@ invariant_of-self g c =
               few = t.ensures.done.few;
             };
           });
-      next = λ is. absurd (grind (arith, is));
     }
 
 pub returns-clause-seen : goal.returns-clause-seen

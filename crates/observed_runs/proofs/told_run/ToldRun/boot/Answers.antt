@@ -14,5 +14,4 @@ invariant_of-result g c =
           subst (λ (xs : List Arrival). length xs ≤ MAX_ARRIVALS) (sym booted.1)
           (leb-true _ _ (and_split _ _ c.list-few.ensures.kept).0);
       told = λ later. absurd (omega (arith, later, booted.2));
-      next = λ is. absurd (grind (arith, is));
     }

@@ -22,9 +22,8 @@ invariant_of-self-2 g c =
       few = subst (λ (r : Progress). length r.arrivals ≤ MAX_ARRIVALS) (sym p.ensures.next) v.few;
       told = λ later.
           stayed_told g.B.Blockers.are_counted c.args.most p.result k new None
-          (idle_stays g.B.Blockers.are_counted c.args.most p.result k new p.ensures) some proper c.note.new.self e.result c.clear.new.self c.clear-2.new.self
+          (idle_stays g.B.Blockers.are_counted c.args.most p.result k new p.ensures) some proper e.result c.clear.new.self c.clear-2.new.self
           (record {
-            next = c.note.ensures;
             executed = e.ensures.executed;
             ending = e.ensures.ending;
             refusing = e.ensures.refusing;
@@ -32,5 +31,4 @@ invariant_of-self-2 g c =
             none_ahead = c.clear.ensures;
             none_behind = c.clear-2.ensures;
           });
-      next = λ _. c.note.ensures;
     }

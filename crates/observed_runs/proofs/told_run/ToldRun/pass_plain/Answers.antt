@@ -26,9 +26,8 @@ invariant_of-self-2 g c =
       few = subst (λ (r : Progress). length r.arrivals ≤ MAX_ARRIVALS) (sym p.ensures.next) v.few;
       told = λ later.
           stayed_told g.B.Blockers.are_counted c.args.most p.result.ticks k new p.result.last
-          (work_stays g.B.Blockers.are_counted c.args.most p.result.ticks k new p.result.last p.ensures) some proper c.note.new.self e.result c.clear.new.self c.clear-2.new.self
+          (work_stays g.B.Blockers.are_counted c.args.most p.result.ticks k new p.result.last p.ensures) some proper e.result c.clear.new.self c.clear-2.new.self
           (record {
-            next = c.note.ensures;
             executed = e.ensures.executed;
             ending = e.ensures.ending ∙ ap (λ (S : System). ending S p.result.last) here;
             refusing = e.ensures.refusing ∙ ap (λ (S : System). refusing S p.result.last) here;
@@ -36,7 +35,6 @@ invariant_of-self-2 g c =
             none_ahead = c.clear.ensures;
             none_behind = c.clear-2.ensures;
           });
-      next = λ _. c.note.ensures;
     }
 
 pub returns : goal.returns

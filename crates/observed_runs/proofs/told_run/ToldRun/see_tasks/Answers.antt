@@ -1,10 +1,13 @@
-use Rattle.std.proofs.Common.{◌≡◌, ◌<◌, length, refl, ◌∙◌, ap, sym, arith}
+use Rattle.std.proofs.Common.{ℕ, false, List, [], ◌≡◌, ◌<◌, length, refl, ◌∙◌, ap, sym, arith}
+use Rattle.observations.specs.declared.task_seen.TaskSeen.{TaskSeen}
 use Rattle.osek_base.specs.System.{System}
 use Rattle.kernel.proofs.Filled.{goes_on}
 use Rattle.observed_runs.specs.Keeping.{last_tick}
-use Rattle.seen_ticks.specs.Observed.{task_seen}
+use Rattle.seen_ticks.specs.Observed.{jobs_before, task_seen}
 use Rattle.seen_ticks.specs.Told.{task_at}
+use Rattle.observed_runs.proofs.Replacing.{next_is, none_replaced, one_replaced}
 use Rattle.observed_runs.proofs.Seeing.{inside, read_at}
+use Rattle.observed_runs.proofs.SeenSteps.{seen_count}
 use Rattle.observed_runs.proofs.told_run.ToldRun.see_tasks.Goals as goal
 
 pub bounds-stood-number : goal.bounds-stood-number
@@ -28,10 +31,48 @@ see_task-requires-clause-at g c =
     c.loop-number.number c.loop-number.number _ c.as_slice-stood.ensures.value c.requires.each refl within
     ∙ ap (task_at r.system (last_tick r).at) (sym c.new-task.ensures)
 
+pub see_task-requires-clause-jobs : goal.see_task-requires-clause-jobs
+see_task-requires-clause-jobs g c =
+    let r = c.args.self.now in
+    let all : c.task_count-count.result ≡ length r.system.tasks =
+    c.task_count-count.ensures.value ∙ ap (λ (S : System). length S.tasks) c.system.ensures in
+    let low = c.loop-number-test.true in
+    let within : c.loop-number.number < length r.system.tasks = omega (arith, low, all) in
+    let (long, done, replaced) = c.loop-number.invariant in
+    let f : ℕ → ℕ = jobs_before (last_tick r).first (last_tick r).before in
+    next_is (jobs_before false (last_tick r).after) c.as_mut_slice-had.result.now (length r.system.tasks) c.loop-number.number c.loop-number.had replaced _
+    ∙ read_at f (length r.system.tasks) c.as_mut_slice-had.result.now c.args.jobs.now.items
+    c.loop-number.number c.loop-number.number _ c.as_mut_slice-had.ensures.value c.requires.jobs refl within
+    ∙ ap f (sym c.new-task.ensures)
+
+pub loop-number-init : goal.loop-number-init
+loop-number-init g c =
+    let r = c.args.self.now in
+    let all : c.task_count-count.result ≡ length r.system.tasks =
+    c.task_count-count.ensures.value ∙ ap (λ (S : System). length S.tasks) c.system.ensures in (
+      ap (λ (v : List TaskSeen). length v) c.as_mut_slice-places.ensures.value ∙ c.give_places.ensures ∙ all,
+      refl {a = []},
+      none_replaced (jobs_before false (last_tick r).after) c.as_mut_slice-had.result.now (length r.system.tasks)
+          (seen_count (jobs_before (last_tick r).first (last_tick r).before) (length r.system.tasks) c.as_mut_slice-had.result.now
+          (c.as_mut_slice-had.ensures.value ∙ c.requires.jobs)),
+    )
+
 pub loop-number-preserved : goal.loop-number-preserved
 loop-number-preserved g c =
     let r = c.args.self.now in
+    let low = c.loop-number-test.true in
+    let all : c.task_count-count.result ≡ length r.system.tasks =
+    c.task_count-count.ensures.value ∙ ap (λ (S : System). length S.tasks) c.system.ensures in
+    let (long, done, replaced) = c.loop-number.invariant in
+    let (longer, more) =
     goes_on (task_seen r.system (last_tick r)) c.loop-number.number c.loop-number.places (length r.system.tasks) c.task_count-count.result c.new-task.result
-    c.loop-number.invariant c.loop-number-test.true
-    (c.task_count-count.ensures.value ∙ ap (λ (S : System). length S.tasks) c.system.ensures)
-    c.new-task.ensures c.see_task.new.seen c.see_task.ensures
+    (long, done) low all c.new-task.ensures c.see_task.new.seen c.see_task.ensures.seen in (
+      longer,
+      more,
+      one_replaced (jobs_before false (last_tick r).after) c.as_mut_slice-had.result.now (length r.system.tasks) c.loop-number.number c.loop-number.had
+          replaced (omega (arith, low, all))
+          (seen_count (jobs_before (last_tick r).first (last_tick r).before) (length r.system.tasks) c.as_mut_slice-had.result.now
+          (c.as_mut_slice-had.ensures.value ∙ c.requires.jobs))
+          c.see_task.new.jobs
+          (c.see_task.ensures.jobs ∙ ap (jobs_before false (last_tick r).after) c.new-task.ensures),
+    )

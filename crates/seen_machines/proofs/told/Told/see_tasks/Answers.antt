@@ -2,7 +2,7 @@ use Rattle.std.proofs.Common.{length, ◌∙◌, ap}
 use Rattle.osek_base.specs.System.{System}
 use Rattle.kernel.specs.Machine.{picture, system_of}
 use Rattle.seen_machines.specs.Told.{task_seen_by}
-use Rattle.seen_machines.proofs.Filled.{goes_on}
+use Rattle.kernel.proofs.Filled.{goes_on}
 use Rattle.seen_machines.proofs.told.Told.see_tasks.Goals as goal
 
 pub loop-number-preserved : goal.loop-number-preserved
