@@ -1,82 +1,159 @@
--- The dump of a run, tick by tick.
-use Rattle.std.proofs.Common.{◌≡◌, ℕ, ◌+◌, ◌-◌, ◌<◌, List, [], ◌++◌, append-nil, Option, Result, Ok, Err, refl, sym, ap, subst, ◌∙◌, arith, false}
+-- The dump of a run, tick by tick, and its beginnings.
+use Rattle.std.proofs.Common.{◌≡◌, ℕ, ◌+◌, ◌-◌, ◌≤◌, min, false, List, [], ◌∷◌, ◌++◌, length, length-append, append-nil, append_assoc, Option, Result, Ok, Err, refl, sym, ap, subst, ◌∙◌, arith}
 use Rattle.std.specs.Io.KnownBytes.{Appends}
 use Rattle.std.specs.Result.{IsErrAnd}
 use Rattle.observations.specs.declared.observation.Observation.{Observation}
-use Rattle.kernel.specs.Progress.{Progress, is_over}
-use Rattle.seen_ticks.specs.Observed.{IsObserved}
-use Rattle.observed_runs.specs.Passing.{PassesAlike}
-use Rattle.value_changes.specs.Dumps.{Dump, alike, alike_text, observed, observed_text}
-use Rattle.value_changes.specs.Runs.{IsEach, alike_ticks, dump_behind, dump_text}
-use Rattle.value_changes.specs.Ticks.{events_text}
-use Rattle.value_changes.specs.Writing.{Writes}
+use Rattle.osek_base.specs.declared.limits.TheConstants.{MAX_TICKS}
+use Rattle.osek_base.specs.System.{System}
+use Rattle.kernel.specs.Progress.{Progress}
+use Rattle.value_changes.specs.Declarations.{declarations}
+use Rattle.value_changes.specs.Dumps.{Dump, alike, alike_text, observed, observed_text, started}
+use Rattle.value_changes.specs.Lines.{time_line}
+use Rattle.value_changes.specs.Runs.{IsEach, alike_ticks, dump_behind, dump_text, whole_text}
+use Rattle.value_changes.specs.Writing.{AppendsSome, Writes}
 use Rattle.value_changes.proofs.RunLemmas.{behind_appends, text_appends}
-use Rattle.value_changes.proofs.WriteLemmas.{stops, writes_behind}
-use Rattle.run_views.specs.Dumps.{DumpsTicks}
-use Rattle.run_views.proofs.SeenLemmas.{no_event}
-use Rattle.run_views.proofs.TickLemmas.{both, no_tick, one_tick, some_alike}
+use Rattle.value_changes.proofs.WriteLemmas.{begins_longer, stops, writes_behind}
+use Rattle.run_views.specs.Dumps.{IsDumpOf}
+use Rattle.value_changes.specs.Ticks.{events_text}
+use Rattle.run_views.specs.Seen.{AreSeen, DoesNext, IsLast, PassesSome, SeesRun}
+use Rattle.run_views.proofs.RunLemmas.{among, done, each, on, steps}
+use Rattle.run_views.proofs.SeenLemmas.{are_seen, length-seen, seen_behind, seen_from}
+use Rattle.run_views.proofs.TickLemmas.{Made, alike_made, next_made}
 
--- ---- some ticks
+module _ (S : System) (from : ℕ) where
+  -- what is written up to some ticks of a run
+  abbrev pub text_to : List Observation → List ℕ
+  text_to seen = declarations S ++ dump_text (started S from) seen
 
-pub none_dumped : {T E : Type 0} (r s : Progress) (d : Dump) (a : Option (List ℕ)) (answer : Result T E) → s ≡ r → Writes a a [] answer
-    → DumpsTicks r s d d a a answer
-none_dumped r s d a answer same text = record { sees = no_tick false r s same; dumped = refl; text = text }
+  -- that was written, and the dump is behind these ticks
+  pub record IsWritten (a b : Option (List ℕ)) (d : Dump) (seen : List Observation) : Type 0 where
+    pub behind : d ≡ dump_behind (started S from) seen
+    pub text : Appends a b (text_to seen)
 
-pub tick_dumped : {T E : Type 0} (r s : Progress) (d e : Dump) (a b : Option (List ℕ)) (answer : Result T E) (o : Observation)
-    → is_over r ≡ false → s ≡ record r { ticks = r.ticks + 1 } → IsObserved false s.system s.mode s.arrivals (s.ticks - 1) o
-    → e ≡ observed d o → Writes a b (observed_text d o) answer → DumpsTicks r s d e a b answer
-tick_dumped r s d e a b answer o on next is behind text =
-    record {
-      sees = one_tick false r s o on next is;
-      dumped = behind;
-      text = subst (λ t. Writes a b t answer) (sym (append-nil (observed_text d o))) text;
-    }
+  -- before the first
+  pub begun_text : {T E : Type 0} (a b : Option (List ℕ)) (d : Dump) (answer : Result T E) → d ≡ started S from
+      → Writes a b (declarations d.system) answer → Writes a b (text_to []) answer
+  begun_text a b d answer is =
+      subst (λ t. Writes a b t answer) (ap (λ (x : Dump). declarations x.system) is ∙ sym (append-nil (declarations S)))
 
--- in which the same is seen
-pub alike_dumped : {T E : Type 0} (most n first end : ℕ) (r s : Progress) (d e : Dump) (a b : Option (List ℕ)) (answer : Result T E) (o : Observation)
-    → 0 < n → first ≡ r.ticks → end ≡ s.ticks → PassesAlike false most r s n
-    → IsObserved false s.system s.mode s.arrivals (s.ticks - 1) o
-    → ((m : ℕ) → end ≡ first + m → events_text o ≡ [] → IsEach d o first end m)
-    → e ≡ alike d o first end → Writes a b (alike_text d o first end) answer → DumpsTicks r s d e a b answer
-alike_dumped most n first end r s d e a b answer o some first_is end_is p is each behind text =
-    let ticks_are : s.ticks ≡ r.ticks + n = ap (λ (x : Progress). x.ticks) p.next in
-    let was : IsObserved false r.system r.mode r.arrivals (s.ticks - 1) o =
-    subst (λ (x : Progress). IsObserved false x.system x.mode x.arrivals (s.ticks - 1) o) p.next is in
-    let last : s.ticks - 1 ≡ r.ticks + (n - 1) = omega (arith, ticks_are, some) in
-    let low : n - 1 < n = omega (arith, some) in
-    let none : events_text o ≡ [] =
-    no_event r.system r.mode r.arrivals (r.ticks + (n - 1)) o (subst (λ t. IsObserved false r.system r.mode r.arrivals t o) last was)
-    (p.none_arrive (n - 1) low) (p.none_due (n - 1) low) in
-    let far : end ≡ first + n = omega (arith, ticks_are, first_is, end_is) in
-    let whole : IsEach d o first end n = each n far none in
-    record {
-      sees = some_alike false most n r s o some p is;
-      dumped = behind ∙ whole.behind ∙ ap (λ t. dump_behind d (alike_ticks o t n)) first_is;
-      text = subst (λ t. Writes a b t answer) (whole.text ∙ ap (λ t. dump_text d (alike_ticks o t n)) first_is) text;
-    }
+  module _ (a b c : Option (List ℕ)) (d : Dump) (seen : List Observation) (was : IsWritten a b d seen) where
+    behind_more : (e : Dump) (more : List Observation) → e ≡ dump_behind d more → e ≡ dump_behind (started S from) (seen ++ more)
+    behind_more e more behind =
+        behind ∙ ap (λ x. dump_behind x more) was.behind ∙ sym (behind_appends (started S from) seen more)
 
--- what is answered says only whether the text was written
-pub failed_too : {T E U F : Type 0} (r s : Progress) (d e : Dump) (a b : Option (List ℕ)) (x : E) (answer : Result U F) (Q : F → Type 0)
-    → IsErrAnd answer Q → DumpsTicks {T = T} {E = E} r s d e a b (Err x) → DumpsTicks r s d e a b answer
-failed_too r s d e a b x answer Q failed p =
-    record { sees = p.sees; dumped = p.dumped; text = stops Q a b (dump_text d p.sees.seen) answer failed p.text.beginning }
+    writes_more : {T E : Type 0} (more : List Observation) (answer : Result T E) → Writes b c (dump_text d more) answer
+        → Writes a c (text_to (seen ++ more)) answer
+    writes_more more answer text =
+        let texts : text_to seen ++ dump_text d more ≡ text_to (seen ++ more) =
+        append_assoc (declarations S) (dump_text (started S from) seen) (dump_text d more)
+        ∙ ap (λ t. declarations S ++ t) (ap (λ x. dump_text (started S from) seen ++ dump_text x more) was.behind
+        ∙ sym (text_appends (started S from) seen more)) in
+        subst (λ t. Writes a c t answer) texts (writes_behind a b c (text_to seen) (dump_text d more) answer was.text text)
 
-pub done_too : {T E U F : Type 0} (r s : Progress) (d e : Dump) (a b : Option (List ℕ)) (x : T) (y : U)
-    → DumpsTicks {T = T} {E = E} r s d e a b (Ok x) → DumpsTicks {T = U} {E = F} r s d e a b (Ok y)
-done_too r s d e a b x y p =
-    record { sees = p.sees; dumped = p.dumped; text = record { written = p.text.written; beginning = tt } }
+    -- one tick more, and its text, or a beginning of it
+    tick_writes : {T E : Type 0} (o : Observation) (answer : Result T E) → Writes b c (observed_text d o) answer
+        → Writes a c (text_to (seen ++ o ∷ [])) answer
+    tick_writes o answer text =
+        writes_more (o ∷ []) answer (subst (λ t. Writes b c t answer) (sym (append-nil (observed_text d o))) text)
 
--- some ticks, and others behind them
-pub ticks_behind : {T E U F : Type 0} (r s w : Progress) (d e f : Dump) (a b c : Option (List ℕ)) (first : Result T E) (answer : Result U F)
-    (p : DumpsTicks r s d e a b first) → Appends a b (dump_text d p.sees.seen) → DumpsTicks s w e f b c answer
-    → DumpsTicks r w d f a c answer
-ticks_behind r s w d e f a b c first answer p took q =
-    record {
-      sees = both false r s w p.sees q.sees;
-      dumped = q.dumped ∙ ap (λ x. dump_behind x q.sees.seen) p.dumped ∙ sym (behind_appends d p.sees.seen q.sees.seen);
-      text =
-          let texts : dump_text d p.sees.seen ++ dump_text e q.sees.seen ≡ dump_text d (p.sees.seen ++ q.sees.seen) =
-          ap (λ x. dump_text d p.sees.seen ++ dump_text x q.sees.seen) p.dumped ∙ sym (text_appends d p.sees.seen q.sees.seen) in
-          subst (λ t. Writes a c t answer) texts
-          (writes_behind a b c (dump_text d p.sees.seen) (dump_text e q.sees.seen) answer took q.text);
-    }
+    tick_written : {T E : Type 0} (e : Dump) (o : Observation) (x : T) → e ≡ observed d o → Writes {T = T} {E = E} b c (observed_text d o) (Ok x)
+        → IsWritten a c e (seen ++ o ∷ [])
+    tick_written {T} {E} e o x behind text =
+        record { behind = behind_more e (o ∷ []) behind; text = (tick_writes {T = T} {E = E} o (Ok x) text).written }
+
+    -- some in which the same is seen
+    alike_writes : {T E : Type 0} (o : Observation) (first end n : ℕ) (answer : Result T E) → IsEach d o first end n
+        → Writes b c (alike_text d o first end) answer → Writes a c (text_to (seen ++ alike_ticks o first n)) answer
+    alike_writes o first end n answer each text =
+        writes_more (alike_ticks o first n) answer (subst (λ t. Writes b c t answer) each.text text)
+
+    alike_written : {T E : Type 0} (e : Dump) (o : Observation) (first end n : ℕ) (x : T) → IsEach d o first end n → e ≡ alike d o first end
+        → Writes {T = T} {E = E} b c (alike_text d o first end) (Ok x) → IsWritten a c e (seen ++ alike_ticks o first n)
+    alike_written {T} {E} e o first end n x each behind text =
+        record {
+          behind = behind_more e (alike_ticks o first n) (behind ∙ each.behind);
+          text = (alike_writes {T = T} {E = E} o first end n (Ok x) each text).written;
+        }
+
+module _ (r : Progress) (from ticks : ℕ) (a b c : Option (List ℕ)) (d : Dump) (s : Progress)
+    (m : Made false ticks r s (IsWritten r.system from a b d)) where
+  -- one tick more is done
+  module _ (w : Progress) (o : Observation) (p : DoesNext false ticks s w) (last : 1 ≤ w.ticks → IsLast false w o) where
+    pub tick_dumped : {T E : Type 0} (e : Dump) (x : T) → e ≡ observed d o → Writes {T = T} {E = E} b c (observed_text d o) (Ok x)
+        → Made false ticks r w (IsWritten r.system from a c e)
+    tick_dumped e x behind text =
+        next_made false ticks r (IsWritten r.system from a b d) s m w o (IsWritten r.system from a c e) p last
+        (λ seen count was. tick_written r.system from a b c d seen was e o x behind text)
+
+    -- and a beginning of its text is written
+    pub tick_begun : {T E : Type 0} (x : E) → Writes {T = T} {E = E} b c (observed_text d o) (Err x)
+        → Made false ticks r w (λ seen. AppendsSome a c (text_to r.system from seen))
+    tick_begun x text =
+        next_made false ticks r (IsWritten r.system from a b d) s m w o (λ seen. AppendsSome a c (text_to r.system from seen)) p last
+        (λ seen count was. (tick_writes r.system from a b c d seen was o (Err x) text).beginning)
+
+  -- some are, in which the same is seen
+  module _ (w : Progress) (o : Observation) (first end : ℕ) (p : PassesSome false ticks s w first) (end_is : end ≡ w.ticks)
+      (last : 1 ≤ w.ticks → IsLast false w o) (each : (n : ℕ) → end ≡ first + n → events_text o ≡ [] → IsEach d o first end n) where
+    pub alike_dumped : {T E : Type 0} (e : Dump) (x : T) → e ≡ alike d o first end
+        → Writes {T = T} {E = E} b c (alike_text d o first end) (Ok x) → Made false ticks r w (IsWritten r.system from a c e)
+    alike_dumped e x behind text =
+        alike_made false ticks r (IsWritten r.system from a b d) s m first end w o (IsWritten r.system from a c e) p end_is last
+        (λ seen count later calm was.
+        let far : end ≡ first + (end - first) = omega (arith, later) in
+        alike_written r.system from a b c d seen was e o first end (end - first) x (each (end - first) far calm) behind text)
+
+    pub alike_begun : {T E : Type 0} (x : E) → Writes {T = T} {E = E} b c (alike_text d o first end) (Err x)
+        → Made false ticks r w (λ seen. AppendsSome a c (text_to r.system from seen))
+    alike_begun x text =
+        alike_made false ticks r (IsWritten r.system from a b d) s m first end w o (λ seen. AppendsSome a c (text_to r.system from seen)) p
+        end_is last
+        (λ seen count later calm was.
+        let far : end ≡ first + (end - first) = omega (arith, later) in
+        (alike_writes r.system from a b c d seen was o first end (end - first) (Err x) (each (end - first) far calm) text).beginning)
+
+module _ {T E : Type 0} (r : Progress) (from ticks : ℕ) (a b : Option (List ℕ)) (end : Result T E) where
+  -- all ticks were done, and then the last line is written
+  pub whole : (c : Option (List ℕ)) (d : Dump) → ((sees : SeesRun false r ticks) × IsWritten r.system from a b d sees.seen)
+      → Writes b c (time_line d.behind) end → (bytes : List ℕ) × IsDumpOf r ticks from bytes × Writes a c bytes end
+  whole c d h last =
+      let seen = h.0.seen in (
+        whole_text r.system from seen,
+        record { sees = h.0; spelled = refl },
+        writes_behind a b c (text_to r.system from seen) (time_line (dump_behind (started r.system from) seen).behind) end h.1.text
+            (subst (λ (x : Dump). Writes b c (time_line x.behind) end) h.1.behind last),
+      )
+
+  -- a write failed before, in a tick or behind the last
+  pub part : (s : Progress) (Q : E → Type 0) → IsErrAnd end Q
+      → Made false ticks r s (λ seen. AppendsSome a b (text_to r.system from seen))
+      → (bytes : List ℕ) × IsDumpOf r ticks from bytes × Writes a b bytes end
+  part s Q failed m =
+      let n = length m.seen in
+      let count_done = done false r s m.begun m.seen m.sees in
+      let within = m.within in
+      let all = steps r.system r.mode r.arrivals (min ticks MAX_TICKS) in
+      let more : List Observation = seen_from r.system r.mode r.arrivals n (all - n) in
+      let low : n ≤ all = among r.system r.mode r.arrivals n ticks (on false r s m.begun m.seen m.sees) (omega (arith, within, count_done)) in
+      let count = length-append m.seen more in
+      let rest = length-seen r.system r.mode r.arrivals n (all - n) in
+      let here : n ≡ 0 + n = omega arith in
+      let d = started r.system from in
+      let texts : text_to r.system from m.seen ++ dump_text (dump_behind d m.seen) more ≡ text_to r.system from (m.seen ++ more) =
+      append_assoc (declarations r.system) (dump_text d m.seen) (dump_text (dump_behind d m.seen) more)
+      ∙ ap (λ t. declarations r.system ++ t) (sym (text_appends d m.seen more)) in (
+        whole_text r.system from (m.seen ++ more),
+        record {
+          sees = record {
+            seen = m.seen ++ more;
+            each =
+                seen_behind false r.system r.mode r.arrivals 0 m.seen more (each false r s m.begun m.seen m.sees)
+                (subst (λ t. AreSeen false r.system r.mode r.arrivals t more) here (are_seen r.system r.mode r.arrivals n (all - n)));
+            all = omega (arith, count, rest, low);
+          };
+          spelled = refl;
+        },
+        stops Q a b _ end failed
+            (begins_longer a b (text_to r.system from (m.seen ++ more)) (time_line (dump_behind d (m.seen ++ more)).behind)
+            (subst (AppendsSome a b) texts (begins_longer a b (text_to r.system from m.seen) (dump_text (dump_behind d m.seen) more) m.is))),
+      )

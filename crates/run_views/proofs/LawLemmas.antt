@@ -1,7 +1,6 @@
 -- What is counted of all ticks of a run are its figures.
-use Rattle.std.proofs.Common.{◌≡◌, ℕ, suc, ◌+◌, ◌<◌, min, true, false, List, [], ◌∷◌, ◌++◌, length, append-nil, append_assoc, sym, ap, subst, ◌∙◌, arith}
+use Rattle.std.proofs.Common.{◌≡◌, ℕ, suc, ◌+◌, ◌<◌, min, true, false, List, [], ◌∷◌, ◌++◌, length, append-nil, sym, subst, arith}
 use Rattle.std.specs.Prelude.{reverse}
-use Rattle.std.proofs.lemmas.List.{reverse-append}
 use Rattle.osek_base.specs.declared.arrivals.Arrival.{Arrival}
 use Rattle.osek_base.specs.declared.limits.TheConstants.{MAX_TICKS}
 use Rattle.osek_base.specs.System.{System}
@@ -10,6 +9,7 @@ use Rattle.observations.specs.declared.observation.Observation.{Observation}
 use Rattle.run_figures.specs.RunFigures.{AreTicksOf}
 use Rattle.run_views.specs.Law.{CountedAreRunFigures}
 use Rattle.run_views.specs.Seen.{AreSeen}
+use Rattle.run_views.proofs.CountLemmas.{reverse_first}
 use Rattle.run_views.proofs.RunLemmas.{few_steps, not_over, steps}
 
 -- observations, oldest first, behind others, newest first
@@ -34,7 +34,7 @@ newest_first S mode arrivals t (o ∷ seen) before going are ticks =
     let next : t + suc k ≡ suc t + k = omega arith in
     subst (λ n. (run S mode arrivals n).state.over ≡ false) next (going (suc k) (omega (arith, low))) in
     subst (λ n. AreTicksOf S mode arrivals n (reverse (o ∷ seen) ++ before)) same
-    (subst (AreTicksOf S mode arrivals (suc t + length seen)) (sym (ap (λ x. x ++ before) (reverse-append (o ∷ []) seen) ∙ append_assoc (reverse seen) (o ∷ []) before))
+    (subst (AreTicksOf S mode arrivals (suc t + length seen)) (sym (reverse_first o seen before))
     (newest_first S mode arrivals (suc t) seen (o ∷ before) later are.1 now))
 
 pub counted_are_run_figures : CountedAreRunFigures

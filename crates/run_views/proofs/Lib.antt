@@ -5,4 +5,3 @@ pub mod LawLemmas
 pub mod RunLemmas
 pub mod SeenLemmas
 pub mod TickLemmas
-pub mod WholeLemmas

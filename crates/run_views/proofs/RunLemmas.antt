@@ -1,16 +1,17 @@
 -- How many ticks of a run are done.
-use Rattle.std.proofs.Common.{◌≡◌, ℕ, zero, suc, ◌+◌, ◌-◌, ◌<◌, ◌≤◌, min, Bool, true, false, List, [], ◌∷◌, length, length-append, refl, sym, ap, subst, ◌∙◌, arith}
-use Rattle.std.specs.Prelude.{◌||◌, nat_le, not}
+use Rattle.std.proofs.Common.{◌≡◌, ℕ, zero, suc, ◌+◌, ◌-◌, ◌<◌, ◌≤◌, inl, inr, min, Bool, true, false, List, [], ◌∷◌, length, length-append, refl, sym, ap, subst, ◌∙◌, arith}
+use Rattle.std.specs.Prelude.{◌||◌, ◌⊎◌, nat_le}
 use Rattle.std.proofs.lemmas.Bool.{true≢false}
 use Rattle.osek_base.specs.declared.arrivals.Arrival.{Arrival}
 use Rattle.osek_base.specs.declared.limits.TheConstants.{MAX_TICKS}
 use Rattle.osek_base.specs.System.{System}
 use Rattle.osek_base.specs.Trace.{Run, run}
+use Rattle.observations.specs.declared.observation.Observation.{Observation}
 use Rattle.kernel.specs.Progress.{Progress, is_over}
 use Rattle.kernel.proofs.RunLemmas.{going}
 use Rattle.blocking_laws.specs.Steps.{step_at}
 use Rattle.blocking_laws.proofs.StepLemmas.{run_over, run_stays, steps_more}
-use Rattle.run_views.specs.Seen.{AreSeen, SeesRun, SeesTicks}
+use Rattle.run_views.specs.Seen.{AreSeen, SeesTicks}
 
 min_left : (a b : ℕ) → a ≤ b → min a b ≡ a
 min_left a b h = omega (arith, h)
@@ -90,7 +91,7 @@ module _ (S : System) (mode : ℕ) (arrivals : List Arrival) where
       omega (arith, more, count, last)
 
   -- and all of them, where they are so many, or the run is over
-  pub all_asked : (n ticks : ℕ) → GoesOn n → n ≡ ticks → n ≡ steps (min ticks MAX_TICKS)
+  all_asked : (n ticks : ℕ) → GoesOn n → n ≡ ticks → n ≡ steps (min ticks MAX_TICKS)
   all_asked n ticks on is =
       sym (as_many n on) ∙ ap steps (sym (min_left n MAX_TICKS (few n on)) ∙ ap (λ m. min m MAX_TICKS) is)
 
@@ -109,7 +110,7 @@ module _ (S : System) (mode : ℕ) (arrivals : List Arrival) where
       sym (as_many n on)
       ∙ ap steps (same ∙ sym (min_right ticks MAX_TICKS (subst (λ m. m ≤ ticks) same within)))
 
-  pub all_over : (n ticks : ℕ) → GoesOn n → n ≤ ticks → is_over (at n) ≡ true → n ≡ steps (min ticks MAX_TICKS)
+  all_over : (n ticks : ℕ) → GoesOn n → n ≤ ticks → is_over (at n) ≡ true → n ≡ steps (min ticks MAX_TICKS)
   all_over n ticks = stopped n ticks (run S mode arrivals n).state.over refl
 
   -- a run has at most one step a tick
@@ -146,40 +147,31 @@ module _ (S : System) (mode : ℕ) (arrivals : List Arrival) where
           let low = few_steps k in
           absurd (omega (arith, more, same, there, low))
 
-ended : (over : Bool) → false ≡ not over → over ≡ true
-ended true h = refl
-ended false h = absurd (true≢false (sym h))
-
 -- ---- of a run that has just begun
 
-module _ (counted : Bool) (r s : Progress) (begun : r.ticks ≡ 0) (p : SeesTicks counted r s) where
-  pub done : s.ticks ≡ length p.seen
+module _ (counted : Bool) (r s : Progress) (begun : r.ticks ≡ 0) (seen : List Observation) (p : SeesTicks counted r s seen) where
+  pub done : s.ticks ≡ length seen
   done =
-      let sum : r.ticks + length p.seen ≡ length p.seen = omega (arith, begun) in
+      let sum : r.ticks + length seen ≡ length seen = omega (arith, begun) in
       ap (λ (x : Progress). x.ticks) p.next ∙ sum
 
-  pub each : AreSeen counted r.system r.mode r.arrivals 0 p.seen
-  each = subst (λ t. AreSeen counted r.system r.mode r.arrivals t p.seen) begun p.each
+  pub each : AreSeen counted r.system r.mode r.arrivals 0 seen
+  each = subst (λ t. AreSeen counted r.system r.mode r.arrivals t seen) begun p.each
 
-  pub on : GoesOn r.system r.mode r.arrivals (length p.seen)
+  pub on : GoesOn r.system r.mode r.arrivals (length seen)
   on k low =
       let here : k ≡ r.ticks + k = omega (arith, begun) in
       ap (λ t. is_over (record r { ticks = t })) here ∙ p.going k low
 
   -- all ticks that are asked for were done, or the run is over
-  pub done_asked : (ticks : ℕ) → s.ticks ≤ ticks → ticks ≤ s.ticks → length p.seen ≡ steps r.system r.mode r.arrivals (min ticks MAX_TICKS)
-  done_asked ticks within last =
+  pub all_done : (ticks : ℕ) → s.ticks ≤ ticks → (ticks ≤ s.ticks) ⊎ (is_over s ≡ true)
+      → length seen ≡ steps r.system r.mode r.arrivals (min ticks MAX_TICKS)
+  all_done ticks within (inl last) =
       let count = done in
-      all_asked r.system r.mode r.arrivals (length p.seen) ticks on (omega (arith, within, last, count))
-
-  pub done_over : (ticks : ℕ) → s.ticks ≤ ticks → false ≡ not (is_over s)
-      → length p.seen ≡ steps r.system r.mode r.arrivals (min ticks MAX_TICKS)
-  done_over ticks within last =
+      all_asked r.system r.mode r.arrivals (length seen) ticks on (omega (arith, within, last, count))
+  all_done ticks within (inr over) =
       let count = done in
-      let low : length p.seen ≤ ticks = omega (arith, within, count) in
-      let here : is_over s ≡ is_over (record r { ticks = length p.seen }) =
+      let low : length seen ≤ ticks = omega (arith, within, count) in
+      let here : is_over s ≡ is_over (record r { ticks = length seen }) =
       ap is_over p.next ∙ ap (λ n. is_over (record r { ticks = n })) (sym (ap (λ (x : Progress). x.ticks) p.next) ∙ done) in
-      all_over r.system r.mode r.arrivals (length p.seen) ticks on low (sym here ∙ ended (is_over s) last)
-
-  abbrev pub sees_run : (ticks : ℕ) → length p.seen ≡ steps r.system r.mode r.arrivals (min ticks MAX_TICKS) → SeesRun counted r ticks
-  sees_run ticks all = record { seen = p.seen; each = each; all = all }
+      all_over r.system r.mode r.arrivals (length seen) ticks on low (sym here ∙ over)

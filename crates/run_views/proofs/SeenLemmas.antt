@@ -30,7 +30,7 @@ none_lost : (n : ℕ) (was_pending : Bool) → cond (nat_lt 0 (lost_of was_pendi
 none_lost n true = refl
 none_lost n false = refl
 
-module _ (S : System) (mode : ℕ) (arrivals : List Arrival) (t : ℕ) where
+module _ (counted : Bool) (S : System) (mode : ℕ) (arrivals : List Arrival) (t : ℕ) where
   no_loss : arriving arrivals t ≡ [] → (n i : ℕ) → loss_text n (routine_seen (tick_at S mode arrivals t) i) ≡ []
   no_loss none n i =
       let was = is_pending (run S mode arrivals t).state i in
@@ -39,7 +39,7 @@ module _ (S : System) (mode : ℕ) (arrivals : List Arrival) (t : ℕ) where
   no_expiry : due_in S mode arrivals t ≡ [] → (n a : ℕ) → expiry_text n (alarm_seen (tick_at S mode arrivals t) a) ≡ []
   no_expiry none n a = ap (λ due. cond (is_among due a) (event_line (Variable.Expiry n)) []) none
 
-  pub no_event : (o : Observation) → IsObserved false S mode arrivals t o → arriving arrivals t ≡ [] → due_in S mode arrivals t ≡ []
+  pub no_event : (o : Observation) → IsObserved counted S mode arrivals t o → arriving arrivals t ≡ [] → due_in S mode arrivals t ≡ []
       → events_text o ≡ []
   no_event o is none_arrive none_due =
       let k : Ticked = tick_at S mode arrivals t in

@@ -1,11 +1,10 @@
 -- The picture of a run, no part of the standards.
-use Rattle.std.specs.Prelude.{ℕ, ◌≡◌, ◌+◌, ◌++◌, false, length, min, List}
+use Rattle.std.specs.Prelude.{ℕ, ◌≡◌, ◌+◌, false, min, List}
 use Rattle.osek_base.specs.System.{System}
 use Rattle.kernel.specs.Progress.{Progress}
-use Rattle.observations.specs.declared.observation.Observation.{Observation}
 use Rattle.timelines.specs.Rows.{AreRows, Picture}
 use Rattle.tracer.specs.WholeRuns.{IsBegun}
-use Rattle.run_views.specs.Seen.{SeesRun, SeesTicks}
+use Rattle.run_views.specs.Seen.{SeesRun}
 
 -- the rows of a picture of the ticks from one on and before another are those of so many ticks of a run
 pub record IsDrawnOf (r : Progress) (ticks from to : ℕ) (picture : Picture) : Type 0 where
@@ -18,10 +17,3 @@ pub record IsDrawnOf (r : Progress) (ticks from to : ℕ) (picture : Picture) : 
 abbrev pub IsDrawn : System → List ℕ → List ℕ → ℕ → ℕ → Picture → Type 0
 IsDrawn S irqs mode ticks from picture =
     (r : Progress) × IsBegun S irqs mode r × IsDrawnOf r ticks from (min ticks (from + 5000)) picture
-
--- some ticks of a run of a system are done, and drawn one after another
-pub record DrawsTicks (S : System) (r after : Progress) (old new : Picture) : Type 0 where
-  pub sees : SeesTicks false r after
-  pub rows : (seen : List Observation) → length seen ≡ r.ticks → AreRows S seen old → AreRows S (seen ++ sees.seen) new
-  pub first : new.from ≡ old.from
-  pub end : new.to ≡ old.to

@@ -5,6 +5,7 @@ mod beginning;
 mod laws;
 mod progress;
 mod stats;
+mod ticks;
 mod timeline;
 mod vcd;
 

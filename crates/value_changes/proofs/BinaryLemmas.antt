@@ -1,5 +1,5 @@
 -- The digits of a byte in binary.
-use Rattle.std.proofs.Common.{◌≡◌, ℕ, zero, suc, ◌+◌, ◌/◌, ◌%◌, ◌<◌, ◌≤◌, ◌==◌, Bool, true, false, ◌&&◌, bytes_eq, nat_le, nat_lt, cond, List, [], ◌∷◌, ◌++◌, length, length-append, refl, sym, ap, subst, ◌∙◌, arith}
+use Rattle.std.proofs.Common.{◌≡◌, ℕ, zero, suc, ◌+◌, ◌/◌, ◌%◌, ◌<◌, ◌≤◌, ◌==◌, Bool, true, false, ◌&&◌, bytes_eq, nat_le, nat_lt, cond, List, [], ◌∷◌, ◌++◌, length, length-append, refl, sym, ap, subst, ◌∙◌, append_assoc, arith}
 use Rattle.std.proofs.lemmas.Bool.{eqb-true, leb-true}
 use Rattle.std.proofs.lemmas.Bool.Decides.{nat_tests}
 use Rattle.std.proofs.lemmas.Slice.Eq.{bytes_eq-Decides}
@@ -7,9 +7,13 @@ use Rattle.std.specs.Fmt.{digits}
 use Rattle.osek_base.proofs.PlaceLemmas.{and_split}
 use Rattle.value_changes.specs.Lines.{binary}
 
--- a number has its last digit behind those of its half, if that isn't 0, and at most eight digits
+-- a number has its last three digits behind those of its eighth, if that isn't 0, and at most eight digits
 abbrev split : ℕ → List ℕ
-split n = cond (nat_lt n 2) ((48 + n) ∷ []) (digits 2 false (n / 2) ++ (48 + n % 2) ∷ [])
+split n =
+    cond (nat_lt n 2) ((48 + n) ∷ [])
+    (cond (nat_lt n 4) (49 ∷ (48 + n % 2) ∷ [])
+    (cond (nat_lt n 8) (49 ∷ (48 + n / 2 % 2) ∷ (48 + n % 2) ∷ [])
+    (digits 2 false (n / 8) ++ (48 + n / 4 % 2) ∷ (48 + n / 2 % 2) ∷ (48 + n % 2) ∷ [])))
 
 is_split : ℕ → Bool
 is_split n = bytes_eq (digits 2 false n) (split n) && nat_le (length (digits 2 false n)) 8
@@ -44,16 +48,41 @@ found n h =
     let parts = and_split (bytes_eq (binary n) (split n)) (nat_le (length (binary n)) 8) (all_at is_split 256 n tried h) in
     record { same = (bytes_eq-Decides (binary n) (split n)).0 parts.0; short = leb-true (length (binary n)) 8 parts.1 }
 
--- a byte's
-pub binary_short : (n : ℕ) → n < 256 → length (binary n) ≤ 8
-binary_short n h = (found n h).short
-
 pub binary_one : (n : ℕ) → n < 2 → binary n ≡ (48 + n) ∷ []
-binary_one n h = let e : nat_lt n 2 ≡ true = grind (arith, nat_tests) in let small : n < 256 = omega arith in (found n small).same ∙ rw e refl
+binary_one n h = let e : nat_lt n 2 ≡ true = grind (arith, nat_tests) in (found n (omega (arith, h))).same ∙ rw e refl
 
-pub binary_more : (n : ℕ) → 2 ≤ n → n < 256 → binary n ≡ binary (n / 2) ++ (48 + n % 2) ∷ []
-binary_more n more h = let e : nat_lt n 2 ≡ false = grind (arith, nat_tests) in (found n h).same ∙ rw e refl
+pub binary_two : (n : ℕ) → 2 ≤ n → n < 4 → binary n ≡ 49 ∷ (48 + n % 2) ∷ []
+binary_two n more h =
+    let a : nat_lt n 2 ≡ false = grind (arith, nat_tests) in
+    let b : nat_lt n 4 ≡ true = grind (arith, nat_tests) in
+    (found n (omega (arith, h))).same ∙ rw (a, b) refl
 
--- so that a half has one digit fewer
-pub binary_longer : (n : ℕ) → 2 ≤ n → n < 256 → length (binary n) ≡ length (binary (n / 2)) + 1
-binary_longer n more h = ap (λ (l : List ℕ). length l) (binary_more n more h) ∙ length-append (binary (n / 2)) ((48 + n % 2) ∷ [])
+pub binary_three : (n : ℕ) → 4 ≤ n → n < 8 → binary n ≡ 49 ∷ (48 + n / 2 % 2) ∷ (48 + n % 2) ∷ []
+binary_three n more h =
+    let a : nat_lt n 2 ≡ false = grind (arith, nat_tests) in
+    let b : nat_lt n 4 ≡ false = grind (arith, nat_tests) in
+    let c : nat_lt n 8 ≡ true = grind (arith, nat_tests) in
+    (found n (omega (arith, h))).same ∙ rw (a, b, c) refl
+
+binary_more : (n : ℕ) → 8 ≤ n → n < 256 → binary n ≡ binary (n / 8) ++ (48 + n / 4 % 2) ∷ (48 + n / 2 % 2) ∷ (48 + n % 2) ∷ []
+binary_more n more h =
+    let a : nat_lt n 2 ≡ false = grind (arith, nat_tests) in
+    let b : nat_lt n 4 ≡ false = grind (arith, nat_tests) in
+    let c : nat_lt n 8 ≡ false = grind (arith, nat_tests) in
+    (found n h).same ∙ rw (a, b, c) refl
+
+-- so these are pushed behind those of an eighth, which leave room for them
+pub more_pushed : (old front whole : List ℕ) (n : ℕ) → 8 ≤ n → n < 256 → front ≡ old ++ binary (n / 8)
+    → whole ≡ front ++ (48 + n / 4 % 2) ∷ (48 + n / 2 % 2) ∷ (48 + n % 2) ∷ [] → whole ≡ old ++ binary n
+more_pushed old front whole n more h e w =
+    let end : List ℕ = (48 + n / 4 % 2) ∷ (48 + n / 2 % 2) ∷ (48 + n % 2) ∷ [] in
+    w ∙ ap (λ l. l ++ end) e ∙ append_assoc old (binary (n / 8)) end ∙ ap (λ l. old ++ l) (sym (binary_more n more h))
+
+pub front_room : (old front : List ℕ) (n : ℕ) → 8 ≤ n → n < 256 → front ≡ old ++ binary (n / 8) → length front + 3 ≤ length old + 8
+front_room old front n more h e =
+    let short = (found n h).short in
+    let whole =
+    ap (λ (l : List ℕ). length l) (binary_more n more h)
+    ∙ length-append (binary (n / 8)) ((48 + n / 4 % 2) ∷ (48 + n / 2 % 2) ∷ (48 + n % 2) ∷ []) in
+    let part = ap (λ (l : List ℕ). length l) e ∙ length-append old (binary (n / 8)) in
+    omega (arith, short, whole, part)

@@ -4,3 +4,4 @@ pub mod WriteLemmas
 pub mod DeclarationLemmas
 pub mod AgainLemmas
 pub mod RunLemmas
+pub mod TimeLemmas

@@ -1,5 +1,5 @@
 -- How the bytes that a writer takes add up over several writes.
-use Rattle.std.proofs.Common.{◌≡◌, ℕ, ◌+◌, ◌-◌, ◌≤◌, List, ◌++◌, [], ◌∷◌, append-nil, length, take, drop, Option, Some, None, Result, Ok, Err, sym, ap, ◌∙◌, append_assoc, arith}
+use Rattle.std.proofs.Common.{◌≡◌, ℕ, ◌+◌, ◌-◌, ◌≤◌, List, ◌++◌, [], ◌∷◌, append-nil, length, take, drop, Option, Some, None, Result, Ok, Err, sym, ap, subst, ◌∙◌, append_assoc, arith}
 use Rattle.std.proofs.lemmas.List.{length-drop, take_rest, take-append-drop}
 use Rattle.std.proofs.Math.Seq.{take-add}
 use Rattle.std.specs.Io.KnownBytes.{Appends, Keeps}
@@ -71,3 +71,10 @@ pub writes_behind : {T E : Type 0} (a b c : Option (List ℕ)) (text more : List
     → Writes a c (text ++ more) r
 writes_behind a b c text more (Ok x) p w = record { written = appends_more a b c text more p w.written; beginning = tt }
 writes_behind a b c text more (Err e) p w = record { written = tt; beginning = begins_behind a b c text more p w.beginning }
+
+-- what is left of a text is written behind its beginning
+pub finished : {T E : Type 0} (a b c : Option (List ℕ)) (text : List ℕ) (done : ℕ) (r : Result T E) → Appends a b (take done text)
+    → Writes b c (take (length text - done) (drop done text)) r → Writes a c text r
+finished a b c text done r p w =
+    subst (λ t. Writes a c t r) (take-append-drop done text)
+    (writes_behind a b c (take done text) (drop done text) r p (subst (λ t. Writes b c t r) (take_rest text done) w))

@@ -10,11 +10,12 @@ ghost use Rattle.std.specs.Prelude.{
   [],
   ◌∷◌,
   ◌++◌,
+  codes,
   length,
   take,
   decimal,
 };
-ghost use Rattle.value_changes.specs.Codes.{code};
+ghost use Rattle.value_changes.specs.Codes.{code_of};
 ghost use Rattle.value_changes.specs.Lines.{
   binary,
   event_line,
@@ -26,7 +27,7 @@ ghost use Rattle.value_changes.specs.Lines.{
   wire_line,
 };
 
-use crate::variable::Variable;
+use crate::variable::{DIGITS, Variable, digit, push_code_of};
 use itoa::Buffer;
 use std::marker::Model;
 
@@ -63,6 +64,27 @@ fn copy_in(cells: &mut [u8; TEXT_SIZE], start: usize, bytes: &[u8])
     ensures len { length cells.new ≡ TEXT_SIZE }
 {
     cells[..start + bytes.len()][start..].copy_from_slice(bytes);
+}
+
+/// Copies as many bytes as are known when this is built over all of `places`.
+#[inline(always)]
+fn fill<const N: usize>(places: &mut [u8], bytes: &[u8; N])
+    requires { length places.old ≡ N }
+    ensures { places.new ≡ bytes.now }
+{
+    if let Some(places) = places.as_mut_array() {
+        *places = *bytes;
+    }
+}
+
+/// Writes as many bytes as are known when this is built over the cells from `start` on.
+#[inline(always)]
+fn set_places<const N: usize>(cells: &mut [u8; TEXT_SIZE], start: usize, bytes: &[u8; N])
+    requires { start + N ≤ TEXT_SIZE }
+    ensures front { take (start + N) cells.new ≡ take start cells.old ++ bytes.now }
+    ensures len { length cells.new ≡ TEXT_SIZE }
+{
+    fill(&mut cells[start..start + N], bytes);
 }
 
 impl DumpText {
@@ -125,6 +147,32 @@ impl DumpText {
         self.len = start + bytes.len();
     }
 
+    /// Appends as many bytes as are known when this is built.
+    #[inline(always)]
+    pub fn push_array<const N: usize>(&mut self, bytes: &[u8; N])
+        requires { length self.old + N ≤ TEXT_SIZE }
+        ensures same { self.new ≡ self.old ++ bytes.now }
+        ensures len { length self.new ≡ length self.old + N }
+    {
+        let start = self.len;
+        set_places(&mut self.cells, start, bytes);
+        self.len = start + N;
+    }
+
+    /// Appends the first `len` of some bytes. All are copied, whose number is known when this is
+    /// built.
+    #[inline(always)]
+    pub fn push_front<const N: usize>(&mut self, bytes: &[u8; N], len: usize)
+        requires front { len ≤ N }
+        requires room { length self.old + N ≤ TEXT_SIZE }
+        ensures same { self.new ≡ self.old ++ take len bytes.now }
+        ensures len { length self.new ≡ length self.old + len }
+    {
+        let start = self.len;
+        set_places(&mut self.cells, start, bytes);
+        self.len = start + len;
+    }
+
     /// Appends a number in decimal. It is called, and not written out where it is used, so that the
     /// room for the digits is filled with zeros in a call alone.
     #[inline(never)]
@@ -135,15 +183,6 @@ impl DumpText {
     {
         let mut buffer = Buffer::new();
         self.push_bytes(buffer.format(number).as_bytes());
-    }
-
-    /// Appends a number in binary, without leading zeros.
-    pub fn push_binary(&mut self, number: u8)
-        requires { length self.old + 8 ≤ TEXT_SIZE }
-        ensures same { self.new ≡ self.old ++ binary number }
-        ensures short { length self.new ≤ length self.old + 8 }
-    {
-        push_digits(number, self);
     }
 
     /// Appends the time.
@@ -157,92 +196,172 @@ impl DumpText {
         self.push(b'\n');
     }
 
-    /// Ends a line that has what becomes of a variable.
+    /// Ends a line that has what becomes of the variable of that number.
     #[inline(always)]
-    fn end_line(&mut self, variable: Variable)
-        requires { length self.old + 3 ≤ TEXT_SIZE }
-        ensures same { self.new ≡ self.old ++ line_end variable }
+    fn end_line(&mut self, variable: u16)
+        requires small { variable < DIGITS * DIGITS }
+        requires room { length self.old + 3 ≤ TEXT_SIZE }
+        ensures same { self.new ≡ self.old ++ (code_of variable ++ 10 ∷ []) }
         ensures short { length self.new ≤ length self.old + 3 }
     {
-        variable.push_code(self);
-        self.push(b'\n');
+        if variable < DIGITS {
+            self.push_array(&[digit(variable), b'\n']);
+        } else {
+            push_code_of(variable, self);
+            self.push(b'\n');
+        }
+    }
+
+    /// The wire or event of that number has the value that is one byte.
+    #[inline(never)]
+    fn push_bit_line(&mut self, variable: u16, byte: u8)
+        requires small { variable < DIGITS * DIGITS }
+        requires room { length self.old + 4 ≤ TEXT_SIZE }
+        ensures same { self.new ≡ self.old ++ byte ∷ (code_of variable ++ 10 ∷ []) }
+        ensures short { length self.new ≤ length self.old + 4 }
+    {
+        self.push(byte);
+        self.end_line(variable);
     }
 
     /// An event fires.
-    #[inline(never)]
+    #[inline(always)]
     pub fn push_event(&mut self, variable: Variable)
         requires { length self.old + 4 ≤ TEXT_SIZE }
         ensures same { self.new ≡ self.old ++ event_line variable }
         ensures short { length self.new ≤ length self.old + 4 }
     {
-        self.push(b'1');
-        self.end_line(variable);
+        self.push_bit_line(variable.number(), b'1');
     }
 
     /// A wire is high or low.
-    #[inline(never)]
+    #[inline(always)]
     pub fn push_wire(&mut self, variable: Variable, is_high: bool)
         requires { length self.old + 4 ≤ TEXT_SIZE }
         ensures same { self.new ≡ self.old ++ wire_line variable is_high }
         ensures short { length self.new ≤ length self.old + 4 }
     {
-        self.push(if is_high { b'1' } else { b'0' });
+        self.push_bit_line(variable.number(), if is_high { b'1' } else { b'0' });
+    }
+
+    /// The vector of a variable's number has that number, in binary without leading zeros.
+    #[inline(never)]
+    fn push_number_line(&mut self, variable: u16, number: u8)
+        requires small { variable < DIGITS * DIGITS }
+        requires room { length self.old + 13 ≤ TEXT_SIZE }
+        ensures same { self.new
+            ≡ self.old
+            ++ (codes "b" ++ binary number ++ codes " " ++ (code_of variable ++ 10 ∷ [])) }
+        ensures short { length self.new ≤ length self.old + 13 }
+    {
+        self.push(b'b');
+        push_digits(number, self);
+        self.push(b' ');
         self.end_line(variable);
     }
 
-    /// A vector has that number, in binary without leading zeros.
+    /// The vector of a variable's number is unknown.
     #[inline(never)]
+    fn push_unknown_line(&mut self, variable: u16)
+        requires small { variable < DIGITS * DIGITS }
+        requires room { length self.old + 6 ≤ TEXT_SIZE }
+        ensures same { self.new ≡ self.old ++ (codes "bx " ++ (code_of variable ++ 10 ∷ [])) }
+        ensures short { length self.new ≤ length self.old + 6 }
+    {
+        self.push_array(b"bx ");
+        self.end_line(variable);
+    }
+
+    /// A vector has that number.
+    #[inline(always)]
     pub fn push_number(&mut self, variable: Variable, number: u8)
         requires { length self.old + 13 ≤ TEXT_SIZE }
         ensures same { self.new ≡ self.old ++ number_line variable number }
         ensures short { length self.new ≤ length self.old + 13 }
     {
-        self.push(b'b');
-        self.push_binary(number);
-        self.push(b' ');
-        self.end_line(variable);
+        self.push_number_line(variable.number(), number);
     }
 
     /// A vector has that number, or is unknown.
+    #[inline(always)]
     pub fn push_vector(&mut self, variable: Variable, number: Option<u8>)
         requires { length self.old + 13 ≤ TEXT_SIZE }
         ensures same { self.new ≡ self.old ++ vector_line variable number }
         ensures short { length self.new ≤ length self.old + 13 }
     {
         match number {
-            None => {
-                self.push_bytes(b"bx ");
-                self.end_line(variable);
-            }
-            Some(number) => self.push_number(variable, number),
+            None => self.push_unknown_line(variable.number()),
+            Some(number) => self.push_number_line(variable.number(), number),
         }
     }
 
-    /// A string variable has that name, which has no space, behind a mark.
-    #[inline(never)]
-    pub fn push_string(&mut self, variable: Variable, mark: &str, name: &str)
-        requires mark { length mark.now ≤ 4 }
+    /// A string variable has that name, which has no space, behind `s` and a mark.
+    #[inline(always)]
+    pub fn push_string<const N: usize>(&mut self, variable: Variable, front: &[u8; N], name: &str)
+        requires front { N ≤ 5 }
         requires name { length name.now ≤ 32 }
         requires room { length self.old + 41 ≤ TEXT_SIZE }
-        ensures same { self.new ≡ self.old ++ string_line variable (mark.now ++ name.now) }
-        ensures short { length self.new ≤ length self.old + length mark.now + 37 }
+        ensures same { self.new
+            ≡ self.old ++ (front.now ++ name.now ++ codes " " ++ line_end variable) }
+        ensures short { length self.new ≤ length self.old + N + 36 }
     {
-        self.push(b's');
-        self.push_bytes(mark.as_bytes());
+        self.push_array(front);
         self.push_bytes(name.as_bytes());
         self.push(b' ');
-        self.end_line(variable);
+        self.end_line(variable.number());
     }
 }
 
-/// Appends the digits of a number in binary.
-fn push_digits(number: u8, text: &mut DumpText)
-    requires { length text.old + length (binary number) ≤ TEXT_SIZE }
-    ensures { text.new ≡ text.old ++ binary number }
+/// Appends the digits of a number of at most three digits in binary.
+#[inline(always)]
+fn push_few_digits(number: u8, text: &mut DumpText)
+    requires few { number < 8 }
+    requires room { length text.old + 3 ≤ TEXT_SIZE }
+    ensures same { text.new ≡ text.old ++ binary number }
+    ensures short { length text.new ≤ length text.old + 3 }
 {
     if number < 2 {
-        return text.push(b'0' + number);
+        text.push(b'0' + number);
+    } else if number < 4 {
+        text.push_array(&[b'1', b'0' + number % 2]);
+    } else {
+        text.push_array(&[b'1', b'0' + number / 2 % 2, b'0' + number % 2]);
     }
-    push_digits(number / 2, text);
-    text.push(b'0' + number % 2);
+}
+
+/// Appends the digits of a number of at most five digits in binary.
+#[inline(always)]
+fn push_more_digits(number: u8, text: &mut DumpText)
+    requires few { number < 32 }
+    requires room { length text.old + 6 ≤ TEXT_SIZE }
+    ensures same { text.new ≡ text.old ++ binary number }
+    ensures short { length text.new ≤ length text.old + 6 }
+{
+    if number < 8 {
+        return push_few_digits(number, text);
+    }
+    push_few_digits(number / 8, text);
+    text.push_array(&[
+        b'0' + number / 4 % 2,
+        b'0' + number / 2 % 2,
+        b'0' + number % 2,
+    ]);
+}
+
+/// Appends the digits of a number in binary.
+#[inline(always)]
+fn push_digits(number: u8, text: &mut DumpText)
+    requires { length text.old + 8 ≤ TEXT_SIZE }
+    ensures same { text.new ≡ text.old ++ binary number }
+    ensures short { length text.new ≤ length text.old + 8 }
+{
+    if number < 8 {
+        return push_few_digits(number, text);
+    }
+    push_more_digits(number / 8, text);
+    text.push_array(&[
+        b'0' + number / 4 % 2,
+        b'0' + number / 2 % 2,
+        b'0' + number % 2,
+    ]);
 }

@@ -34,6 +34,7 @@ fn push_expiry(alarm: AlarmId, seen: &AlarmSeen, text: &mut DumpText)
 }
 
 /// Appends the losses of interrupts in the tick.
+#[inline(always)]
 pub(crate) fn push_losses(seen: &ArrayVec<RoutineSeen, MAX_ROUTINES>, text: &mut DumpText)
     requires { length text.old + 4 * MAX_ROUTINES ≤ TEXT_SIZE }
     ensures same { text.new ≡ text.old ++ events_from loss_text 0 seen.now.items }
@@ -45,6 +46,7 @@ pub(crate) fn push_losses(seen: &ArrayVec<RoutineSeen, MAX_ROUTINES>, text: &mut
 }
 
 /// Appends the expiries of alarms in the tick.
+#[inline(always)]
 pub(crate) fn push_expiries(seen: &ArrayVec<AlarmSeen, MAX_ALARMS>, text: &mut DumpText)
     requires { length text.old + 4 * MAX_ALARMS ≤ TEXT_SIZE }
     ensures same { text.new ≡ text.old ++ events_from expiry_text 0 seen.now.items }

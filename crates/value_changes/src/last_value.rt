@@ -33,6 +33,7 @@ impl<T> Default for LastValue<T> {
 impl<T: Copy + Eq> LastValue<T> {
     /// The variable has this value now. The answer is what is to be written: nothing, where the
     /// value was written last.
+    #[inline(always)]
     pub fn change_to(&mut self, value: T) -> Option<T>
         ensures written { result ≡ written T.eq self.old value }
         ensures last { self.new ≡ shown self.old result }

@@ -2,6 +2,7 @@
 
 ghost use Rattle.std.specs.Prelude.{◌≡◌, ◌+◌, ◌*◌, ◌<◌, ◌≤◌, [], ◌++◌, length, true, false};
 ghost use Rattle.value_changes.specs.Changes.{shown, written};
+ghost use Rattle.value_changes.specs.Lines.{time_line};
 ghost use Rattle.value_changes.specs.Ticks.{
   after_tick,
   changes_from,
@@ -18,7 +19,6 @@ ghost use Rattle.value_changes.specs.Ticks.{
   task_after,
   task_text,
   tick_text,
-  timed,
   values_after,
   values_text,
 };
@@ -29,7 +29,6 @@ use crate::last_value::LastValue;
 use crate::names::{push_executor, push_holder};
 use crate::routine_values::RoutineValues;
 use crate::task_values::TaskValues;
-use crate::variable::Variable;
 use arrayvec::ArrayVec;
 use observations::{Holder, MAX_HELD, Observation, RoutineSeen, TaskSeen};
 use osek_base::{IsrId, MAX_ROUTINES, MAX_TASKS, Owner, ResId, ResourceNumber, System, TaskId};
@@ -58,6 +57,7 @@ fn resource_at(system: &System, number: usize) -> ResId
     }
 }
 
+#[inline(always)]
 fn push_tasks(
     values: &mut [TaskValues; MAX_TASKS],
     seen: &ArrayVec<TaskSeen, MAX_TASKS>,
@@ -74,6 +74,7 @@ fn push_tasks(
     }
 }
 
+#[inline(always)]
 fn push_routines(
     values: &mut [RoutineValues; MAX_ROUTINES],
     seen: &ArrayVec<RoutineSeen, MAX_ROUTINES>,
@@ -105,11 +106,11 @@ fn push_holder_change(
     ensures short { length text.new ≤ length text.old + 37 }
 {
     if let Some(holder) = last.change_to(holder) {
-        let variable = Variable::Holder(resource_at(system, number));
-        push_holder(system.names(), variable, holder, text);
+        push_holder(system.names(), resource_at(system, number), holder, text);
     }
 }
 
+#[inline(always)]
 fn push_holders(
     system: &System,
     values: &mut [LastValue<Holder>; MAX_HELD],
@@ -146,6 +147,7 @@ fn push_executor_change(
 }
 
 /// Appends the events that fire.
+#[inline(always)]
 fn push_events(seen: &Observation, text: &mut DumpText)
     requires { length text.old + 320 ≤ TEXT_SIZE }
     ensures same { text.new ≡ text.old ++ events_text seen.now }
@@ -153,16 +155,6 @@ fn push_events(seen: &Observation, text: &mut DumpText)
 {
     push_losses(&seen.routines, text);
     push_expiries(&seen.alarms, text);
-}
-
-/// Appends the time and what changes then.
-fn push_timed(tick: u32, changes: &DumpText, text: &mut DumpText)
-    requires some { 0 < length changes.now }
-    requires room { length text.old + length changes.now + 22 ≤ TEXT_SIZE }
-    ensures { text.new ≡ text.old ++ timed tick changes.now }
-{
-    text.push_time(u64::from(tick));
-    text.push_bytes(changes.as_slice());
 }
 
 impl LastValues {
@@ -179,6 +171,7 @@ impl LastValues {
     }
 
     /// Appends the values that change with what is seen.
+    #[inline(always)]
     fn push_values(&mut self, system: &System, seen: &Observation, text: &mut DumpText)
         requires { length text.old + VALUES_SIZE + 4 ≤ TEXT_SIZE }
         ensures same { text.new ≡ text.old ++ values_text system.now self.old seen.now }
@@ -191,59 +184,47 @@ impl LastValues {
         push_holders(system, &mut self.holders, &seen.holders, text);
     }
 
-    /// Puts together what is written of a tick behind the first that is written. It goes by way of
-    /// a text of its own, as the time is spelled only where something changes.
-    fn push_later(
+    /// Puts together what is written of a tick behind the first that is written, from the line of
+    /// its time on: nothing where nothing changes.
+    #[inline(always)]
+    pub(crate) fn push_later(
         &mut self,
         system: &System,
         tick: u32,
         seen: &Observation,
-        changes: &mut DumpText,
         text: &mut DumpText,
     )
-        requires { text.old ≡ [] }
+        requires time { text.old ≡ time_line tick }
+        requires short { length text.old ≤ 18 }
         ensures same { text.new ≡ tick_text system.now true tick self.old seen.now }
         ensures after { self.new ≡ after_tick self.old seen.now }
     {
-        changes.clear();
-        self.push_values(system, seen, changes);
-        push_events(seen, changes);
-        if changes.len() > 0 {
-            push_timed(tick, changes, text);
+        let start = text.len();
+        self.push_values(system, seen, text);
+        push_events(seen, text);
+        if text.len() == start {
+            text.clear();
         }
     }
 
-    /// Puts together what is written of the first tick that is written.
-    fn push_first(&mut self, system: &System, tick: u32, seen: &Observation, text: &mut DumpText)
-        requires { text.old ≡ [] }
+    /// Puts together what is written of the first tick that is written, from the line of its time
+    /// on.
+    #[inline(never)]
+    pub(crate) fn push_first(
+        &mut self,
+        system: &System,
+        tick: u32,
+        seen: &Observation,
+        text: &mut DumpText,
+    )
+        requires time { text.old ≡ time_line tick }
+        requires short { length text.old ≤ 18 }
         ensures same { text.new ≡ tick_text system.now false tick self.old seen.now }
         ensures after { self.new ≡ after_tick self.old seen.now }
     {
-        text.push_time(u64::from(tick));
         text.push_bytes(b"$dumpvars\n");
         self.push_values(system, seen, text);
         text.push_bytes(b"$end\n");
         push_events(seen, text);
-    }
-
-    /// Puts together what is written of a tick, the first of those that are written or a later one.
-    pub(crate) fn push_tick(
-        &mut self,
-        system: &System,
-        is_later: bool,
-        tick: u32,
-        seen: &Observation,
-        changes: &mut DumpText,
-        text: &mut DumpText,
-    )
-        ensures same { text.new ≡ tick_text system.now is_later tick self.old seen.now }
-        ensures after { self.new ≡ after_tick self.old seen.now }
-    {
-        text.clear();
-        if is_later {
-            self.push_later(system, tick, seen, changes, text);
-        } else {
-            self.push_first(system, tick, seen, text);
-        }
     }
 }

@@ -10,6 +10,8 @@ mod last_values;
 mod names;
 mod routine_values;
 mod task_values;
+mod tick_page;
+mod time_front;
 mod value_changes;
 mod variable;
 mod writing;

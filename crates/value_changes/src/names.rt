@@ -7,13 +7,17 @@ ghost use Rattle.value_changes.specs.Lines.{executor_name, holder_name, string_l
 use crate::dump_text::{DumpText, TEXT_SIZE};
 use crate::variable::Variable;
 use observations::Holder;
-use osek_base::{Name, Names, Owner};
+use osek_base::{Name, Names, Owner, ResId};
 
-/// What stands for a name where nobody executes, or a resource is free. No task has this name.
-const NOBODY: &str = "-";
+/// What stands for a name, behind the `s` of a string, where nobody executes, or a resource is
+/// free. No task has this name.
+const NOBODY: &[u8; 2] = b"s-";
 
-/// What stands before the name of a routine that executes. No task's name begins with it.
-const ROUTINE: &str = "ISR.";
+/// What stands before the name of a task, and of a routine that executes. No task's name begins
+/// with the mark of a routine.
+const TASK: &[u8; 1] = b"s";
+
+const ROUTINE: &[u8; 5] = b"sISR.";
 
 /// The name of that number, empty where there is none.
 pub(crate) fn name_at(names: &[Name], number: u8) -> &str
@@ -36,12 +40,12 @@ pub(crate) fn push_executor(names: &Names, executor: &Option<Owner>, text: &mut 
     ensures short { length text.new ≤ length text.old + 41 }
 {
     let Some(owner) = executor else {
-        return text.push_string(Variable::Executor, "", NOBODY);
+        return text.push_string(Variable::Executor, NOBODY, "");
     };
     match owner {
         Owner::Task(task) => {
             let name = name_at(names.tasks.as_slice(), task.number());
-            text.push_string(Variable::Executor, "", name);
+            text.push_string(Variable::Executor, TASK, name);
         }
         Owner::Routine(routine) => {
             let name = name_at(names.routines.as_slice(), routine.number());
@@ -52,17 +56,18 @@ pub(crate) fn push_executor(names: &Names, executor: &Option<Owner>, text: &mut 
 
 /// Appends the name of the task that holds a resource, `-` where the resource is free.
 #[inline(never)]
-pub(crate) fn push_holder(names: &Names, variable: Variable, holder: Holder, text: &mut DumpText)
+pub(crate) fn push_holder(names: &Names, resource: ResId, holder: Holder, text: &mut DumpText)
     requires { length text.old + 41 ≤ TEXT_SIZE }
     ensures same { text.new
-        ≡ text.old ++ string_line variable (holder_name names.now holder) }
+        ≡ text.old ++ string_line (Variable.Holder resource) (holder_name names.now holder) }
     ensures short { length text.new ≤ length text.old + 37 }
 {
+    let variable = Variable::Holder(resource);
     match holder.task() {
-        None => text.push_string(variable, "", NOBODY),
+        None => text.push_string(variable, NOBODY, ""),
         Some(task) => {
             let name = name_at(names.tasks.as_slice(), task.number());
-            text.push_string(variable, "", name);
+            text.push_string(variable, TASK, name);
         }
     }
 }

@@ -18,11 +18,10 @@ ghost use Rattle.value_changes.specs.Ticks.{after_tick, events_text, tick_text};
 ghost use Rattle.value_changes.specs.Writing.{Writes};
 
 use crate::declarations::push_declarations;
-use crate::dump_text::DumpText;
-use crate::last_values::LastValues;
+use crate::tick_page::TickPage;
 use crate::writing::{write_some_text, write_text};
 use observations::Observation;
-use osek_base::{System, TickRecord};
+use osek_base::System;
 use std::io::{self, Write};
 use std::marker::Model;
 
@@ -31,10 +30,7 @@ use std::marker::Model;
 #[derive(Drop)]
 pub struct ValueChanges<'s> {
     system: &'s System,
-    values: LastValues,
-    /// What changes in a tick, and the text that is written.
-    changes: DumpText,
-    text: DumpText,
+    page: TickPage,
     /// The first tick that is written.
     from: u32,
     /// Whether it was seen.
@@ -50,7 +46,7 @@ impl<'s> Model for ValueChanges<'s> {
 
     ghost view = { λ d. record {
       system = d.system.now;
-      values = d.values;
+      values = d.page.values;
       first = d.from;
       is_begun = d.is_begun;
       behind = d.ticks;
@@ -65,9 +61,7 @@ impl<'s> ValueChanges<'s> {
     {
         ValueChanges {
             system,
-            values: LastValues::new(),
-            changes: DumpText::new(),
-            text: DumpText::new(),
+            page: TickPage::new(),
             from,
             is_begun: false,
             ticks: u64::from(from),
@@ -81,12 +75,13 @@ impl<'s> ValueChanges<'s> {
         ensures text { Writes (W.contents out.old) (W.contents out.new)
             (declarations self.old.system) result }
     {
-        push_declarations(self.system, &mut self.text);
-        write_text(out, self.text.as_slice())
+        push_declarations(self.system, &mut self.page.text);
+        write_text(out, self.page.text.as_slice())
     }
 
     /// Writes what changes in a tick, of the first tick that is written all values. The tick before
     /// `end` is the last that is seen.
+    #[inline(always)]
     fn write_tick<W: Write>(
         &mut self,
         tick: u32,
@@ -98,24 +93,16 @@ impl<'s> ValueChanges<'s> {
         ensures text { Writes (W.contents out.old) (W.contents out.new)
             (tick_text self.old.system self.old.is_begun tick self.old.values seen.now) result }
     {
-        let is_later = self.is_begun;
-        let changes = &mut self.changes;
-        self.values
-            .push_tick(self.system, is_later, tick, seen, changes, &mut self.text);
+        self.page.put_tick(self.system, self.is_begun, tick, seen);
         self.is_begun = true;
         self.ticks = end;
-        write_some_text(out, &self.text)
+        write_some_text(out, &self.page.text)
     }
 
     /// Writes what changes in the next tick that is seen, of the first tick that is written all
-    /// values. The tick's records, which each view of a run is given, aren't looked at. An error is
-    /// a failed write, behind a beginning of the tick's text, and ends the dump.
-    pub fn observe<W: Write>(
-        &mut self,
-        seen: &Observation,
-        _records: &TickRecord,
-        out: &mut W,
-    ) -> io::Result<()>
+    /// values. An error is a failed write, behind a beginning of the tick's text, and ends the dump.
+    #[inline(always)]
+    pub fn observe<W: Write>(&mut self, seen: &Observation, out: &mut W) -> io::Result<()>
         ensures after { self.new ≡ observed self.old seen.now }
         ensures text { Writes (W.contents out.old) (W.contents out.new)
             (observed_text self.old seen.now) result }
@@ -131,6 +118,7 @@ impl<'s> ValueChanges<'s> {
     /// them, and the others have no text: what is written, and the dump behind them, are as if each
     /// were handed on, one after another. An error is a failed write, behind a beginning of the
     /// text, and ends the dump.
+    #[inline(always)]
     pub fn observe_alike<W: Write>(
         &mut self,
         seen: &Observation,
@@ -160,8 +148,8 @@ impl<'s> ValueChanges<'s> {
         ensures text { Writes (W.contents out.old) (W.contents out.new)
             (time_line self.old.behind) result }
     {
-        self.text.clear();
-        self.text.push_time(self.ticks);
-        write_text(out, self.text.as_slice())
+        self.page.text.clear();
+        self.page.text.push_time(self.ticks);
+        write_text(out, self.page.text.as_slice())
     }
 }

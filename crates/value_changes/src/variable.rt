@@ -8,7 +8,7 @@ use observations::MAX_HELD;
 use osek_base::{AlarmId, IsrId, MAX_ROUTINES, MAX_TASKS, ResId, TaskId};
 
 /// How many characters identifier codes are made of: the printable ones of ASCII but the space.
-const DIGITS: u16 = 94;
+pub(crate) const DIGITS: u16 = 94;
 
 /// How many variables there are of each task and of each routine.
 const OF_TASK: u16 = 3;
@@ -47,6 +47,7 @@ pub enum Variable {
     Expiry(AlarmId),
 }
 
+#[inline(always)]
 fn of_task(task: TaskId, which: u16) -> u16
     requires { which < OF_TASK }
     ensures value { result ≡ 1 + 3 * task + which }
@@ -55,6 +56,7 @@ fn of_task(task: TaskId, which: u16) -> u16
     TASKS + OF_TASK * u16::from(task.number()) + which
 }
 
+#[inline(always)]
 fn of_routine(routine: IsrId, which: u16) -> u16
     requires { which < OF_ROUTINE }
     ensures value { result ≡ 193 + 3 * routine + which }
@@ -63,6 +65,7 @@ fn of_routine(routine: IsrId, which: u16) -> u16
     ROUTINES + OF_ROUTINE * u16::from(routine.number()) + which
 }
 
+#[inline(always)]
 fn of_resource(resource: &ResId) -> u16
     ensures value { result ≡ number_of (Variable.Holder resource.now) }
     ensures within { result < ALARMS }
@@ -73,7 +76,8 @@ fn of_resource(resource: &ResId) -> u16
     }
 }
 
-fn digit(value: u16) -> u8
+#[inline(always)]
+pub(crate) fn digit(value: u16) -> u8
     requires { value < DIGITS }
     ensures { result ≡ 33 + value }
 {
@@ -82,7 +86,7 @@ fn digit(value: u16) -> u8
 
 /// Appends a number in digits, the lowest first.
 #[inline(always)]
-fn push_code_of(number: u16, text: &mut DumpText)
+pub(crate) fn push_code_of(number: u16, text: &mut DumpText)
     requires small { number < DIGITS * DIGITS }
     requires room { length text.old + 2 ≤ TEXT_SIZE }
     ensures same { text.new ≡ text.old ++ code_of number }
@@ -98,7 +102,8 @@ fn push_code_of(number: u16, text: &mut DumpText)
 
 impl Variable {
     /// The number of the variable, the same in every dump.
-    fn number(&self) -> u16
+    #[inline(always)]
+    pub(crate) fn number(&self) -> u16
         ensures value { result ≡ number_of self.now }
         ensures within { result < DIGITS * DIGITS }
     {

@@ -25,6 +25,7 @@ fn write_some<W: Write>(out: &mut W, text: &[u8]) -> io::Result<usize>
 
 /// Writes a text, by as many writes as it takes. The first that fails ends it; one that is
 /// interrupted is tried again.
+#[inline(never)]
 pub(crate) fn write_text<W: Write>(out: &mut W, text: &[u8]) -> io::Result<()>
     ensures { Writes (W.contents out.old) (W.contents out.new) text.now result }
 {
@@ -38,6 +39,19 @@ pub(crate) fn write_text<W: Write>(out: &mut W, text: &[u8]) -> io::Result<()>
     Err(io::Error::from(ErrorKind::Interrupted))
 }
 
+/// The same of a text that isn't empty, and that a writer nearly always takes at once.
+#[inline(always)]
+fn write_at_once<W: Write>(out: &mut W, text: &[u8]) -> io::Result<()>
+    requires { 0 < length text.now }
+    ensures { Writes (W.contents out.old) (W.contents out.new) text.now result }
+{
+    let done = write_some(out, text)?;
+    if done == text.len() {
+        return Ok(());
+    }
+    write_text(out, &text[done..])
+}
+
 /// The same of a text that is mostly empty: nothing is called then.
 #[inline(always)]
 pub(crate) fn write_some_text<W: Write>(out: &mut W, text: &DumpText) -> io::Result<()>
@@ -46,5 +60,5 @@ pub(crate) fn write_some_text<W: Write>(out: &mut W, text: &DumpText) -> io::Res
     if text.len() == 0 {
         return Ok(());
     }
-    write_text(out, text.as_slice())
+    write_at_once(out, text.as_slice())
 }
