@@ -85,7 +85,16 @@ pub fn write_view<'v, O: Write, E: Write>(
         ticks: line.ticks,
     };
     match view {
-        View::Vcd { from } => write_vcd(alloc, &system, input, from, progress, out)?,
+        View::Vcd { from } => {
+            write_vcd(
+                alloc,
+                &system,
+                input,
+                from,
+                progress,
+                &mut StdSink::new(out),
+            )?;
+        }
         View::Timeline { from, rows } => {
             if let Some(name) = row_without_owner(&system, rows) {
                 return Ok(Verdict::NoRow(name));

@@ -3,4 +3,3 @@ pub mod Drawn
 pub mod Dumps
 pub mod Law
 pub mod Seen
-pub mod Writing

@@ -2,10 +2,10 @@
 
 ghost use Rattle.std.specs.Prelude.{◌≡◌, ℕ, List};
 ghost use Rattle.run_views.specs.Dumps.{IsDump, IsDumpOf};
-ghost use Rattle.run_views.specs.Writing.{WritesView};
+ghost use Rattle.sinks.specs.Sinks.{Puts};
 ghost use Rattle.tracer.specs.WholeRuns.{RefusesStart};
+ghost use Rattle.tracer.specs.Writing.{Writes};
 ghost use Rattle.value_changes.specs.Dumps.{started};
-ghost use Rattle.value_changes.specs.Writing.{Writes};
 
 use crate::beginning::{RunInput, begin};
 use crate::progress::Progress;
@@ -13,23 +13,24 @@ use crate::ticks::{next_tick, pass_alike};
 use kernel::NotCounted;
 use observed_runs::ObservedRun;
 use osek_base::System;
+use sinks::{Sink, SinkFault};
 use std::alloc::Global;
-use std::io::{self, Write};
+use std::io::Write;
 use tracer::RunFault;
 use value_changes::ValueChanges;
 
 /// Writes the dump of a run that has just begun, as many ticks as asked for, or up to a shutdown.
-fn dump_run<O: Write, E: Write>(
+fn dump_run<S: Sink, E: Write>(
     run: &mut ObservedRun<'_, NotCounted>,
     dump: &mut ValueChanges<'_>,
     ticks: u32,
     progress: &mut Progress<'_, E>,
-    out: &mut O,
-) -> io::Result<()>
+    out: &mut S,
+) -> Result<(), SinkFault>
     requires begun { run.old.ticks ≡ 0 }
     requires started { dump.old ≡ started run.old.system dump.old.first }
     ensures { (bytes : List ℕ) × IsDumpOf run.old ticks dump.old.first bytes
-        × Writes (O.contents out.old) (O.contents out.new) bytes result }
+        × Puts S.taken S.has_failed out.old out.new bytes result }
 {
     dump.begin(out)?;
     'ticks: while next_tick(run, ticks, progress) {
@@ -45,15 +46,15 @@ fn dump_run<O: Write, E: Write>(
 /// Runs a system and writes the value change dump of its ticks from `from` on: the declarations,
 /// what changes in each tick, one after another, and the time behind the last. A refusal comes
 /// before the first byte; a write that fails ends the run, behind a beginning of the dump.
-pub fn write_vcd<O: Write, E: Write>(
+pub fn write_vcd<S: Sink, E: Write>(
     alloc: Global,
     system: &System,
     input: RunInput<'_>,
     from: u32,
     progress: &mut Progress<'_, E>,
-    out: &mut O,
+    out: &mut S,
 ) -> Result<(), RunFault>
-    ensures { WritesView O.contents
+    ensures { Writes S.taken S.has_failed
         (IsDump system.now input.entry.irqs.now input.entry.mode.now input.entry.ticks from)
         (RefusesStart system.now input.entry.irqs.now input.entry.mode.now) out.old out.new
         result }

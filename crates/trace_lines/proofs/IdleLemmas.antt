@@ -4,8 +4,8 @@ use Rattle.std.specs.Prelude.{codes, decimal}
 use Rattle.osek_base.specs.Names.{Names}
 use Rattle.osek_base.specs.declared.trace_event.TraceEvent.{TraceEvent}
 use Rattle.trace_lines.specs.Lines.{ended, lines_from, same_ticks_text, texts_from, tick_text}
-use Rattle.trace_lines.specs.Sinks.{AppendsSome, Passes}
-use Rattle.trace_lines.proofs.SinkLemmas.{begins_longer, passed_some, passes_more, waits_more}
+use Rattle.sinks.specs.Sinks.{AppendsSome, Passes}
+use Rattle.sinks.proofs.SinkLemmas.{begins_longer, passed_some, passes_more, waits_more}
 
 -- the longer text begins with the shorter
 record BeginsWith (short long : List ℕ) : Type 0 where

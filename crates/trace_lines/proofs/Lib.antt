@@ -1,4 +1,3 @@
-pub mod SinkLemmas
 pub mod TickTexts
 pub mod NumberLemmas
 pub mod EachLemmas

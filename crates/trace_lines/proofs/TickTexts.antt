@@ -4,8 +4,8 @@ use Rattle.std.specs.List.{flat_map}
 use Rattle.osek_base.specs.declared.trace_event.TraceEvent.{TraceEvent}
 use Rattle.osek_base.specs.Names.{Names}
 use Rattle.trace_lines.specs.Lines.{record_text, tick_text}
-use Rattle.trace_lines.specs.Sinks.{AppendsSome, Passes}
-use Rattle.trace_lines.proofs.SinkLemmas.{begins_longer, passes_more, stops_later}
+use Rattle.sinks.specs.Sinks.{AppendsSome, Passes}
+use Rattle.sinks.proofs.SinkLemmas.{begins_longer, passes_more, stops_later}
 
 pub texts_append : (f : TraceEvent → List ℕ) (xs ys : List TraceEvent) → flat_map f (xs ++ ys) ≡ flat_map f xs ++ flat_map f ys
 texts_append f [] ys = refl

@@ -1,11 +1,11 @@
 //! Lines that wait to be written, no part of the standards.
 
 ghost use Rattle.std.specs.Prelude.{◌≡◌, ◌+◌, ◌<◌, ◌≤◌, [], ◌∷◌, ◌++◌, length, take, OnOk};
-ghost use Rattle.trace_lines.specs.Sinks.{Passes, Puts, Writing};
+ghost use Rattle.sinks.specs.Sinks.{Passes, Puts, Writing};
 
 use crate::short_text::ShortText;
-use crate::sink::{Sink, SinkFault, write_all};
 use crate::text::Text;
+use sinks::{Sink, SinkFault, write_all};
 use std::marker::Model;
 
 /// How many bytes a block has room for.

@@ -3,12 +3,12 @@
 ghost use Rattle.std.specs.Prelude.{◌≡◌, ◌+◌, ◌≤◌, ◌++◌, length, codes, decimal, OnOk};
 ghost use Rattle.osek_base.specs.Names.{Names};
 ghost use Rattle.trace_lines.specs.Lines.{event_of, lines_from, same_ticks_text};
-ghost use Rattle.trace_lines.specs.Sinks.{PutsBehind};
+ghost use Rattle.sinks.specs.Sinks.{PutsBehind};
 
 use crate::block::{BLOCK_SIZE, Block, RECORD_SIZE, make_room};
-use crate::sink::{Sink, SinkFault};
 use crate::tick_text::TickText;
 use osek_base::MAX_TICKS;
+use sinks::{Sink, SinkFault};
 
 /// What the line of a tick says in which nobody executes and nothing else is recorded.
 #[derive(Clone, Copy)]

@@ -6,16 +6,16 @@ ghost use Rattle.osek_base.specs.declared.trace_event.TraceEvent.{TraceEvent};
 ghost use Rattle.osek_base.specs.Executed.{StandsIn, executed_record, idle_or_executed};
 ghost use Rattle.trace_lines.specs.Lines.{record_text, tick_text};
 ghost use Rattle.trace_lines.specs.Programs.{IsOfProgram};
-ghost use Rattle.trace_lines.specs.Sinks.{PutsBehind};
+ghost use Rattle.sinks.specs.Sinks.{PutsBehind};
 
 use crate::block::{BLOCK_SIZE, Block, RECORD_SIZE, make_room};
 use crate::block_outcome::push_block_blockers;
 use crate::instruction_texts::InstructionTexts;
 use crate::line::push_blockers;
-use crate::sink::{Sink, SinkFault};
 use crate::text::Text;
 use crate::tick_text::TickText;
 use osek_base::{Entry, Executed, Outcome, TickRecord, TraceEvent};
+use sinks::{Sink, SinkFault};
 
 /// Appends the line of a record, the number of blockers where there is one, and the line's end.
 #[inline(always)]

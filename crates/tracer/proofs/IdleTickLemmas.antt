@@ -10,9 +10,9 @@ use Rattle.osek_base.specs.View.{view_records}
 use Rattle.kernel.specs.Progress.{Progress, is_over, run_of}
 use Rattle.blocking_laws.specs.Steps.{record_at}
 use Rattle.trace_lines.specs.Lines.{event_of, same_ticks_text, tick_text}
-use Rattle.trace_lines.specs.Sinks.{AppendsSome, Passes}
+use Rattle.sinks.specs.Sinks.{AppendsSome, Passes}
 use Rattle.trace_lines.proofs.IdleLemmas.{same_texts}
-use Rattle.trace_lines.proofs.SinkLemmas.{passes_more, stops_later}
+use Rattle.sinks.proofs.SinkLemmas.{passes_more, stops_later}
 use Rattle.tracer.specs.Shown.{numbers_shown, tick_text_shown}
 use Rattle.tracer.specs.Ticks.{SameLines, idle_word, ticks_text_shown}
 use Rattle.tracer.specs.declared.shown.Shown.{Shown}

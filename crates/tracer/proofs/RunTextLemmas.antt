@@ -20,8 +20,8 @@ use Rattle.blocking_laws.proofs.StepLemmas.{run_over, run_stays, steps_more, ste
 use Rattle.tracer.specs.declared.shown.Shown.{Shown}
 use Rattle.trace_lines.specs.Lines.{ended, numbered_line, tick_text}
 use Rattle.tracer.specs.Shown.{records_shown, lines_shown, text_shown, view_text}
-use Rattle.trace_lines.specs.Sinks.{AppendsSome, Passes}
-use Rattle.trace_lines.proofs.SinkLemmas.{begins_longer, passes_more, stops_later}
+use Rattle.sinks.specs.Sinks.{AppendsSome, Passes}
+use Rattle.sinks.proofs.SinkLemmas.{begins_longer, passes_more, stops_later}
 
 -- ---- all, the view, and numbers
 

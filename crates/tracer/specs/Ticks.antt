@@ -6,7 +6,7 @@ use Rattle.osek_base.specs.declared.limits.TheConstants.{MAX_TICKS}
 use Rattle.osek_base.specs.System.{System}
 use Rattle.kernel.specs.Progress.{Progress, is_over, run_of}
 use Rattle.trace_lines.specs.Lines.{texts_from}
-use Rattle.trace_lines.specs.Sinks.{PutsBehind}
+use Rattle.sinks.specs.Sinks.{PutsBehind}
 use Rattle.trace_lines.specs.declared.idle_lines.IdleWord.{IdleWord}
 use Rattle.tracer.specs.Shown.{tick_text_shown}
 use Rattle.tracer.specs.declared.shown.Shown.{Shown}

@@ -2,7 +2,7 @@
 use Rattle.std.specs.Prelude.{◌≡◌, ℕ, Bool, true, List, Option, Ok, Err}
 use Rattle.std.specs.Io.KnownBytes.{Appends}
 use Rattle.std.specs.declared.result.Result.{Result}
-use Rattle.trace_lines.specs.Sinks.{AppendsSome}
+use Rattle.sinks.specs.Sinks.{AppendsSome}
 use Rattle.tracer.specs.declared.run_fault.RunFault.{RunFault}
 
 -- Ok: the sink took a text that is asked for, and no write failed.

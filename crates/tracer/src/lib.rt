@@ -10,8 +10,9 @@ mod whole_run;
 mod written_ticks;
 
 pub use run_fault::RunFault;
+pub use sinks::{Sink, SinkFault, StdSink};
 pub use system_texts::read_system;
 pub use trace_input::TraceInput;
-pub use trace_lines::{LineText, Sink, SinkFault, StdSink, line_text, upper_view};
+pub use trace_lines::{LineText, line_text, upper_view};
 pub use upper_run::run_upper;
 pub use whole_run::{run, run_blocking};

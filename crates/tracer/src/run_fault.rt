@@ -6,12 +6,12 @@ use arrival_lists::IrqFault;
 use kernel::BootFault;
 use oil_reader::OilFault;
 use partition_check::NamedDenial;
+use sinks::SinkFault;
 use std::alloc::AllocError;
 use std::io;
 use system_gen::GenFault;
 use task_asm::AsmFault;
 use thiserror::Error;
-use trace_lines::SinkFault;
 
 /// Why a run came to no end: the first refusal of an input, want of memory, or a failed write.
 #[derive(Debug, Drop, Error)]

@@ -14,8 +14,8 @@ use crate::trace_input::TraceInput;
 use crate::whole_run::write_run;
 use osek_base::System;
 use partition_check::check_partition;
+use sinks::Sink;
 use std::alloc::Global;
-use trace_lines::Sink;
 use upper_only::upper_only;
 
 /// Checks that the upper part of a system at p is separable. A refusal is the first denial, with its subject's name.

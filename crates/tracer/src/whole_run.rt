@@ -14,8 +14,9 @@ use arrival_lists::read_arrivals;
 use kernel::{Blockers, Counted, Kernel, NotCounted};
 use osek_base::System;
 use ready_queues::LevelQueues;
+use sinks::Sink;
 use std::alloc::Global;
-use trace_lines::{InstructionTexts, Sink};
+use trace_lines::InstructionTexts;
 
 /// The system, booted in a mode with the arrivals of a list, or the first fault of these.
 fn begin<'s, B: Blockers>(

@@ -14,15 +14,16 @@ ghost use Rattle.tracer.specs.Ticks.{
   idle_word,
 };
 ghost use Rattle.trace_lines.specs.Lines.{event_of, same_ticks_text};
-ghost use Rattle.trace_lines.specs.Sinks.{Puts, PutsBehind};
+ghost use Rattle.sinks.specs.Sinks.{Puts, PutsBehind};
 
 use crate::shown::Shown;
 use kernel::{Blockers, Kernel};
 use osek_base::{MAX_TICKS, TickRecord};
 use ready_queues::LevelQueues;
+use sinks::{Sink, SinkFault};
 use trace_lines::{
-    Block, IdleWord, InstructionTexts, Sink, SinkFault, TickText, flush, upper_view_into,
-    write_from_executed, write_idle_ticks, write_tick, write_tick_parts,
+    Block, IdleWord, InstructionTexts, TickText, flush, upper_view_into, write_from_executed,
+    write_idle_ticks, write_tick, write_tick_parts,
 };
 
 /// What the lines of a run are made of besides its records: what is shown of it and the texts of its

@@ -5,4 +5,3 @@ pub mod Dumps
 pub mod Lines
 pub mod Runs
 pub mod Ticks
-pub mod Writing

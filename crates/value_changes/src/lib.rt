@@ -14,7 +14,6 @@ mod tick_page;
 mod time_front;
 mod value_changes;
 mod variable;
-mod writing;
 
 pub use last_value::LastValue;
 pub use last_values::LastValues;

@@ -1,7 +1,7 @@
 //! Value change dumps, IEEE 1364: of each tick what changes in it.
 
 ghost use Rattle.std.specs.Prelude.{◌≡◌, [], ℕ, ◌+◌, length, true};
-ghost use Rattle.std.specs.Io.KnownBytes.{Appends};
+ghost use Rattle.sinks.specs.Sinks.{Puts};
 ghost use Rattle.value_changes.specs.Declarations.{declarations};
 ghost use Rattle.value_changes.specs.Dumps.{
   Dump,
@@ -15,14 +15,12 @@ ghost use Rattle.value_changes.specs.Dumps.{
 ghost use Rattle.value_changes.specs.Lines.{time_line};
 ghost use Rattle.value_changes.specs.Runs.{IsEach};
 ghost use Rattle.value_changes.specs.Ticks.{after_tick, events_text, tick_text};
-ghost use Rattle.value_changes.specs.Writing.{Writes};
 
 use crate::declarations::push_declarations;
 use crate::tick_page::TickPage;
-use crate::writing::{write_some_text, write_text};
 use observations::Observation;
 use osek_base::System;
-use std::io::{self, Write};
+use sinks::{Sink, SinkFault, write_all};
 use std::marker::Model;
 
 /// A value change dump of a run that is being written. Contracts see what is to be known to go on
@@ -70,41 +68,41 @@ impl<'s> ValueChanges<'s> {
 
     /// Writes the declarations, which stand before the first tick. An error is a failed write,
     /// behind a beginning of them.
-    pub fn begin<W: Write>(&mut self, out: &mut W) -> io::Result<()>
+    pub fn begin<S: Sink>(&mut self, out: &mut S) -> Result<(), SinkFault>
         ensures same { self.new ≡ self.old }
-        ensures text { Writes (W.contents out.old) (W.contents out.new)
+        ensures text { Puts S.taken S.has_failed out.old out.new
             (declarations self.old.system) result }
     {
         push_declarations(self.system, &mut self.page.text);
-        write_text(out, self.page.text.as_slice())
+        write_all(out, self.page.text.as_slice())
     }
 
     /// Writes what changes in a tick, of the first tick that is written all values. The tick before
     /// `end` is the last that is seen.
     #[inline(always)]
-    fn write_tick<W: Write>(
+    fn write_tick<S: Sink>(
         &mut self,
         tick: u32,
         end: u64,
         seen: &Observation,
-        out: &mut W,
-    ) -> io::Result<()>
+        out: &mut S,
+    ) -> Result<(), SinkFault>
         ensures after { self.new ≡ behind_tick self.old end seen.now }
-        ensures text { Writes (W.contents out.old) (W.contents out.new)
+        ensures text { Puts S.taken S.has_failed out.old out.new
             (tick_text self.old.system self.old.is_begun tick self.old.values seen.now) result }
     {
         self.page.put_tick(self.system, self.is_begun, tick, seen);
         self.is_begun = true;
         self.ticks = end;
-        write_some_text(out, &self.page.text)
+        write_all(out, self.page.text.as_slice())
     }
 
     /// Writes what changes in the next tick that is seen, of the first tick that is written all
     /// values. An error is a failed write, behind a beginning of the tick's text, and ends the dump.
     #[inline(always)]
-    pub fn observe<W: Write>(&mut self, seen: &Observation, out: &mut W) -> io::Result<()>
+    pub fn observe<S: Sink>(&mut self, seen: &Observation, out: &mut S) -> Result<(), SinkFault>
         ensures after { self.new ≡ observed self.old seen.now }
-        ensures text { Writes (W.contents out.old) (W.contents out.new)
+        ensures text { Puts S.taken S.has_failed out.old out.new
             (observed_text self.old seen.now) result }
     {
         if seen.tick < self.from {
@@ -119,15 +117,15 @@ impl<'s> ValueChanges<'s> {
     /// were handed on, one after another. An error is a failed write, behind a beginning of the
     /// text, and ends the dump.
     #[inline(always)]
-    pub fn observe_alike<W: Write>(
+    pub fn observe_alike<S: Sink>(
         &mut self,
         seen: &Observation,
         first: u32,
         end: u32,
-        out: &mut W,
-    ) -> io::Result<()>
+        out: &mut S,
+    ) -> Result<(), SinkFault>
         ensures after { self.new ≡ alike self.old seen.now first end }
-        ensures text { Writes (W.contents out.old) (W.contents out.new)
+        ensures text { Puts S.taken S.has_failed out.old out.new
             (alike_text self.old seen.now first end) result }
         ensures once { (t : ℕ) → events_text seen.now ≡ []
             → tick_text self.old.system true t (after_tick self.old.values seen.now) seen.now ≡ [] }
@@ -143,13 +141,13 @@ impl<'s> ValueChanges<'s> {
 
     /// Writes the time behind the last tick, so that this one has its width. An error is a failed
     /// write, behind a beginning of the line.
-    pub fn end<W: Write>(&mut self, out: &mut W) -> io::Result<()>
+    pub fn end<S: Sink>(&mut self, out: &mut S) -> Result<(), SinkFault>
         ensures same { self.new ≡ self.old }
-        ensures text { Writes (W.contents out.old) (W.contents out.new)
+        ensures text { Puts S.taken S.has_failed out.old out.new
             (time_line self.old.behind) result }
     {
         self.page.text.clear();
         self.page.text.push_time(self.ticks);
-        write_text(out, self.page.text.as_slice())
+        write_all(out, self.page.text.as_slice())
     }
 }

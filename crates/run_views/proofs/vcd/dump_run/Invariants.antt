@@ -5,9 +5,8 @@ use Rattle.run_views.proofs.vcd.dump_run.Given as goal
 
 abbrev pub invariant-ticks : goal.invariant-ticks
 invariant-ticks g l =
-    let contents = g.O.Write.contents in
     Made false l.ticks l.initial.run l.run
-    (IsWritten l.initial.run.system l.fn.dump.first (contents l.fn.out) (contents l.out) l.dump)
+    (IsWritten g.S.Sink.taken g.S.Sink.has_failed l.initial.run.system l.fn.dump.first l.fn.out l.out l.dump)
 
 abbrev pub decreases-ticks : goal.decreases-ticks
 decreases-ticks g l = l.ticks - l.run.ticks

@@ -10,4 +10,4 @@ returns-in_err-dump_run g c =
     let first = ap (λ (d : Dump). d.first) c.new-dump.ensures in
     let h = c.in_err-dump_run.ensures in
     let dump = subst (λ n. IsDumpOf c.in_ok-run.run' c.args.input.ticks n h.0) first h.1 in
-    rw (p.1 ∙ ap Err p.2) (h.0, (c.in_ok-run.run', c.in_ok-run.ensures.begun, dump), h.2.beginning)
+    rw (p.1 ∙ ap Err p.2) ((h.0, (c.in_ok-run.run', c.in_ok-run.ensures.begun, dump), h.2.beginning), h.2.failed)

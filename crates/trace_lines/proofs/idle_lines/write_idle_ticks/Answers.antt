@@ -1,6 +1,6 @@
 use Rattle.std.proofs.Common.{ap, sym, subst, ◌∙◌}
 use Rattle.trace_lines.specs.Lines.{event_of, same_ticks_text}
-use Rattle.trace_lines.specs.Sinks.{PutsBehind}
+use Rattle.sinks.specs.Sinks.{PutsBehind}
 use Rattle.trace_lines.specs.declared.idle_lines.IdleWord.{IdleWord}
 use Rattle.trace_lines.proofs.IdleLemmas.{idle_same, other_same}
 use Rattle.trace_lines.proofs.idle_lines.write_idle_ticks.Goals as goal

@@ -1,7 +1,7 @@
 use Rattle.std.proofs.Common.{◌+◌, ◌∙◌, add-one, ap, sym, subst, arith}
 use Rattle.trace_lines.specs.Lines.{lines_from}
-use Rattle.trace_lines.specs.Sinks.{Passes}
-use Rattle.trace_lines.proofs.SinkLemmas.{stops}
+use Rattle.sinks.specs.Sinks.{Passes}
+use Rattle.sinks.proofs.SinkLemmas.{stops}
 use Rattle.trace_lines.proofs.IdleLemmas.{lines_stopped, passes_line}
 use Rattle.trace_lines.proofs.idle_lines.write_lines.Goals as goal
 

@@ -1,6 +1,6 @@
 use Rattle.std.proofs.Common.{◌≡◌, ◌+◌, ◌-◌, ◌≤◌}
 use Rattle.trace_lines.specs.Lines.{lines_from}
-use Rattle.trace_lines.specs.Sinks.{Passes}
+use Rattle.sinks.specs.Sinks.{Passes}
 use Rattle.trace_lines.proofs.idle_lines.write_lines.Given as goal
 
 abbrev pub invariant-lines : goal.invariant-lines

@@ -1,6 +1,6 @@
 use Rattle.std.proofs.Common.{[]}
 use Rattle.osek_base.specs.Executed.{executed_record}
-use Rattle.trace_lines.proofs.SinkLemmas.{goes_on, passes_none, stops}
+use Rattle.sinks.proofs.SinkLemmas.{goes_on, passes_none, stops}
 use Rattle.trace_lines.proofs.TickTexts.{passed, stopped_behind, stopped_there}
 use Rattle.trace_lines.proofs.written_records.write_executed_first.Goals as goal
 

@@ -1,6 +1,6 @@
 use Rattle.std.proofs.Common.{◌∙◌}
 use Rattle.osek_base.specs.declared.trace_event.TraceEvent.{TraceEvent}
-use Rattle.trace_lines.proofs.SinkLemmas.{stops, goes_on}
+use Rattle.sinks.proofs.SinkLemmas.{stops, goes_on}
 use Rattle.trace_lines.proofs.TickTexts.{passed, stopped_before, stopped_behind, stopped_there}
 use Rattle.trace_lines.proofs.written_records.write_idle_parts.Goals as goal
 

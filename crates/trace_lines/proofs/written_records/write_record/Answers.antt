@@ -1,4 +1,4 @@
-use Rattle.trace_lines.proofs.SinkLemmas.{begins_longer, stops}
+use Rattle.sinks.proofs.SinkLemmas.{begins_longer, stops}
 use Rattle.trace_lines.proofs.written_records.write_record.Goals as goal
 
 pub returns-in_err-make_room : goal.returns-in_err-make_room

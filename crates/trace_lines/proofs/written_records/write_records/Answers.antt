@@ -6,10 +6,10 @@ use Rattle.osek_base.specs.declared.trace_event.TraceEvent.{TraceEvent}
 use Rattle.osek_base.specs.Names.{Names}
 use Rattle.trace_lines.specs.Lines.{record_text, tick_text}
 use Rattle.trace_lines.specs.Programs.{IsOfProgram}
-use Rattle.trace_lines.specs.Sinks.{AppendsSome, Passes}
+use Rattle.sinks.specs.Sinks.{AppendsSome, Passes}
 use Rattle.trace_lines.proofs.EachLemmas.{all_at}
 use Rattle.trace_lines.proofs.TickTexts.{texts_append}
-use Rattle.trace_lines.proofs.SinkLemmas.{begins_longer, passes_more, stops_later, stops}
+use Rattle.sinks.proofs.SinkLemmas.{begins_longer, passes_more, stops_later, stops}
 use Rattle.trace_lines.proofs.written_records.write_records.Goals as goal
 
 -- a tick's text up to a record, that of the record, and the rest

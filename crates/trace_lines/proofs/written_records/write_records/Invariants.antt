@@ -1,6 +1,6 @@
 use Rattle.std.proofs.Common.{◌≡◌, take}
 use Rattle.trace_lines.specs.Lines.{tick_text}
-use Rattle.trace_lines.specs.Sinks.{Passes}
+use Rattle.sinks.specs.Sinks.{Passes}
 use Rattle.trace_lines.proofs.written_records.write_records.Given as goal
 
 abbrev pub invariant-records : goal.invariant-records

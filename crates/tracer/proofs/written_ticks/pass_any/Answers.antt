@@ -3,7 +3,7 @@ use Rattle.std.specs.Prelude.{IfSome}
 use Rattle.osek_base.specs.Executed.{StandsIn, idle_or_executed}
 use Rattle.osek_base.specs.System.{System}
 use Rattle.kernel.specs.Progress.{Progress}
-use Rattle.trace_lines.specs.Sinks.{PutsBehind}
+use Rattle.sinks.specs.Sinks.{PutsBehind}
 use Rattle.tracer.proofs.TickLines.{listed, number_of_last, whole_text}
 use Rattle.tracer.proofs.written_ticks.pass_any.Goals as goal
 

@@ -2,8 +2,8 @@ use Rattle.std.proofs.Common.{◌≡◌, refl, sym, ap, subst, ◌∙◌}
 use Rattle.osek_base.specs.System.{System}
 use Rattle.kernel.specs.Progress.{Progress}
 use Rattle.trace_lines.specs.Lines.{event_of, same_ticks_text}
-use Rattle.trace_lines.specs.Sinks.{Passes, PutsBehind}
-use Rattle.trace_lines.proofs.SinkLemmas.{passes_none}
+use Rattle.sinks.specs.Sinks.{Passes, PutsBehind}
+use Rattle.sinks.proofs.SinkLemmas.{passes_none}
 use Rattle.tracer.specs.Ticks.{idle_word, ticks_text_shown}
 use Rattle.tracer.proofs.IdleTickLemmas.{idle_ticks}
 use Rattle.tracer.proofs.written_ticks.pass_idle_ticks.Goals as goal

@@ -5,7 +5,7 @@ use Rattle.osek_base.specs.View.{view_records}
 use Rattle.kernel.specs.Progress.{Progress}
 use Rattle.trace_lines.specs.Lines.{tick_text}
 use Rattle.trace_lines.specs.Programs.{IsOfProgram}
-use Rattle.trace_lines.specs.Sinks.{PutsBehind}
+use Rattle.sinks.specs.Sinks.{PutsBehind}
 use Rattle.tracer.specs.declared.shown.Shown.{Shown}
 use Rattle.tracer.proofs.ProgramRecords.{shown_of_program}
 use Rattle.tracer.proofs.RunTextLemmas.{same_tick_text}

@@ -2,7 +2,7 @@ use Rattle.std.proofs.Common.{[], ◌∷◌, sym, ap, subst, ◌∙◌}
 use Rattle.osek_base.specs.Executed.{StandsIn, executed_record}
 use Rattle.osek_base.specs.System.{System}
 use Rattle.kernel.specs.Progress.{Progress}
-use Rattle.trace_lines.specs.Sinks.{PutsBehind}
+use Rattle.sinks.specs.Sinks.{PutsBehind}
 use Rattle.tracer.specs.Ticks.{MayPass, TickPasses}
 use Rattle.tracer.proofs.TickLines.{listed, number_of_last, whole_text}
 use Rattle.tracer.proofs.written_ticks.pass_whole.Goals as goal

@@ -1,6 +1,6 @@
 use Rattle.std.proofs.Common.{subst}
 use Rattle.trace_lines.specs.Lines.{event_of, same_ticks_text}
-use Rattle.trace_lines.specs.Sinks.{PutsBehind}
+use Rattle.sinks.specs.Sinks.{PutsBehind}
 use Rattle.trace_lines.specs.declared.idle_lines.IdleWord.{IdleWord}
 use Rattle.tracer.proofs.written_ticks.write_idle.Goals as goal
 

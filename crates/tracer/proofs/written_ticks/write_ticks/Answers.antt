@@ -5,8 +5,8 @@ use Rattle.osek_base.specs.Trace.{run}
 use Rattle.kernel.specs.Progress.{Progress, is_over, run_of}
 use Rattle.tracer.specs.Shown.{numbers_shown, text_shown, tick_text_shown}
 use Rattle.tracer.specs.declared.shown.Shown.{Shown}
-use Rattle.trace_lines.specs.Sinks.{AppendsSome, Passes}
-use Rattle.trace_lines.proofs.SinkLemmas.{passes_none, passed_all, passed_some, stops, goes_on}
+use Rattle.sinks.specs.Sinks.{AppendsSome, Passes}
+use Rattle.sinks.proofs.SinkLemmas.{passes_none, passed_all, passed_some, stops, goes_on}
 use Rattle.tracer.proofs.RunTextLemmas.{text_begun, passes_part, passed_whole}
 use Rattle.tracer.proofs.IdleTickLemmas.{at_next, passes_next, passes_idle, some_idle}
 use Rattle.tracer.proofs.written_ticks.write_ticks.Goals as goal

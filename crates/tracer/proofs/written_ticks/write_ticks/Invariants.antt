@@ -2,7 +2,7 @@ use Rattle.std.proofs.Common.{◌≡◌, ◌≤◌, ◌-◌, []}
 use Rattle.osek_base.specs.Trace.{run}
 use Rattle.tracer.specs.Shown.{numbers_shown, text_shown}
 use Rattle.tracer.specs.Ticks.{SameLines}
-use Rattle.trace_lines.specs.Sinks.{Passes}
+use Rattle.sinks.specs.Sinks.{Passes}
 use Rattle.tracer.proofs.written_ticks.write_ticks.Given as goal
 
 abbrev pub invariant-ticks : goal.invariant-ticks

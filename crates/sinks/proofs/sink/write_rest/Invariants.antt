@@ -1,6 +1,6 @@
 use Rattle.std.proofs.Common.{length, ◌-◌, ◌≡◌, ◌≤◌, take}
 use Rattle.std.specs.Io.KnownBytes.{Appends}
-use Rattle.trace_lines.proofs.sink.write_all.Given as goal
+use Rattle.sinks.proofs.sink.write_rest.Given as goal
 
 abbrev pub invariant-writes : goal.invariant-writes
 invariant-writes g l =

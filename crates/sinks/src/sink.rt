@@ -1,10 +1,10 @@
-//! Where a trace is written, no part of the standards.
+//! Where texts are written, no part of the standards.
 
 ghost use Rattle.std.specs.Prelude.{◌≡◌, ◌≤◌, ◌||◌, ℕ, Bool, List, None, IfOk, length, take, false};
 ghost use Rattle.std.specs.Io.KnownBytes.{Appends, WriteAppends};
-ghost use Rattle.trace_lines.specs.Sinks.{is_failed_write, Puts};
+ghost use Rattle.sinks.specs.Sinks.{is_failed_write, Puts};
 
-use std::io::Write;
+use std::io::{ErrorKind, Write};
 use std::marker::Model;
 
 /// A write failed. It says no more, since nothing is tried again.
@@ -41,7 +41,7 @@ pub struct StdSink<W> {
 }
 
 impl<W> Model for StdSink<W> {
-    ghost use Rattle.trace_lines.specs.Sinks.{Watched};
+    ghost use Rattle.sinks.specs.Sinks.{Watched};
 
     ghost Value = { Watched W };
 
@@ -61,13 +61,43 @@ impl<W> StdSink<W> {
     }
 }
 
+/// A write, again and again where it is interrupted.
+#[inline(never)]
+fn write_again<W: Write>(writer: &mut W, bytes: &[u8]) -> Result<usize, SinkFault>
+    ensures bound { IfOk result (λ n. n ≤ length bytes.now) }
+    ensures bytes { WriteAppends (W.contents writer.old) (W.contents writer.new) result bytes.now }
+{
+    'tries: for _ in 0..u64::MAX {
+        match writer.write(bytes) {
+            Ok(count) => return Ok(count),
+            Err(error) if error.kind() == ErrorKind::Interrupted => {}
+            Err(_) => return Err(SinkFault),
+        }
+    }
+    Err(SinkFault)
+}
+
+/// The same, where the first write is hardly ever interrupted.
+#[inline(always)]
+fn write_once<W: Write>(writer: &mut W, bytes: &[u8]) -> Result<usize, SinkFault>
+    ensures bound { IfOk result (λ n. n ≤ length bytes.now) }
+    ensures bytes { WriteAppends (W.contents writer.old) (W.contents writer.new) result bytes.now }
+{
+    match writer.write(bytes) {
+        Ok(count) => Ok(count),
+        Err(error) if error.kind() == ErrorKind::Interrupted => write_again(writer, bytes),
+        Err(_) => Err(SinkFault),
+    }
+}
+
 impl<W: Write> Sink for StdSink<W> {
     ghost taken = { λ s. W.contents s.writer };
 
     ghost has_failed = { λ s. s.failed };
 
+    #[inline(always)]
     fn write(&mut self, bytes: &[u8]) -> Result<usize, SinkFault> {
-        match self.writer.write(bytes) {
+        match write_once(&mut self.writer, bytes) {
             Ok(0) if !bytes.is_empty() => {
                 self.failed = true;
                 Ok(0)
@@ -85,8 +115,9 @@ impl<W: Write> Sink for StdSink<W> {
     }
 }
 
-/// Writes all the bytes, by as many writes as it takes. The first that fails ends it.
-pub(crate) fn write_all<S: Sink>(out: &mut S, bytes: &[u8]) -> Result<(), SinkFault>
+/// The same of what is left of some bytes, write by write.
+#[inline(never)]
+fn write_rest<S: Sink>(out: &mut S, bytes: &[u8]) -> Result<(), SinkFault>
     ensures { Puts S.taken S.has_failed out.old out.new bytes.now result }
 {
     let mut done = 0;
@@ -98,4 +129,23 @@ pub(crate) fn write_all<S: Sink>(out: &mut S, bytes: &[u8]) -> Result<(), SinkFa
         done += count;
     }
     Ok(())
+}
+
+/// Writes all the bytes, by as many writes as it takes, mostly one, and none where there are no bytes. The first that fails
+/// ends it.
+#[inline(always)]
+pub fn write_all<S: Sink>(out: &mut S, bytes: &[u8]) -> Result<(), SinkFault>
+    ensures { Puts S.taken S.has_failed out.old out.new bytes.now result }
+{
+    if bytes.is_empty() {
+        return Ok(());
+    }
+    let done = out.write(bytes)?;
+    if done == 0 {
+        return Err(SinkFault);
+    }
+    if done == bytes.len() {
+        return Ok(());
+    }
+    write_rest(out, &bytes[done..])
 }

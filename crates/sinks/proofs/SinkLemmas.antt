@@ -1,11 +1,11 @@
 -- How the bytes that a sink takes add up over several writes.
-use Rattle.std.proofs.Common.{◌≡◌, ℕ, ◌+◌, ◌-◌, Bool, true, List, [], ◌++◌, length, take, drop, Option, Some, None, Result, Ok, Err, sym, ap, subst, ◌∙◌, append_assoc, append-nil}
+use Rattle.std.proofs.Common.{◌≡◌, ℕ, ◌+◌, ◌-◌, Bool, true, false, not, ◌||◌, ◌&&◌, ◌==◌, ne_eqb, List, [], ◌++◌, length, take, drop, Option, Some, None, Result, Ok, Err, refl, sym, ap, subst, ◌∙◌, append_assoc, append-nil}
 use Rattle.std.proofs.KnownBytes.{Appends-nil}
 use Rattle.std.proofs.lemmas.List.{take_rest, take-append-drop}
 use Rattle.std.proofs.Math.Seq.{take-add}
 use Rattle.std.specs.Io.KnownBytes.{Appends, Keeps}
 use Rattle.std.specs.Result.{IsErrAnd}
-use Rattle.trace_lines.specs.Sinks.{AppendsSome, Passes, Writing}
+use Rattle.sinks.specs.Sinks.{AppendsSome, Passes, Puts, Writing}
 
 pub appends_more : (a b c : Option (List ℕ)) (xs ys : List ℕ) → Appends a b xs → Appends b c ys → Appends a c (xs ++ ys)
 appends_more None b c xs ys p q = tt
@@ -25,6 +25,11 @@ pub taken_more : (a b c : Option (List ℕ)) (bytes : List ℕ) (done count : �
 taken_more a b c bytes done count p q =
     rw (take-add done count bytes)
     (appends_more a b c (take done bytes) (take count (drop done bytes)) p (rw (take_rest bytes done) at q))
+
+-- a write that took some bytes didn't fail
+pub still_fine : (before : Bool) (count size : ℕ) → (count ≡ 0 → ⊥) → (before || (count == 0 && not (size == 0))) ≡ before
+still_fine false count size h = rw (ne_eqb count 0 h) refl
+still_fine true count size h = refl
 
 -- ---- beginnings
 
@@ -125,3 +130,23 @@ module _ {X : Type 0} (taken : X → Option (List ℕ)) (has_failed : X → Bool
       record { written = all h.written; beginning = tt; still = h.still ∙ same; failed = tt }
   goes_on C more old mid new (Err e) same all part h =
       record { written = tt; beginning = part h.beginning; still = tt; failed = h.failed }
+
+-- what was written before, and what is written then
+pub puts_more : {X T E : Type 0} (taken : X → Option (List ℕ)) (has_failed : X → Bool) (old mid new : X) (text more : List ℕ)
+    (r : Result T E) → Appends (taken old) (taken mid) text → has_failed mid ≡ has_failed old → Puts taken has_failed mid new more r
+    → Puts taken has_failed old new (text ++ more) r
+puts_more taken has_failed old mid new text more r begun same rest =
+    let a = taken old in
+    let b = taken mid in
+    let c = taken new in
+    goes_on taken has_failed (λ a b. Appends a b more) more (λ a b. Appends a b (text ++ more)) (text ++ more) old mid new r same
+    (appends_more a b c text more begun) (begins_later a b c text more begun) rest
+
+-- what is left of some bytes is written behind their beginning
+pub puts_rest : {X T E : Type 0} (taken : X → Option (List ℕ)) (has_failed : X → Bool) (old mid new : X) (bytes : List ℕ) (done : ℕ)
+    (r : Result T E) → Appends (taken old) (taken mid) (take done bytes) → has_failed mid ≡ has_failed old
+    → Puts taken has_failed mid new (take (length bytes - done) (drop done bytes)) r → Puts taken has_failed old new bytes r
+puts_rest taken has_failed old mid new bytes done r begun same rest =
+    subst (λ t. Puts taken has_failed old new t r) (take-append-drop done bytes)
+    (puts_more taken has_failed old mid new (take done bytes) (drop done bytes) r begun same
+    (subst (λ t. Puts taken has_failed mid new t r) (take_rest bytes done) rest))

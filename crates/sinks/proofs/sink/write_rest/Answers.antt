@@ -1,18 +1,14 @@
-use Rattle.std.proofs.Common.{◌≡◌, ℕ, ◌+◌, ◌-◌, ◌<◌, ◌≤◌, Bool, true, false, not, ◌||◌, ◌&&◌, ◌==◌, List, length, take, drop, refl, ◌∙◌, arith, ne_eqb}
+use Rattle.std.proofs.Common.{◌≡◌, ℕ, ◌+◌, ◌-◌, ◌<◌, ◌≤◌, Bool, true, false, not, ◌||◌, ◌&&◌, ◌==◌, List, length, take, drop, ◌∙◌, arith, ne_eqb}
 use Rattle.std.proofs.lemmas.List.{take_rest, length-drop}
 use Rattle.std.specs.Io.KnownBytes.{Appends}
-use Rattle.trace_lines.proofs.SinkLemmas.{appends_kept, taken_more, begins, stops}
-use Rattle.trace_lines.proofs.sink.write_all.Goals as goal
+use Rattle.sinks.proofs.SinkLemmas.{appends_kept, taken_more, begins, still_fine, stops}
+use Rattle.sinks.proofs.sink.write_rest.Goals as goal
 
 within_rest : (bytes : List ℕ) (done count : ℕ) → done ≤ length bytes
     → count ≤ length (take (length bytes - done) (drop done bytes)) → done + count ≤ length bytes
 within_rest bytes done count h k =
     let r = rw (take_rest bytes done) at k in
     omega (arith, h, r, length-drop done bytes)
-
-still_fine : (before : Bool) (count size : ℕ) → (count ≡ 0 → ⊥) → (before || (count == 0 && not (size == 0))) ≡ before
-still_fine false count size h = rw (ne_eqb count 0 h) refl
-still_fine true count size h = refl
 
 failed_there : (before now : Bool) → now ≡ (before || true) → now ≡ true
 failed_there false now e = e
