@@ -1,5 +1,5 @@
 -- Figures of a run after ticks in which the same is seen.
-use Rattle.std.proofs.Common.{ℕ, zero, suc, ◌≡◌, ◌+◌, ◌<◌, Bool, true, false, List, cond, length, sym, ◌∙◌, ap, arith}
+use Rattle.std.proofs.Common.{ℕ, zero, suc, ◌≡◌, ◌+◌, ◌<◌, Bool, true, false, List, cond, length, sym, ◌∙◌, ap, subst, arith}
 use Rattle.std.specs.List.{refill, count_by}
 use Rattle.std.proofs.lemmas.List.Sums.{sum_by-cons}
 use Rattle.osek_base.specs.System.{System}
@@ -13,7 +13,7 @@ use Rattle.figures.specs.FigureSums.{RunFigures, AreFigures, task_figures, task_
 use Rattle.figures.specs.RoutineSums.{routine_figures}
 use Rattle.figures.specs.ResourceSums.{resource_figures}
 use Rattle.figures.specs.AlarmSums.{alarm_figures}
-use Rattle.figures.specs.Calm.{IsListRow}
+use Rattle.figures.specs.Counting.{AreCounted, task_figures_of, routine_figures_of, resource_figures_of, alarm_figures_of}
 use Rattle.figures.proofs.RowLemmas.{list_row}
 
 -- the lists of a run's figures, and each list as it was lent and as it came back
@@ -25,10 +25,10 @@ pub record AreListRows (o : Observation) (first n : ℕ) (old : RunFigures) (lev
   pub lent_routines : routines ≡ old.routines
   pub lent_resources : resources ≡ old.resources
   pub lent_alarms : alarms ≡ old.alarms
-  pub task_rows : IsListRow task_figures (λ t. task_tick levels (numbered t o)) first n tasks new_tasks
-  pub routine_rows : IsListRow routine_figures (λ t. routine_tick (numbered t o)) first n routines new_routines
-  pub resource_rows : IsListRow resource_figures (λ t. holder_tick (numbered t o)) first n resources new_resources
-  pub alarm_rows : IsListRow alarm_figures (λ t. alarm_tick (numbered t o)) first n alarms new_alarms
+  pub task_rows : AreCounted (task_figures_of levels) o first n tasks new_tasks
+  pub routine_rows : AreCounted routine_figures_of o first n routines new_routines
+  pub resource_rows : AreCounted resource_figures_of o first n resources new_resources
+  pub alarm_rows : AreCounted alarm_figures_of o first n alarms new_alarms
 
 length_alike : (o : Observation) (first n : ℕ) (before : List Observation) → length (alike o first n before) ≡ length before + n
 length_alike o first zero before = omega arith
@@ -77,8 +77,9 @@ pub figures_alike : (S : System) (before : List Observation) (o : Observation) (
     })
 figures_alike S before o first n old levels tasks new_tasks routines new_routines resources new_resources alarms new_alarms ticks last idle all ends some idles rows are =
     let all_levels : levels ≡ levels_of S = rows.lent_levels ∙ are.levels in
-    let task_rows : IsListRow task_figures (λ t. task_tick (levels_of S) (numbered t o)) first n tasks new_tasks =
-    rw all_levels at rows.task_rows in
+    let task_rows : AreCounted (task_figures_of (levels_of S)) o first n tasks new_tasks =
+    subst (λ ls. AreCounted (task_figures_of ls) o first n tasks new_tasks) all_levels
+    rows.task_rows in
     record {
       ticks = all ∙ ap (λ m. capped (m + n)) are.ticks ∙ capped_more (length before) n ∙ sym (ap capped (length_alike o first n before));
       last = last_alike o first n last before ends some;

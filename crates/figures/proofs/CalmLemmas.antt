@@ -15,7 +15,7 @@ use Rattle.figures.specs.StateSums.{task_times, time_of, begun, has_begun, leave
 use Rattle.figures.specs.ResponseSums.{Responses, response_figures, entered, later, some_more, standing, ready_since}
 use Rattle.figures.specs.FigureSums.{task_figures}
 use Rattle.figures.specs.Quiet.{gets_nothing}
-use Rattle.figures.specs.Calm.{is_calm_task, is_calm_next, stayed, times_on, times_stayed}
+use Rattle.figures.specs.Calm.{is_calm_task, is_calm_next, stayed, times_on}
 use Rattle.figures.proofs.StepLemmas.{task_more, times_more}
 use Rattle.figures.proofs.QuietLemmas.{kept_count, first_stays}
 use Rattle.figures.proofs.AddLemmas.{time_in}
@@ -159,18 +159,6 @@ task_go t u n before seen f q first e =
     let x = times_go t u n seen f.times s.begun (ap (λ (g : TaskFigures). g.times) e) in
     let r = responses_stay t u seen f.responses (ap (λ (g : TaskFigures). g.responses) e) q (s.entered u) in
     cc
-
-pub task_times_of : (t : TaskTick) (before : List TaskTick) (f : TaskFigures) → f ≡ task_figures (t ∷ before)
-    → f.times ≡ task_times (t ∷ before)
-unfolding task_figures
-task_times_of t before f e = ap (λ (g : TaskFigures). g.times) e
-
--- behind the first tick it's known whether the oldest job has begun
-pub settles : (t : TaskTick) (before : List TaskTick) (f : TaskFigures) (times : TaskTimes) (n : ℕ) → IsCalm t
-    → f ≡ task_figures (t ∷ before) → times ≡ times_stayed t n f.times → (record f { times = times }) ≡ task_on t f n
-settles t before f times n q first e =
-    let s = settled t before f q first in
-    ap (λ (times : TaskTimes). record f { times = times }) (e ∙ ap (λ had. record (times_on t n f.times) { has_begun = had }) s.begun)
 
 -- a tick in which the jobs that stand were all followed before
 pub task_stays : (t : TaskTick) (before : List TaskTick) (f : TaskFigures) → is_calm_next t f ≡ true → f ≡ task_figures before

@@ -2,9 +2,7 @@ pub mod AddLemmas
 pub mod AlikeLemmas
 pub mod CalmLemmas
 pub mod EnterLemmas
-pub mod FigureLemmas
 pub mod HoldLemmas
-pub mod ListLemmas
 pub mod PendLemmas
 pub mod QuietLemmas
 pub mod RowLemmas

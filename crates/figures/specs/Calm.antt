@@ -1,5 +1,5 @@
 -- Ticks in a row in which the same is seen, and what of them is counted at once.
-use Rattle.std.specs.Prelude.{ℕ, zero, suc, ◌≡◌, ◌<◌, Bool, not, ◌&&◌, ◌==◌, ◌+◌, ◌-◌, ◌^◌, cond, is_none, is_some, nat_le, List, [], ◌∷◌, length, slice_index_or}
+use Rattle.std.specs.Prelude.{ℕ, Bool, not, ◌&&◌, ◌==◌, ◌+◌, ◌-◌, ◌^◌, cond, is_none, is_some, nat_le, length}
 use Rattle.figures.specs.declared.task_tick.TaskTick.{TaskTick}
 use Rattle.figures.specs.declared.task_time.TaskTime.{TaskTime}
 use Rattle.figures.specs.declared.task_time.TaskTime.TheVariants.{Executed, StandsReady, Preempted, Blocked, Waits, HasNoJob}
@@ -15,17 +15,6 @@ use Rattle.figures.specs.StateSums.{begun, time_of, is_executed, is_ready, is_pr
 use Rattle.figures.specs.ResponseSums.{standing}
 use Rattle.figures.specs.ResourceSums.{is_got, hold_on, hold_at}
 use Rattle.figures.specs.Quiet.{gets_nothing}
-
--- so many ticks of a thing from one on, newest first, where `now t` is seen of it in tick t
-abbrev pub ticks_from : {T : Type 0} (now : ℕ → T) (first : ℕ) → ℕ → List T → List T
-ticks_from now first zero before = before
-ticks_from now first (suc n) before = now (first + n) ∷ ticks_from now first n before
-
--- a list of figures before and after n ticks from one on, where `now t k` is seen in tick t of the thing of number k
-pub record IsListRow {T X : Type 0} (kind : List T → X) (now : ℕ → ℕ → T) (first n : ℕ) (old new : List X) : Type 0 where
-  pub count : length new ≡ length old
-  pub each : (k : ℕ) → k < length old → (before : List T) → slice_index_or old k (kind []) ≡ kind before
-      → slice_index_or new k (kind []) ≡ kind (ticks_from (λ t. now t k) first n before)
 
 -- nothing comes to a task: no job of it is made, refused or left, it isn't answered an error, and no blockers are told
 abbrev pub is_calm_task : TaskTick → Bool

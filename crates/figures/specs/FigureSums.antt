@@ -138,9 +138,3 @@ pub record AreFigures (S : System) (seen : List Observation) (f : RunFigures) : 
   pub routines : AreOf (length S.routines) routine_figures (λ k. map (λ o. routine_tick o k) seen) f.routines
   pub resources : AreOf (held_count S) resource_figures (λ k. map (λ o. holder_tick o k) seen) f.resources
   pub alarms : AreOf (length S.alarms) alarm_figures (λ k. map (λ o. alarm_tick o k) seen) f.alarms
-
--- a list of figures before and after one more tick, in which `now k` is seen of the thing of number k
-pub record IsListStep {T X : Type 0} (kind : List T → X) (now : ℕ → T) (old new : List X) : Type 0 where
-  pub count : length new ≡ length old
-  pub each : (k : ℕ) → k < length old → (before : List T) → slice_index_or old k (kind []) ≡ kind before
-      → slice_index_or new k (kind []) ≡ kind (now k ∷ before)

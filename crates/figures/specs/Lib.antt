@@ -1,5 +1,6 @@
 pub mod AlarmSums
 pub mod Calm
+pub mod Counting
 pub mod Counts
 pub mod FigureSums
 pub mod Quiet

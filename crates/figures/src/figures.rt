@@ -1,19 +1,17 @@
 //! Figures of a run.
 
-ghost use Rattle.std.specs.Prelude.{List, [], ◌∷◌, ◌≡◌, ◌-◌, ◌<◌};
+ghost use Rattle.std.specs.Prelude.{List, [], ◌∷◌, ◌≡◌, ◌+◌, ◌-◌, ◌<◌, ◌≤◌, ◌^◌};
 ghost use Rattle.osek_base.specs.System.{System};
 ghost use Rattle.observations.specs.declared.observation.Observation.{Observation};
-ghost use Rattle.figures.specs.FigureSums.{AreFigures, alike, numbered};
+ghost use Rattle.figures.specs.FigureSums.{AreFigures, alike};
 
 use crate::alarm_figures::AlarmFigures;
-use crate::alike::{
-    observe_alarms_alike, observe_resources_alike, observe_routines_alike, observe_tasks_alike,
-};
+use crate::counted::{observe_each, unseen};
 use crate::counts::{add_where, added};
-use crate::lists::{observe_alarms, observe_resources, observe_routines, observe_tasks};
-use crate::new_lists::{held_count, levels_of, new_alarms, new_resources, new_routines, new_tasks};
+use crate::of_system::{held_count, levels_of};
 use crate::resource_figures::ResourceFigures;
 use crate::routine_figures::RoutineFigures;
+use crate::scene::Scene;
 use crate::seen::is_idle;
 use crate::task_figures::TaskFigures;
 use arrayvec::ArrayVec;
@@ -64,10 +62,10 @@ impl Figures {
             last: 0,
             idle: 0,
             levels: levels_of(system),
-            tasks: new_tasks(system.task_count()),
-            routines: new_routines(system.routine_count()),
-            resources: new_resources(held_count(system)),
-            alarms: new_alarms(system.alarm_count()),
+            tasks: unseen(system.task_count()),
+            routines: unseen(system.routine_count()),
+            resources: unseen(held_count(system)),
+            alarms: unseen(system.alarm_count()),
         }
     }
 
@@ -76,7 +74,7 @@ impl Figures {
         ensures { (S : System) (before : List Observation) → AreFigures S before self.old
             → AreFigures S (observation.now ∷ before) self.new }
     {
-        self.observe_at(observation.tick, observation);
+        self.observe_row(observation, observation.tick, 1);
     }
 
     /// The ticks from one on and before another are seen, in each of which all but the number is as
@@ -86,40 +84,26 @@ impl Figures {
             → AreFigures S (alike observation.now first (end - first) before) self.new }
     {
         if first < end {
-            self.observe_row(observation, first, end);
+            self.observe_row(observation, first, end - first);
         }
     }
 
-    // All ticks from one on and before another are seen at once.
-    fn observe_row(&mut self, observation: &Observation, first: u32, end: u32)
-        requires { first < end }
+    // So many ticks from one on are seen at once.
+    #[inline(always)]
+    fn observe_row(&mut self, observation: &Observation, first: u32, count: u32)
+        requires some { 0 < count }
+        requires ends { first + count ≤ 2 ^ 32 }
         ensures { (S : System) (before : List Observation) → AreFigures S before self.old
-            → AreFigures S (alike observation.now first (end - first) before) self.new }
+            → AreFigures S (alike observation.now first count before) self.new }
     {
-        let count = end - first;
         self.ticks = added(self.ticks, count);
-        self.last = end - 1;
+        self.last = first + (count - 1);
         add_where(&mut self.idle, count, is_idle(observation));
-        let levels = self.levels.as_slice();
-        observe_tasks_alike(self.tasks.as_mut_slice(), levels, first, end, observation);
-        observe_routines_alike(self.routines.as_mut_slice(), first, end, observation);
-        observe_resources_alike(self.resources.as_mut_slice(), first, end, observation);
-        observe_alarms_alike(self.alarms.as_mut_slice(), first, end, observation);
-    }
-
-    /// A tick more is seen, of that number; else all is as in an observation.
-    fn observe_at(&mut self, tick: u32, observation: &Observation)
-        ensures { (S : System) (before : List Observation) → AreFigures S before self.old
-            → AreFigures S (numbered tick observation.now ∷ before) self.new }
-    {
-        self.ticks = added(self.ticks, 1);
-        self.last = tick;
-        add_where(&mut self.idle, 1, is_idle(observation));
-        let levels = self.levels.as_slice();
-        observe_tasks(self.tasks.as_mut_slice(), levels, tick, observation);
-        observe_routines(self.routines.as_mut_slice(), tick, observation);
-        observe_resources(self.resources.as_mut_slice(), tick, observation);
-        observe_alarms(self.alarms.as_mut_slice(), tick, observation);
+        let scene = Scene::new(self.levels.as_slice(), observation);
+        observe_each(self.tasks.as_mut_slice(), &scene, first, count);
+        observe_each(self.routines.as_mut_slice(), &scene, first, count);
+        observe_each(self.resources.as_mut_slice(), &scene, first, count);
+        observe_each(self.alarms.as_mut_slice(), &scene, first, count);
     }
 
     /// How many ticks were seen.

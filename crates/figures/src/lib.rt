@@ -2,18 +2,19 @@
 #![tactic(auto)]
 
 mod alarm_figures;
-mod alike;
 mod calm;
+mod counted;
 mod counts;
 mod figures;
+mod kinds;
 mod laws;
-mod lists;
-mod new_lists;
+mod of_system;
 mod quiet;
 mod reached;
 mod resource_figures;
 mod response_figures;
 mod routine_figures;
+mod scene;
 mod seen;
 mod spread;
 mod task_counts;

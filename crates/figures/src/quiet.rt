@@ -5,7 +5,6 @@ ghost use Rattle.figures.specs.Quiet.{
   is_suspended,
   has_nothing,
   gets_nothing,
-  executing_number,
   is_quiet_task,
   is_unasked,
   is_quiet_routine,
@@ -14,6 +13,7 @@ ghost use Rattle.figures.specs.Quiet.{
   is_quiet_alarm,
 };
 
+use crate::scene::Scene;
 use crate::seen::{alarm_seen, executes, holder_seen, is_routine};
 use observations::{AlarmSeen, Observation, RoutineSeen, TaskSeen};
 use osek_base::TaskState;
@@ -43,21 +43,15 @@ pub fn gets_nothing(seen: TaskSeen) -> bool
 
 /// Whether a task has no job in a tick and doesn't execute, and nothing comes to it.
 #[inline(always)]
-pub fn is_quiet_task(
-    levels: &[u8],
-    observation: &Observation,
-    executing: usize,
-    number: usize,
-) -> bool
-    requires known { number < length levels.now }
-    requires one { executing ≡ executing_number observation.now.executor }
-    ensures { result ≡ is_quiet_task observation.now number }
+pub fn is_quiet_task(scene: &Scene, number: usize) -> bool
+    requires { number < length scene.now.levels.now }
+    ensures { result ≡ is_quiet_task scene.now.observation.now number }
 {
-    let rests = match observation.tasks.as_slice().get(number) {
+    let rests = match scene.observation.tasks.as_slice().get(number) {
         Some(seen) => has_nothing(*seen) && gets_nothing(*seen),
         None => true,
     };
-    rests && !executes(levels, observation, executing, number)
+    rests && !executes(scene, number)
 }
 
 // Whether no interrupt of a routine arrives or is pending, and it isn't started.

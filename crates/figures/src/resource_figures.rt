@@ -120,6 +120,7 @@ impl ResourceFigures {
 
     /// A tick and some more are seen, in all of which one task holds it: each finds a longer hold
     /// than the one before, so the last one tells how long it is.
+    #[inline(never)]
     pub(crate) fn hold(&mut self, tick: &HolderTick, more: u32)
         requires ends { tick.now.tick + more < 2 ^ 32 }
         requires fits { can_hold_on tick.now more self.old ≡ true }

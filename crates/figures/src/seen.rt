@@ -1,6 +1,6 @@
 //! What an observation has of each thing, by number.
 
-ghost use Rattle.std.specs.Prelude.{◌≡◌, ◌<◌, None, slice_index_or, length};
+ghost use Rattle.std.specs.Prelude.{◌≡◌, ◌<◌, None, length, slice_index_or};
 ghost use Rattle.figures.specs.FigureSums.{
   unseen_task,
   unseen_routine,
@@ -21,6 +21,7 @@ ghost use Rattle.figures.specs.Quiet.{executing_number};
 use crate::alarm_figures::AlarmTick;
 use crate::resource_figures::HolderTick;
 use crate::routine_figures::RoutineTick;
+use crate::scene::Scene;
 use crate::task_tick::TaskTick;
 use observations::{AlarmSeen, Holder, Observation, RoutineSeen, TaskSeen};
 use osek_base::{Owner, Status, TaskState};
@@ -149,45 +150,39 @@ pub fn executing(executor: &Option<Owner>) -> usize
     }
 }
 
-/// Whether a task executes, where the number of the one that does is known.
+/// Whether a task executes.
 #[inline(always)]
-pub fn executes(levels: &[u8], observation: &Observation, executing: usize, number: usize) -> bool
-    requires known { number < length levels.now }
-    requires one { executing ≡ executing_number observation.now.executor }
-    ensures { result ≡ is_task observation.now.executor number }
+pub fn executes(scene: &Scene, number: usize) -> bool
+    requires { number < length scene.now.levels.now }
+    ensures { result ≡ is_task scene.now.observation.now.executor number }
 {
-    executing == number
+    scene.executing == number
 }
 
 // Whether a task executes whose static priority is lower than a task's.
 #[inline(always)]
-fn lower_executes(levels: &[u8], observation: &Observation, executing: usize, number: usize) -> bool
-    requires known { number < length levels.now }
-    requires one { executing ≡ executing_number observation.now.executor }
-    ensures { result ≡ lower_executes levels.now observation.now.executor number }
+fn lower_executes(scene: &Scene, number: usize) -> bool
+    requires { number < length scene.now.levels.now }
+    ensures { result
+        ≡ lower_executes scene.now.levels.now scene.now.observation.now.executor number }
 {
-    executing < levels.len() && levels[executing] < levels[number]
+    let levels = scene.levels;
+    scene.executing < levels.len() && levels[scene.executing] < levels[number]
 }
 
-/// What an observation has of a task, as of a tick of that number, by the static priorities of all
-/// tasks.
+/// What an observation has of a task, as of a tick of that number.
 #[inline(always)]
-pub fn task_tick(
-    levels: &[u8],
-    tick: u32,
-    observation: &Observation,
-    executing: usize,
-    number: usize,
-) -> TaskTick
-    requires known { number < length levels.now }
-    requires one { executing ≡ executing_number observation.now.executor }
-    ensures { result ≡ task_tick levels.now (numbered tick observation.now) number }
+pub fn task_tick(tick: u32, scene: &Scene, number: usize) -> TaskTick
+    requires { number < length scene.now.levels.now }
+    ensures { result
+        ≡ task_tick scene.now.levels.now (numbered tick scene.now.observation.now) number }
 {
-    let executes = executes(levels, observation, executing, number);
+    let observation = scene.observation;
+    let executes = executes(scene, number);
     TaskTick {
         tick,
         seen: task_seen(observation.tasks.as_slice(), number),
-        lower_executes: lower_executes(levels, observation, executing, number),
+        lower_executes: lower_executes(scene, number),
         has_failed: executes && is_error(&observation.answered),
         blockers: if executes { observation.blockers } else { None },
     }

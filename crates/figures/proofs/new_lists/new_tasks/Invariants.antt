@@ -1,7 +1,0 @@
-use Rattle.std.proofs.Common.{◌≡◌, [], replicate}
-use Rattle.figures.specs.FigureSums.{task_figures}
-use Rattle.figures.proofs.new_lists.new_tasks.Given as goal
-
--- figures of each one so far
-abbrev pub invariant-loop-made : goal.invariant-loop-made
-invariant-loop-made l = l.figures.items ≡ replicate l._made (task_figures [])
