@@ -6,7 +6,7 @@ use Rattle.observations.specs.declared.alarm_seen.AlarmSeen.{AlarmSeen}
 use Rattle.observations.specs.declared.routine_seen.RoutineSeen.{RoutineSeen}
 use Rattle.observations.specs.declared.task_seen.TaskSeen.{TaskSeen}
 use Rattle.observations.specs.Seen.{Seen}
-use Rattle.figures.specs.FigureSums.{unseen_alarm, unseen_routine, unseen_task}
+use Rattle.observations.specs.Seen.{unseen_alarm, unseen_routine, unseen_task}
 use Rattle.figures.specs.declared.task_tick.TaskTick.{TaskTick}
 use Rattle.figures.specs.declared.routine_figures.RoutineTick.{RoutineTick}
 use Rattle.figures.specs.declared.resource_figures.HolderTick.{HolderTick}

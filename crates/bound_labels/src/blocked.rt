@@ -10,7 +10,7 @@ ghost use Rattle.bound_labels.specs.Ticks.{executing_level};
 use crate::counting::older;
 use crate::places::give_places;
 use crate::ticks::{executing_level, is_above, is_ready};
-use figures::{TaskTick, task_seen};
+use figures::TaskTick;
 use observations::{Observation, TaskSeen};
 use osek_base::System;
 use std::alloc::{AllocError, Global};
@@ -96,7 +96,7 @@ fn ticks_behind(
         (lower_executes (levels_of system.now) seen.now.executor) cap (seen_of seen.now)
         blocked.now task }
 {
-    let one = task_seen(seen.tasks.as_slice(), task);
+    let one = seen.task(task);
     next_ticks(
         system,
         cap,

@@ -14,7 +14,7 @@ ghost use Rattle.bound_labels.specs.Ticks.{
   holder_tick,
 };
 
-use figures::{HolderTick, RoutineTick, TaskTick, holder_seen, routine_seen, task_seen};
+use figures::{HolderTick, RoutineTick, TaskTick};
 use observations::{Observation, TaskSeen};
 use osek_base::{Owner, System, TaskId, TaskState};
 
@@ -25,7 +25,7 @@ pub fn task_tick(seen: &Observation, number: usize) -> TaskTick
 {
     TaskTick {
         tick: 0,
-        seen: task_seen(seen.tasks.as_slice(), number),
+        seen: seen.task(number),
         lower_executes: false,
         has_failed: false,
         blockers: None,
@@ -145,7 +145,7 @@ pub fn routine_tick(seen: &Observation, number: usize) -> RoutineTick
 {
     RoutineTick {
         tick: 0,
-        seen: routine_seen(seen.routines.as_slice(), number),
+        seen: seen.routine(number),
         has_failed: false,
     }
 }
@@ -157,6 +157,6 @@ pub fn holder_tick(seen: &Observation, number: usize) -> HolderTick
 {
     HolderTick {
         tick: 0,
-        holder: holder_seen(seen.holders.as_slice(), number),
+        holder: seen.holder(number),
     }
 }

@@ -1,60 +1,62 @@
 -- A search that is decided bounds all runs, and another one those of so many ticks.
 use Rattle.std.proofs.Common.{ℕ, ◌≡◌, List, sym, ◌∙◌, ap, subst}
-use Rattle.osek_base.specs.System.{System}
+use Rattle.std.specs.Prelude.{Result, Ok, Err, IfOk}
+use Rattle.needs.specs.Table.{need_of}
 use Rattle.search.specs.declared.outcome.Limits.{Limits}
 use Rattle.search.specs.declared.outcome.Outcome.{Outcome}
 use Rattle.search.specs.declared.outcome.Outcome.TheVariants.{Decided, Undecided}
-use Rattle.search.specs.Levels.{AreLevels}
 use Rattle.search.specs.Outcomes.{IsOutcome}
-use Rattle.search.specs.Searched.{AreAll}
 use Rattle.bound_peaks.specs.Peaks.{Peaks}
 use Rattle.run_bounds.specs.Bounds.{AreBounds, AreBoundsUpTo, LevelsBound, SearchesBound}
-use Rattle.run_bounds.specs.Nodes.{Setting, rules_of}
-use Rattle.bound_nodes.specs.Ground.{IsGround}
+use Rattle.run_bounds.specs.Nodes.{AreNoted, Setting, rules_of}
 use Rattle.bounds.specs.Exploring.{AreNotedIn, Explorer, setting_of}
-use Rattle.bound_nodes.specs.Found.{Says}
+use Rattle.bound_nodes.specs.declared.found.Bounds.{Bounds}
+use Rattle.bound_nodes.specs.Found.{AreFound, Says}
+use Rattle.bound_nodes.specs.Ground.{Ground, IsGround}
 
--- for what an explorer goes by behind the search
-pub found : SearchesBound → LevelsBound → (e f : Explorer) (limits : Limits) (outcome : Outcome)
-    → IsGround f.ground → setting_of f ≡ setting_of e
-    → IsOutcome (rules_of (setting_of e)) (AreNotedIn f) limits outcome
-    → Says outcome (AreBounds f.ground.system f.mode f.distances f.cap f.peaks)
-    (AreBoundsUpTo f.ground.system f.mode f.distances f.cap f.peaks)
-found bound up_to e f limits (Decided p) ground same is =
-    bound (setting_of f) f.peaks is.1.nodes ground.proper ground.suffices ground.own
-    (subst (λ (s : Setting). AreAll (rules_of s) (AreNotedIn f) is.1.nodes) (sym same) is.1.all)
-found bound up_to e f limits (Undecided obstacle p) ground same is =
-    up_to (setting_of f) f.peaks p.levels is.1.levels ground.proper ground.suffices ground.own
-    (subst (λ (s : Setting). AreLevels (rules_of s) (AreNotedIn f) p.levels is.1.levels) (sym same)
-    is.1.are)
+abbrev pub setting_on : Ground → ℕ → List ℕ → ℕ → Setting
+setting_on g mode distances cap =
+    record {
+      system = g.system;
+      mode = mode;
+      need = need_of g.needs;
+      distances = distances;
+      cap = cap;
+    }
 
--- which is what it was made of
-pub found_at : (S : System) (mode : ℕ) (distances : List ℕ) (cap : ℕ) (peaks : Peaks)
-    (e f : Explorer) (outcome : Outcome)
-    → setting_of f ≡ setting_of e → e.ground.system ≡ S → e.mode ≡ mode → e.distances ≡ distances
-    → e.cap ≡ cap → f.peaks ≡ peaks
-    → Says outcome (AreBounds f.ground.system f.mode f.distances f.cap f.peaks)
-    (AreBoundsUpTo f.ground.system f.mode f.distances f.cap f.peaks)
-    → Says outcome (AreBounds S mode distances cap peaks)
-    (AreBoundsUpTo S mode distances cap peaks)
-found_at S mode distances cap peaks e f outcome same system modes apart caps noted is =
+found : SearchesBound → LevelsBound → (g : Ground) (mode : ℕ) (distances : List ℕ) (cap : ℕ)
+    (peaks : Peaks) (limits : Limits) (outcome : Outcome) → IsGround g
+    → IsOutcome (rules_of (setting_on g mode distances cap))
+    (AreNoted (setting_on g mode distances cap) peaks) limits outcome
+    → Says outcome (AreBounds g.system mode distances cap peaks)
+    (AreBoundsUpTo g.system mode distances cap peaks)
+found bound up_to g mode distances cap peaks limits (Decided p) ground is =
+    bound (setting_on g mode distances cap) peaks is.1.nodes ground.proper ground.suffices
+    ground.own is.1.all
+found bound up_to g mode distances cap peaks limits (Undecided obstacle p) ground is =
+    up_to (setting_on g mode distances cap) peaks p.levels is.1.levels ground.proper
+    ground.suffices ground.own is.1.are
+
+-- of what a search has come to, by an explorer of a setting
+pub all_are_found : {E : Type 0} (g : Ground) (mode : ℕ) (distances : List ℕ) (cap : ℕ)
+    (e f : Explorer) (limits : Limits) (searched : Result Outcome E) (r : Result Bounds E)
+    → SearchesBound → LevelsBound → IsGround g
+    → setting_of f ≡ setting_of e → setting_of e ≡ setting_on g mode distances cap
+    → IfOk searched (IsOutcome (rules_of (setting_of e)) (AreNotedIn f) limits)
+    → IfOk r (λ b. searched ≡ Ok b.outcome) → IfOk r (λ b. b.peaks ≡ f.peaks)
+    → IfOk r (λ b. b.cap ≡ f.cap) → IfOk r (AreFound g.system mode distances)
+all_are_found g mode distances cap e f limits q (Err d) bound up_to ground same made is a b c = tt
+all_are_found g mode distances cap e f limits q (Ok x) bound up_to ground same made is a b c =
+    let s = setting_on g mode distances cap in
     subst
-    (λ T. Says outcome (AreBounds T mode distances cap peaks)
-    (AreBoundsUpTo T mode distances cap peaks))
-    (ap (λ (s : Setting). s.system) same ∙ system)
+    (λ k. Says x.outcome (AreBounds g.system mode distances k x.peaks)
+    (AreBoundsUpTo g.system mode distances k x.peaks))
+    (sym (c ∙ ap (λ (t : Setting). t.cap) (same ∙ made)))
     (subst
-    (λ m. Says outcome (AreBounds f.ground.system m distances cap peaks)
-    (AreBoundsUpTo f.ground.system m distances cap peaks))
-    (ap (λ (s : Setting). s.mode) same ∙ modes)
-    (subst
-    (λ d. Says outcome (AreBounds f.ground.system f.mode d cap peaks)
-    (AreBoundsUpTo f.ground.system f.mode d cap peaks))
-    (ap (λ (s : Setting). s.distances) same ∙ apart)
-    (subst
-    (λ k. Says outcome (AreBounds f.ground.system f.mode f.distances k peaks)
-    (AreBoundsUpTo f.ground.system f.mode f.distances k peaks))
-    (ap (λ (s : Setting). s.cap) same ∙ caps)
-    (subst
-    (λ q. Says outcome (AreBounds f.ground.system f.mode f.distances f.cap q)
-    (AreBoundsUpTo f.ground.system f.mode f.distances f.cap q))
-    noted is))))
+    (λ p. Says x.outcome (AreBounds g.system mode distances cap p)
+    (AreBoundsUpTo g.system mode distances cap p)) (sym b)
+    (found bound up_to g mode distances cap f.peaks limits x.outcome ground
+    (subst (λ (t : Setting). IsOutcome (rules_of t) (AreNoted s f.peaks) limits x.outcome) made
+    (subst (λ (t : Setting).
+    IsOutcome (rules_of (setting_of e)) (AreNoted t f.peaks) limits x.outcome) (same ∙ made)
+    (subst (λ o. IfOk o (IsOutcome (rules_of (setting_of e)) (AreNotedIn f) limits)) a is)))))

@@ -1,6 +1,6 @@
 -- What comes of a machine comes of each state that its node stands for.
 use Rattle.std.proofs.Common.{ℕ, ◌≡◌, ◌<◌, ◌≤◌, ◌^◌, arith, Bool, true, false, List, [], refl, sym, ◌∙◌, ap, ap₂, subst}
-use Rattle.std.specs.Prelude.{◌==◌, Option, Some, None, IfSome, IfNone, length}
+use Rattle.std.specs.Prelude.{◌==◌, Option, Some, None, Result, Ok, Err, IfOk, IfSome, IfNone, OnOk, length}
 use Rattle.std.proofs.Math.Pow.{pow_mono}
 use Rattle.std.specs.Int.{bit_at}
 use Rattle.std.proofs.lemmas.Bool.{eq-eqb, ne_eqb, eqb-true, true≢false}
@@ -8,8 +8,8 @@ use Rattle.osek_base.specs.System.{System}
 use Rattle.kept_state.specs.Kept.{Kept}
 use Rattle.kept_state.specs.KeptTick.{boot_in, tick_in}
 use Rattle.osek_base.specs.declared.ids.Owner.{Owner}
-use Rattle.observations.specs.Seen.{Seen}
-use Rattle.shown_ticks.specs.Seen.{executor_in, failure_in, seen_in}
+use Rattle.observations.specs.declared.observation.Observation.{Observation}
+use Rattle.observations.specs.Seen.{Seen, seen_of}
 use Rattle.needs.specs.Table.{need_of}
 use Rattle.kernel.specs.Machine.{IsBooted, IsOfRun, Machine, next_tick, picture, system_of}
 use Rattle.same_future.specs.Alike.{kept_after}
@@ -18,14 +18,15 @@ use Rattle.search.specs.Rules.{IsNextChoice, NoMoreMay, StaysNoted}
 use Rattle.search.specs.Subsets.{IsSubset, NoSubset}
 use Rattle.bound_labels.specs.Labels.{IsAtLeast, Labels, arrives_in, first_labels, next_labels, wait_of}
 use Rattle.figures.specs.FigureSums.{held_count, levels_of, lower_executes}
-use Rattle.bound_peaks.specs.Peaks.{AreAtLeast, IsNoted, NotesStay, Peaks, TickShown}
-use Rattle.run_bounds.specs.Nodes.{AreNoted, Comes, IsAfter, IsFirst, IsNext, Node, Setting, StandsFor, labels_at_boot, routines_of, rules_of, tick_shown_in}
-use Rattle.run_bounds.specs.Trying.{AreFree, MaySubsets, OneStateTells, SubsetsMay}
+use Rattle.bound_peaks.specs.Peaks.{AreAtLeast, IsNoted, NotesStay, Peaks, TickShown, shown_by}
+use Rattle.run_bounds.specs.Nodes.{AreNoted, Comes, IsFirst, IsNext, Node, Setting, StandsFor, labels_at_boot, lower_from, routines_of, rules_of, seen_from, tick_shown_from}
+use Rattle.run_bounds.specs.Trying.{AreFree, MaySubsets, OneStateTells, SubsetsMay, TellsAll}
 use Rattle.run_bounds.proofs.Going.{boot_state}
 use Rattle.run_bounds.proofs.Trying.{labels_are_ordered}
 use Rattle.bound_nodes.specs.Ground.{Ground, IsGround}
-use Rattle.bounds.specs.Held.{IsIn}
-use Rattle.bounds.specs.Exploring.{AreNotedIn, Explorer, setting_of}
+use Rattle.bounds.specs.declared.ruling.Ruling.{Ruling}
+use Rattle.bounds.specs.Held.{IsIn, Ticked}
+use Rattle.bounds.specs.Exploring.{AreNotedIn, Explorer, IsBehind, explorer_of, setting_of}
 
 -- a run comes to a machine's state
 comes : (S : System) (m : Machine) → IsOfRun false m → system_of m ≡ S → Comes S (picture m)
@@ -38,108 +39,81 @@ comes S m of_run system = record {
 }
 
 -- a node stands for the state of a machine that has its key
-pub stands : (e : Explorer) (x : Node) (m : Machine) → IsIn e.ground x.key m
-    → (picture m).over ≡ x.over
+pub stands : (e : Explorer) (x : Node) (m : Machine) → IsIn e.ground x.key m → x.over ≡ false
     → StandsFor (setting_of e) x (picture m)
-stands e x m is over = record {
+stands e x m is going = record {
   comes = comes e.ground.system m is.of_run is.system;
   key = is.key;
-  over = over;
+  over = is.going ∙ sym going;
 }
 
--- what a tick makes of it
-pub record Ticked (e : Explorer) (x : Node) (set : ℕ) (m n : Machine) (t : TickShown) : Type 0 where
-  pub is : IsIn e.ground x.key m
-  pub going : (picture m).over ≡ x.over
-  pub system : system_of n ≡ system_of m
-  pub after : picture n
-      ≡ (tick_in (system_of m) (routines_of (setting_of e) set) (picture m)).after
-  pub executor : t.executor
-      ≡ executor_in (system_of m) (routines_of (setting_of e) set) (picture m)
-  pub seen : t.seen ≡ seen_in (system_of m) (routines_of (setting_of e) set) (picture m)
-  pub failure : t.failure ≡ failure_in (system_of m) (routines_of (setting_of e) set) (picture m)
-  pub over : t.over ≡ (picture n).over
+-- ---- what a tick makes of a machine
 
--- the labels behind it, by who executes in it and what is seen
-abbrev pub labels_behind : Explorer → ℕ → Option Owner → Seen → Labels → Labels
-labels_behind e set executor seen l =
-    next_labels (lower_executes (levels_of e.ground.system) executor) e.cap e.distances set seen l
+pub ticked_in : (S T : System) (arrived routines : List ℕ) (o : Kept) (n : Machine)
+    (w : Observation) → T ≡ S → arrived ≡ routines → Ticked T arrived o n w
+    → Ticked S routines o n w
+ticked_in S T arrived routines o n w system same ticked =
+    subst (λ r. Ticked S r o n w) same (subst (λ U. Ticked U arrived o n w) system ticked)
 
--- and the node that is made of that
-pub record IsMade (e : Explorer) (x y : Node) (set : ℕ) (n : Machine) (t : TickShown) : Type 0 where
-  pub key : y.key ≡ key (system_of n) (need_of e.ground.needs) (picture n)
-  pub over : y.over ≡ (picture n).over
-  pub labels : y.labels ≡ labels_behind e set t.executor t.seen x.labels
-
-module _ (e : Explorer) (x : Node) (set : ℕ) (m n : Machine) (t : TickShown)
-    (ticked : Ticked e x set m n t) where
-  abbrev arrived : List ℕ
-  arrived = routines_of (setting_of e) set
-
-  same_after : picture n ≡ (tick_in e.ground.system arrived (picture m)).after
-  same_after = ticked.after ∙ ap (λ S. (tick_in S arrived (picture m)).after) ticked.is.system
-
-  same_seen : t.seen ≡ seen_in e.ground.system arrived (picture m)
-  same_seen = ticked.seen ∙ ap (λ S. seen_in S arrived (picture m)) ticked.is.system
-
-  same_executor : t.executor ≡ executor_in e.ground.system arrived (picture m)
-  same_executor =
-      ticked.executor ∙ ap (λ S. executor_in S arrived (picture m)) ticked.is.system
-
-  same_failure : t.failure ≡ failure_in e.ground.system arrived (picture m)
-  same_failure = ticked.failure ∙ ap (λ S. failure_in S arrived (picture m)) ticked.is.system
-
-  same_over : t.over ≡ (tick_in e.ground.system arrived (picture m)).after.over
-  same_over = ticked.over ∙ ap (λ (o : Kept). o.over) same_after
-
-  same_shown : t ≡ tick_shown_in e.ground.system arrived (picture m)
-  same_shown = λ i. record {
-    executor = same_executor i;
-    seen = same_seen i;
-    failure = same_failure i;
-    over = same_over i;
+module _ (s : Setting) (set : ℕ) (o : Kept) (n : Machine) (w : Observation)
+    (ticked : Ticked s.system (routines_of s set) o n w) where
+  pub is_shown : shown_by w (picture n).over ≡ tick_shown_from s set o
+  is_shown = λ i. record {
+    executor = ticked.executor i;
+    seen = ticked.seen i;
+    failure = ticked.failure i;
+    over = (ticked.after i).over;
   }
 
-  same_key : key (system_of n) (need_of e.ground.needs) (picture n)
-      ≡ key e.ground.system (need_of e.ground.needs)
-      (tick_in e.ground.system arrived (picture m)).after
-  same_key =
-      ap (λ S. key S (need_of e.ground.needs) (picture n)) (ticked.system ∙ ticked.is.system)
-      ∙ ap (key e.ground.system (need_of e.ground.needs)) same_after
-
-  -- the labels behind the tick of the state
-  abbrev behind : Labels
-  behind =
-      labels_behind e set (executor_in e.ground.system arrived (picture m))
-      (seen_in e.ground.system arrived (picture m)) x.labels
-
-  is_after : (y : Node) → IsMade e x y set n t → IsAfter (setting_of e) x set y (picture m)
-  is_after y made = record {
-    key = sym (made.key ∙ same_key);
-    over = sym (made.over ∙ ap (λ (o : Kept). o.over) same_after);
-    labels =
-        subst (λ (l : Labels). IsAtLeast l behind)
-        (sym (made.labels
-        ∙ ap₂ (λ (o : Option Owner) (s : Seen). labels_behind e set o s x.labels)
-        same_executor same_seen))
-        (labels_are_ordered.itself behind);
+  -- the node that is made of it
+  pub is_behind : (l behind : Labels) → system_of n ≡ s.system
+      → behind ≡ next_labels (lower_executes (levels_of s.system) w.executor) s.cap s.distances set
+      (seen_of w) l
+      → (y : Node) → y.key ≡ key (system_of n) s.need (picture n) → y.over ≡ (picture n).over
+      → y.labels ≡ behind → IsBehind s set o l y
+  is_behind l behind system next y made over labels = record {
+    key = made ∙ ap₂ (λ S (k : Kept). key S s.need k) system ticked.after;
+    over = over ∙ ap (λ (k : Kept). k.over) ticked.after;
+    labels = labels ∙ next
+        ∙ ap₂ (λ (e : Option Owner) (t : Seen).
+        next_labels (lower_executes (levels_of s.system) e) s.cap s.distances set t l)
+        ticked.executor ticked.seen;
   }
 
-  pub is_next : OneStateTells → IsGround e.ground → x.over ≡ false → (y : Node)
-      → IsMade e x y set n t → IsNext (setting_of e) x set y
-  is_next tells ground going y made =
-      (tells (setting_of e) x set (picture m) ground.proper ground.suffices ground.own going
-      (stands e x m ticked.is ticked.going)).next y
-      (is_after y made)
+-- what comes of a machine's state comes of each state that the node stands for
+pub tells_all : (e : Explorer) (x : Node) (set : ℕ) (m : Machine) → OneStateTells
+    → IsGround e.ground → x.over ≡ false → IsIn e.ground x.key m
+    → TellsAll (setting_of e) x set (picture m)
+tells_all e x set m tells ground going is =
+    tells (setting_of e) x set (picture m) ground.proper ground.suffices ground.own going
+    (stands e x m is going)
 
-  pub are_noted : OneStateTells → IsGround e.ground → x.over ≡ false → (peaks : Peaks)
-      → IsNoted (levels_of e.ground.system) e.cap peaks t x.labels
-      → AreNoted (setting_of e) peaks x set
-  are_noted tells ground going peaks noted =
-      (tells (setting_of e) x set (picture m) ground.proper ground.suffices ground.own going
-      (stands e x m ticked.is ticked.going)).noted peaks
-      (subst (λ (s : TickShown). IsNoted (levels_of e.ground.system) e.cap peaks s x.labels)
-      same_shown noted)
+pub is_next : (e : Explorer) (x y : Node) (set : ℕ) (m : Machine) (l : Labels)
+    → TellsAll (setting_of e) x set (picture m) → l ≡ x.labels
+    → IsBehind (setting_of e) set (picture m) l y → IsNext (setting_of e) x set y
+is_next e x y set m l all same made =
+    let s = setting_of e in
+    let o = picture m in
+    all.next y
+    (record {
+      key = sym made.key;
+      over = sym made.over;
+      labels = subst (λ (k : Labels). IsAtLeast k
+          (next_labels (lower_from s set o) s.cap s.distances set (seen_from s set o) x.labels))
+          (sym (made.labels ∙ ap (λ (k : Labels).
+          next_labels (lower_from s set o) s.cap s.distances set (seen_from s set o) k) same))
+          (labels_are_ordered.itself _);
+    })
+
+pub are_noted : (e : Explorer) (x : Node) (set : ℕ) (m : Machine) (peaks : Peaks) (t : TickShown)
+    (l : Labels) → TellsAll (setting_of e) x set (picture m)
+    → t ≡ tick_shown_from (setting_of e) set (picture m) → l ≡ x.labels
+    → IsNoted (levels_of e.ground.system) e.cap peaks t l → AreNoted (setting_of e) peaks x set
+are_noted e x set m peaks t l all shown same noted =
+    all.noted peaks
+    (subst (λ (k : Labels). IsNoted (levels_of e.ground.system) e.cap peaks
+    (tick_shown_from (setting_of e) set (picture m)) k) same
+    (subst (λ (s : TickShown). IsNoted (levels_of e.ground.system) e.cap peaks s l) shown noted))
 
 -- the labels after boot
 pub first_is : (S : System) (tasks routines held : ℕ) → tasks ≡ length S.tasks
@@ -165,11 +139,13 @@ is_first e y m system state made over labels = record {
 
 -- ---- notes
 
-pub stays_noted : (e f : Explorer) → NotesStay → setting_of f ≡ setting_of e
-    → AreAtLeast f.peaks e.peaks → StaysNoted AreNotedIn e f
-stays_noted e f stay same rises x set noted =
-    subst (λ (s : Setting). AreNoted s f.peaks x set) (sym same)
-    (λ o is. stay (levels_of e.ground.system) e.cap f.peaks e.peaks _ x.labels rises (noted o is))
+pub stays_noted : (r : Ruling) (before after : Peaks) (e : Explorer) → NotesStay
+    → explorer_of r before ≡ e → AreAtLeast after before
+    → StaysNoted AreNotedIn e (explorer_of r after)
+stays_noted r before after e stay same rises =
+    subst (λ (f : Explorer). StaysNoted AreNotedIn f (explorer_of r after)) same
+    (λ x set noted o is.
+    stay (levels_of r.system.now) r.cap after before _ x.labels rises (noted o is))
 
 pub same_stay : (e f : Explorer) → f ≡ e → StaysNoted AreNotedIn e f
 same_stay e f same x set noted = subst (λ (g : Explorer). AreNotedIn g x set) (sym same) noted
@@ -236,7 +212,19 @@ no_choice s x whole from may None none =
     λ choice above allowed. none choice above (may.others choice allowed)
 no_choice s x whole from may (Some set) none = tt
 
--- what is said of what was found, of one that was
+-- what holds whatever was answered
+pub if_ok : {X E : Type 0} (P : Type 0) (r : Result X E) → P → OnOk r P
+if_ok P (Ok x) is = is
+if_ok P (Err e) is = tt
+
+-- what is said of what was found
+pub all_found : {X E : Type 0} (A B C P : X → Type 0) (r : Result (Option X) E)
+    → ((x : X) → A x → B x → C x → P x) → IfOk r (λ o. IfSome o A) → IfOk r (λ o. IfSome o B)
+    → IfOk r (λ o. IfSome o C) → IfOk r (λ o. IfSome o P)
+all_found A B C P (Ok (Some x)) go a b c = go x a b c
+all_found A B C P (Ok None) go a b c = tt
+all_found A B C P (Err e) go a b c = tt
+
 pub if_some : {X : Type 0} (P : X → Type 0) (o : Option X) (x : X) → o ≡ Some x → IfSome o P → P x
 if_some P o x same has = subst (λ p. IfSome p P) same has
 

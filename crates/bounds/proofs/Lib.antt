@@ -1,3 +1,4 @@
+pub mod Fallible
 pub mod HeldLemmas
 pub mod SetLemmas
 pub mod Exploring

@@ -1,5 +1,5 @@
 -- A set of routines repeats the set without those whose interrupts are lost.
-use Rattle.std.proofs.Common.{ℕ, ◌≡◌, ◌<◌, ◌≤◌, arith, Bool, true, false, get_or, refl, sym, ◌∙◌, subst, length}
+use Rattle.std.proofs.Common.{ℕ, ◌≡◌, ◌<◌, ◌≤◌, arith, Bool, true, false, refl, sym, ◌∙◌, length}
 use Rattle.std.specs.Prelude.{◌≢◌, IsTrue}
 use Rattle.std.specs.Int.{bit_at}
 use Rattle.std.proofs.lemmas.Bool.{and_parts, eq-eqb, eqb-true, leb-true, true≢false}
@@ -17,8 +17,8 @@ use Rattle.run_bounds.specs.Nodes.{AreNoted, IsNext, May, Node, Setting, StandsF
 use Rattle.run_bounds.specs.Trying.{OneStateTells, TellsAll}
 use Rattle.bounds.specs.Held.{IsIn}
 use Rattle.bound_nodes.specs.Ground.{IsGround}
-use Rattle.bounds.specs.Exploring.{AreNotedIn, Explorer, setting_of}
-use Rattle.bounds.proofs.Exploring.{stands}
+use Rattle.bounds.specs.Exploring.{Explorer, setting_of}
+use Rattle.bounds.proofs.Exploring.{stands, tells_all}
 
 pub few_routines : (S : System) → IsProper S → length S.routines ≤ MAX_ROUTINES
 few_routines S proper =
@@ -62,14 +62,13 @@ losses_noted losses count set pending fewer lost few others both noted i low arr
 
 module _ (e : Explorer) (x : Node) (set fewer : ℕ) (m : Machine) (tells : OneStateTells)
     (lost : LostChangeNothing) (ground : IsGround e.ground) (may : May (setting_of e) x set)
-    (is : IsIn e.ground x.key m) (going : (picture m).over ≡ x.over)
+    (is : IsIn e.ground x.key m)
     (without : IsWithoutLost (setting_of e) set fewer (picture m)) where
   abbrev here : StandsFor (setting_of e) x (picture m)
-  here = stands e x m is going
+  here = stands e x m is may.going
 
   abbrev all : TellsAll (setting_of e) x set (picture m)
-  all =
-      tells (setting_of e) x set (picture m) ground.proper ground.suffices ground.own may.going here
+  all = tells_all e x set m tells ground may.going is
 
   abbrev nothing : LoseNothing (setting_of e) x set fewer (picture m)
   nothing = lost (setting_of e) x set fewer (picture m) may without

@@ -136,6 +136,7 @@ impl<'s> Bases<'s> {
                 return Ok(place);
             }
         }
+        note_user(self.held.len(), &mut self.users, &mut self.free)?;
         let mut new = Machine::boot(alloc, self.system, self.mode)?;
         new.copy_from(machine);
         self.add(Base { machine: new, spot })?;
@@ -152,12 +153,11 @@ impl<'s> Bases<'s> {
         }
     }
 
-    /// One more machine, and room to note that nobody makes use of it.
+    /// One more machine, beside a note of how often it is made use of.
     fn add(&mut self, base: Base<'s>) -> Result<(), AllocError>
         requires { IsOf self.old base.machine }
         ensures { self.new ≡ self.old }
     {
-        note_user(self.held.len(), &mut self.users, &mut self.free)?;
         self.held.push(base)?;
         Ok(())
     }

@@ -2,12 +2,11 @@
 
 ghost use Rattle.std.specs.Prelude.{◌≡◌, ◌<◌, ◌≤◌, IsTrue, IfOk, IfSome, OnOk, false, length};
 ghost use Rattle.std.specs.List.{All};
-ghost use Rattle.kept_state.specs.KeptTick.{boot_in, tick_in};
-ghost use Rattle.observations.specs.Seen.{seen_of};
-ghost use Rattle.shown_ticks.specs.Seen.{executor_in, failure_in, seen_in};
+ghost use Rattle.kept_state.specs.KeptTick.{boot_in};
 ghost use Rattle.kernel.specs.Machine.{IsOfRun, next_tick, picture, system_of};
 ghost use Rattle.needs.specs.Table.{need_of};
 ghost use Rattle.state_keys.specs.Key.{key};
+ghost use Rattle.bounds.specs.Held.{Ticked};
 
 use crate::bases::StateMachine;
 use bound_labels::Labels;
@@ -63,14 +62,8 @@ pub(crate) fn tick_from<'s>(
     requires known { All (λ i. i < length (system_of from.now).routines) arrived.now }
     requires few { length arrived.now ≤ MAX_ROUTINES }
     ensures system { system_of machine.new ≡ system_of from.now }
-    ensures after { picture machine.new
-        ≡ (tick_in (system_of from.now) arrived.now (picture from.now)).after }
-    ensures seen { seen_of watcher.new
-        ≡ seen_in (system_of from.now) arrived.now (picture from.now) }
-    ensures executor { watcher.new.executor
-        ≡ executor_in (system_of from.now) arrived.now (picture from.now) }
-    ensures failure { watcher.new.failure
-        ≡ failure_in (system_of from.now) arrived.now (picture from.now) }
+    ensures ticked { Ticked (system_of from.now) arrived.now (picture from.now)
+        machine.new watcher.new }
     ensures of_run { IsOfRun false machine.new }
 {
     machine.copy_from(from);

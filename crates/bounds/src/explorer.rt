@@ -1,24 +1,25 @@
 //! The search through all states that a system comes to in a mode, whatever interrupts arrive that
 //! keep their distances.
 
-ghost use Rattle.std.specs.Prelude.{◌≡◌, IfOk};
+ghost use Rattle.std.specs.Prelude.{◌≡◌, IfOk, Ok};
 ghost use Rattle.bound_nodes.specs.Ground.{IsGround};
 ghost use Rattle.bound_nodes.specs.Ground.{Ground};
 
 use crate::bases::StateMachine;
-use crate::current::{boot_again, can_go_on, node_of, tick_from};
+use crate::current::{boot_again, node_of};
+use crate::noted::Noted;
 use crate::room::Room;
 use crate::routines::pending_routines;
+use crate::ruling::Ruling;
 use crate::states::States;
 use bound_labels::Labels;
-use bound_nodes::{Comparing, Node, Trails, Watch, common, held_count, put_routines, without};
-use bound_peaks::Peaks;
+use bound_nodes::{Bounds, Node, Watch, common, held_count, without};
 use kernel::Machine;
 use needs::Needs;
 use osek_base::{ModeId, System};
-use packed_labels::free_routines;
+use packed_labels::{ReadLabels, free_routines};
 use run_bounds::{lost_change_nothing, nodes_are_kept, notes_stay, one_state_tells, subsets_may};
-use search::{Progress, Steps, subset_from};
+use search::{Outcome, Progress, Steps, subset_from};
 use std::alloc::{AllocError, Global};
 use std::marker::Model;
 use std::mem;
@@ -26,49 +27,42 @@ use std::mem;
 /// Ticks machines from state to state, and notes the greatest times that are seen.
 #[derive(Drop)]
 pub(crate) struct Explorer<'s, 'w, W: Watch> {
-    system: &'s System,
-    needs: &'s Needs,
-    mode: ModeId,
-    /// By routine, in ticks.
-    distances: &'s [u32],
-    /// The age up to which times are told, in ticks.
-    cap: u32,
+    ruling: Ruling<'s>,
     states: States<'s>,
     /// The machine that is ticked.
     current: StateMachine<'s>,
+    /// The labels of the node that is visited.
+    read: ReadLabels,
     room: Room,
-    peaks: Peaks,
-    /// How it came to all of these, of which contracts see nothing.
-    trails: Trails,
+    noted: Noted,
     /// How many bytes the nodes take that are kept, about.
     kept: u64,
     watch: &'w mut W,
 }
 
 impl<'s, 'w, W: Watch> Model for Explorer<'s, 'w, W> {
-    ghost use Rattle.bounds.specs.Exploring.{Explorer as Seen};
+    ghost use Rattle.bounds.specs.Exploring.{Explorer as Seen, explorer_of};
     ghost use Rattle.bounds.specs.Invariant.{IsExploring};
 
     ghost Value = { Seen };
 
-    ghost view = { λ e. record {
-      ground = record { system = e.system.now; needs = e.needs.now };
-      mode = e.mode;
-      distances = e.distances.now;
-      cap = e.cap;
-      peaks = e.peaks;
-    } };
+    ghost view = { λ e. explorer_of e.ruling e.noted.peaks };
 
-    ghost invariant = { λ e.
-        IsExploring
-        (record {
-          ground = record { system = e.system.now; needs = e.needs.now };
-          mode = e.mode;
-          distances = e.distances.now;
-          cap = e.cap;
-          peaks = e.peaks;
-        })
-        e.states e.current };
+    ghost invariant = { λ e. IsExploring (explorer_of e.ruling e.noted.peaks) e.states e.current };
+}
+
+/// Two things, or want of memory for either: where they are made together, no way out drops one of
+/// them part by part.
+fn both<A: Drop, B: Drop>(
+    one: Result<A, AllocError>,
+    other: Result<B, AllocError>,
+) -> Result<(A, B), AllocError>
+    ensures one { IfOk result (λ pair. one ≡ Ok pair.0) }
+    ensures other { IfOk result (λ pair. other ≡ Ok pair.1) }
+{
+    let one = one?;
+    let other = other?;
+    Ok((one, other))
 }
 
 impl<'s, 'w, W: Watch> Explorer<'s, 'w, W> {
@@ -94,37 +88,26 @@ impl<'s, 'w, W: Watch> Explorer<'s, 'w, W> {
         ensures distances { IfOk result (λ e. e.distances ≡ distances.now) }
         ensures cap { IfOk result (λ e. e.cap ≡ cap) }
     {
-        // The smallest comes first, as each way out drops what was made before it.
-        let comparing = Box::new(alloc, Comparing::new(alloc))?;
-        let trails = Trails::new(alloc, system)?;
-        let current = Machine::boot(alloc, system, mode)?;
-        let states = States::new(alloc, system, needs, mode)?;
+        let current = Machine::boot(alloc, system, mode);
+        let machines = both(States::new(alloc, system, needs, mode), current);
+        let others = both(Noted::new(alloc, system), Room::new(alloc));
+        let ((states, current), (noted, room)) = both(machines, others)?;
         Ok(Explorer {
-            system,
-            needs,
-            mode,
-            distances,
-            cap,
+            ruling: Ruling {
+                system,
+                needs,
+                mode,
+                distances,
+                cap,
+            },
             states,
             current,
-            room: Room::new(alloc, comparing),
-            peaks: Peaks::new(alloc),
-            trails,
+            read: ReadLabels::new(alloc),
+            room,
+            noted,
             kept: 0,
             watch,
         })
-    }
-
-    /// Whether memory was wanted where nodes were compared, which can't be told there.
-    pub(crate) fn wants_memory(&self) -> bool {
-        match self.room.comparing.take() {
-            None => true,
-            Some(comparing) => {
-                let wants_memory = comparing.wants_memory;
-                self.room.comparing.set(Some(comparing));
-                wants_memory
-            }
-        }
     }
 
     /// A set of routines that may arrive in a state, without those that are pending in it: their
@@ -139,10 +122,7 @@ impl<'s, 'w, W: Watch> Explorer<'s, 'w, W> {
         let Some(machine) = self.states.at(node.key()) else {
             return Ok(None);
         };
-        if !can_go_on(machine) {
-            return Ok(None);
-        }
-        let pending = pending_routines(machine, self.system.routine_count());
+        let pending = pending_routines(machine, self.ruling.system.routine_count());
         let fewer = without(set, pending);
         if set <= fewer {
             return Ok(None);
@@ -150,28 +130,47 @@ impl<'s, 'w, W: Watch> Explorer<'s, 'w, W> {
         one_state_tells();
         lost_change_nothing();
         notes_stay();
-        let rises = self.peaks.note_losses(common(set, pending));
-        self.trails.came(node.entry(), set, rises, &self.peaks)?;
+        self.noted
+            .note_losses(common(set, pending), node.entry(), set)?;
         Ok(Some(fewer))
     }
 
-    /// The greatest times that were noted, and how a search has come to them.
-    pub(crate) fn into_found(self) -> (Peaks, Trails)
-        ensures { result.0 ≡ self.entry.peaks }
+    /// What a search has come to that ended so. An error is want of memory.
+    pub(crate) fn into_bounds(
+        self,
+        searched: Result<Outcome, AllocError>,
+    ) -> Result<Bounds, AllocError>
+        ensures outcome { IfOk result (λ found. searched ≡ Ok found.outcome) }
+        ensures peaks { IfOk result (λ found. found.peaks ≡ self.entry.peaks) }
+        ensures cap { IfOk result (λ found. found.cap ≡ self.entry.cap) }
     {
         let Explorer {
+            ruling,
             states,
             current,
+            read,
             room,
-            peaks,
-            trails,
+            noted,
             ..
         } = self;
+        let wants_memory = room.wants_memory();
         // Each of these goes by one call.
         mem::drop(states);
         mem::drop(current);
+        mem::drop(read);
         mem::drop(room);
-        (peaks, trails)
+        match searched {
+            Ok(outcome) if !wants_memory => Ok(Bounds {
+                outcome,
+                peaks: noted.peaks,
+                cap: ruling.cap,
+                trails: noted.trails,
+            }),
+            _ => {
+                mem::drop(noted);
+                Err(AllocError)
+            }
+        }
     }
 }
 
@@ -190,15 +189,15 @@ impl<'s, 'w, W: Watch> Steps for Explorer<'s, 'w, W> {
     ghost is_noted = { AreNotedIn };
 
     fn first(&mut self, alloc: Global) -> Result<Option<Node>, AllocError> {
-        boot_again(alloc, self.system, self.mode, &mut self.current)?;
-        let tasks = self.system.task_count();
-        let routines = self.system.routine_count();
-        let labels = Labels::first(alloc, tasks, routines, held_count(self.system))?;
-        let room = Vec::new(alloc);
-        let Some(node) = node_of(&self.current, self.needs, &labels, room)? else {
-            return Ok(None);
-        };
-        Ok(Some(node))
+        let system = self.ruling.system;
+        boot_again(alloc, system, self.ruling.mode, &mut self.current)?;
+        let tasks = system.task_count();
+        let routines = system.routine_count();
+        let labels = Labels::first(alloc, tasks, routines, held_count(system))?;
+        let node = node_of(&self.current, self.ruling.needs, &labels, Vec::new(alloc));
+        // They go by one call.
+        mem::drop(labels);
+        node
     }
 
     fn choice_from(&self, node: &Node, from: u64) -> Option<u64> {
@@ -206,7 +205,7 @@ impl<'s, 'w, W: Watch> Steps for Explorer<'s, 'w, W> {
             return None;
         }
         subsets_may();
-        let free = free_routines(node.packed(), self.system.routine_count());
+        let free = free_routines(node.packed(), self.ruling.system.routine_count());
         subset_from(free, from)
     }
 
@@ -217,7 +216,7 @@ impl<'s, 'w, W: Watch> Steps for Explorer<'s, 'w, W> {
         choice: u64,
     ) -> Result<Option<u64>, AllocError> {
         self.states
-            .visit(alloc, &self.trails, node.entry(), node.base())?;
+            .visit(alloc, &self.noted.trails, node.entry(), node.base())?;
         if choice & self.states.pending() == 0 {
             return Ok(None);
         }
@@ -230,36 +229,26 @@ impl<'s, 'w, W: Watch> Steps for Explorer<'s, 'w, W> {
         from: &Node,
         choice: u64,
     ) -> Result<Option<Node>, AllocError> {
-        put_routines(choice, self.system.routine_count(), &mut self.room.arrived)?;
-        self.room.read.read(from.packed())?;
-        let Some(labels) = self.room.read.of(from.packed()) else {
+        self.read.read(from.packed())?;
+        let Some(labels) = self.read.of(from.packed()) else {
             return Ok(None);
         };
         let Some(machine) = self.states.at(from.key()) else {
             return Ok(None);
         };
-        if !can_go_on(machine) {
-            return Ok(None);
-        }
         one_state_tells();
         notes_stay();
-        tick_from(
-            machine,
-            &mut self.current,
-            &self.room.arrived,
-            &mut self.room.watcher,
-        );
-        let seen = self.room.watcher.seen();
-        self.room.labels.become_next(self.system, self.cap, self.distances, choice, seen, labels)?;
-        let room = mem::replace(&mut self.room.bytes, Vec::new(alloc));
-        let Some(node) = node_of(&self.current, self.needs, &self.room.labels, room)? else {
+        let ruling = &self.ruling;
+        let made = self
+            .room
+            .tick(alloc, ruling, machine, &mut self.current, labels, choice)?;
+        let Some(node) = made else {
             return Ok(None);
         };
+        let seen = self.room.watcher.seen();
         let is_over = self.current.is_shut_down();
-        let rises = self
-            .peaks
-            .note(self.system, self.cap, seen, is_over, labels)?;
-        self.trails.came(from.entry(), choice, rises, &self.peaks)?;
+        self.noted
+            .note(ruling, seen, is_over, labels, from.entry(), choice)?;
         Ok(Some(node))
     }
 
@@ -281,7 +270,7 @@ impl<'s, 'w, W: Watch> Steps for Explorer<'s, 'w, W> {
         let Some(mut comparing) = self.room.comparing.take() else {
             return Ok(Some(other));
         };
-        let done = node.join(alloc, self.system, &other, &mut comparing)?;
+        let done = node.join(alloc, self.ruling.system, &other, &mut comparing)?;
         self.room.comparing.set(Some(comparing));
         if done {
             return Ok(None);
@@ -293,7 +282,7 @@ impl<'s, 'w, W: Watch> Steps for Explorer<'s, 'w, W> {
         self.kept = node.size_with(self.kept);
         self.room.bytes = node.fit(alloc)?;
         let raised = self.room.take_raised();
-        let entry = self.trails.enter(node.entry(), raised)?;
+        let entry = self.noted.trails.enter(node.entry(), raised)?;
         let base = self.states.open(alloc, &self.current, entry, node.base())?;
         node.keep(entry, base);
         self.states.keep_for(base, node.base());

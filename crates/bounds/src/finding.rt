@@ -39,15 +39,6 @@ pub fn find_bounds<W: Watch>(
     };
     searches_bound();
     levels_bound();
-    let outcome = search(alloc, &mut explorer, limits)?;
-    if explorer.wants_memory() {
-        return Err(AllocError);
-    }
-    let (peaks, trails) = explorer.into_found();
-    Ok(Bounds {
-        outcome,
-        peaks,
-        cap: extent.cap,
-        trails,
-    })
+    let searched = search(alloc, &mut explorer, limits);
+    explorer.into_bounds(searched)
 }

@@ -76,11 +76,11 @@ impl<'s> Origin<'s> {
         &self.machine
     }
 
-    /// The machine, if its state has a key.
+    /// The machine, if its state has a key and can go on.
     pub(crate) fn at(&self, key: &[u8]) -> Option<&StateMachine<'s>>
         ensures { IfSome result (λ m. IsIn self.now key.now m.now) }
     {
-        if !self.is_made || !are_equal(&self.key, key) {
+        if !self.is_made || !are_equal(&self.key, key) || !can_go_on(&self.machine) {
             return None;
         }
         Some(&self.machine)

@@ -64,10 +64,11 @@ impl<'s> States<'s> {
         ensures system { IfOk result (λ s. s.system ≡ system.now) }
         ensures needs { IfOk result (λ s. s.needs ≡ needs.now) }
     {
+        let origin = Origin::new(alloc, system, needs, mode)?;
         Ok(States {
             bases: Bases::new(alloc, system, mode),
             stops: Stops::new(alloc, system, mode),
-            origin: Origin::new(alloc, system, needs, mode)?,
+            origin,
             here: None,
             base: None,
             way: Vec::new(alloc),
@@ -75,7 +76,7 @@ impl<'s> States<'s> {
         })
     }
 
-    /// The machine of the node that is visited, if its state has a key.
+    /// The machine of the node that is visited, if its state has a key and can go on.
     pub(crate) fn at(&self, key: &[u8]) -> Option<&StateMachine<'s>>
         ensures { IfSome result (λ m. IsIn self.now key.now m.now) }
     {

@@ -48,6 +48,45 @@ fn write_upper<'v, O: Write, E: Write>(
     write_found(alloc, part, mode, &distances, bounds, asked, out)
 }
 
+/// Writes the bounds of all runs in a mode.
+fn write_whole<'v, O: Write, E: Write>(
+    alloc: Global,
+    texts: &Texts,
+    system: &System,
+    asked: BoundsAsked<'v>,
+    distances: &[Distance<'_>],
+    watch: &mut SearchWatch<'_, '_, E>,
+    out: &mut O,
+) -> Result<Verdict<'v>, RunFault> {
+    let mode = mode_id(alloc, texts, system, asked.line.mode)?;
+    let distances = all_distances(alloc, system, distances)?;
+    let extent = extent_of(asked.line);
+    let found = find_bounds(alloc, system, mode, &distances, extent, watch)?;
+    write_found(alloc, system, mode, &distances, &found, asked, out)
+}
+
+/// Writes the bounds that are asked for, or what names nothing of the system.
+fn write_asked<'v, O: Write, E: Write>(
+    alloc: Global,
+    texts: &Texts,
+    system: &System,
+    asked: BoundsAsked<'v>,
+    distances: &[Distance<'v>],
+    watch: &mut SearchWatch<'_, '_, E>,
+    out: &mut O,
+) -> Result<Verdict<'v>, RunFault> {
+    if let Some(fault) = distance_fault(system, distances) {
+        return Ok(Verdict::NoDistance(fault));
+    }
+    if let Some(wanted) = unknown_figure(system, asked.line) {
+        return Ok(Verdict::NoFigure(wanted));
+    }
+    match asked.line.upper {
+        Some(priority) => write_upper(alloc, texts, system, priority, asked, distances, watch, out),
+        None => write_whole(alloc, texts, system, asked, distances, watch, out),
+    }
+}
+
 /// Writes the bounds of all runs in a mode, or how far the search for them came.
 pub fn write_searched<'v, O: Write, E: Write>(
     alloc: Global,
@@ -58,20 +97,5 @@ pub fn write_searched<'v, O: Write, E: Write>(
     out: &mut O,
 ) -> Result<Verdict<'v>, RunFault> {
     let system = system_of(alloc, texts)?;
-    let line = asked.line;
-    if let Some(fault) = distance_fault(&system, distances) {
-        return Ok(Verdict::NoDistance(fault));
-    }
-    if let Some(wanted) = unknown_figure(&system, line) {
-        return Ok(Verdict::NoFigure(wanted));
-    }
-    if let Some(priority) = line.upper {
-        return write_upper(
-            alloc, texts, &system, priority, asked, distances, watch, out,
-        );
-    }
-    let mode = mode_id(alloc, texts, &system, line.mode)?;
-    let distances = all_distances(alloc, &system, distances)?;
-    let found = find_bounds(alloc, &system, mode, &distances, extent_of(line), watch)?;
-    write_found(alloc, &system, mode, &distances, &found, asked, out)
+    write_asked(alloc, texts, &system, asked, distances, watch, out)
 }

@@ -67,6 +67,43 @@ fn write_held<'v, O: Write, E: Write>(
     }
 }
 
+/// Writes what else is shown of a run of a system.
+fn write_view_of<'v, O: Write, E: Write>(
+    alloc: Global,
+    system: &System,
+    input: RunInput<'_>,
+    view: View<'v>,
+    limits: &'v [Limit<'v>],
+    progress: &mut Progress<'_, E>,
+    out: &mut O,
+) -> Result<Verdict<'v>, RunFault> {
+    match view {
+        View::Vcd { from } => {
+            let mut sink = StdSink::new(out);
+            write_vcd(alloc, system, input, from, progress, &mut sink)?;
+        }
+        View::Timeline { from, rows } => {
+            if let Some(name) = row_without_owner(system, rows) {
+                return Ok(Verdict::NoRow(name));
+            }
+            write_timeline(alloc, system, input, from, rows, progress, out)?;
+        }
+        View::Stats(stats) => {
+            let asked = StatsInput {
+                form: stats.form,
+                from: stats.from,
+                limits: Limits {
+                    times: limits,
+                    no_loss: stats.no_loss,
+                    no_refusal: stats.no_refusal,
+                },
+            };
+            return write_held(alloc, system, input, asked, progress, out);
+        }
+    }
+    Ok(Verdict::Done)
+}
+
 /// Writes what else is shown of a run.
 pub fn write_view<'v, O: Write, E: Write>(
     alloc: Global,
@@ -84,35 +121,5 @@ pub fn write_view<'v, O: Write, E: Write>(
         mode: mode.as_str(),
         ticks: line.ticks,
     };
-    match view {
-        View::Vcd { from } => {
-            write_vcd(
-                alloc,
-                &system,
-                input,
-                from,
-                progress,
-                &mut StdSink::new(out),
-            )?;
-        }
-        View::Timeline { from, rows } => {
-            if let Some(name) = row_without_owner(&system, rows) {
-                return Ok(Verdict::NoRow(name));
-            }
-            write_timeline(alloc, &system, input, from, rows, progress, out)?;
-        }
-        View::Stats(stats) => {
-            let asked = StatsInput {
-                form: stats.form,
-                from: stats.from,
-                limits: Limits {
-                    times: limits,
-                    no_loss: stats.no_loss,
-                    no_refusal: stats.no_refusal,
-                },
-            };
-            return write_held(alloc, &system, input, asked, progress, out);
-        }
-    }
-    Ok(Verdict::Done)
+    write_view_of(alloc, &system, input, view, limits, progress, out)
 }

@@ -9,7 +9,8 @@ use Rattle.figures.specs.declared.routine_figures.RoutineFigures.{RoutineFigures
 use Rattle.figures.specs.declared.resource_figures.ResourceFigures.{ResourceFigures}
 use Rattle.figures.specs.declared.alarm_figures.AlarmFigures.{AlarmFigures}
 use Rattle.figures.specs.Counts.{capped}
-use Rattle.figures.specs.FigureSums.{RunFigures, AreFigures, task_figures, task_tick, routine_tick, holder_tick, alarm_tick, alike, numbered, is_idle, last_tick, levels_of, held_count}
+use Rattle.observations.specs.Seen.{numbered}
+use Rattle.figures.specs.FigureSums.{RunFigures, AreFigures, task_figures, task_tick, routine_tick, holder_tick, alarm_tick, alike, is_idle, last_tick, levels_of, held_count}
 use Rattle.figures.specs.RoutineSums.{routine_figures}
 use Rattle.figures.specs.ResourceSums.{resource_figures}
 use Rattle.figures.specs.AlarmSums.{alarm_figures}

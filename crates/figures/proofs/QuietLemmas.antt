@@ -27,7 +27,8 @@ use Rattle.figures.specs.ResponseSums.{Responses, response_figures, entered, sta
 use Rattle.figures.specs.RoutineSums.{routine_figures, since, still, latency}
 use Rattle.figures.specs.ResourceSums.{resource_figures, is_got, hold_on, hold_at}
 use Rattle.figures.specs.AlarmSums.{alarm_figures}
-use Rattle.figures.specs.FigureSums.{task_figures, task_tick, routine_tick, holder_tick, alarm_tick, is_task, is_routine, is_error, unseen_task, unseen_routine, unseen_alarm}
+use Rattle.observations.specs.Seen.{unseen_task, unseen_routine, unseen_alarm}
+use Rattle.figures.specs.FigureSums.{task_figures, task_tick, routine_tick, holder_tick, alarm_tick, is_task, is_routine, is_error}
 use Rattle.figures.specs.Quiet.{is_suspended, has_nothing, gets_nothing, is_quiet_task, is_unasked, is_quiet_routine, is_free, is_quiet_alarm}
 use Rattle.figures.proofs.StepLemmas.{task_more, times_more, alarm_more, routine_more, resource_more}
 

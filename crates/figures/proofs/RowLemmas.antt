@@ -6,7 +6,8 @@ use Rattle.std.specs.List.{refill}
 use Rattle.std.proofs.lemmas.Bool.{cases_eq}
 use Rattle.std.proofs.lemmas.List.{append-nil, drop_all, take_all, get_or-set_same, get_or-set_other, get_or_default, length-set}
 use Rattle.observations.specs.declared.observation.Observation.{Observation}
-use Rattle.figures.specs.FigureSums.{AreOf, alike, numbered}
+use Rattle.observations.specs.Seen.{numbered}
+use Rattle.figures.specs.FigureSums.{AreOf, alike}
 use Rattle.figures.specs.Counting.{AreCounted, Counts, CountsOne}
 
 -- where figures are known after the first tick, and after one more where they were before it, they

@@ -1,15 +1,12 @@
 -- Figures of a run, over the observations of its ticks, newest first.
 use Rattle.std.specs.Prelude.{◌≡◌, ℕ, zero, suc, ◌<◌, Bool, false, List, [], ◌∷◌, Option, Some, None, map, length, count_by, slice_index_or, nat_lt, ◌&&◌, ◌==◌, ◌+◌, cond, is_none}
 use Rattle.osek_base.specs.System.{System, Task as Configured}
-use Rattle.osek_base.specs.declared.status.TaskState.TheVariants.{Suspended}
 use Rattle.osek_base.specs.declared.status.Status.{Status}
 use Rattle.osek_base.specs.Tick.{status_number}
 use Rattle.osek_base.specs.declared.ids.Owner.{Owner}
 use Rattle.osek_base.specs.declared.ids.Owner.TheVariants.{Task, Routine}
-use Rattle.observations.specs.declared.task_seen.TaskSeen.{TaskSeen}
-use Rattle.observations.specs.declared.routine_seen.RoutineSeen.{RoutineSeen}
-use Rattle.observations.specs.declared.alarm_seen.AlarmSeen.{AlarmSeen}
 use Rattle.observations.specs.declared.observation.Observation.{Observation}
+use Rattle.observations.specs.Seen.{alarm_seen, holder_seen, numbered, routine_seen, task_seen}
 use Rattle.figures.specs.declared.task_tick.TaskTick.{TaskTick}
 use Rattle.figures.specs.declared.task_figures.TaskFigures.{TaskFigures}
 use Rattle.figures.specs.declared.routine_figures.RoutineTick.{RoutineTick}
@@ -28,16 +25,6 @@ use Rattle.figures.specs.ResponseSums.{response_figures}
 
 unfoldable pub task_figures : List TaskTick → TaskFigures
 task_figures seen = record { counts = task_counts seen; times = task_times seen; responses = response_figures seen }
-
--- what is seen of something that an observation doesn't have
-abbrev pub unseen_task : TaskSeen
-unseen_task = record { state = Suspended; priority = None; jobs = 0; made = 0; refused = 0; ended = false; waits = false }
-
-abbrev pub unseen_routine : RoutineSeen
-unseen_routine = record { executes = false; is_pending = false; is_started = false; arrived = 0; lost = 0 }
-
-abbrev pub unseen_alarm : AlarmSeen
-unseen_alarm = record { has_expired = false; is_refused = false }
 
 -- a task executes whose static priority is lower than that of task k. The levels are the tasks' static priorities
 abbrev pub lower_executes : List ℕ → Option Owner → ℕ → Bool
@@ -62,15 +49,11 @@ is_routine None k = false
 is_routine (Some (Task t)) k = false
 is_routine (Some (Routine i)) k = i == k
 
--- what is seen as of a tick of another number
-abbrev pub numbered : ℕ → Observation → Observation
-numbered tick o = record o { tick = tick }
-
 -- what an observation has of each thing, by number
 abbrev pub task_tick : List ℕ → Observation → ℕ → TaskTick
 task_tick levels o k = record {
   tick = o.tick;
-  seen = slice_index_or o.tasks.items k unseen_task;
+  seen = task_seen o k;
   lower_executes = lower_executes levels o.executor k;
   has_failed = is_task o.executor k && is_error o.answered;
   blockers = cond (is_task o.executor k) o.blockers None;
@@ -79,15 +62,15 @@ task_tick levels o k = record {
 abbrev pub routine_tick : Observation → ℕ → RoutineTick
 routine_tick o k = record {
   tick = o.tick;
-  seen = slice_index_or o.routines.items k unseen_routine;
+  seen = routine_seen o k;
   has_failed = is_routine o.executor k && is_error o.answered;
 }
 
 abbrev pub holder_tick : Observation → ℕ → HolderTick
-holder_tick o k = record { tick = o.tick; holder = slice_index_or o.holders.items k None }
+holder_tick o k = record { tick = o.tick; holder = holder_seen o k }
 
 abbrev pub alarm_tick : Observation → ℕ → AlarmTick
-alarm_tick o k = record { tick = o.tick; seen = slice_index_or o.alarms.items k unseen_alarm }
+alarm_tick o k = record { tick = o.tick; seen = alarm_seen o k }
 
 -- so many ticks from one on, newest first, in which but for the number the same is seen
 abbrev pub alike : Observation → ℕ → ℕ → List Observation → List Observation

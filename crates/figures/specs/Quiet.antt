@@ -1,5 +1,5 @@
 -- Ticks in which nothing comes to a thing, and it does nothing.
-use Rattle.std.specs.Prelude.{ℕ, Bool, true, false, not, ◌&&◌, ◌==◌, is_none, slice_index_or, Option, Some, None, ◌-◌, ◌^◌}
+use Rattle.std.specs.Prelude.{ℕ, Bool, true, false, not, ◌&&◌, ◌==◌, is_none, Option, Some, None, ◌-◌, ◌^◌}
 use Rattle.osek_base.specs.declared.ids.Owner.{Owner}
 use Rattle.osek_base.specs.declared.ids.Owner.TheVariants.{Task, Routine}
 use Rattle.osek_base.specs.declared.status.TaskState.{TaskState}
@@ -8,7 +8,8 @@ use Rattle.observations.specs.declared.task_seen.TaskSeen.{TaskSeen}
 use Rattle.observations.specs.declared.routine_seen.RoutineSeen.{RoutineSeen}
 use Rattle.observations.specs.declared.alarm_seen.AlarmSeen.{AlarmSeen}
 use Rattle.observations.specs.declared.observation.Observation.{Observation}
-use Rattle.figures.specs.FigureSums.{unseen_task, unseen_routine, unseen_alarm, is_task, is_routine}
+use Rattle.observations.specs.Seen.{alarm_seen, holder_seen, routine_seen, task_seen}
+use Rattle.figures.specs.FigureSums.{is_task, is_routine}
 
 abbrev pub is_suspended : TaskState → Bool
 is_suspended state = elim state [ Running ↦ false | Waiting ↦ false | Ready ↦ false | Suspended ↦ true ]
@@ -30,8 +31,8 @@ executing_number (Some (Routine i)) = 2 ^ 64 - 1
 -- of task k nothing is seen, and it doesn't execute
 abbrev pub is_quiet_task : Observation → ℕ → Bool
 is_quiet_task o k =
-    has_nothing (slice_index_or o.tasks.items k unseen_task)
-    && (gets_nothing (slice_index_or o.tasks.items k unseen_task) && not (is_task o.executor k))
+    has_nothing (task_seen o k)
+    && (gets_nothing (task_seen o k) && not (is_task o.executor k))
 
 -- no interrupt of a routine arrives or is pending, and it isn't started
 abbrev pub is_unasked : RoutineSeen → Bool
@@ -39,15 +40,15 @@ is_unasked r = (not r.is_pending && not r.is_started) && ((r.arrived == 0) && (r
 
 -- of routine k nothing is seen, and it doesn't execute
 abbrev pub is_quiet_routine : Observation → ℕ → Bool
-is_quiet_routine o k = is_unasked (slice_index_or o.routines.items k unseen_routine) && not (is_routine o.executor k)
+is_quiet_routine o k = is_unasked (routine_seen o k) && not (is_routine o.executor k)
 
 -- nobody holds resource k
 abbrev pub is_free : Observation → ℕ → Bool
-is_free o k = is_none (slice_index_or o.holders.items k None)
+is_free o k = is_none (holder_seen o k)
 
 -- alarm k doesn't expire
 abbrev pub is_unexpired : AlarmSeen → Bool
 is_unexpired a = not a.has_expired && not a.is_refused
 
 abbrev pub is_quiet_alarm : Observation → ℕ → Bool
-is_quiet_alarm o k = is_unexpired (slice_index_or o.alarms.items k unseen_alarm)
+is_quiet_alarm o k = is_unexpired (alarm_seen o k)

@@ -10,7 +10,8 @@ ghost use Rattle.figures.specs.Counting.{
   resource_figures_of,
   alarm_figures_of,
 };
-ghost use Rattle.figures.specs.FigureSums.{task_figures, numbered};
+ghost use Rattle.observations.specs.Seen.{numbered};
+ghost use Rattle.figures.specs.FigureSums.{task_figures};
 ghost use Rattle.figures.specs.Quiet.{executing_number};
 ghost use Rattle.figures.specs.RoutineSums.{routine_figures};
 ghost use Rattle.figures.specs.ResourceSums.{resource_figures};
@@ -23,7 +24,7 @@ use crate::quiet::{gets_nothing, is_free, is_quiet_alarm, is_quiet_routine, is_q
 use crate::resource_figures::ResourceFigures;
 use crate::routine_figures::RoutineFigures;
 use crate::scene::Scene;
-use crate::seen::{alarm_tick, holder_tick, routine_tick, task_seen, task_tick};
+use crate::seen::{alarm_tick, holder_tick, routine_tick, task_tick};
 use crate::task_figures::TaskFigures;
 use observations::Observation;
 
@@ -45,7 +46,7 @@ impl Counted for TaskFigures {
             self.pass();
             return count;
         }
-        if gets_nothing(task_seen(scene.observation.tasks.as_slice(), number)) {
+        if gets_nothing(scene.observation.task(number)) {
             let now = task_tick(first, scene, number);
             if self.is_calm(&now) {
                 self.stay(&now, count);

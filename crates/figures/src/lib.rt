@@ -30,7 +30,7 @@ pub use reached::Reached;
 pub use resource_figures::{HolderTick, ResourceFigures};
 pub use response_figures::{MAX_UNFINISHED, ResponseFigures};
 pub use routine_figures::{RoutineFigures, RoutineTick};
-pub use seen::{alarm_seen, holder_seen, is_error, is_routine, is_task, routine_seen, task_seen};
+pub use seen::{is_error, is_routine, is_task};
 pub use spread::Spread;
 pub use task_counts::TaskCounts;
 pub use task_figures::TaskFigures;

@@ -14,7 +14,7 @@ ghost use Rattle.figures.specs.Quiet.{
 };
 
 use crate::scene::Scene;
-use crate::seen::{alarm_seen, executes, holder_seen, is_routine};
+use crate::seen::{executes, is_routine};
 use observations::{AlarmSeen, Observation, RoutineSeen, TaskSeen};
 use osek_base::TaskState;
 
@@ -78,7 +78,7 @@ pub fn is_quiet_routine(observation: &Observation, number: usize) -> bool
 pub fn is_free(observation: &Observation, number: usize) -> bool
     ensures { result ≡ is_free observation.now number }
 {
-    let holder = holder_seen(observation.holders.as_slice(), number);
+    let holder = observation.holder(number);
     holder.task().is_none()
 }
 
@@ -94,5 +94,5 @@ fn is_unexpired(seen: AlarmSeen) -> bool
 pub fn is_quiet_alarm(observation: &Observation, number: usize) -> bool
     ensures { result ≡ is_quiet_alarm observation.now number }
 {
-    is_unexpired(alarm_seen(observation.alarms.as_slice(), number))
+    is_unexpired(observation.alarm(number))
 }

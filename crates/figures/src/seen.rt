@@ -1,21 +1,8 @@
 //! What an observation has of each thing, by number.
 
-ghost use Rattle.std.specs.Prelude.{◌≡◌, ◌<◌, None, length, slice_index_or};
-ghost use Rattle.figures.specs.FigureSums.{
-  unseen_task,
-  unseen_routine,
-  unseen_alarm,
-  lower_executes,
-  task_tick,
-  routine_tick,
-  holder_tick,
-  alarm_tick,
-  numbered,
-  is_idle,
-  is_error,
-  is_task,
-  is_routine,
-};
+ghost use Rattle.std.specs.Prelude.{◌≡◌, ◌<◌, length};
+ghost use Rattle.observations.specs.Seen.{numbered};
+ghost use Rattle.figures.specs.FigureSums.{lower_executes, task_tick, routine_tick, holder_tick, alarm_tick, is_idle, is_error, is_task, is_routine};
 ghost use Rattle.figures.specs.Quiet.{executing_number};
 
 use crate::alarm_figures::AlarmTick;
@@ -23,69 +10,8 @@ use crate::resource_figures::HolderTick;
 use crate::routine_figures::RoutineTick;
 use crate::scene::Scene;
 use crate::task_tick::TaskTick;
-use observations::{AlarmSeen, Holder, Observation, RoutineSeen, TaskSeen};
-use osek_base::{Owner, Status, TaskState};
-
-/// What an observation has of a task; nothing where it has none of that number.
-#[inline(always)]
-pub fn task_seen(tasks: &[TaskSeen], number: usize) -> TaskSeen
-    ensures { result ≡ slice_index_or tasks.now number unseen_task }
-{
-    match tasks.get(number) {
-        Some(seen) => *seen,
-        None => TaskSeen {
-            state: TaskState::Suspended,
-            priority: None,
-            jobs: 0,
-            made: 0,
-            refused: 0,
-            ended: false,
-            waits: false,
-        },
-    }
-}
-
-/// What an observation has of a routine; nothing where it has none of that number.
-#[inline(always)]
-pub fn routine_seen(routines: &[RoutineSeen], number: usize) -> RoutineSeen
-    ensures { result ≡ slice_index_or routines.now number unseen_routine }
-{
-    match routines.get(number) {
-        Some(seen) => *seen,
-        None => RoutineSeen {
-            executes: false,
-            is_pending: false,
-            is_started: false,
-            arrived: 0,
-            lost: 0,
-        },
-    }
-}
-
-/// What an observation has of an alarm; nothing where it has none of that number.
-#[inline(always)]
-pub fn alarm_seen(alarms: &[AlarmSeen], number: usize) -> AlarmSeen
-    ensures { result ≡ slice_index_or alarms.now number unseen_alarm }
-{
-    match alarms.get(number) {
-        Some(seen) => *seen,
-        None => AlarmSeen {
-            has_expired: false,
-            is_refused: false,
-        },
-    }
-}
-
-/// Who holds a resource; nobody where an observation has none of that number.
-#[inline(always)]
-pub fn holder_seen(holders: &[Holder], number: usize) -> Holder
-    ensures { result ≡ slice_index_or holders.now number None }
-{
-    match holders.get(number) {
-        Some(holder) => *holder,
-        None => Holder::new(None),
-    }
-}
+use observations::Observation;
+use osek_base::{Owner, Status};
 
 /// Who holds a resource in a tick of that number.
 pub fn holder_tick(tick: u32, observation: &Observation, number: usize) -> HolderTick
@@ -93,7 +19,7 @@ pub fn holder_tick(tick: u32, observation: &Observation, number: usize) -> Holde
 {
     HolderTick {
         tick,
-        holder: holder_seen(observation.holders.as_slice(), number),
+        holder: observation.holder(number),
     }
 }
 
@@ -103,7 +29,7 @@ pub fn alarm_tick(tick: u32, observation: &Observation, number: usize) -> AlarmT
 {
     AlarmTick {
         tick,
-        seen: alarm_seen(observation.alarms.as_slice(), number),
+        seen: observation.alarm(number),
     }
 }
 
@@ -181,7 +107,7 @@ pub fn task_tick(tick: u32, scene: &Scene, number: usize) -> TaskTick
     let executes = executes(scene, number);
     TaskTick {
         tick,
-        seen: task_seen(observation.tasks.as_slice(), number),
+        seen: observation.task(number),
         lower_executes: lower_executes(scene, number),
         has_failed: executes && is_error(&observation.answered),
         blockers: if executes { observation.blockers } else { None },
@@ -204,7 +130,7 @@ pub fn routine_tick(tick: u32, observation: &Observation, number: usize) -> Rout
 {
     RoutineTick {
         tick,
-        seen: routine_seen(observation.routines.as_slice(), number),
+        seen: observation.routine(number),
         has_failed: is_routine(&observation.executor, number) && is_error(&observation.answered),
     }
 }

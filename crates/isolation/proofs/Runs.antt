@@ -13,7 +13,8 @@ use Rattle.seen_ticks.specs.Observed.{Ticked, task_seen, tick_at}
 use Rattle.same_future.proofs.Tables.{table_at}
 use Rattle.figures.specs.AlarmSums.{alarm_figures}
 use Rattle.figures.specs.Counts.{capped}
-use Rattle.figures.specs.FigureSums.{RunFigures, held_count, is_error, is_task, levels_of, lower_executes, task_figures, task_tick, unseen_task}
+use Rattle.observations.specs.Seen.{unseen_task}
+use Rattle.figures.specs.FigureSums.{RunFigures, held_count, is_error, is_task, levels_of, lower_executes, task_figures, task_tick}
 use Rattle.figures.specs.ResourceSums.{resource_figures}
 use Rattle.figures.specs.RoutineSums.{routine_figures}
 use Rattle.figure_laws.specs.Blocking.{stands_ready}

@@ -1,25 +1,31 @@
 -- What the instruction of who executes does to the stamps of jobs.
 use Rattle.std.proofs.Common.{◌≡◌, ℕ, ◌<◌, Bool, true, false, cond, not, ◌&&◌, List, [], ◌∷◌, length, sym, ◌∙◌, ap, ap₂, subst, refl, arith}
-use Rattle.std.specs.Prelude.{Option, Some, None, IfSome}
+use Rattle.std.specs.Prelude.{Option, Some, None, IfSome, slice_index}
 use Rattle.std.specs.Option.{option_map}
 use Rattle.osek_base.specs.declared.ids.Owner.{Owner}
 use Rattle.osek_base.specs.declared.instr.Instr.{Instr}
 use Rattle.osek_base.specs.declared.instr.Control.{Control}
+use Rattle.osek_base.specs.declared.instr.Service.{Service}
+use Rattle.osek_base.specs.declared.status.Status.{Status}
 use Rattle.osek_base.specs.declared.trace_event.TraceEvent.{TraceEvent}
 use Rattle.osek_base.specs.Types.{PlainInstr, ServiceCall}
 use Rattle.osek_base.specs.System.{System, instruction_at}
 use Rattle.osek_base.specs.Instruction.{Context, next, plain}
-use Rattle.osek_base.specs.State.{Active, words_after}
+use Rattle.osek_base.specs.Service.{first_refusal, meets}
+use Rattle.osek_base.specs.State.{Active, interrupts_off, words_after}
+use Rattle.osek_base.specs.Tick.{answered, at_values}
+use Rattle.run_laws.proofs.Lists.{clash}
 use Rattle.machine.specs.Packed.{control_of, instr_of, is_control, is_plain, plain_of}
 use Rattle.machine.specs.Windows.{word}
-use Rattle.kept_state.specs.Kept.{Kept}
-use Rattle.kept_state.specs.KeptService.{KeptCaller, ByTask, ByRoutine, ByNobody, caller_in, slot_moved}
+use Rattle.kept_state.specs.Kept.{Kept, Slot}
+use Rattle.kept_state.specs.KeptService.{KeptCaller, KeptReply, ByTask, ByRoutine, ByNobody, bare, caller_in, effect_in, event_awaited_in, events_cleared_in, is_outranked_in, refusals_in, reply_in, service_in, slot_gets, slot_given_up, slot_moved, slot_releases, slot_waiting, with_caller_in}
 use Rattle.kept_state.specs.KeptTick.{controlled_in, execute_phase_in, executed_in, with_context_in}
 use Rattle.kept_state.specs.Moves.{KeptRecorded, slot_changed}
 use Rattle.services.specs.Calls.{Executes, caller_as, context_in}
 use Rattle.blocking_laws.specs.Restamping.{StampLists, ended_if, ended_of, instr_in, restamped_if, named_by, named_in, stamps_at}
 use Rattle.kernel.specs.declared.next.Next.{Next}
 use Rattle.kernel.specs.declared.stamping.Stand.{Stand}
+use Rattle.kernel.specs.Controls.{changes_jobs}
 use Rattle.kernel.specs.Does.{Does}
 use Rattle.kernel.specs.Stamping.{AreCounted, executed_restamped, stand, stood_between}
 use Rattle.kernel.specs.Processor.{IsNext, Processor, picture, system_of}
@@ -57,6 +63,75 @@ unended (Some t) true new xs same = refl
 unended (Some t) false true xs same = absurd (grind arith)
 unended (Some t) false false xs same = refl
 
+caller_gone : (d : KeptCaller) (g : Slot → Slot) (o : Kept) → (with_caller_in d g o).gone ≡ o.gone
+caller_gone (ByTask t) g o = refl
+caller_gone ByRoutine g o = refl
+caller_gone ByNobody g o = refl
+
+either_gone : (b : Bool) (o n : Kept) → n.gone ≡ o.gone → (cond b n o).gone ≡ o.gone
+either_gone true o n same = same
+either_gone false o n same = refl
+
+cleared_gone : (d : KeptCaller) (m : ℕ) (o : Kept) → (events_cleared_in d m o).gone ≡ o.gone
+cleared_gone (ByTask t) m o = refl
+cleared_gone ByRoutine m o = refl
+cleared_gone ByNobody m o = refl
+
+awaited_gone : (d : KeptCaller) (m : ℕ) (o : Kept) → (event_awaited_in d m o).gone ≡ o.gone
+awaited_gone (ByTask t) m o = go (meets m (slice_index o.masks t))
+  where
+    go : (b : Bool) → (cond b o (slot_changed t (slot_waiting m) o)).gone ≡ o.gone
+    go true = refl
+    go false = refl
+awaited_gone ByRoutine m o = refl
+awaited_gone ByNobody m o = refl
+
+-- a service that changes no jobs
+effect_gone : (S : System) (d : KeptCaller) (o : Kept) (x : Context) (call : ServiceCall)
+    → changes_jobs call ≡ false → (effect_in S d o (at_values x call)).gone ≡ o.gone
+effect_gone S d o x (Service.ActivateTask t) none = clash none
+effect_gone S d o x Service.TerminateTask none = clash none
+effect_gone S d o x (Service.ChainTask t) none = clash none
+effect_gone S d o x Service.Schedule none =
+    either_gone (is_outranked_in S o d) o (with_caller_in d slot_given_up o)
+    (caller_gone d slot_given_up o)
+effect_gone S d o x Service.GetTaskId none = refl
+effect_gone S d o x (Service.GetTaskState t) none = refl
+effect_gone S d o x (Service.GetResource None) none = refl
+effect_gone S d o x (Service.GetResource (Some r)) none = caller_gone d (slot_gets r) o
+effect_gone S d o x (Service.ReleaseResource None) none = refl
+effect_gone S d o x (Service.ReleaseResource (Some r)) none = caller_gone d slot_releases o
+effect_gone S d o x (Service.LoadShared r i) none = refl
+effect_gone S d o x (Service.StoreShared None i v) none = refl
+effect_gone S d o x (Service.StoreShared (Some r) i v) none = refl
+effect_gone S d o x (Service.SetEvent t m) none = clash none
+effect_gone S d o x (Service.ClearEvent m) none = cleared_gone d m o
+effect_gone S d o x (Service.GetEvent t) none = refl
+effect_gone S d o x (Service.WaitEvent m) none = awaited_gone d m o
+effect_gone S d o x (Service.SetRelAlarm a y z) none = refl
+effect_gone S d o x (Service.SetAbsAlarm a y z) none = refl
+effect_gone S d o x (Service.CancelAlarm a) none = refl
+effect_gone S d o x (Service.GetAlarm a) none = refl
+effect_gone S d o x (Service.GetAlarmBase a) none = refl
+
+service_gone : (S : System) (d : KeptCaller) (o : Kept) (x : Context) (call : ServiceCall)
+    → changes_jobs call ≡ false → (service_in S d o (at_values x call)).state.gone ≡ o.gone
+unfolding service_in
+service_gone S d o x call none =
+    go (first_refusal
+    ((interrupts_off (bare o), Status.SysDisabled) ∷ refusals_in S d o (at_values x call)))
+  where
+    go : (r : Option Status) → (reply_in S d o (at_values x call) r).state.gone ≡ o.gone
+    go None = effect_gone S d o x call none
+    go (Some refusal) = refl
+
+names_none : (call : ServiceCall) → changes_jobs call ≡ false → named_by (Instr.Service call) ≡ None
+names_none (Service.ActivateTask t) none = clash none
+names_none Service.TerminateTask none = clash none
+names_none (Service.ChainTask t) none = clash none
+names_none (Service.SetEvent t m) none = clash none
+names_none _ none = refl
+
 module _ (p : Processor) (next_is : Next) (n : IsNext p next_is) where
   abbrev S : System
   S = system_of p
@@ -88,11 +163,25 @@ module _ (p : Processor) (next_is : Next) (n : IsNext p next_is) where
   control_gone : (c : Control ℕ) → (executed_in S next_is.owner (caller_as next_is.owner) x (Instr.Control c) k).state.gone ≡ k.gone
   control_gone c = moved_gone (caller_as next_is.owner) (next x) (controlled_in c k)
 
+  call_gone : (call : ServiceCall) → changes_jobs call ≡ false
+      → (executed_in S next_is.owner (caller_as next_is.owner) x (Instr.Service call) k).state.gone
+      ≡ k.gone
+  call_gone call none =
+      let r : KeptReply = service_in S (caller_as next_is.owner) k (at_values x call) in
+      moved_gone (caller_as next_is.owner) (answered r.status r.results x) r.state
+      ∙ service_gone S (caller_as next_is.owner) k x call none
+
   pub plain_stay : (u : ℕ) (xs : StampLists) → is_plain (instr_of next_is.packed) ≡ true → xs ≡ executed_restamped S u k xs
   plain_stay u xs h = stay (Instr.Plain (plain_of (instr_of next_is.packed))) u xs (plain_is (instr_of next_is.packed) h) refl (plain_gone (plain_of (instr_of next_is.packed)))
 
   pub control_stay : (u : ℕ) (xs : StampLists) → is_control (instr_of next_is.packed) ≡ true → xs ≡ executed_restamped S u k xs
   control_stay u xs h = stay (Instr.Control (control_of (instr_of next_is.packed))) u xs (control_is (instr_of next_is.packed) h) refl (control_gone (control_of (instr_of next_is.packed)))
+
+  pub call_stay : (u : ℕ) (xs : StampLists) (call : ServiceCall)
+      → instr_of next_is.packed ≡ Instr.Service call → changes_jobs call ≡ false
+      → xs ≡ executed_restamped S u k xs
+  call_stay u xs call is none =
+      stay (Instr.Service call) u xs is (names_none call none) (call_gone call none)
 
 stay_watched : (counted : Bool) (u : ℕ) (old : Watched) (new : Processor) (first second : List TraceEvent)
     → old.blocking.stamps ≡ executed_restamped (system_of old.processor) u (picture old.processor) old.blocking.stamps
@@ -111,6 +200,18 @@ pub control_watched : (counted : Bool) (u : ℕ) (old : Watched) (new : Processo
     → Watches counted executing u old (watched_of new old.blocking) first second
 control_watched counted u old new next first second n control does =
     stay_watched counted u old new first second (control_stay old.processor next n u old.blocking.stamps control) does
+
+-- a service that changes no jobs, where blockers are counted
+pub call_watched : (counted : Bool) (u : ℕ) (old : Watched) (new : Processor) (next : Next)
+    (call : ServiceCall) (first second : List TraceEvent) → IsNext old.processor next
+    → instr_of next.packed ≡ Instr.Service call → (counted ≡ true → changes_jobs call ≡ false)
+    → Does execute_phase_in old.processor new first second
+    → Watches counted executing u old (watched_of new old.blocking) first second
+call_watched counted u old new next call first second n is none does = record {
+  does = does;
+  stamps = λ on. call_stay old.processor next n u old.blocking.stamps call is (none on);
+  told = refl;
+}
 
 -- nobody executes
 pub idle_watched : (counted : Bool) (u : ℕ) (w : Watched) (behind : List TraceEvent) → caller_in (picture w.processor) ≡ ByNobody → behind ≡ []

@@ -97,6 +97,7 @@ module _ (counted : Bool) (n : ℕ) (w : Watched) (opening : List TraceEvent) (a
         number = sym (ap (λ d. number_for S d w.blocking.told.last w.blocking.stamps) (nobody S o quiet));
       };
       sized = refl;
+      level = λ same. same;
     };
   }
 

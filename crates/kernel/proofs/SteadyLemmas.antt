@@ -25,17 +25,18 @@ use Rattle.kept_state.specs.Standing.{Fits, IsRunnerPlaced}
 use Rattle.kept_state.proofs.Fitting.{fits_where_standing}
 use Rattle.kept_state.proofs.Quiet.{alarm_phase_silent}
 use Rattle.blocking_laws.specs.Restamping.{StampLists, alarm_phase_restamped, alarms_restamped, before_restamped, preempted_by, reschedule_restamped}
+use Rattle.services.specs.Calls.{calling_task}
 use Rattle.services.specs.Objects.{Objects, kept_in}
 use Rattle.services.specs.Quiet.{HasPassed as PassesByObjects}
 use Rattle.services.specs.Steady.{IsSteady}
 use Rattle.kernel.specs.declared.acted.Acted.{Acted}
-use Rattle.kernel.specs.Machine.{HasTicked, IsMachine, Machine, MayTick, Ticks, between, next_tick, picture as picture_in}
+use Rattle.kernel.specs.Machine.{IsMachine, Machine, MayTick, Ticks, between, next_tick, picture as picture_in}
 use Rattle.kernel.specs.Processor.{MayFetch, Processor, at_tick, picture, system_of}
 use Rattle.kernel.specs.Steady.{BeginsSteady, PassesSteady}
 use Rattle.kernel.specs.Stamping.{number_for, number_told}
 use Rattle.kernel.specs.Told.{acted_in}
 use Rattle.kernel.specs.Working.{HasTickedSteady}
-use Rattle.kernel.specs.Watches.{Begins, Finishes, HasBegun, Watched, Watches, early, watched_at}
+use Rattle.kernel.specs.Watches.{Begins, Finishes, HasBegun, MayBegin, Watched, Watches, early, watched_at}
 use Rattle.kernel.proofs.DoesLemmas.{does_nothing, nothing_by_objects, processor_of}
 use Rattle.kernel.proofs.IdleLemmas.{none_acted, unacted}
 use Rattle.kernel.proofs.TickLemmas.{has_begun, may_start, ticked}
@@ -150,15 +151,19 @@ module _ (S : System) (o : Kept) (t : ℕ) (steady : IsSteady S o t) where
         ∙ unpreempted S u o (alarm_phase_restamped S u o xs) steady.dispatched
         ∙ ap (λ due. alarms_restamped S u due (advanced_in S o) xs) none
 
+fits_in_run : (S : System) (proper : IsProper S) (mode : ℕ) (arrivals : List Arrival) (n : ℕ) (o : Kept)
+    → o ≡ kept S (run S mode arrivals n).state → Fits S o
+fits_in_run S proper mode arrivals n o same =
+    let good : IsRunState S (run S mode arrivals n).state = run_ordered S proper mode arrivals n in
+    subst (Fits S) (sym same)
+    (fits_where_standing S (run S mode arrivals n).state
+    (record { proper = proper; single = good.single; ranked = good.ordered.ranked; form = run_form S proper mode arrivals n }))
+
 -- the task stands at a place of its program
 pub placed_in_run : (S : System) (proper : IsProper S) (mode : ℕ) (arrivals : List Arrival) (n : ℕ) (o : Kept) (t : ℕ)
     → o ≡ kept S (run S mode arrivals n).state → IsSteady S o t → IsPlaced S (Owner.Task t) (o.slots t).context
 placed_in_run S proper mode arrivals n o t same steady =
-    let good : IsRunState S (run S mode arrivals n).state = run_ordered S proper mode arrivals n in
-    let fits : Fits S o =
-    subst (Fits S) (sym same)
-    (fits_where_standing S (run S mode arrivals n).state
-    (record { proper = proper; single = good.single; ranked = good.ordered.ranked; form = run_form S proper mode arrivals n })) in
+    let fits : Fits S o = fits_in_run S proper mode arrivals n o same in
     let there : IsRunnerPlaced S o t = subst (λ r. IfSome r (IsRunnerPlaced S o)) steady.runs (fits.runner steady.stands) in
     there.placed
 
@@ -199,6 +204,20 @@ module _ (counted : Bool) (n : ℕ) (w : Watched) (opening : List TraceEvent) (a
         does = does_nothing (λ S. before_execution_in S []) (at_tick w.processor n) [] (before_silent S o t steady size none_due);
         stamps = λ counting. sym (before_unstamped S o t steady size none_due n w.blocking.stamps);
         told = refl;
+      })
+
+  -- the task is to execute
+  pub may_begin : MayBegin st.processor (Some t) n
+  may_begin =
+      subst (λ (x : Watched). MayBegin x.processor (Some t) n) (sym after)
+      (record {
+        executes = record {
+          value = sym (ap calling_task (calls S o t steady));
+          known =
+              subst (λ r. IfSome r (λ (v : ℕ). v < length S.tasks)) steady.runs
+              (fits_in_run S h.of_run.proper h.of_run.mode h.of_run.arrivals n o h.of_run.come.at.same).running;
+        };
+        early = low;
       })
 
   -- and the task executes next

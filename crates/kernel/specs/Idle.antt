@@ -17,7 +17,7 @@ pub record HasPassed (n : ℕ) (old new : Processor) : Type 0 where
 
 -- nobody executed in the tick done last
 abbrev pub rested : Blocking → Blocking
-rested b = record b { told = record b.told { begun = record b.told.begun { stamp = None } } }
+rested b = record b { told = record b.told { stamp = None } }
 
 -- so many ticks passed, at most some, in which nobody executed
 pub record Passes (most n : ℕ) (old new : Watched) : Type 0 where

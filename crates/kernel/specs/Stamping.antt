@@ -1,6 +1,6 @@
 -- What is seen of a task before and after something, and what is done by it to the stamps of jobs. No part of the standards.
 use Rattle.std.specs.Prelude.{ℕ, ◌+◌, ◌-◌, ◌<◌, ◌≤◌, ◌≡◌, ◌==◌, Bool, true, false, not, ◌&&◌, nat_lt, if◌then◌else◌, List, Option, Some, None, IfSome, length, replicate, slice_set, take}
-use Rattle.osek_base.specs.declared.limits.TheConstants.{MAX_ACTIVATION, MAX_TASK_PRIORITY, MAX_TASKS, MAX_TICKS}
+use Rattle.osek_base.specs.declared.limits.TheConstants.{MAX_ACTIVATION, MAX_TASK_PRIORITY, MAX_TASKS}
 use Rattle.std.specs.Option.{option_map}
 use Rattle.std.specs.List.{list_any}
 use Rattle.osek_base.specs.System.{System, alarm, priority_of}
@@ -8,8 +8,7 @@ use Rattle.run_laws.proofs.Counting.{one_if}
 use Rattle.kept_state.specs.Kept.{Kept}
 use Rattle.kept_state.specs.KeptService.{KeptCaller, ByTask, ByRoutine, ByNobody, caller_in}
 use Rattle.kept_state.specs.KeptTick.{execute_phase_in}
-use Rattle.readiness.specs.Stamps.{stamp_of_oldest}
-use Rattle.kernel.specs.declared.begun.Begun.{Begun}
+use Rattle.readiness.specs.Stamps.{Stamped, stamp_of_oldest}
 use Rattle.kernel.specs.declared.stamping.Look.{Look}
 use Rattle.kernel.specs.declared.stamping.Stand.{Stand}
 use Rattle.blocking_laws.specs.Restamping.{StampLists, acting_task, changed_list, ended_if, ended_of, instr_in, is_task, restamped, restamped_if, named_in, spent_of, stamps_at, task_waits}
@@ -102,6 +101,11 @@ pub record AreBegun (n : ℕ) (o : Kept) (xs : StampLists) : Type 0 where
   pub size : length xs ≡ n
   pub each : (t : ℕ) → t < n → stamps_at xs t ≡ replicate (o.slots t).count (Some 0)
 
+-- and no stamp was taken
+pub record IsBegun (n : ℕ) (o : Kept) (stamps : Stamped) : Type 0 where
+  pub are : AreBegun n o stamps.lists
+  pub none : stamps.spent ≡ None
+
 -- jobs may be added to a task that has none
 pub record MayAddJobs (t count : ℕ) (xs : StampLists) : Type 0 where
   pub task : t < length xs
@@ -109,10 +113,11 @@ pub record MayAddJobs (t count : ℕ) (xs : StampLists) : Type 0 where
   pub few : count ≤ MAX_ACTIVATION
 
 -- so many jobs of a task are ready from tick 0 on, and those of other tasks are as they were
-pub record HasJobs (t count : ℕ) (old new : StampLists) : Type 0 where
-  pub others : (other : ℕ) → (t == other) ≡ false → stamps_at new other ≡ stamps_at old other
-  pub own : stamps_at new t ≡ replicate count (Some 0)
-  pub sized : length new ≡ length old
+pub record HasJobs (t count : ℕ) (old new : Stamped) : Type 0 where
+  pub others : (other : ℕ) → (t == other) ≡ false → stamps_at new.lists other ≡ stamps_at old.lists other
+  pub own : stamps_at new.lists t ≡ replicate count (Some 0)
+  pub sized : length new.lists ≡ length old.lists
+  pub none : old.spent ≡ None → new.spent ≡ None
 
 -- an instruction is executed by a job that has no stamp any more
 abbrev pub executed_restamped : System → ℕ → Kept → StampLists → StampLists
@@ -122,21 +127,19 @@ executed_restamped S u o xs =
 
 -- ---- the number of blockers of who executes
 
--- of each level the tick after the last one in which a job of it executed; and the level and the stamp of who executed
--- last
+-- of each level the tick after the last one in which a job of it executed; and the level and the stamp of the job that did
+-- so last
 pub record Told : Type 0 where
   pub last : List ℕ
-  pub begun : Begun
+  pub level : ℕ
+  pub stamp : Option ℕ
 
 abbrev pub count_below : ℕ → List ℕ → ℕ → ℕ
 count_below level last u = one_if (list_any (λ b. nat_lt u b) (take level last))
 
-abbrev pub number_since : List ℕ → Begun → Option ℕ
-number_since last b = option_map (count_below b.level last) b.stamp
-
 -- how many blockers it had
 abbrev pub number_told : Told → Option ℕ
-number_told told = number_since told.last told.begun
+number_told told = option_map (count_below told.level told.last) told.stamp
 
 -- it is told where blockers are counted
 pub record IsNumber (are_counted : Bool) (number told : Option ℕ) : Type 0 where
@@ -153,11 +156,6 @@ abbrev pub number_for : System → KeptCaller → List ℕ → StampLists → Op
 number_for S (ByTask t) last xs = option_map (count_below (priority_of S t) last) (stamp_of_oldest (stamps_at xs t))
 number_for S ByRoutine last xs = None
 number_for S ByNobody last xs = None
-
--- there are stamps of each task, and the tick is below the limit
-pub record MayBegin (tasks u : ℕ) (xs : StampLists) : Type 0 where
-  pub stamps : length xs ≡ tasks
-  pub tick : u < MAX_TICKS
 
 -- the stamp of the job that executes is spent, its level is noted, and what is told of both is its number of blockers
 pub record IsSpent (S : System) (who : KeptCaller) (u : ℕ) (old new : StampLists) (levels : List ℕ) (told : Told) : Type 0 where

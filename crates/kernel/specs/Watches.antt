@@ -1,18 +1,21 @@
 -- A system within a tick whose jobs' stamps are followed, and what a step does to both. No part of the standards.
-use Rattle.std.specs.Prelude.{ℕ, ◌≡◌, ◌<◌, ◌≤◌, ◌+◌, ◌∷◌, Bool, true, false, List, [], Option, IfSome, length, replicate}
+use Rattle.std.specs.Prelude.{ℕ, ◌≡◌, ◌<◌, ◌≤◌, ◌+◌, ◌∷◌, Bool, true, false, List, [], Option, None, IfSome, length, replicate}
 use Rattle.osek_base.specs.declared.executed.Executed.{Executed}
 use Rattle.osek_base.specs.declared.ids.Owner.{Owner}
-use Rattle.osek_base.specs.declared.limits.TheConstants.{MAX_ALARMS, MAX_RECORDS, MAX_TASK_PRIORITY}
+use Rattle.osek_base.specs.declared.limits.TheConstants.{MAX_ALARMS, MAX_RECORDS, MAX_TASK_PRIORITY, MAX_TICKS}
 use Rattle.osek_base.specs.declared.status.Status.{Status}
 use Rattle.osek_base.specs.Executed.{StandsIn, idle_or_executed}
 use Rattle.osek_base.specs.declared.trace_event.TraceEvent.{TraceEvent}
-use Rattle.osek_base.specs.System.{System}
+use Rattle.osek_base.specs.System.{System, priority_of}
+use Rattle.machine.specs.Packed.{instr_of}
 use Rattle.kept_state.specs.Kept.{Kept}
 use Rattle.kept_state.specs.KeptService.{caller_in}
 use Rattle.kept_state.specs.KeptTick.{alarm_acts_in, alarm_phase_in, alarms_act_in, before_execution_in, execute_phase_in, last_phase_in}
 use Rattle.kept_state.specs.Moves.{KeptRecorded, rescheduled}
 use Rattle.kept_state.specs.Standing.{runner_waits}
+use Rattle.services.specs.Calls.{calling_task}
 use Rattle.blocking_laws.specs.Restamping.{StampLists, alarm_restamped, alarm_phase_restamped, alarms_restamped, before_restamped, last_restamped, reschedule_restamped}
+use Rattle.kernel.specs.Controls.{IsCall}
 use Rattle.kernel.specs.Processor.{IsBefore, IsNext, MayExecute, MayFetch, Processor, at_tick, picture, system_of}
 use Rattle.kernel.specs.declared.acted.Acted.{Acted}
 use Rattle.kernel.specs.declared.next.Next.{Next}
@@ -20,12 +23,18 @@ use Rattle.seen_ticks.specs.Told.{acting_in, refused_of_in}
 use Rattle.kernel.specs.Told.{acted_in}
 use Rattle.std.specs.List.{AllByRecursion}
 use Rattle.kernel.specs.Does.{Does}
-use Rattle.kernel.specs.Stamping.{AreBegun, AreCounted, IsSpent, Told, executed_restamped}
+use Rattle.kernel.specs.Stamping.{AreBegun, AreCounted, IsSpent, IsTask, Told, executed_restamped}
 
--- of each task by number the stamps of its jobs, and what tells how many blockers the job had that executed last
+-- of each task by number the stamps of its jobs, the task of which it is known that its oldest job has none, and what tells
+-- how many blockers the job had that executed last
 pub record Blocking : Type 0 where
   pub stamps : StampLists
+  pub spent : Option ℕ
   pub told : Told
+
+-- where there is such a task, the level noted last is its own
+abbrev pub HasLevel : System → Blocking → Type 0
+HasLevel S b = IfSome b.spent (λ t. b.told.level ≡ priority_of S t)
 
 -- the system, and what is followed of it
 pub record Watched : Type 0 where
@@ -53,23 +62,44 @@ pub record HasBegun (counted : Bool) (w : Watched) : Type 0 where
   pub may : MayExecute w.processor
   pub each : counted ≡ true → AreCounted w.blocking.stamps (picture w.processor)
 
--- where blockers are counted, the stamp of the job that executes is spent, and tells how many it had
+-- they belong together: where blockers are counted there are stamps of each task, and the level noted last is that of the
+-- task of which it is known that it has none
+pub record IsFollowed (counted : Bool) (p : Processor) (b : Blocking) : Type 0 where
+  pub sized : counted ≡ true → length b.stamps ≡ length (system_of p).tasks
+  pub level : HasLevel (system_of p) b
+
+-- that task is to execute, or none, in a tick below the limit
+pub record MayBegin (p : Processor) (task : Option ℕ) (tick : ℕ) : Type 0 where
+  pub executes : IsTask (length (system_of p).tasks) (calling_task (caller_in (picture p))) task
+  pub early : tick < MAX_TICKS
+
+-- and the stamp of its job may be spent, where blockers are counted
+pub record MaySpend (p : Processor) (task : Option ℕ) (tick : ℕ) (b : Blocking) : Type 0 where
+  pub may : MayBegin p task tick
+  pub followed : IsFollowed true p b
+
+-- where blockers are counted, the stamp of the job that executes is spent, and tells how many it had; what is known of the
+-- level stays known
 pub record Spends (counted : Bool) (p : Processor) (tick : ℕ) (old new : Blocking) : Type 0 where
   pub spent : counted ≡ true → IsSpent (system_of p) (caller_in (picture p)) tick old.stamps new.stamps old.told.last new.told
   pub sized : length new.stamps ≡ length old.stamps
+  pub level : HasLevel (system_of p) old → HasLevel (system_of p) new
 
 pub record Begins (counted : Bool) (tick : ℕ) (old new : Watched) : Type 0 where
   pub processor : new.processor ≡ old.processor
   pub blocking : Spends counted old.processor tick old.blocking new.blocking
 
--- where blockers are counted the stamps become what a look makes of them, of as many tasks, and no number is told anew
+-- where blockers are counted the stamps become what a look makes of them, of as many tasks, and no number is told anew; what
+-- is known of the level stays known
 pub record Follows (counted : Bool) (look : StampLists → StampLists) (old new : Blocking) : Type 0 where
   pub stamps : counted ≡ true → new.stamps ≡ look old.stamps
   pub told : new.told ≡ old.told
   pub sized : length new.stamps ≡ length old.stamps
+  pub level : (S : System) → HasLevel S old → HasLevel S new
 
 -- before the first tick: all jobs are ready from tick 0 on, and none has executed
 pub record IsFresh (counted : Bool) (p : Processor) (b : Blocking) : Type 0 where
+  pub none : b.spent ≡ None
   pub stamps : counted ≡ true → AreBegun (length (system_of p).tasks) (picture p) b.stamps
   pub last : b.told.last ≡ replicate (MAX_TASK_PRIORITY + 1) 0
 
@@ -155,6 +185,11 @@ pub record IsReady (counted : Bool) (w : Watched) (behind : List TraceEvent) : T
 pub record MayRun (counted : Bool) (w : Watched) (instruction : Next) (behind : List TraceEvent) : Type 0 where
   pub next : IsNext w.processor instruction
   pub ready : IsReady counted w behind
+
+-- and it is a service with a status
+pub record MayCall (counted : Bool) (w : Watched) (instruction : Next) (behind : List TraceEvent) : Type 0 where
+  pub may : MayRun counted w instruction behind
+  pub call : IsCall (instr_of instruction.packed)
 
 -- what was executed, which stands in its program, and the records behind it
 pub record Executes (counted : Bool) (tick : ℕ) (old new : Watched) (executed : Option Executed) (behind : List TraceEvent) : Type 0 where

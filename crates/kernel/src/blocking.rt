@@ -3,15 +3,13 @@
 ghost use Rattle.std.specs.Prelude.{◌≡◌, ◌<◌, true, IfSome, length};
 ghost use Rattle.blocking_laws.specs.Restamping.{preempted_by};
 ghost use Rattle.kernel.specs.Idle.{rested};
-ghost use Rattle.kernel.specs.Stamping.{IsNumber, MayBegin, MayFollow, MayLook, restamped_between, number_told, stood_between};
-ghost use Rattle.kernel.specs.Processor.{system_of};
-ghost use Rattle.kernel.specs.Watches.{Follows, IsFresh, Spends};
+ghost use Rattle.kernel.specs.Stamping.{IsNumber, MayFollow, MayLook, restamped_between, number_told, stood_between};
+ghost use Rattle.kernel.specs.Watches.{Follows, IsFresh, MaySpend, Spends};
 
-use crate::begun::Begun;
 use crate::blockers::Blockers;
 use crate::processor::Processor;
 use crate::stamping::{Look, Stand, is_that, without_ended};
-use osek_base::{MAX_TASK_PRIORITY, TaskId};
+use osek_base::TaskId;
 use readiness::{JobStamps, LastTicks};
 use ready_queues::ReadyQueues;
 use std::marker::{Model, PhantomData};
@@ -22,20 +20,22 @@ use std::marker::{Model, PhantomData};
 pub struct Blocking<B: Blockers> {
     pub(crate) stamps: JobStamps,
     last: LastTicks,
-    begun: Begun,
+    /// The stamp of the job that executed last, where it did so for the first time since it became
+    /// ready.
+    stamp: Option<u32>,
     blockers: PhantomData<B>,
 }
 
 impl<B: Blockers> Model for Blocking<B> {
-    ghost use Rattle.std.specs.Prelude.{◌≤◌};
-    ghost use Rattle.osek_base.specs.declared.limits.TheConstants.{MAX_TASK_PRIORITY};
     ghost use Rattle.kernel.specs.Watches.{Blocking as Seen};
 
     ghost Value = { Seen };
 
-    ghost view = { λ b. record { stamps = b.stamps; told = record { last = b.last; begun = b.begun } } };
-
-    ghost invariant = { λ b. b.begun.level ≤ MAX_TASK_PRIORITY };
+    ghost view = { λ b. record {
+      stamps = b.stamps.lists;
+      spent = b.stamps.spent;
+      told = record { last = b.last.after; level = b.last.level; stamp = b.stamp };
+    } };
 }
 
 impl<B: Blockers> Blocking<B> {
@@ -51,10 +51,7 @@ impl<B: Blockers> Blocking<B> {
                 JobStamps::new(0)
             },
             last: LastTicks::new(),
-            begun: Begun {
-                level: 0,
-                stamp: None,
-            },
+            stamp: None,
             blockers: PhantomData,
         }
     }
@@ -65,7 +62,7 @@ impl<B: Blockers> Blocking<B> {
     {
         self.stamps.copy_from(&other.stamps);
         self.last.copy_from(&other.last);
-        self.begun = other.begun;
+        self.stamp = other.stamp;
     }
 
     /// How many blockers the job had that executed last, where it did so for the first time since it became ready: 1 where a
@@ -78,10 +75,10 @@ impl<B: Blockers> Blocking<B> {
         if !B::are_counted() {
             return None;
         }
-        match &self.begun.stamp {
+        match &self.stamp {
             None => None,
             Some(since) => {
-                if self.last.is_lower_since(self.begun.level, *since) {
+                if self.last.is_lower_since(*since) {
                     Some(1)
                 } else {
                     Some(0)
@@ -150,27 +147,33 @@ impl<B: Blockers> Blocking<B> {
     pub fn rest(&mut self)
         ensures { self.new ≡ rested self.old }
     {
-        self.begun.stamp = None;
+        self.stamp = None;
     }
 
-    /// Where a task executes, the stamp of its job is taken and its level noted.
+    /// Where a task executes, the stamp of its job is taken and its level noted. Where no stamp has
+    /// changed since its own was taken, its level is the one noted last, and isn't asked for.
     #[inline(always)]
-    pub fn begin<Q: ReadyQueues>(&mut self, processor: &Processor<'_, Q>, tick: u32)
-        requires { B.are_counted ≡ true
-            → MayBegin (length (system_of processor.now).tasks) tick self.old.stamps }
+    pub fn begin<Q: ReadyQueues>(
+        &mut self,
+        processor: &Processor<'_, Q>,
+        task: Option<TaskId>,
+        tick: u32,
+    )
+        requires { B.are_counted ≡ true → MaySpend processor.now task tick self.old }
         ensures { Spends B.are_counted processor.now tick self.old self.new }
     {
         if !B::are_counted() {
             return;
         }
-        match processor.executing_task() {
-            None => self.begun.stamp = None,
+        match task {
+            None => self.stamp = None,
             Some(task) => {
-                let level = processor.level_of(task);
-                self.last.note(level, tick);
-                match self.stamps.take(task) {
-                    None => self.begun.stamp = None,
-                    stamp => self.begun = Begun { level, stamp },
+                let goes_on = self.stamps.is_known_spent(task);
+                self.stamp = self.stamps.take(task);
+                if goes_on {
+                    self.last.note_again(tick);
+                } else {
+                    self.last.note(processor.level_of(task), tick);
                 }
             }
         }

@@ -4,7 +4,7 @@ ghost use Rattle.std.specs.Prelude.{◌≡◌, [], IfOk, length};
 ghost use Rattle.osek_base.specs.Proper.{IsProper};
 ghost use Rattle.osek_base.specs.Reschedule.{hooked};
 ghost use Rattle.kernel.specs.Does.{Adds};
-ghost use Rattle.kernel.specs.Stamping.{AreBegun, HasJobs, MayAddJobs};
+ghost use Rattle.kernel.specs.Stamping.{HasJobs, IsBegun, MayAddJobs};
 ghost use Rattle.kernel.specs.Processor.{IsStarted, IsStarting, picture, system_of};
 
 use crate::processor::Processor;
@@ -63,7 +63,7 @@ impl<'s, Q: ReadyQueues> Processor<'s, Q> {
 
     /// The stamps of the jobs with which a system begins: all of them are ready from tick 0 on.
     pub fn begun_stamps(&self) -> JobStamps
-        ensures { AreBegun (length (system_of self.now).tasks) (picture self.now) result }
+        ensures { IsBegun (length (system_of self.now).tasks) (picture self.now) result }
     {
         let count = self.task_count();
         let mut stamps = JobStamps::new(count);
@@ -97,7 +97,7 @@ fn started<'s, Q: ReadyQueues>(
 
 /// So many jobs of a task that has none are ready from tick 0 on.
 fn add_jobs(stamps: &mut JobStamps, task: TaskId, count: u8)
-    requires { MayAddJobs task count stamps.old }
+    requires { MayAddJobs task count stamps.old.lists }
     ensures { HasJobs task count stamps.old stamps.new }
 {
     for _made in 0..count {

@@ -11,11 +11,11 @@ ghost use Rattle.kept_state.specs.KeptTick.{execute_phase_in};
 ghost use Rattle.blocking_laws.specs.Restamping.{named_by};
 ghost use Rattle.kernel.specs.Processor.{ComesTo, IsNext, MayFetch};
 ghost use Rattle.kernel.specs.Does.{Adds, Does, DoesWithin};
-ghost use Rattle.kernel.specs.Controls.{IsCall, control_context, ends_routine};
+ghost use Rattle.kernel.specs.Controls.{IsCall, changes_jobs, control_context, ends_routine};
 
 use crate::next::Next;
 use crate::processor::Processor;
-use machine::Cpu;
+use machine::{Cpu, PackedInstr};
 use osek_base::{
     Control, Instr, MAX_INSTRUCTIONS, MAX_RECORDS, Outcome, Owner, Register, Results, Service,
     Source, Status, System, TaskId, TickRecord, TraceEvent,
@@ -108,6 +108,22 @@ fn record_refusal(system: &System, next: &Next, status: Status, behind: &mut Tic
             Instr::Service(next.packed.service()),
             status,
         ));
+    }
+}
+
+/// Whether the service of an instruction may make, release or end a job. It has no hint to write it
+/// out: what unpacks a service counts as large where it is written out, though little of it is left
+/// here.
+pub fn changes_jobs(packed: PackedInstr) -> bool
+    requires { IsCall (instr_of packed) }
+    ensures { result ≡ changes_jobs (service_of (instr_of packed)) }
+{
+    match packed.service() {
+        Service::ActivateTask(_)
+        | Service::TerminateTask
+        | Service::ChainTask(_)
+        | Service::SetEvent(..) => true,
+        _ => false,
     }
 }
 

@@ -4,24 +4,23 @@
 ghost use Rattle.std.specs.Prelude.{◌≡◌, ◌<◌, ◌∷◌, [], Some, false, true};
 ghost use Rattle.osek_base.specs.declared.trace_event.TraceEvent.{TraceEvent};
 ghost use Rattle.machine.specs.Packed.{instr_of, is_plain};
-ghost use Rattle.kernel.specs.Controls.{IsCall};
-ghost use Rattle.kernel.specs.Watches.{Begins, Finishes, IsReady, MayFinish, MayRun, WatchesWithin, executing};
+ghost use Rattle.kernel.specs.Watches.{Begins, Finishes, IsReady, MayBegin, MayCall, MayFinish, MayRun, WatchesWithin, executing};
 
 use crate::blockers::Blockers;
-use crate::execute_phase::acting_task;
+use crate::execute_phase::{acting_task, changes_jobs};
 use crate::next::Next;
 use crate::watched::Watched;
-use osek_base::{Executed, MAX_TICKS, Outcome, Owner, Results, TickRecord};
+use osek_base::{Executed, Outcome, Owner, Results, TaskId, TickRecord};
 use ready_queues::ReadyQueues;
 
 impl<'s, Q: ReadyQueues, B: Blockers> Watched<'s, Q, B> {
     /// Where a task is to execute, the stamp of its job is taken and its level noted.
     #[inline(always)]
-    pub fn begin(&mut self, tick: u32)
-        requires { tick < MAX_TICKS }
+    pub fn begin(&mut self, task: Option<TaskId>, tick: u32)
+        requires { MayBegin self.old.processor task tick }
         ensures { Begins B.are_counted tick self.old self.new }
     {
-        self.blocking.begin(&self.processor, tick);
+        self.blocking.begin(&self.processor, task, tick);
     }
 
     /// The last two phases: who executes, the active routine or else the running task, executes one instruction, and the task
@@ -93,7 +92,8 @@ impl<'s, Q: ReadyQueues, B: Blockers> Watched<'s, Q, B> {
         self.processor.execute_plain(next)
     }
 
-    /// Who executes does a service. Those with a status alone make, release or end jobs.
+    /// Who executes does a service. Some of those with a status make, release or end jobs, and no
+    /// others do.
     #[inline(always)]
     fn execute(&mut self, next: Next, tick: u32, behind: &mut TickRecord) -> Outcome
         requires may { MayRun B.are_counted self.old next behind.old }
@@ -104,20 +104,20 @@ impl<'s, Q: ReadyQueues, B: Blockers> Watched<'s, Q, B> {
         if next.packed.is_control() {
             self.processor.execute_control(&next, behind);
             Outcome::Control
-        } else if B::are_counted() {
-            self.serve(&next, tick, behind)
-        } else {
+        } else if !B::are_counted() || !changes_jobs(next.packed) {
             let mut results = Results::Nothing;
             let status = self.processor.execute_service(&next, &mut results, behind);
             Outcome::Answer(status, results)
+        } else {
+            self.serve(&next, tick, behind)
         }
     }
 
-    /// A service with a status, where blockers are counted: the task on which it acts is looked at before and after.
+    /// A service that may make, release or end a job, where blockers are counted: the task on which
+    /// it acts is looked at before and after.
     #[inline(never)]
     fn serve(&mut self, next: &Next, tick: u32, behind: &mut TickRecord) -> Outcome
-        requires may { MayRun B.are_counted self.old next.now behind.old }
-        requires call { IsCall (instr_of next.now.packed) }
+        requires { MayCall B.are_counted self.old next.now behind.old }
         ensures { WatchesWithin B.are_counted 2 executing tick self.old self.new []
             (TraceEvent.Executed next.now.owner next.now.place (instr_of next.now.packed) result
             ∷ behind.new) }

@@ -5,7 +5,6 @@
 mod acted;
 mod alarm_phase;
 mod at_instruction;
-mod begun;
 mod blockers;
 mod blocking;
 mod boot;
@@ -28,7 +27,7 @@ mod working;
 pub use at_instruction::AtInstruction;
 pub use blockers::{Blockers, Counted, NotCounted};
 pub use boot::BootFault;
-pub use kernel::Kernel;
+pub use kernel::{Kernel, push_all};
 pub use places::give_places;
 pub use ticking::Machine;
 pub use working::Worked;

@@ -229,7 +229,7 @@ impl<'s, Q: ReadyQueues, B: Blockers> Machine<'s, Q, B> {
         let task = self.watched.begin_steady()?;
         self.acted.clear();
         behind.clear();
-        self.watched.begin(self.ticks);
+        self.watched.begin(Some(task), self.ticks);
         self.ticks += 1;
         Some(self.watched.finish(Owner::Task(task), self.ticks, behind))
     }
@@ -255,7 +255,8 @@ impl<'s, Q: ReadyQueues, B: Blockers> Machine<'s, Q, B> {
             .early_phases(self.ticks, arrived, &mut self.acted, before);
         let watched = &self.watched;
         looker.look(&watched.processor);
-        self.watched.begin(self.ticks);
+        let task = watched.processor.executing_task();
+        self.watched.begin(task, self.ticks);
         self.ticks += 1;
         self.watched.late_phases(self.ticks, behind)
     }

@@ -27,16 +27,13 @@ pub struct Watched<'s, Q: ReadyQueues, B: Blockers> {
 }
 
 impl<'s, Q: ReadyQueues, B: Blockers> Model for Watched<'s, Q, B> {
-    ghost use Rattle.std.specs.Prelude.{◌≡◌, true, length};
-    ghost use Rattle.kernel.specs.Processor.{system_of};
-    ghost use Rattle.kernel.specs.Watches.{Watched as Seen};
+    ghost use Rattle.kernel.specs.Watches.{IsFollowed, Watched as Seen};
 
     ghost Value = { Seen };
 
     ghost view = { λ w. record { processor = w.processor; blocking = w.blocking } };
 
-    ghost invariant = { λ w. B.are_counted ≡ true
-        → length w.blocking.stamps ≡ length (system_of w.processor).tasks };
+    ghost invariant = { λ w. IsFollowed B.are_counted w.processor w.blocking };
 }
 
 impl<'s, Q: ReadyQueues, B: Blockers> Watched<'s, Q, B> {

@@ -1,14 +1,12 @@
-//! Tests of what the program doesn't show: printed OIL, both kinds of ready lists and the runs over
-//! them, a run over ready lists of another make, a machine whose interrupts are chosen as it goes,
-//! instructions as words, upper parts by themselves, a search and needed data worked out by hand.
+//! Tests of what the program doesn't show: printed OIL, a run over ready lists of another make, a
+//! machine whose interrupts are chosen as it goes, upper parts by themselves, a search and needed
+//! data worked out by hand.
 #![tactic(auto)]
 
 #[cfg(test)]
 mod chosen_arrivals;
 #[cfg(test)]
 mod counting_queues;
-#[cfg(test)]
-mod instruction_words;
 #[cfg(test)]
 mod lines;
 #[cfg(test)]
@@ -17,10 +15,6 @@ mod most_objects;
 mod printed_files;
 #[cfg(test)]
 mod pump;
-#[cfg(test)]
-mod queue_runs;
-#[cfg(test)]
-mod ready_lists;
 #[cfg(test)]
 mod search_ring;
 #[cfg(test)]

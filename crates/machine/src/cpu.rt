@@ -3,7 +3,7 @@
 ghost use Rattle.std.specs.Prelude.{◌≡◌, ◌<◌, ◌+◌, length};
 ghost use Rattle.osek_base.specs.Instruction.{value, next, with_value};
 ghost use Rattle.osek_base.specs.State.{fresh_context};
-ghost use Rattle.osek_base.specs.Tick.{answered, at_values, status_number, with_results};
+ghost use Rattle.osek_base.specs.Tick.{answered, at_values, with_results};
 
 use osek_base::{MAX_INSTRUCTIONS, Place, REGISTERS, Register, Results, Service, Status};
 use std::marker::Model;
@@ -99,7 +99,7 @@ impl Cpu {
         requires { self.old.place + 1 < MAX_INSTRUCTIONS }
         ensures { self.new ≡ answered status results self.old }
     {
-        self.set(Register::new(0), number_of(status));
+        self.set(Register::new(0), u32::from(status.number()));
         match results {
             Results::Nothing => {}
             Results::One(a) => self.set(Register::new(1), a),
@@ -146,24 +146,5 @@ impl Cpu {
             Service::GetAlarm(alarm) => Service::GetAlarm(alarm),
             Service::GetAlarmBase(alarm) => Service::GetAlarmBase(alarm),
         }
-    }
-}
-
-/// The number of a status, as r0 shows it.
-#[inline(always)]
-fn number_of(status: Status) -> u32
-    ensures { result ≡ status_number status }
-{
-    match status {
-        Status::Ok => 0,
-        Status::Access => 1,
-        Status::CallLevel => 2,
-        Status::Id => 3,
-        Status::Limit => 4,
-        Status::NoFunc => 5,
-        Status::Resource => 6,
-        Status::State => 7,
-        Status::Value => 8,
-        Status::SysDisabled => 32,
     }
 }

@@ -1,5 +1,6 @@
--- What is seen of things in a tick, as plain lists.
-use Rattle.std.specs.Prelude.{ℕ, List, Option}
+-- What is seen of things in a tick, as plain lists and by number, and ticks in which the same is seen.
+use Rattle.std.specs.Prelude.{ℕ, zero, suc, false, List, [], ◌∷◌, Option, None, slice_index_or}
+use Rattle.osek_base.specs.declared.status.TaskState.TheVariants.{Suspended}
 use Rattle.observations.specs.declared.alarm_seen.AlarmSeen.{AlarmSeen}
 use Rattle.observations.specs.declared.observation.Observation.{Observation}
 use Rattle.observations.specs.declared.routine_seen.RoutineSeen.{RoutineSeen}
@@ -21,3 +22,35 @@ seen_of o =
       holders = o.holders.items;
       alarms = o.alarms.items;
     }
+
+-- what is seen of something that an observation doesn't have
+abbrev pub unseen_task : TaskSeen
+unseen_task = record { state = Suspended; priority = None; jobs = 0; made = 0; refused = 0; ended = false; waits = false }
+
+abbrev pub unseen_routine : RoutineSeen
+unseen_routine = record { executes = false; is_pending = false; is_started = false; arrived = 0; lost = 0 }
+
+abbrev pub unseen_alarm : AlarmSeen
+unseen_alarm = record { has_expired = false; is_refused = false }
+
+-- what is seen of the thing of that number
+abbrev pub task_seen : Observation → ℕ → TaskSeen
+task_seen o k = slice_index_or o.tasks.items k unseen_task
+
+abbrev pub routine_seen : Observation → ℕ → RoutineSeen
+routine_seen o k = slice_index_or o.routines.items k unseen_routine
+
+abbrev pub alarm_seen : Observation → ℕ → AlarmSeen
+alarm_seen o k = slice_index_or o.alarms.items k unseen_alarm
+
+abbrev pub holder_seen : Observation → ℕ → Option ℕ
+holder_seen o k = slice_index_or o.holders.items k None
+
+-- what is seen as of a tick of another number
+abbrev pub numbered : ℕ → Observation → Observation
+numbered tick o = record o { tick = tick }
+
+-- so many ticks from one on, in which but for the number the same is seen
+abbrev pub alike_ticks : Observation → ℕ → ℕ → List Observation
+alike_ticks o first zero = []
+alike_ticks o first (suc n) = numbered first o ∷ alike_ticks o (suc first) n

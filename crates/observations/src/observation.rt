@@ -1,5 +1,8 @@
 //! What is seen of one tick, no part of the standards.
 
+ghost use Rattle.std.specs.Prelude.{◌≡◌};
+ghost use Rattle.observations.specs.Seen.{alarm_seen, holder_seen, routine_seen, task_seen};
+
 use crate::alarm_seen::AlarmSeen;
 use crate::failure::Failure;
 use crate::holder::Holder;
@@ -46,6 +49,50 @@ impl Observation {
             routines: ArrayVec::new(),
             holders: ArrayVec::new(),
             alarms: ArrayVec::new(),
+        }
+    }
+
+    /// What is seen of the task of that number; nothing where there is none.
+    #[inline(always)]
+    pub fn task(&self, number: usize) -> TaskSeen
+        ensures { result ≡ task_seen self.now number }
+    {
+        match self.tasks.as_slice().get(number) {
+            Some(seen) => *seen,
+            None => TaskSeen::default(),
+        }
+    }
+
+    /// What is seen of the routine of that number; nothing where there is none.
+    #[inline(always)]
+    pub fn routine(&self, number: usize) -> RoutineSeen
+        ensures { result ≡ routine_seen self.now number }
+    {
+        match self.routines.as_slice().get(number) {
+            Some(seen) => *seen,
+            None => RoutineSeen::default(),
+        }
+    }
+
+    /// What is seen of the alarm of that number; nothing where there is none.
+    #[inline(always)]
+    pub fn alarm(&self, number: usize) -> AlarmSeen
+        ensures { result ≡ alarm_seen self.now number }
+    {
+        match self.alarms.as_slice().get(number) {
+            Some(seen) => *seen,
+            None => AlarmSeen::default(),
+        }
+    }
+
+    /// Who holds the resource of that number; nobody where there is none.
+    #[inline(always)]
+    pub fn holder(&self, number: usize) -> Holder
+        ensures { result ≡ holder_seen self.now number }
+    {
+        match self.holders.as_slice().get(number) {
+            Some(holder) => *holder,
+            None => Holder::default(),
         }
     }
 }

@@ -1,5 +1,8 @@
 //! OSEK/VDX OS: task management, task state model. What is seen of a task in a tick.
 
+ghost use Rattle.std.specs.Prelude.{◌≡◌};
+ghost use Rattle.observations.specs.Seen.{unseen_task};
+
 use osek_base::TaskState;
 
 /// What is seen of a task in a tick: what it is when the tick's instruction is executed, and what comes to it in the tick.
@@ -24,7 +27,9 @@ pub struct TaskSeen {
 
 /// A task without a job, in a tick in which nothing comes to it.
 impl Default for TaskSeen {
-    fn default() -> Self {
+    fn default() -> Self
+        ensures { result ≡ unseen_task }
+    {
         TaskSeen {
             state: TaskState::Suspended,
             priority: None,

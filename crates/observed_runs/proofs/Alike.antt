@@ -36,11 +36,11 @@ use Rattle.kernel.specs.Working.{HasWorked, at_rest}
 use Rattle.seen_ticks.specs.Told.{refused_of, task_at, task_at_in}
 use Rattle.seen_ticks.proofs.SeenLemmas.{counted as counted_jobs, task_is}
 use Rattle.observed_runs.specs.declared.before.Before.{Before}
-use Rattle.observed_runs.specs.declared.execution.Execution.{Execution}
+use Rattle.seen_ticks.specs.declared.execution.Execution.{Execution}
 use Rattle.observed_runs.specs.Keeping.{IsBefore, IsTold, coming}
 use Rattle.seen_ticks.specs.Observed.{IsObserved, IsSeen, Ticked, activates, active_routine, alarm_seen, answered, ending, executed_in, failure_by, failure_of, holders_seen, instruction, is_accepted, is_by, is_end, is_limit, is_number, is_pending, is_waiting, jobs_before, lost_of, one_if, owner_of, refusing, routine_seen, state_seen, status_of, task_of, task_seen, tick_at}
 use Rattle.observed_runs.specs.Passing.{HasStayed, LeavesAll, PassesAlike, StaysAlike, task_left}
-use Rattle.observed_runs.proofs.Staying.{holding}
+use Rattle.seen_ticks.proofs.Staying.{holding}
 
 -- ---- a task, between two ticks and at the instruction of one
 
@@ -500,6 +500,9 @@ module _ (counted : Bool) (most n : ℕ) (k new : Progress) (last : Option Execu
         going = goes_on room;
         none_arrive = λ i low. (stayed.stays i low).none_arrive;
         none_due = λ i low. (stayed.stays i low).none_due;
+        none_answered = λ i low.
+            let stays = stayed.stays i low in
+            record { executed = stays.executed; recorded = stays.recorded; answer = stays.answer };
         alike = λ i low seen is.
             let was = subst (λ m. IsObserved counted k.system k.mode k.arrivals m seen) last_is is in
             let alike =

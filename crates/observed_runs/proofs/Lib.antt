@@ -1,11 +1,7 @@
 pub mod Bounds
-pub mod Counting
 pub mod RefusedAlarms
 pub mod Refusals
-pub mod SeenSteps
 pub mod Alike
 pub mod Left
 pub mod Seeing
-pub mod Staying
-pub mod Telling
 pub mod Replacing

@@ -13,18 +13,7 @@ use Rattle.kernel.specs.Progress.{Progress, is_over, run_of}
 use Rattle.seen_ticks.specs.Observed.{tick_at}
 use Rattle.std.specs.Prelude.{◌==◌}
 use Rattle.std.specs.List.{filter}
-use Rattle.observed_runs.proofs.SeenSteps.{seen_count}
-
-module _ {X : Type 0} (f : ℕ → X) where
-  at_below : (n i : ℕ) (d : X) → i < n → get_or (map f (below n)) i d ≡ f i
-  at_below zero i d low = absurd (omega arith)
-  at_below (suc n) i d low =
-      let long = seen_count f n (map f (below n)) refl in
-      ap (λ (xs : List X). get_or xs i d) (map-append f (below n) (n ∷ []))
-      ∙ elim (cases_eq i n) [
-        | inl e ↦ get_or_push (map f (below n)) (f n) d i (omega (arith, long, e)) ∙ ap f (sym e)
-        | inr ne ↦ get_or_append_left (map f (below n)) (f n ∷ []) d i (omega (arith, long, ne, low)) ∙ at_below n i d (omega (arith, ne, low))
-      ]
+use Rattle.seen_ticks.proofs.SeenSteps.{seen_count}
 
 -- what is said of the tick that comes is said of the last one behind it
 pub one_on : (k new : Progress) (P : System → ℕ → List Arrival → ℕ → Type 0) → new ≡ record k { ticks = k.ticks + 1 }
@@ -55,15 +44,3 @@ arriving_few arrivals t few =
     let long = length-map (filter (λ (a : Arrival). a.tick == t) arrivals) (λ (a : Arrival). a.routine) in
     let less = fewer (λ (a : Arrival). a.tick == t) arrivals in
     omega (arith, long, less, few)
-
--- what is read at a place of a list of what is seen of each number
-pub read_at : {X : Type 0} (f : ℕ → X) (n : ℕ) (xs items : List X) (i k : ℕ) (d : X) → xs ≡ items → items ≡ map f (below n) → i ≡ k → k < n
-    → get_or xs i d ≡ f k
-read_at f n xs items i k d same h is low =
-    ap (λ v. get_or v i d) (same ∙ h) ∙ ap (λ j. get_or (map f (below n)) j d) is ∙ at_below f n k d low
-
-pub inside : {X : Type 0} (f : ℕ → X) (n : ℕ) (xs items : List X) (i k : ℕ) → xs ≡ items → items ≡ map f (below n) → i ≡ k → k < n
-    → i < length xs
-inside f n xs items i k same h is low =
-    let long = seen_count f n xs (same ∙ h) in
-    omega (arith, long, is, low)

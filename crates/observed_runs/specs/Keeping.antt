@@ -12,7 +12,7 @@ use Rattle.observations.specs.declared.observation.Observation.{Observation}
 use Rattle.blocking_laws.specs.Steps.{record_at}
 use Rattle.kernel.specs.Progress.{Progress, run_of}
 use Rattle.observed_runs.specs.declared.before.Before.{Before}
-use Rattle.observed_runs.specs.declared.execution.Execution.{Execution}
+use Rattle.seen_ticks.specs.declared.execution.Execution.{Execution}
 use Rattle.seen_ticks.specs.Observed.{IsObserved, Ticked, active_routine, ending, holders_seen, is_pending, jobs_before, refusing, tick_at}
 
 -- the tick of a run that was done last

@@ -53,14 +53,21 @@ pub record StaysOn (counted : Bool) (most : ℕ) (old new : Progress) (n : ℕ) 
   pub last : Option Executed
   pub stayed : HasStayed counted most old new n last
 
--- so many ticks were done, at most some, before each of which the run goes on, and in none of which an interrupt arrives or an
--- alarm is due: what is seen of the last is, but for its number, what is seen of each
+-- the records of a tick of a run tell that nobody executed, or an instruction that is answered nothing, and no more
+pub record TellsNoAnswer (S : System) (mode : ℕ) (arrivals : List Arrival) (t : ℕ) : Type 0 where
+  pub executed : Option Executed
+  pub recorded : record_at S mode arrivals t ≡ idle_or_executed S executed ∷ []
+  pub answer : answered executed ≡ None
+
+-- so many ticks were done, at most some, before each of which the run goes on, in none of which an interrupt arrives or an alarm
+-- is due, and whose records tell no answer: what is seen of the last is, but for its number, what is seen of each
 pub record PassesAlike (counted : Bool) (most : ℕ) (old new : Progress) (n : ℕ) : Type 0 where
   pub few : n ≤ most
   pub next : new ≡ record old { ticks = old.ticks + n }
   pub going : (k : ℕ) → k < n → is_over (record old { ticks = old.ticks + k }) ≡ false
   pub none_arrive : (k : ℕ) → k < n → arriving old.arrivals (old.ticks + k) ≡ []
   pub none_due : (k : ℕ) → k < n → due_in old.system old.mode old.arrivals (old.ticks + k) ≡ []
+  pub none_answered : (k : ℕ) → k < n → TellsNoAnswer old.system old.mode old.arrivals (old.ticks + k)
   pub alike : (k : ℕ) → k < n → (o : Observation)
       → IsObserved counted old.system old.mode old.arrivals (new.ticks - 1) o
       → IsObserved counted old.system old.mode old.arrivals (old.ticks + k) (record o { tick = old.ticks + k })

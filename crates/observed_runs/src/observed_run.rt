@@ -22,11 +22,11 @@ ghost use Rattle.seen_ticks.specs.Observed.{
 };
 
 use crate::before::Before;
-use crate::execution::{answered, executor, failure};
 use crate::told_run::ToldRun;
 use kernel::{AtInstruction, Blockers, BootFault};
 use observations::Observation;
 use osek_base::{Arrivals, IsrId, MAX_TICKS, System, TickRecord};
+use seen_ticks::{answered, executor, failure};
 use std::alloc::Global;
 use std::cmp;
 use std::marker::Model;

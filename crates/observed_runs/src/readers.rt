@@ -20,7 +20,6 @@ ghost use Rattle.seen_ticks.specs.Observed.{
   times,
 };
 
-use crate::execution::is_by;
 use crate::told_run::ToldRun;
 use alarms::DueList;
 use kernel::{Blockers, Kernel};
@@ -29,78 +28,7 @@ use osek_base::{
     TaskId, TaskState,
 };
 use ready_queues::LevelQueues;
-use seen_ticks::TaskAt;
-
-/// Whether there is another task, and it is that one.
-pub fn is_task(task: TaskId, other: Option<TaskId>) -> bool
-    ensures { result ≡ is_number task other }
-{
-    match other {
-        None => false,
-        Some(other) => other.number() == task.number(),
-    }
-}
-
-/// Whether there is another routine, and it is that one.
-pub fn is_routine(routine: IsrId, other: Option<IsrId>) -> bool
-    ensures { result ≡ is_number routine other }
-{
-    match other {
-        None => false,
-        Some(other) => other.number() == routine.number(),
-    }
-}
-
-/// How often a routine stands in a list of those whose interrupts arrive.
-pub fn times(routine: IsrId, arrived: &[IsrId]) -> u32
-    requires { length arrived.now ≤ MAX_ARRIVALS }
-    ensures { result ≡ times routine arrived.now }
-{
-    let mut count = 0;
-    for other in arrived {
-        if other.number() == routine.number() {
-            count += 1;
-        }
-    }
-    count
-}
-
-/// Whether an alarm is one of some alarms.
-pub fn is_among(alarms: &DueList, alarm: AlarmId) -> bool
-    ensures { result ≡ is_among alarms.now alarm }
-{
-    for place in 0..alarms.len() {
-        if alarms.at(place).number() == alarm.number() {
-            return true;
-        }
-    }
-    false
-}
-
-fn is_activation(task: TaskId, action: &Action) -> bool
-    ensures { result ≡ is_activation task action.now }
-{
-    match action {
-        Action::ActivateTask(other) => other.number() == task.number(),
-        Action::SetEvent(..) => false,
-    }
-}
-
-/// How many of some alarms are to activate a task.
-pub fn activations_by(system: &System, task: TaskId, alarms: &DueList) -> u8
-    requires { AllByRecursion (λ a. a < length system.now.alarms) alarms.now }
-    ensures value { result ≡ activations_by system.now task alarms.now }
-    ensures few { result ≤ MAX_ALARMS }
-{
-    let mut count = 0;
-    for place in 0..alarms.len() {
-        let action = system.action_of(alarms.at(place));
-        if is_activation(task, &action) {
-            count += 1;
-        }
-    }
-    count
-}
+use seen_ticks::{TaskAt, activations_by, is_among, is_by, is_task, times};
 
 /// How many jobs a kernel's task has, at most MAX_ACTIVATION.
 fn few_jobs<B: Blockers>(kernel: &Kernel<'_, LevelQueues, B>, system: &System, task: TaskId) -> u8

@@ -7,27 +7,15 @@ ghost use Rattle.seen_ticks.specs.Observed.{
   active_routine,
   is_number,
   is_pending,
-  lost_of,
   routine_seen,
 };
 
-use crate::readers::is_routine;
 use crate::told_run::ToldRun;
 use arrayvec::ArrayVec;
 use kernel::{Blockers, give_places};
 use observations::RoutineSeen;
 use osek_base::{IsrId, MAX_ROUTINES, Owner};
-
-/// How many of the interrupts of a routine are lost, all but the first, and that one too where one is pending.
-pub fn lost_of(was_pending: bool, arrived: u32) -> u32
-    ensures { result ≡ lost_of was_pending arrived }
-{
-    if was_pending {
-        arrived
-    } else {
-        arrived.saturating_sub(1)
-    }
-}
+use seen_ticks::{is_routine, lost_of};
 
 impl<'s, B: Blockers> ToldRun<'s, B> {
     /// What is seen of a routine in the tick that was done last, by whether it was active and pending

@@ -18,40 +18,12 @@ ghost use Rattle.seen_ticks.specs.Observed.{
   task_seen,
 };
 
-use crate::readers::is_task;
 use crate::told_run::ToldRun;
 use arrayvec::ArrayVec;
 use kernel::{AtInstruction, Blockers, give_places};
 use observations::TaskSeen;
-use osek_base::{Executed, MAX_ACTIVATION, MAX_TASKS, Owner, TaskId, TaskState};
-use seen_ticks::TaskAt;
-
-/// RUNNING for a task that executes, and READY for one that a routine interrupts.
-pub fn state_seen(executes: bool, state: TaskState) -> TaskState
-    ensures { result ≡ state_seen executes state }
-{
-    match state {
-        _ if executes => TaskState::Running,
-        TaskState::Running => TaskState::Ready,
-        state => state,
-    }
-}
-
-/// Whether a state is WAITING.
-pub fn is_waiting(state: TaskState) -> bool
-    ensures { result ≡ is_waiting state }
-{
-    matches!(state, TaskState::Waiting)
-}
-
-/// How many jobs of a task were made in a tick, where it has `jobs` behind the tick and had `before` before it, and one of them
-/// `ended`.
-pub fn made(jobs: u8, ended: bool, before: u8) -> u8
-    requires { jobs ≤ MAX_ACTIVATION }
-    ensures { result ≡ jobs + one_if ended - before }
-{
-    (jobs + u8::from(ended)).saturating_sub(before)
-}
+use osek_base::{Executed, MAX_TASKS, Owner, TaskId};
+use seen_ticks::{TaskAt, is_task, is_waiting, made, state_seen};
 
 /// The task of which an instruction was.
 #[tactic(auto, using(crate::proofs::Refusals::same_number))]

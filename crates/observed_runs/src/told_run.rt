@@ -1,6 +1,6 @@
 //! A run beside what its kernel tells of the last tick, no part of the standards.
 
-ghost use Rattle.std.specs.Prelude.{◌≡◌, ◌+◌, ◌-◌, ◌++◌, ◌≤◌, true, false, length, map, IfOk, IfSome, Some, None};
+ghost use Rattle.std.specs.Prelude.{◌≡◌, ◌+◌, ◌-◌, ◌≤◌, true, false, length, map, IfOk, IfSome, Some, None};
 ghost use Rattle.osek_base.specs.Executed.{StandsIn, idle_or_executed};
 ghost use Rattle.osek_base.specs.Lists.{below};
 ghost use Rattle.osek_base.specs.Names.{number_of};
@@ -14,13 +14,13 @@ ghost use Rattle.seen_ticks.specs.Observed.{executed_in, holders_seen};
 ghost use Rattle.seen_ticks.specs.Told.{task_at};
 
 use crate::before::Before;
-use crate::execution::Execution;
 use crate::holders_seen::see_holders;
 use arrayvec::ArrayVec;
-use kernel::{AtInstruction, Blockers, BootFault, Kernel};
+use kernel::{AtInstruction, Blockers, BootFault, Kernel, push_all};
 use observations::{Holder, MAX_HELD};
-use osek_base::{Arrivals, Executed, MAX_RECORDS, MAX_TICKS, System, TickRecord, TraceEvent};
+use osek_base::{Arrivals, Executed, MAX_TICKS, System, TickRecord, TraceEvent};
 use ready_queues::LevelQueues;
+use seen_ticks::Execution;
 use std::alloc::Global;
 use std::marker::Model;
 
@@ -220,15 +220,5 @@ fn event_of(system: &System, executed: &Option<Executed>) -> TraceEvent
     match executed {
         None => TraceEvent::Idle,
         Some(executed) => executed.record_in(system),
-    }
-}
-
-/// Adds some records at the end.
-fn push_all(records: &mut TickRecord, more: &TickRecord)
-    requires { length records.old + length more.now ≤ MAX_RECORDS }
-    ensures { records.new ≡ records.old ++ more.now }
-{
-    for index in 0..more.len() {
-        records.push(more.at(index));
     }
 }

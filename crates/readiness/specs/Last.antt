@@ -1,6 +1,15 @@
 -- In which tick a job of each level last executed. No part of the standards.
-use Rattle.std.specs.Prelude.{ℕ, ◌≡◌, ◌≤◌, ◌==◌, false, List, slice_index_or}
+use Rattle.std.specs.Prelude.{ℕ, ◌≡◌, ◌≤◌, ◌+◌, ◌==◌, false, List, slice_index_or, slice_set}
 use Rattle.osek_base.specs.declared.limits.TheConstants.{MAX_TASK_PRIORITY}
+
+-- of each level the tick after the last one in which a job of it executed, and the level of the job that did so last
+pub record Last : Type 0 where
+  pub after : List ℕ
+  pub level : ℕ
+
+-- a job of a level executes in a tick
+abbrev pub noted : ℕ → ℕ → Last → Last
+noted level tick l = record { after = slice_set l.after level (tick + 1); level = level }
 
 -- no number of a level other than that one is greater than a bound
 pub record AreOthers (after : List ℕ) (level bound : ℕ) : Type 0 where

@@ -1,5 +1,5 @@
 -- Since which tick each job of a task is ready, where it hasn't executed since. No part of the standards.
-use Rattle.std.specs.Prelude.{ℕ, ◌≡◌, List, [], ◌∷◌, Option, Some, None, IfSome, slice_index_or}
+use Rattle.std.specs.Prelude.{ℕ, ◌≡◌, List, [], ◌∷◌, Option, Some, None, IfSome, slice_index_or, slice_set}
 
 -- the oldest job gets a stamp where it has none
 abbrev pub stamp_oldest : ℕ → List (Option ℕ) → List (Option ℕ)
@@ -20,6 +20,15 @@ spent_oldest (p ∷ later) = None ∷ later
 abbrev pub without_oldest : List (Option ℕ) → List (Option ℕ)
 without_oldest [] = []
 without_oldest (p ∷ later) = later
+
+-- of each task by number the stamps of its jobs, and a task whose oldest job is known to have none
+pub record Stamped : Type 0 where
+  pub lists : List (List (Option ℕ))
+  pub spent : Option ℕ
+
+-- the stamps of one task are changed, and of that one or none it is known then
+abbrev pub changed : ℕ → (List (Option ℕ) → List (Option ℕ)) → Option ℕ → Stamped → Stamped
+changed t f known s = record { lists = slice_set s.lists t (f (slice_index_or s.lists t [])); spent = known }
 
 -- the oldest job of a task, where one is named, has no stamp
 abbrev pub HasNone : Option ℕ → List (List (Option ℕ)) → Type 0

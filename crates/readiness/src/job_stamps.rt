@@ -1,7 +1,7 @@
 //! Since which tick each job is ready, by task.
 
 ghost use Rattle.std.specs.Prelude.{◌≡◌, ◌<◌, ◌≤◌, [], ◌∷◌, ◌++◌, Some, length, replicate, slice_set, slice_index_or, is_none, true, None};
-ghost use Rattle.readiness.specs.Stamps.{stamp_oldest, stamp_of_oldest, spent_oldest, without_oldest};
+ghost use Rattle.readiness.specs.Stamps.{changed, stamp_oldest, stamp_of_oldest, spent_oldest, without_oldest};
 
 use crate::task_stamps::TaskStamps;
 use arrayvec::ArrayVec;
@@ -17,12 +17,11 @@ pub struct JobStamps {
 }
 
 impl Model for JobStamps {
-    ghost use Rattle.std.specs.Prelude.{ℕ, List, Option};
-    ghost use Rattle.readiness.specs.Stamps.{HasNone};
+    ghost use Rattle.readiness.specs.Stamps.{HasNone, Stamped};
 
-    ghost Value = { List (List (Option ℕ)) };
+    ghost Value = { Stamped };
 
-    ghost view = { λ s. s.tasks.items };
+    ghost view = { λ s. record { lists = s.tasks.items; spent = s.spent } };
 
     ghost invariant = { λ s. HasNone s.spent s.tasks.items };
 }
@@ -58,7 +57,7 @@ impl JobStamps {
     /// No job of any task.
     pub fn new(count: usize) -> Self
         requires { count ≤ MAX_TASKS }
-        ensures { result ≡ replicate count [] }
+        ensures { result ≡ record { lists = replicate count []; spent = None } }
     {
         let mut tasks = ArrayVec::new();
         for _made in 0..count {
@@ -77,10 +76,9 @@ impl JobStamps {
 
     /// A job of a task more, ready from a tick on: it is the newest.
     pub fn add(&mut self, task: TaskId, tick: u32)
-        requires task { task < length self.old }
-        requires room { length (slice_index_or self.old task []) < MAX_ACTIVATION }
-        ensures { self.new
-            ≡ slice_set self.old task (slice_index_or self.old task [] ++ Some tick ∷ []) }
+        requires task { task < length self.old.lists }
+        requires room { length (slice_index_or self.old.lists task []) < MAX_ACTIVATION }
+        ensures { self.new ≡ changed task (λ list. list ++ Some tick ∷ []) None self.old }
     {
         self.spent = None;
         self.tasks[task.number() as usize].add(tick);
@@ -88,9 +86,8 @@ impl JobStamps {
 
     /// The oldest job of a task ends, if there is one.
     pub fn end(&mut self, task: TaskId)
-        requires { task < length self.old }
-        ensures { self.new
-            ≡ slice_set self.old task (without_oldest (slice_index_or self.old task [])) }
+        requires { task < length self.old.lists }
+        ensures { self.new ≡ changed task without_oldest None self.old }
     {
         self.spent = None;
         self.tasks[task.number() as usize].end();
@@ -98,18 +95,20 @@ impl JobStamps {
 
     /// The oldest job of a task is ready from a tick on, where it has no stamp.
     pub fn stamp(&mut self, task: TaskId, tick: u32)
-        requires { task < length self.old }
-        ensures { self.new
-            ≡ slice_set self.old task (stamp_oldest tick (slice_index_or self.old task [])) }
+        requires { task < length self.old.lists }
+        ensures { self.new ≡ changed task (stamp_oldest tick) None self.old }
     {
         self.spent = None;
         self.tasks[task.number() as usize].stamp(tick);
     }
 
-    /// Whether it is known that the oldest job of a task has no stamp any more.
+    /// Whether it is known that the oldest job of a task has no stamp any more: its stamp was taken last, and no stamp has
+    /// changed since.
     #[inline(always)]
-    fn is_known_spent(&self, task: TaskId) -> bool
-        ensures { result ≡ true → stamp_of_oldest (slice_index_or self.now task []) ≡ None }
+    pub fn is_known_spent(&self, task: TaskId) -> bool
+        ensures spent { result ≡ true → self.now.spent ≡ Some task }
+        ensures none { result ≡ true
+            → stamp_of_oldest (slice_index_or self.now.lists task []) ≡ None }
     {
         match self.spent {
             None => false,
@@ -120,7 +119,7 @@ impl JobStamps {
     /// Whether the oldest job of a task has no stamp any more, or the task has no job.
     #[inline(always)]
     pub fn is_spent(&self, task: TaskId) -> bool
-        ensures { result ≡ is_none (stamp_of_oldest (slice_index_or self.now task [])) }
+        ensures { result ≡ is_none (stamp_of_oldest (slice_index_or self.now.lists task [])) }
     {
         if self.is_known_spent(task) {
             return true;
@@ -134,10 +133,9 @@ impl JobStamps {
     /// The oldest job of a task executes: its stamp is taken.
     #[inline(always)]
     pub fn take(&mut self, task: TaskId) -> Option<u32>
-        requires { task < length self.old }
-        ensures stamp { result ≡ stamp_of_oldest (slice_index_or self.old task []) }
-        ensures after { self.new
-            ≡ slice_set self.old task (spent_oldest (slice_index_or self.old task [])) }
+        requires { task < length self.old.lists }
+        ensures stamp { result ≡ stamp_of_oldest (slice_index_or self.old.lists task []) }
+        ensures after { self.new ≡ changed task spent_oldest (Some task) self.old }
     {
         if self.is_known_spent(task) {
             return None;

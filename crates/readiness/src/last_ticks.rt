@@ -2,6 +2,7 @@
 
 ghost use Rattle.std.specs.Prelude.{◌≡◌, ◌<◌, ◌≤◌, ◌+◌, nat_lt, replicate, slice_set, take, length};
 ghost use Rattle.std.specs.List.{list_any};
+ghost use Rattle.readiness.specs.Last.{noted};
 
 use osek_base::{MAX_TASK_PRIORITY, MAX_TICKS};
 use std::cmp;
@@ -20,12 +21,11 @@ pub struct LastTicks {
 }
 
 impl Model for LastTicks {
-    ghost use Rattle.std.specs.Prelude.{ℕ, List};
-    ghost use Rattle.readiness.specs.Last.{AreOthers};
+    ghost use Rattle.readiness.specs.Last.{AreOthers, Last};
 
-    ghost Value = { List ℕ };
+    ghost Value = { Last };
 
-    ghost view = { λ l. l.after };
+    ghost view = { λ l. record { after = l.after; level = l.level } };
 
     ghost invariant = { λ l. AreOthers l.after l.level l.others };
 }
@@ -33,7 +33,7 @@ impl Model for LastTicks {
 impl LastTicks {
     /// No job has executed.
     pub fn new() -> Self
-        ensures { result ≡ replicate LEVELS 0 }
+        ensures { result ≡ record { after = replicate LEVELS 0; level = 0 } }
     {
         LastTicks {
             after: [0; LEVELS],
@@ -56,7 +56,7 @@ impl LastTicks {
     pub fn note(&mut self, level: u8, tick: u32)
         requires level { level ≤ MAX_TASK_PRIORITY }
         requires tick { tick < MAX_TICKS }
-        ensures { self.new ≡ slice_set self.old level (tick + 1) }
+        ensures { self.new ≡ noted level tick self.old }
     {
         if level != self.level {
             self.others = cmp::max(self.others, self.after[self.level as usize]);
@@ -65,16 +65,25 @@ impl LastTicks {
         self.after[level as usize] = tick + 1;
     }
 
-    /// Whether a job of a level below has executed in a tick or since.
+    /// A job of the level that executed last does so in a tick.
     #[inline(always)]
-    pub fn is_lower_since(&self, level: u8, tick: u32) -> bool
-        requires { level ≤ MAX_TASK_PRIORITY }
-        ensures { result ≡ list_any (λ after. nat_lt tick after) (take level self.now) }
+    pub fn note_again(&mut self, tick: u32)
+        requires { tick < MAX_TICKS }
+        ensures { self.new ≡ noted self.old.level tick self.old }
     {
-        if level == self.level && self.others <= tick {
+        self.after[self.level as usize] = tick + 1;
+    }
+
+    /// Whether a job of a level below that which executed last has executed in a tick or since.
+    #[inline(always)]
+    pub fn is_lower_since(&self, tick: u32) -> bool
+        ensures { result
+            ≡ list_any (λ after. nat_lt tick after) (take self.now.level self.now.after) }
+    {
+        if self.others <= tick {
             return false;
         }
-        is_one_since(&self.after[..level as usize], tick)
+        is_one_since(&self.after[..self.level as usize], tick)
     }
 }
 

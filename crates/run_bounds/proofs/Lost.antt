@@ -24,7 +24,8 @@ use Rattle.seen_ticks.specs.Told.{refused_by}
 use Rattle.shown_ticks.specs.Seen.{executor_in, failure_in, seen_by, seen_in}
 use Rattle.shown_ticks.specs.Shown.{KeptTicked, routine_seen_in, ticked_in}
 use Rattle.figures.specs.declared.routine_figures.RoutineTick.{RoutineTick}
-use Rattle.figures.specs.FigureSums.{levels_of, lower_executes, unseen_routine}
+use Rattle.observations.specs.Seen.{unseen_routine}
+use Rattle.figures.specs.FigureSums.{levels_of, lower_executes}
 use Rattle.figure_laws.specs.Pending.{IsOlder, pending_in, pending_next}
 use Rattle.figure_laws.specs.Labels.{IsAtMost}
 use Rattle.figure_laws.specs.Times.{waited}

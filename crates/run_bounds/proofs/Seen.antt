@@ -24,7 +24,8 @@ use Rattle.same_future.proofs.Tables.{length-table, table_at}
 use Rattle.shown_ticks.specs.Seen.{executor_in, seen_in}
 use Rattle.shown_ticks.specs.Shown.{KeptTicked, alarm_seen_in, holders_seen_in, kept_tick_at, routine_seen_in, scheduler_seen_in, task_seen_in, ticked_in}
 use Rattle.figures.specs.declared.task_tick.TaskTick.{TaskTick}
-use Rattle.figures.specs.FigureSums.{held_count, levels_of, lower_executes, unseen_alarm, unseen_routine, unseen_task}
+use Rattle.observations.specs.Seen.{unseen_alarm, unseen_routine, unseen_task}
+use Rattle.figures.specs.FigureSums.{held_count, levels_of, lower_executes}
 use Rattle.figure_laws.specs.Blocking.{blocked_in, blocked_next}
 use Rattle.figure_laws.specs.Holding.{Hold}
 use Rattle.figure_laws.specs.Seen.{AgesAgree, HoldsAgree, PendingAgrees}

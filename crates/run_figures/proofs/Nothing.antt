@@ -13,7 +13,8 @@ use Rattle.figures.specs.declared.routine_figures.RoutineFigures.{RoutineFigures
 use Rattle.figures.specs.declared.task_figures.TaskFigures.{TaskFigures}
 use Rattle.figures.specs.declared.task_tick.TaskTick.{TaskTick}
 use Rattle.figures.specs.AlarmSums.{alarm_figures}
-use Rattle.figures.specs.FigureSums.{RunFigures, alarm_tick, is_error, is_routine, is_task, levels_of, routine_tick, task_figures, task_tick, unseen_alarm}
+use Rattle.observations.specs.Seen.{unseen_alarm}
+use Rattle.figures.specs.FigureSums.{RunFigures, alarm_tick, is_error, is_routine, is_task, levels_of, routine_tick, task_figures, task_tick}
 use Rattle.figures.specs.RoutineSums.{routine_figures}
 use Rattle.figures.specs.TaskSums.{task_counts}
 use Rattle.figure_laws.specs.Counts.{IsNever, one_if}

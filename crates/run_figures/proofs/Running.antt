@@ -15,7 +15,8 @@ use Rattle.figures.specs.declared.resource_figures.HolderTick.{HolderTick}
 use Rattle.figures.specs.declared.task_figures.TaskFigures.{TaskFigures}
 use Rattle.figures.specs.declared.routine_figures.RoutineFigures.{RoutineFigures}
 use Rattle.figures.specs.declared.resource_figures.ResourceFigures.{ResourceFigures}
-use Rattle.figures.specs.FigureSums.{RunFigures, held_count, holder_tick, levels_of, routine_tick, task_figures, task_tick, unseen_routine, unseen_task}
+use Rattle.observations.specs.Seen.{unseen_routine, unseen_task}
+use Rattle.figures.specs.FigureSums.{RunFigures, held_count, holder_tick, levels_of, routine_tick, task_figures, task_tick}
 use Rattle.figures.specs.ResourceSums.{resource_figures}
 use Rattle.figures.specs.ResponseSums.{response_figures}
 use Rattle.figures.specs.RoutineSums.{routine_figures}

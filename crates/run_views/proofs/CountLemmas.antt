@@ -4,8 +4,8 @@ use Rattle.std.specs.Prelude.{max, reverse}
 use Rattle.std.proofs.lemmas.List.{reverse-append}
 use Rattle.std.proofs.Math.Seq.{drop-nil}
 use Rattle.observations.specs.declared.observation.Observation.{Observation}
-use Rattle.figures.specs.FigureSums.{alike, numbered}
-use Rattle.value_changes.specs.Runs.{alike_ticks}
+use Rattle.observations.specs.Seen.{alike_ticks, numbered}
+use Rattle.figures.specs.FigureSums.{alike}
 
 drop_behind : (n : ℕ) (seen more : List Observation) → drop n (seen ++ more) ≡ drop n seen ++ drop (n - length seen) more
 drop_behind zero seen more =

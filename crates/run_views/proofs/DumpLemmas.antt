@@ -9,7 +9,8 @@ use Rattle.kernel.specs.Progress.{Progress}
 use Rattle.value_changes.specs.Declarations.{declarations}
 use Rattle.value_changes.specs.Dumps.{Dump, alike, alike_text, observed, observed_text, started}
 use Rattle.value_changes.specs.Lines.{time_line}
-use Rattle.value_changes.specs.Runs.{IsEach, alike_ticks, dump_behind, dump_text, whole_text}
+use Rattle.observations.specs.Seen.{alike_ticks}
+use Rattle.value_changes.specs.Runs.{IsEach, dump_behind, dump_text, whole_text}
 use Rattle.value_changes.proofs.RunLemmas.{behind_appends, text_appends}
 use Rattle.sinks.specs.Sinks.{AppendsSome, Puts}
 use Rattle.sinks.proofs.SinkLemmas.{begins_longer, puts_more, stops}

@@ -4,4 +4,5 @@ pub mod DumpLemmas
 pub mod LawLemmas
 pub mod RunLemmas
 pub mod SeenLemmas
+pub mod MarkLemmas
 pub mod TickLemmas

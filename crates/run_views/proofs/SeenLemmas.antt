@@ -11,7 +11,7 @@ use Rattle.osek_base.specs.Trace.{arriving, run}
 use Rattle.seen_ticks.specs.Told.{due_in}
 use Rattle.seen_ticks.specs.Observed.{IsObserved, Ticked, alarm_seen, answered, failure_of, holders_seen, is_among, is_pending, lost_of, owner_of, routine_seen, task_seen, tick_at, times}
 use Rattle.value_changes.specs.Lines.{event_line}
-use Rattle.value_changes.specs.Runs.{alike_ticks, numbered}
+use Rattle.observations.specs.Seen.{alike_ticks, numbered}
 use Rattle.value_changes.specs.Ticks.{events_from, events_text, expiry_text, loss_text}
 use Rattle.value_changes.specs.declared.variable.Variable.{Variable}
 use Rattle.run_views.specs.Seen.{AreSeen}

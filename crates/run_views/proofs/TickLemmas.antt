@@ -3,10 +3,13 @@ use Rattle.std.proofs.Common.{◌≡◌, ℕ, ◌+◌, ◌-◌, ◌<◌, ◌≤�
 use Rattle.observations.specs.declared.observation.Observation.{Observation}
 use Rattle.kernel.specs.Progress.{Progress, is_over}
 use Rattle.seen_ticks.specs.Observed.{IsObserved}
+use Rattle.blocking_laws.specs.Steps.{record_at}
 use Rattle.observed_runs.specs.Passing.{PassesAlike}
-use Rattle.value_changes.specs.Runs.{alike_ticks}
+use Rattle.observations.specs.Seen.{alike_ticks}
+use Rattle.timelines.specs.Marks.{LeaveNothing}
 use Rattle.value_changes.specs.Ticks.{events_text}
 use Rattle.run_views.specs.Seen.{AreSeen, DoesNext, HasNone, IsLast, PassesSome, SeesRun, SeesTicks}
+use Rattle.run_views.proofs.MarkLemmas.{leaves_nothing}
 use Rattle.run_views.proofs.RunLemmas.{all_done, done, each}
 use Rattle.run_views.proofs.SeenLemmas.{alike_seen, length-alike, no_event, seen_behind}
 
@@ -29,6 +32,11 @@ some_alike counted ticks n first r s some low begins p =
           no_event counted r.system r.mode r.arrivals (r.ticks + (n - 1)) o
           (subst (λ t. IsObserved counted r.system r.mode r.arrivals t o) last (was o is)) (p.none_arrive (n - 1) before)
           (p.none_due (n - 1) before);
+      unmarked = λ t from within.
+          let there : r.ticks + (t - r.ticks) ≡ t = omega (arith, from, begins) in
+          let below : t - r.ticks < n = omega (arith, within, ticks_are, from, begins) in
+          subst (λ m. LeaveNothing (record_at r.system r.mode r.arrivals m)) there
+          (leaves_nothing r.system r.mode r.arrivals (r.ticks + (t - r.ticks)) (p.none_answered (t - r.ticks) below));
       sees = λ o is.
           let many : length (alike_ticks o r.ticks n) ≡ n = length-alike o r.ticks n in
           let these : alike_ticks o r.ticks n ≡ alike_ticks o first (s.ticks - first) =

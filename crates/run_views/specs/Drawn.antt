@@ -2,14 +2,18 @@
 use Rattle.std.specs.Prelude.{ℕ, ◌≡◌, ◌+◌, false, min, List}
 use Rattle.osek_base.specs.System.{System}
 use Rattle.kernel.specs.Progress.{Progress}
+use Rattle.blocking_laws.specs.Steps.{record_at}
+use Rattle.timelines.specs.Marks.{AreMarks}
 use Rattle.timelines.specs.Rows.{AreRows, Picture}
 use Rattle.tracer.specs.WholeRuns.{IsBegun}
 use Rattle.run_views.specs.Seen.{SeesRun}
 
--- the rows of a picture of the ticks from one on and before another are those of so many ticks of a run
+-- the rows of a picture of the ticks from one on and before another are those of so many ticks of a run, and its marks those of
+-- the same ticks, with the records of each
 pub record IsDrawnOf (r : Progress) (ticks from to : ℕ) (picture : Picture) : Type 0 where
   pub sees : SeesRun false r ticks
   pub rows : AreRows r.system sees.seen picture
+  pub marks : AreMarks r.system (record_at r.system r.mode r.arrivals) sees.seen picture
   pub first : picture.from ≡ from
   pub end : picture.to ≡ to
 

@@ -5,9 +5,11 @@ use Rattle.osek_base.specs.declared.limits.TheConstants.{MAX_TICKS}
 use Rattle.osek_base.specs.System.{System}
 use Rattle.osek_base.specs.Trace.{run}
 use Rattle.kernel.specs.Progress.{Progress, is_over}
+use Rattle.blocking_laws.specs.Steps.{record_at}
 use Rattle.observations.specs.declared.observation.Observation.{Observation}
 use Rattle.seen_ticks.specs.Observed.{IsObserved}
-use Rattle.value_changes.specs.Runs.{alike_ticks}
+use Rattle.observations.specs.Seen.{alike_ticks}
+use Rattle.timelines.specs.Marks.{LeaveNothing}
 use Rattle.value_changes.specs.Ticks.{events_text}
 
 -- what is seen of the ticks of a run from tick t on, one after another, with the numbers of blockers where these are counted
@@ -43,10 +45,12 @@ pub record HasNone (ticks : ℕ) (old new : Progress) : Type 0 where
   pub same : new ≡ old
   pub none : (ticks ≤ old.ticks) ⊎ (is_over old ≡ true)
 
--- the ticks from one on are done, before as many as asked for are: in each but for the number the same is seen, and no event
+-- the ticks from one on are done, before as many as asked for are: in each but for the number the same is seen, and no event, and
+-- its records leave no mark
 pub record PassesSome (counted : Bool) (ticks : ℕ) (old new : Progress) (first : ℕ) : Type 0 where
   pub begins : first ≡ old.ticks
   pub further : first < new.ticks
   pub within : new.ticks ≤ ticks
   pub calm : (o : Observation) → IsLast counted new o → events_text o ≡ []
+  pub unmarked : (t : ℕ) → first ≤ t → t < new.ticks → LeaveNothing (record_at old.system old.mode old.arrivals t)
   pub sees : (o : Observation) → IsLast counted new o → SeesTicks counted old new (alike_ticks o first (new.ticks - first))

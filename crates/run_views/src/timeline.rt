@@ -34,8 +34,9 @@ pub fn write_timeline<O: Write, E: Write>(
 }
 
 /// Runs a system. The rows of the picture show its ticks from `from` on, of
-/// [`MAX_DRAWN`](crate::MAX_DRAWN) at most, as many as asked for, or up to a ShutdownOS. A fault is
-/// the first refusal of the arrival list or the mode, or want of memory.
+/// [`MAX_DRAWN`](crate::MAX_DRAWN) at most, as many as asked for, or up to a ShutdownOS, and the
+/// marks what comes in them. A fault is the first refusal of the arrival list or the mode, or want
+/// of memory.
 pub fn drawn_timeline<E: Write>(
     alloc: Global,
     system: &System,
@@ -57,8 +58,7 @@ pub fn drawn_timeline<E: Write>(
         let Some(first) = pass_alike(&mut run, input.ticks) else {
             continue;
         };
-        run.records_into(&mut records);
-        timeline.observe_alike(system, run.observation(), &records, first, run.ticks_done())?;
+        timeline.observe_alike(system, run.observation(), first, run.ticks_done())?;
     }
     Ok(timeline)
 }

@@ -18,7 +18,7 @@ use Rattle.blocking_laws.specs.Steps.{record_at}
 use Rattle.kernel.specs.Machine.{IsAt, IsOfRun, Machine, next_tick, picture, system_of}
 use Rattle.kernel.proofs.PastLemmas.{at_past}
 use Rattle.seen_ticks.specs.Observed.{executed_in}
-use Rattle.observed_runs.proofs.Telling.{executed_told}
+use Rattle.seen_ticks.proofs.Telling.{executed_told}
 use Rattle.shown_ticks.proofs.Shown.{runs_show}
 
 module _ (counted : Bool) (m : Machine) (arrived : List ℕ) (of_run : IsOfRun counted m)

@@ -16,8 +16,7 @@ use Rattle.seen_ticks.specs.Told.{task_at_in}
 use Rattle.observations.specs.declared.observation.Observation.{Observation}
 use Rattle.observations.specs.Seen.{seen_of}
 use Rattle.seen_ticks.specs.Observed.{activations_by, answered, failure_of, is_by, is_number, is_waiting, lost_of, one_if, owner_of, state_seen, times}
-use Rattle.observed_runs.proofs.Seeing.{read_at}
-use Rattle.observed_runs.proofs.SeenSteps.{seen_count}
+use Rattle.seen_ticks.proofs.SeenSteps.{read_at, seen_count}
 use Rattle.shown_ticks.specs.Seen.{answered_in, executor_in, failure_in, seen_in}
 use Rattle.shown_ticks.specs.Shown.{KeptTicked, alarm_seen_in, holders_seen_in, routine_seen_in, task_seen_in, ticked_in}
 use Rattle.seen_machines.specs.declared.told.Told.{Told}

@@ -18,7 +18,7 @@ use Rattle.kept_state.proofs.InRuns.{before_alike}
 use Rattle.kept_state.proofs.Ticked.{ticks}
 use Rattle.kept_state.specs.Seen.{holder_in}
 use Rattle.kernel.specs.Machine.{IsOfRun, Machine, next_tick, picture, system_of}
-use Rattle.observed_runs.proofs.Staying.{before_same, pending_tick}
+use Rattle.seen_ticks.proofs.Staying.{before_same, pending_tick}
 use Rattle.shown_ticks.specs.Shown.{holders_seen_in}
 
 module _ (S : System) (arrived : List ℕ) (o : Kept) where

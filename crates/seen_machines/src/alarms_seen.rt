@@ -10,9 +10,9 @@ use crate::readers::system;
 use arrayvec::ArrayVec;
 use kernel::{Blockers, Machine};
 use observations::AlarmSeen;
-use observed_runs::is_among;
 use osek_base::{AlarmId, MAX_ALARMS};
 use ready_queues::ReadyQueues;
+use seen_ticks::is_among;
 
 /// Whether no alarm was due in the tick that a machine did last, as in most ticks.
 #[inline(always)]

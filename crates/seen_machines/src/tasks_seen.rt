@@ -14,10 +14,9 @@ use crate::told::Told;
 use arrayvec::ArrayVec;
 use kernel::{Blockers, Machine};
 use observations::TaskSeen;
-use observed_runs::{activations_by, is_by, is_task, is_waiting, made, state_seen};
 use osek_base::{Executed, MAX_TASKS, Owner, TaskId};
 use ready_queues::ReadyQueues;
-use seen_ticks::TaskAt;
+use seen_ticks::{TaskAt, activations_by, is_by, is_task, is_waiting, made, state_seen};
 
 /// The number of no task.
 const NOBODY: u8 = 255;

@@ -11,10 +11,9 @@ ghost use Rattle.seen_machines.specs.Told.{IsTold, jobs_told, pending_told, task
 use crate::before::Before;
 use crate::readers::system;
 use kernel::{AtInstruction, Blockers, Machine};
-use observed_runs::Execution;
 use osek_base::{IsrId, MAX_TICKS, TaskId, TickRecord};
 use ready_queues::ReadyQueues;
-use seen_ticks::TaskAt;
+use seen_ticks::{Execution, TaskAt};
 
 /// What is known of the tick that a machine did last.
 #[derive(Drop)]

@@ -16,9 +16,9 @@ use crate::holders_seen::see_holders;
 use crate::told::Told;
 use kernel::{Blockers, Machine};
 use observations::Observation;
-use observed_runs::{answered, executor, failure};
 use osek_base::{IsrId, MAX_ARRIVALS, MAX_ROUTINES, MAX_TICKS};
 use ready_queues::ReadyQueues;
+use seen_ticks::{answered, executor, failure};
 use std::marker::Model;
 
 /// What is seen of the ticks of machines, one at a time. Contracts see what is seen of the tick that

@@ -1,2 +1,6 @@
 pub mod SeenLemmas
 pub mod ToldLemmas
+pub mod SeenSteps
+pub mod Counting
+pub mod Staying
+pub mod Telling

@@ -2,4 +2,5 @@ pub mod Stretches
 pub mod Moments
 pub mod Tiling
 pub mod Rows
+pub mod Marks
 pub mod RowSteps

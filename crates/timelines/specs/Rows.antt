@@ -1,32 +1,17 @@
 -- What the rows of a picture show of the ticks of a run, oldest first and from tick 0 on. No part of the standards.
-use Rattle.std.specs.Prelude.{ℕ, zero, suc, ◌≡◌, ◌<◌, ◌+◌, ◌*◌, Bool, false, List, [], ◌∷◌, Option, Some, None, cond, map, length, take, drop, slice_index_or, nat_lt, ◌==◌}
+use Rattle.std.specs.Prelude.{ℕ, ◌≡◌, ◌<◌, ◌+◌, ◌*◌, Bool, false, List, [], ◌∷◌, Option, Some, None, cond, map, length, take, drop, slice_index_or, nat_lt, ◌==◌}
 use Rattle.osek_base.specs.System.{System, priority_of, routine}
 use Rattle.osek_base.specs.declared.ids.Owner.{Owner}
 use Rattle.osek_base.specs.declared.ids.Owner.TheVariants.{Task, Routine}
-use Rattle.osek_base.specs.declared.status.TaskState.TheVariants.{Suspended}
-use Rattle.observations.specs.declared.task_seen.TaskSeen.{TaskSeen}
-use Rattle.observations.specs.declared.routine_seen.RoutineSeen.{RoutineSeen}
 use Rattle.observations.specs.declared.observation.Observation.{Observation}
+use Rattle.observations.specs.Seen.{routine_seen, task_seen}
 use Rattle.timelines.specs.declared.held.Held.{Held}
+use Rattle.timelines.specs.declared.mark.Mark.{Mark}
 use Rattle.timelines.specs.declared.moment.Moment.{Moment}
 use Rattle.timelines.specs.declared.processor.Processor.{Processor}
 use Rattle.timelines.specs.declared.stretch.Stretch.{Stretch}
 use Rattle.timelines.specs.Moments.{begun_behind, task_moment, routine_moment}
 use Rattle.timelines.specs.Stretches.{stretches}
-
--- what is seen of something that an observation doesn't have
-abbrev pub unseen_task : TaskSeen
-unseen_task = record { state = Suspended; priority = None; jobs = 0; made = 0; refused = 0; ended = false; waits = false }
-
-abbrev pub unseen_routine : RoutineSeen
-unseen_routine = record { executes = false; is_pending = false; is_started = false; arrived = 0; lost = 0 }
-
--- what is seen of the task or routine of that number
-abbrev pub task_seen : Observation → ℕ → TaskSeen
-task_seen o k = slice_index_or o.tasks.items k unseen_task
-
-abbrev pub routine_seen : Observation → ℕ → RoutineSeen
-routine_seen o k = slice_index_or o.routines.items k unseen_routine
 
 -- who has the processor where that one executes
 abbrev pub processor : System → Option Owner → Processor
@@ -76,13 +61,18 @@ task_moments S k from to seen = drawn from to (all_moments S k false seen)
 abbrev pub routine_moments : System → ℕ → ℕ → ℕ → List Observation → List Moment
 routine_moments S k from to seen = drawn from to (map (λ o. routine_shown S o k) seen)
 
--- what is kept of a task or routine: the stretches of its row, and whether a task's oldest job has executed since it became ready
-pub record Kept : Type 0 where
+-- what is shown of a task or routine: the stretches of its row, and whether a task's oldest job has executed since it became ready
+pub record Shown : Type 0 where
   pub row : List Stretch
   pub begun : Bool
 
+-- what is kept of it: that, and the marks of its row
+pub record Kept : Type 0 where
+  pub shown : Shown
+  pub marks : List Mark
+
 abbrev pub nothing_kept : Kept
-nothing_kept = record { row = []; begun = false }
+nothing_kept = record { shown = record { row = []; begun = false }; marks = [] }
 
 -- a picture of the ticks from one on and before another: what is kept of each task and routine, by number
 pub record Picture : Type 0 where
@@ -91,34 +81,25 @@ pub record Picture : Type 0 where
   pub tasks : List Kept
   pub routines : List Kept
 
--- what is to be kept of task k and of routine k, after some ticks
-abbrev pub task_kept : System → ℕ → ℕ → List Observation → ℕ → Kept
-task_kept S from to seen k = record {
+-- what is to be shown of task k and of routine k, after some ticks
+abbrev pub task_row : System → ℕ → ℕ → List Observation → ℕ → Shown
+task_row S from to seen k = record {
   row = stretches from (task_moments S k from to seen);
   begun = begun_after k false seen;
 }
 
-abbrev pub routine_kept : System → ℕ → ℕ → List Observation → ℕ → Kept
-routine_kept S from to seen k = record {
+abbrev pub routine_row : System → ℕ → ℕ → List Observation → ℕ → Shown
+routine_row S from to seen k = record {
   row = stretches from (routine_moments S k from to seen);
   begun = false;
 }
 
--- there are n, and at each number stands what belongs there
-pub record AreKept (n : ℕ) (at : ℕ → Kept) (all : List Kept) : Type 0 where
+-- there are n, and of each number is shown what belongs there
+pub record AreShown (n : ℕ) (at : ℕ → Shown) (all : List Kept) : Type 0 where
   pub count : length all ≡ n
-  pub each : (k : ℕ) → k < n → slice_index_or all k nothing_kept ≡ at k
+  pub each : (k : ℕ) → k < n → (slice_index_or all k nothing_kept).shown ≡ at k
 
 -- a picture has the rows of a system's tasks and routines over these ticks
 pub record AreRows (S : System) (seen : List Observation) (picture : Picture) : Type 0 where
-  pub tasks : AreKept (length S.tasks) (task_kept S picture.from picture.to seen) picture.tasks
-  pub routines : AreKept (length S.routines) (routine_kept S picture.from picture.to seen) picture.routines
-
--- what is seen as of a tick of another number
-abbrev pub numbered : ℕ → Observation → Observation
-numbered tick o = record o { tick = tick }
-
--- so many ticks from one on, in which but for the number the same is seen
-abbrev pub alike_ticks : Observation → ℕ → ℕ → List Observation
-alike_ticks o first zero = []
-alike_ticks o first (suc n) = numbered first o ∷ alike_ticks o (suc first) n
+  pub tasks : AreShown (length S.tasks) (task_row S picture.from picture.to seen) picture.tasks
+  pub routines : AreShown (length S.routines) (routine_row S picture.from picture.to seen) picture.routines

@@ -31,6 +31,7 @@ pub use begun::begun_behind;
 pub use chosen_rows::unknown_row;
 pub use held::Held;
 pub use laws::{differ_from_the_next, tile_the_ticks};
+pub use mark::{Mark, Sign};
 pub use moment::Moment;
 pub use processor::Processor;
 pub use row::Row;

@@ -1,10 +1,10 @@
 //! What came to a task or a routine in one tick.
 
-use osek_base::Status;
+use osek_base::{Owner, Status};
 
 /// What came to a task or a routine.
 #[derive(Clone, Copy)]
-pub(crate) enum Sign {
+pub enum Sign {
     /// So many jobs were made.
     Activated(u8),
     /// The events of a mask were set.
@@ -23,7 +23,14 @@ pub(crate) enum Sign {
 
 /// What came to a task or a routine, and in which tick.
 #[derive(Clone, Copy)]
-pub(crate) struct Mark {
-    pub(crate) tick: u32,
+pub struct Mark {
+    pub tick: u32,
+    pub sign: Sign,
+}
+
+/// What came, and to whom.
+#[derive(Clone, Copy)]
+pub(crate) struct Placed {
+    pub(crate) owner: Owner,
     pub(crate) sign: Sign,
 }

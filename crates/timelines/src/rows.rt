@@ -1,10 +1,10 @@
 //! A tick more on the rows of a picture.
 
 ghost use Rattle.std.specs.Prelude.{◌≡◌, OnOk};
-ghost use Rattle.timelines.specs.RowSteps.{AreChanged, begun_kept, routine_drawn, task_drawn};
+ghost use Rattle.timelines.specs.RowSteps.{AreChanged, begun_kept, routine_met, task_met};
 
 use crate::mark::Sign;
-use crate::seen::{routine_seen, routine_shown, task_seen, task_shown};
+use crate::seen::{routine_shown, task_shown};
 use crate::track::Track;
 use observations::Observation;
 use osek_base::System;
@@ -18,15 +18,15 @@ fn draw_task(
     number: usize,
 ) -> Result<(), AllocError>
     ensures { OnOk result
-        (track.new ≡ task_drawn system.now observation.now tick number track.old) }
+        (track.new ≡ task_met system.now observation.now tick number track.old) }
 {
     let moment = task_shown(system, observation, number, track.has_begun());
     track.draw(tick, moment)?;
-    let made = task_seen(observation, number).made;
+    let made = observation.task(number).made;
     track.mark_if(made > 0, tick, Sign::Activated(made))
 }
 
-/// Draws a tick on the row of each task.
+/// Draws a tick on the row of each task, with the jobs that are made.
 pub(crate) fn draw_tasks(
     tracks: &mut [Track],
     system: &System,
@@ -34,7 +34,7 @@ pub(crate) fn draw_tasks(
     observation: &Observation,
 ) -> Result<(), AllocError>
     ensures { OnOk result
-        (AreChanged (task_drawn system.now observation.now tick) tracks.old tracks.new) }
+        (AreChanged (task_met system.now observation.now tick) tracks.old tracks.new) }
 {
     for (number, track) in tracks.iter_mut().enumerate() {
         draw_task(track, system, tick, observation, number)?;
@@ -50,15 +50,15 @@ fn draw_routine(
     number: usize,
 ) -> Result<(), AllocError>
     ensures { OnOk result
-        (track.new ≡ routine_drawn system.now observation.now tick number track.old) }
+        (track.new ≡ routine_met system.now observation.now tick number track.old) }
 {
     track.draw(tick, routine_shown(system, observation, number))?;
-    let seen = routine_seen(observation, number);
+    let seen = observation.routine(number);
     track.mark_if(seen.arrived > 0, tick, Sign::Arrived(seen.arrived))?;
     track.mark_if(seen.lost > 0, tick, Sign::Lost(seen.lost))
 }
 
-/// Draws a tick on the row of each routine.
+/// Draws a tick on the row of each routine, with the interrupts that arrive or are lost.
 pub(crate) fn draw_routines(
     tracks: &mut [Track],
     system: &System,
@@ -66,7 +66,7 @@ pub(crate) fn draw_routines(
     observation: &Observation,
 ) -> Result<(), AllocError>
     ensures { OnOk result
-        (AreChanged (routine_drawn system.now observation.now tick) tracks.old tracks.new) }
+        (AreChanged (routine_met system.now observation.now tick) tracks.old tracks.new) }
 {
     for (number, track) in tracks.iter_mut().enumerate() {
         draw_routine(track, system, tick, observation, number)?;
@@ -79,6 +79,6 @@ pub(crate) fn keep_begun(tracks: &mut [Track], observation: &Observation)
     ensures { AreChanged (begun_kept observation.now) tracks.old tracks.new }
 {
     for (number, track) in tracks.iter_mut().enumerate() {
-        track.keep_begun(task_seen(observation, number));
+        track.keep_begun(observation.task(number));
     }
 }

@@ -1,56 +1,14 @@
 //! What an observation has of each task and routine, by number.
 
-ghost use Rattle.std.specs.Prelude.{◌≡◌, ◌≤◌, slice_index_or, length};
+ghost use Rattle.std.specs.Prelude.{◌≡◌, ◌≤◌, length};
 ghost use Rattle.osek_base.specs.System.{priority_of, routine};
-ghost use Rattle.timelines.specs.Rows.{
-  processor,
-  routine_seen,
-  routine_shown,
-  task_seen,
-  task_shown,
-};
+ghost use Rattle.timelines.specs.Rows.{processor, routine_shown, task_shown};
 
 use crate::held::Held;
 use crate::moment::Moment;
 use crate::processor::Processor;
-use observations::{Observation, RoutineSeen, TaskSeen};
-use osek_base::{Owner, System, TaskState};
-
-/// What is seen of a task; nothing where there is none of that number.
-#[inline(always)]
-pub(crate) fn task_seen(observation: &Observation, number: usize) -> TaskSeen
-    ensures { result ≡ task_seen observation.now number }
-{
-    match observation.tasks.as_slice().get(number) {
-        Some(seen) => *seen,
-        None => TaskSeen {
-            state: TaskState::Suspended,
-            priority: None,
-            jobs: 0,
-            made: 0,
-            refused: 0,
-            ended: false,
-            waits: false,
-        },
-    }
-}
-
-/// What is seen of a routine; nothing where there is none of that number.
-#[inline(always)]
-pub(crate) fn routine_seen(observation: &Observation, number: usize) -> RoutineSeen
-    ensures { result ≡ routine_seen observation.now number }
-{
-    match observation.routines.as_slice().get(number) {
-        Some(seen) => *seen,
-        None => RoutineSeen {
-            executes: false,
-            is_pending: false,
-            is_started: false,
-            arrived: 0,
-            lost: 0,
-        },
-    }
-}
+use observations::Observation;
+use osek_base::{Owner, System};
 
 /// The static priority of a task, 0 where there is none of that number.
 fn task_priority(system: &System, number: usize) -> u8
@@ -100,7 +58,7 @@ pub(crate) fn task_shown(
     ensures { result ≡ task_shown system.now observation.now number has_begun }
 {
     Moment::of_task(
-        task_seen(observation, number),
+        observation.task(number),
         processor(system, &observation.executor),
         task_priority(system, number),
         has_begun,
@@ -113,7 +71,7 @@ pub(crate) fn routine_shown(system: &System, observation: &Observation, number: 
     ensures { result ≡ routine_shown system.now observation.now number }
 {
     Moment::of_routine(
-        routine_seen(observation, number),
+        observation.routine(number),
         routine_priority(system, number),
     )
 }

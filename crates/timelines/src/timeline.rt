@@ -11,6 +11,7 @@ ghost use Rattle.std.specs.Prelude.{
   ◌⊎◌,
   [],
   List,
+  ℕ,
   length,
   min,
   IfOk,
@@ -20,7 +21,9 @@ ghost use Rattle.std.specs.Prelude.{
 };
 ghost use Rattle.osek_base.specs.System.{System};
 ghost use Rattle.observations.specs.declared.observation.Observation.{Observation};
-ghost use Rattle.timelines.specs.Rows.{AreRows, alike_ticks};
+ghost use Rattle.observations.specs.Seen.{alike_ticks};
+ghost use Rattle.timelines.specs.Rows.{AreRows};
+ghost use Rattle.timelines.specs.Marks.{AreMarks, LeaveNothing, Records};
 ghost use Rattle.timelines.specs.RowSteps.{
   AreChanged,
   AreDrawn,
@@ -28,16 +31,15 @@ ghost use Rattle.timelines.specs.RowSteps.{
   Drawn,
   IsDrawnPart,
   Passed,
-  begun_kept,
-  routine_drawn,
-  task_drawn,
+  routine_more,
+  task_more,
 };
 
 use crate::rows::{draw_routines, draw_tasks, keep_begun};
 use crate::signs::{mark_alarms, mark_records};
 use crate::track::{Track, bare_tracks};
 use observations::Observation;
-use osek_base::{System, TickRecord};
+use osek_base::{Entry, System, TickRecord};
 use std::alloc::{AllocError, Global};
 use std::marker::Model;
 
@@ -45,7 +47,7 @@ use std::marker::Model;
 pub const MAX_DRAWN: u32 = 5_000;
 
 /// The ticks of a run that are drawn: what each task and routine does, and what comes to it.
-/// Contracts see which ticks these are, the rows, and what tasks have begun.
+/// Contracts see which ticks these are, the rows with their marks, and what tasks have begun.
 #[derive(Drop)]
 pub struct Timeline {
     /// The first tick that is drawn.
@@ -76,6 +78,8 @@ impl Timeline {
     /// later ones aren't drawn. An error is want of memory.
     pub fn new(alloc: Global, system: &System, from: u32, to: u32) -> Result<Self, AllocError>
         ensures rows { IfOk result (λ picture. AreRows system.now [] picture) }
+        ensures marks { (told : Records)
+            → IfOk result (λ picture. AreMarks system.now told [] picture) }
         ensures from { IfOk result (λ picture. picture.from ≡ from) }
         ensures to { IfOk result (λ picture. picture.to ≡ min to (from + 5000)) }
     {
@@ -92,8 +96,8 @@ impl Timeline {
 
     /// Keeps what is seen of a tick and its records, if it is drawn. Ticks come in order, from the
     /// first of the run on, as what a ready task shows depends on what it did before: where the
-    /// rows were those of the ticks before, they are those of one more. An error is want of
-    /// memory.
+    /// rows and marks were those of the ticks before, they are those of one more. An error is want
+    /// of memory.
     pub fn observe(
         &mut self,
         system: &System,
@@ -103,24 +107,27 @@ impl Timeline {
         ensures rows { (seen : List Observation) → length seen ≡ observation.now.tick
             → AreRows system.now seen self.old
             → OnOk result (AreRows system.now (seen ++ observation.now ∷ []) self.new) }
+        ensures marks { (told : Records) (seen : List Observation)
+            → length seen ≡ observation.now.tick → told observation.now.tick ≡ records.now
+            → AreMarks system.now told seen self.old
+            → OnOk result (AreMarks system.now told (seen ++ observation.now ∷ []) self.new) }
         ensures from { OnOk result (self.new.from ≡ self.old.from) }
         ensures to { OnOk result (self.new.to ≡ self.old.to) }
     {
         let tick = observation.tick;
         if self.draws(tick) {
-            return self.draw(system, tick, observation, records);
+            return self.draw(system, tick, observation, records.entries());
         }
         self.pass(observation);
         Ok(())
     }
 
     /// The same of the ticks from one on and before another, in each of which all but the number
-    /// is as in an observation.
+    /// is as in an observation, and whose records leave no mark.
     pub fn observe_alike(
         &mut self,
         system: &System,
         observation: &Observation,
-        records: &TickRecord,
         first: u32,
         end: u32,
     ) -> Result<(), AllocError>
@@ -128,12 +135,17 @@ impl Timeline {
             → AreRows system.now seen self.old
             → OnOk result (AreRows system.now
             (seen ++ alike_ticks observation.now first (end - first)) self.new) }
+        ensures marks { (told : Records) (seen : List Observation) → length seen ≡ first
+            → first ≤ end → ((t : ℕ) → first ≤ t → t < end → LeaveNothing (told t))
+            → AreMarks system.now told seen self.old
+            → OnOk result (AreMarks system.now told
+            (seen ++ alike_ticks observation.now first (end - first)) self.new) }
         ensures from { OnOk result (self.new.from ≡ self.old.from) }
         ensures to { OnOk result (self.new.to ≡ self.old.to) }
     {
         let (begins, ends) = self.drawn_part(first, end);
         self.pass_alike(observation, first, begins);
-        self.draw_alike(system, observation, records, begins, ends)?;
+        self.draw_alike(system, observation, begins, ends)?;
         self.pass_alike(observation, ends, end);
         Ok(())
     }
@@ -162,6 +174,9 @@ impl Timeline {
         ensures rows { (S : System) (seen : List Observation) → length seen ≡ first → first ≤ end
             → AreRows S seen self.old
             → AreRows S (seen ++ alike_ticks observation.now first (end - first)) self.new }
+        ensures marks { (S : System) (told : Records) (seen : List Observation)
+            → length seen ≡ first → first ≤ end → AreMarks S told seen self.old
+            → AreMarks S told (seen ++ alike_ticks observation.now first (end - first)) self.new }
         ensures from { self.new.from ≡ self.old.from }
         ensures to { self.new.to ≡ self.old.to }
     {
@@ -170,12 +185,12 @@ impl Timeline {
         }
     }
 
-    /// Keeps what is seen of ticks that are drawn. An error is want of memory.
+    /// Keeps what is seen of ticks that are drawn, and whose records leave no mark. An error is
+    /// want of memory.
     fn draw_alike(
         &mut self,
         system: &System,
         observation: &Observation,
-        records: &TickRecord,
         first: u32,
         end: u32,
     ) -> Result<(), AllocError>
@@ -184,11 +199,16 @@ impl Timeline {
             → AreRows system.now seen self.old
             → OnOk result (AreRows system.now
             (seen ++ alike_ticks observation.now first (end - first)) self.new) }
+        ensures marks { (told : Records) (seen : List Observation) → length seen ≡ first
+            → first ≤ end → ((t : ℕ) → first ≤ t → t < end → LeaveNothing (told t))
+            → AreMarks system.now told seen self.old
+            → OnOk result (AreMarks system.now told
+            (seen ++ alike_ticks observation.now first (end - first)) self.new) }
         ensures from { OnOk result (self.new.from ≡ self.old.from) }
         ensures to { OnOk result (self.new.to ≡ self.old.to) }
     {
         for tick in first..end {
-            self.draw(system, tick, observation, records)?;
+            self.draw(system, tick, observation, &[])?;
         }
         Ok(())
     }
@@ -199,9 +219,10 @@ impl Timeline {
         system: &System,
         tick: u32,
         observation: &Observation,
-        records: &TickRecord,
+        records: &[Entry],
     ) -> Result<(), AllocError>
-        ensures { OnOk result (Drawn system.now observation.now tick self.old self.new) }
+        ensures { OnOk result
+            (Drawn system.now observation.now records.now tick self.old self.new) }
     {
         self.end = tick.saturating_add(1);
         draw_all(
@@ -222,25 +243,23 @@ impl Timeline {
     }
 }
 
-/// Draws a tick on all rows, and keeps what came in it.
+/// Draws a tick on all rows, and marks what came in it.
 fn draw_all(
     tasks: &mut [Track],
     routines: &mut [Track],
     system: &System,
     tick: u32,
     observation: &Observation,
-    records: &TickRecord,
+    records: &[Entry],
 ) -> Result<(), AllocError>
     ensures tasks { OnOk result (AreChanged
-        (λ k kept. begun_kept observation.now k
-        (task_drawn system.now observation.now tick k kept))
-        tasks.old tasks.new) }
-    ensures routines { OnOk result (AreChanged (routine_drawn system.now observation.now tick)
-        routines.old routines.new) }
+        (task_more system.now observation.now records.now tick) tasks.old tasks.new) }
+    ensures routines { OnOk result (AreChanged
+        (routine_more system.now observation.now records.now tick) routines.old routines.new) }
 {
     draw_tasks(tasks, system, tick, observation)?;
     draw_routines(routines, system, tick, observation)?;
-    mark_alarms(system, tick, observation.alarms.as_slice(), tasks)?;
+    mark_alarms(system, tick, observation, tasks)?;
     mark_records(tick, records, tasks, routines)?;
     keep_begun(tasks, observation);
     Ok(())

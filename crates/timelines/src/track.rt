@@ -1,9 +1,21 @@
 //! What is kept of one task or routine.
 
-ghost use Rattle.std.specs.Prelude.{ℕ, ◌≡◌, ◌<◌, OnOk, IfOk, replicate};
+ghost use Rattle.std.specs.Prelude.{
+  ℕ,
+  ◌≡◌,
+  ◌<◌,
+  ◌∷◌,
+  [],
+  OnOk,
+  IfOk,
+  if◌then◌else◌,
+  replicate,
+};
 ghost use Rattle.timelines.specs.Moments.{begun_behind};
 ghost use Rattle.timelines.specs.Stretches.{added};
 ghost use Rattle.timelines.specs.Rows.{Kept, nothing_kept};
+ghost use Rattle.timelines.specs.Marks.{on_row};
+ghost use Rattle.timelines.specs.RowSteps.{AreSigned, signed};
 
 use crate::begun::begun_behind;
 use crate::mark::{Mark, Sign};
@@ -14,7 +26,7 @@ use std::alloc::{AllocError, Global};
 use std::marker::Model;
 
 /// What is kept of one task or routine: its stretches, and what came to it, by falling age.
-/// Contracts see the stretches, and what the task has begun.
+/// Contracts see the stretches, what the task has begun, and the marks.
 #[derive(Drop)]
 pub(crate) struct Track {
     pub(crate) row: Row,
@@ -30,7 +42,10 @@ impl Model for Track {
 
     ghost Value = { Kept };
 
-    ghost view = { λ t. record { row = t.row; begun = t.has_begun } };
+    ghost view = { λ t. record {
+      shown = record { row = t.row; begun = t.has_begun };
+      marks = t.marks.items;
+    } };
 }
 
 impl Track {
@@ -46,29 +61,32 @@ impl Track {
     }
 
     pub(crate) fn has_begun(&self) -> bool
-        ensures { result ≡ self.now.begun }
+        ensures { result ≡ self.now.shown.begun }
     {
         self.has_begun
     }
 
     /// A tick more, which shows a moment. An error is want of memory.
     pub(crate) fn draw(&mut self, tick: u32, moment: Moment) -> Result<(), AllocError>
-        ensures { OnOk result
-            (self.new ≡ record self.old { row = added tick moment self.old.row }) }
+        ensures { OnOk result (self.new ≡ record self.old {
+          shown = record self.old.shown { row = added tick moment self.old.shown.row };
+        }) }
     {
         self.row.add(tick, moment)
     }
 
     /// Keeps what the task has begun behind a tick in which that is seen of it.
     pub(crate) fn keep_begun(&mut self, seen: TaskSeen)
-        ensures { self.new ≡ record self.old { begun = begun_behind self.old.begun seen } }
+        ensures { self.new ≡ record self.old {
+          shown = record self.old.shown { begun = begun_behind self.old.shown.begun seen };
+        } }
     {
         self.has_begun = begun_behind(self.has_begun, seen);
     }
 
-    /// Keeps what came in a tick. An error is want of memory.
+    /// Marks what came in a tick. An error is want of memory.
     pub(crate) fn mark(&mut self, tick: u32, sign: Sign) -> Result<(), AllocError>
-        ensures { self.new ≡ self.old }
+        ensures { OnOk result (self.new ≡ signed tick (sign ∷ []) self.old) }
     {
         self.marks.push(Mark { tick, sign })?;
         Ok(())
@@ -81,7 +99,8 @@ impl Track {
         tick: u32,
         sign: Sign,
     ) -> Result<(), AllocError>
-        ensures { self.new ≡ self.old }
+        ensures { OnOk result
+            (self.new ≡ signed tick (if condition then sign ∷ [] else []) self.old) }
     {
         if condition {
             return self.mark(tick, sign);
@@ -108,14 +127,14 @@ pub(crate) fn bare_tracks(alloc: Global, count: usize) -> Result<Vec<Track>, All
     Ok(tracks)
 }
 
-/// Keeps what came to the task or routine of a number. An error is want of memory.
+/// Marks what came to the task or routine of a number. An error is want of memory.
 pub(crate) fn mark_at(
     tracks: &mut [Track],
     number: usize,
     tick: u32,
     sign: Sign,
 ) -> Result<(), AllocError>
-    ensures { tracks.new ≡ tracks.old }
+    ensures { OnOk result (AreSigned tick (on_row number (sign ∷ [])) tracks.old tracks.new) }
 {
     if number < tracks.len() {
         return tracks[number].mark(tick, sign);

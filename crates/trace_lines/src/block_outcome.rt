@@ -75,6 +75,19 @@ pub(crate) fn push_effect(text: &mut Block, effect: Effect)
     }
 }
 
+/// Appends what a service is answered.
+#[inline(always)]
+pub(crate) fn push_answer(text: &mut Block, status: Status, results: &Results)
+    requires { length text.old + 48 ≤ BLOCK_SIZE }
+    ensures same { text.new ≡ text.old ++ outcome_text (Outcome.Answer status results.now) }
+    ensures short { length text.new ≤ length text.old + 48 }
+{
+    push_status(text, status);
+    if !matches!(results, Results::Nothing) {
+        push_results(text, *results);
+    }
+}
+
 /// Appends what the line of an instruction has behind its operands.
 #[inline(always)]
 pub(crate) fn push_outcome(text: &mut Block, outcome: &Outcome)
@@ -85,10 +98,7 @@ pub(crate) fn push_outcome(text: &mut Block, outcome: &Outcome)
     if let Outcome::Plain(effect) = outcome {
         push_effect(text, *effect);
     } else if let Outcome::Answer(status, results) = outcome {
-        push_status(text, *status);
-        if !matches!(results, Results::Nothing) {
-            push_results(text, *results);
-        }
+        push_answer(text, *status, results);
     }
 }
 

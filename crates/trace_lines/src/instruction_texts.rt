@@ -7,7 +7,7 @@ ghost use Rattle.osek_base.specs.declared.ids.Owner.{Owner};
 ghost use Rattle.trace_lines.specs.Programs.{AreAllTexts, IsOfProgram, IsTextAt};
 
 use crate::block::{BLOCK_SIZE, Block, RECORD_SIZE};
-use crate::block_outcome::{push_effect, push_outcome};
+use crate::block_outcome::{push_answer, push_effect, push_outcome};
 use crate::kept_text::KeptText;
 use crate::line::push_event;
 use crate::program_texts::ProgramTexts;
@@ -143,7 +143,9 @@ impl<'s> InstructionTexts<'s> {
         } else {
             tick.push_to(text);
             self.executed_text(executed).push_to(text);
-            push_outcome(text, &executed.outcome);
+            if let Outcome::Answer(status, results) = &executed.outcome {
+                push_answer(text, *status, results);
+            }
         }
     }
 

@@ -46,7 +46,7 @@ impl KeptText {
         requires { length text.old + length self.now + 64 ≤ BLOCK_SIZE }
         ensures { text.new ≡ text.old ++ self.now }
     {
-        text.push_short(&self.front);
+        text.push_front(self.front.cells(), self.front.len());
         if !self.rest.is_empty() {
             text.push_bytes(&self.rest);
         }

@@ -15,7 +15,7 @@ mod tick_text;
 mod view;
 mod written_records;
 
-pub use block::{Block, flush};
+pub use block::Block;
 pub use idle_lines::{IdleWord, write_idle_ticks};
 pub use instruction_texts::InstructionTexts;
 pub use line::{LineText, line_text};

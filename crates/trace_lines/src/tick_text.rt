@@ -97,6 +97,6 @@ impl TickText {
         ensures same { text.new ≡ text.old ++ decimal self.now ++ codes " " }
         ensures short { length text.new ≤ length text.old + 16 }
     {
-        text.push_short(&self.text);
+        text.push_front(self.text.cells(), self.text.len());
     }
 }

@@ -20,9 +20,9 @@ use crate::shown::Shown;
 use kernel::{Blockers, Kernel};
 use osek_base::{MAX_TICKS, TickRecord};
 use ready_queues::LevelQueues;
-use sinks::{Sink, SinkFault};
+use sinks::{Sink, SinkFault, flush};
 use trace_lines::{
-    Block, IdleWord, InstructionTexts, TickText, flush, upper_view_into, write_from_executed,
+    Block, IdleWord, InstructionTexts, TickText, upper_view_into, write_from_executed,
     write_idle_ticks, write_tick, write_tick_parts,
 };
 

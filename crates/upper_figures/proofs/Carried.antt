@@ -15,7 +15,8 @@ use Rattle.observations.specs.declared.routine_seen.RoutineSeen.{RoutineSeen}
 use Rattle.observations.specs.declared.task_seen.TaskSeen.{TaskSeen}
 use Rattle.seen_ticks.specs.Observed.{Ticked, alarm_seen, holders_seen, routine_seen, scheduler_seen, task_seen, tick_at}
 use Rattle.same_future.proofs.Tables.{length-table, table_at}
-use Rattle.figures.specs.FigureSums.{alarm_tick, holder_tick, is_error, is_routine, is_task, last_tick, levels_of, routine_tick, task_tick, unseen_alarm, unseen_routine, unseen_task}
+use Rattle.observations.specs.Seen.{unseen_alarm, unseen_routine, unseen_task}
+use Rattle.figures.specs.FigureSums.{alarm_tick, holder_tick, is_error, is_routine, is_task, last_tick, levels_of, routine_tick, task_tick}
 use Rattle.run_figures.specs.RunFigures.{AreTicksOf, IsTickOf}
 use Rattle.upper_bounds.specs.Above.{IsTheSameAlarm, IsTheSameResource, IsUpperTask}
 use Rattle.upper_figures.specs.ShownAbove.{ShowTheSameAbove, TicksShowTheSame, routine_fails, task_fails}

@@ -6,7 +6,8 @@ use Rattle.observations.specs.declared.task_seen.TaskSeen.{TaskSeen}
 use Rattle.osek_base.specs.System.{System}
 use Rattle.value_changes.specs.Changes.{shown, written}
 use Rattle.value_changes.specs.Dumps.{Dump, alike, alike_text, behind_tick, observed, observed_text}
-use Rattle.value_changes.specs.Runs.{IsEach, alike_ticks, dump_behind, dump_text, numbered}
+use Rattle.observations.specs.Seen.{alike_ticks, numbered}
+use Rattle.value_changes.specs.Runs.{IsEach, dump_behind, dump_text}
 use Rattle.value_changes.specs.Ticks.{after_tick, events_text, holder_after, routine_after, same_flag, same_option, same_owner, same_state, task_after, tick_text, values_after}
 use Rattle.value_changes.specs.declared.last_values.LastValues.{LastValues}
 use Rattle.value_changes.specs.declared.routine_values.RoutineValues.{RoutineValues}

@@ -1,6 +1,7 @@
 -- Value change dumps: ticks that are handed on one after another, oldest first.
-use Rattle.std.specs.Prelude.{ℕ, ◌≡◌, zero, suc, List, [], ◌∷◌, ◌++◌}
+use Rattle.std.specs.Prelude.{ℕ, ◌≡◌, List, [], ◌∷◌, ◌++◌}
 use Rattle.observations.specs.declared.observation.Observation.{Observation}
+use Rattle.observations.specs.Seen.{alike_ticks}
 use Rattle.osek_base.specs.System.{System}
 use Rattle.value_changes.specs.Declarations.{declarations}
 use Rattle.value_changes.specs.Dumps.{Dump, alike, alike_text, observed, observed_text, started}
@@ -21,15 +22,6 @@ abbrev pub whole_text : System → ℕ → List Observation → List ℕ
 whole_text S from seen =
     let d : Dump = started S from in
     declarations S ++ dump_text d seen ++ time_line (dump_behind d seen).behind
-
--- what is seen as of a tick of another number
-abbrev pub numbered : ℕ → Observation → Observation
-numbered tick o = record o { tick = tick }
-
--- so many ticks from one on, in which but for the number the same is seen
-abbrev pub alike_ticks : Observation → ℕ → ℕ → List Observation
-alike_ticks o first zero = []
-alike_ticks o first (suc n) = numbered first o ∷ alike_ticks o (suc first) n
 
 -- to hand on such ticks at once, up to an end, is to hand on each
 pub record IsEach (d : Dump) (o : Observation) (first end n : ℕ) : Type 0 where

@@ -3,7 +3,7 @@
 ghost use Rattle.std.specs.Prelude.{◌≡◌, ◌+◌, ◌*◌, ◌≤◌, ◌++◌, length};
 ghost use Rattle.value_changes.specs.Ticks.{events_from, expiry_text, loss_text};
 
-use crate::dump_text::{DumpText, TEXT_SIZE};
+use crate::dump_text::{DumpText, TEXT_SIZE, push_event};
 use crate::variable::Variable;
 use arrayvec::ArrayVec;
 use observations::{AlarmSeen, RoutineSeen};
@@ -17,7 +17,7 @@ fn push_loss(routine: IsrId, seen: &RoutineSeen, text: &mut DumpText)
     ensures short { length text.new ≤ length text.old + 4 }
 {
     if seen.lost > 0 {
-        text.push_event(Variable::Lost(routine));
+        push_event(Variable::Lost(routine), text);
     }
 }
 
@@ -29,7 +29,7 @@ fn push_expiry(alarm: AlarmId, seen: &AlarmSeen, text: &mut DumpText)
     ensures short { length text.new ≤ length text.old + 4 }
 {
     if seen.has_expired {
-        text.push_event(Variable::Expiry(alarm));
+        push_event(Variable::Expiry(alarm), text);
     }
 }
 

@@ -4,7 +4,7 @@ ghost use Rattle.std.specs.Prelude.{◌≡◌, ◌+◌, ◌≤◌, ◌++◌, len
 ghost use Rattle.osek_base.specs.Names.{name_at};
 ghost use Rattle.value_changes.specs.Lines.{executor_name, holder_name, string_line};
 
-use crate::dump_text::{DumpText, TEXT_SIZE};
+use crate::dump_text::{DumpText, TEXT_SIZE, push_string};
 use crate::variable::Variable;
 use observations::Holder;
 use osek_base::{Name, Names, Owner, ResId};
@@ -40,16 +40,16 @@ pub(crate) fn push_executor(names: &Names, executor: &Option<Owner>, text: &mut 
     ensures short { length text.new ≤ length text.old + 41 }
 {
     let Some(owner) = executor else {
-        return text.push_string(Variable::Executor, NOBODY, "");
+        return push_string(Variable::Executor, NOBODY, "", text);
     };
     match owner {
         Owner::Task(task) => {
             let name = name_at(names.tasks.as_slice(), task.number());
-            text.push_string(Variable::Executor, TASK, name);
+            push_string(Variable::Executor, TASK, name, text);
         }
         Owner::Routine(routine) => {
             let name = name_at(names.routines.as_slice(), routine.number());
-            text.push_string(Variable::Executor, ROUTINE, name);
+            push_string(Variable::Executor, ROUTINE, name, text);
         }
     }
 }
@@ -64,10 +64,10 @@ pub(crate) fn push_holder(names: &Names, resource: ResId, holder: Holder, text: 
 {
     let variable = Variable::Holder(resource);
     match holder.task() {
-        None => text.push_string(variable, NOBODY, ""),
+        None => push_string(variable, NOBODY, "", text),
         Some(task) => {
             let name = name_at(names.tasks.as_slice(), task.number());
-            text.push_string(variable, TASK, name);
+            push_string(variable, TASK, name, text);
         }
     }
 }

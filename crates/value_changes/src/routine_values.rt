@@ -3,7 +3,7 @@
 ghost use Rattle.std.specs.Prelude.{◌≡◌, ◌+◌, ◌≤◌, ◌++◌, length};
 ghost use Rattle.value_changes.specs.Ticks.{no_routine_values, routine_after, routine_text};
 
-use crate::dump_text::{DumpText, TEXT_SIZE};
+use crate::dump_text::{DumpText, TEXT_SIZE, push_wire};
 use crate::last_value::LastValue;
 use crate::variable::Variable;
 use observations::RoutineSeen;
@@ -38,10 +38,10 @@ impl RoutineValues {
         ensures short { length text.new ≤ length text.old + 8 }
     {
         if let Some(is_pending) = self.pending.change_to(seen.is_pending) {
-            text.push_wire(Variable::Pending(routine), is_pending);
+            push_wire(Variable::Pending(routine), is_pending, text);
         }
         if let Some(is_active) = self.active.change_to(seen.executes) {
-            text.push_wire(Variable::Active(routine), is_active);
+            push_wire(Variable::Active(routine), is_active, text);
         }
     }
 }

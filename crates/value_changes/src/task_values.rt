@@ -13,7 +13,7 @@ ghost use Rattle.value_changes.specs.Ticks.{
   task_text,
 };
 
-use crate::dump_text::{DumpText, TEXT_SIZE};
+use crate::dump_text::{DumpText, TEXT_SIZE, push_number, push_vector};
 use crate::last_value::LastValue;
 use crate::variable::Variable;
 use observations::TaskSeen;
@@ -49,7 +49,7 @@ fn push_state(last: &mut LastValue<TaskState>, task: TaskId, state: TaskState, t
     ensures short { length text.new ≤ length text.old + 13 }
 {
     if let Some(state) = last.change_to(state) {
-        text.push_number(Variable::State(task), state.number());
+        push_number(Variable::State(task), state.number(), text);
     }
 }
 
@@ -67,7 +67,7 @@ fn push_priority(
     ensures short { length text.new ≤ length text.old + 13 }
 {
     if let Some(priority) = last.change_to(priority) {
-        text.push_vector(Variable::Priority(task), priority);
+        push_vector(Variable::Priority(task), priority, text);
     }
 }
 
@@ -80,7 +80,7 @@ fn push_jobs(last: &mut LastValue<u8>, task: TaskId, jobs: u8, text: &mut DumpTe
     ensures short { length text.new ≤ length text.old + 13 }
 {
     if let Some(jobs) = last.change_to(jobs) {
-        text.push_number(Variable::Jobs(task), jobs);
+        push_number(Variable::Jobs(task), jobs, text);
     }
 }
 

@@ -17,6 +17,7 @@ ghost use Rattle.value_changes.specs.Runs.{IsEach};
 ghost use Rattle.value_changes.specs.Ticks.{after_tick, events_text, tick_text};
 
 use crate::declarations::push_declarations;
+use crate::dump_text::push_time;
 use crate::tick_page::TickPage;
 use observations::Observation;
 use osek_base::System;
@@ -147,7 +148,7 @@ impl<'s> ValueChanges<'s> {
             (time_line self.old.behind) result }
     {
         self.page.text.clear();
-        self.page.text.push_time(self.ticks);
+        push_time(self.ticks, &mut self.page.text);
         write_all(out, self.page.text.as_slice())
     }
 }

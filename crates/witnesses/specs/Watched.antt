@@ -1,10 +1,11 @@
 -- Figures of the things of one number, over observations, newest first.
-use Rattle.std.specs.Prelude.{ℕ, ◌≡◌, false, ◌&&◌, cond, List, [], ◌∷◌, map, max, Option, Some, None, nat_lt, slice_index_or}
+use Rattle.std.specs.Prelude.{ℕ, ◌≡◌, false, ◌&&◌, cond, List, [], ◌∷◌, map, max, Option, Some, None, nat_lt}
 use Rattle.observations.specs.declared.observation.Observation.{Observation}
 use Rattle.figures.specs.declared.reached.Reached.{Reached}
 use Rattle.figures.specs.declared.task_tick.TaskTick.{TaskTick}
 use Rattle.figures.specs.AlarmSums.{alarm_figures}
-use Rattle.figures.specs.FigureSums.{alarm_tick, holder_tick, is_error, is_task, last_tick, routine_tick, task_figures, unseen_task}
+use Rattle.observations.specs.Seen.{task_seen}
+use Rattle.figures.specs.FigureSums.{alarm_tick, holder_tick, is_error, is_task, last_tick, routine_tick, task_figures}
 use Rattle.figures.specs.ResourceSums.{resource_figures}
 use Rattle.figures.specs.RoutineSums.{routine_figures}
 use Rattle.figure_laws.specs.Times.{response_time, routine_time}
@@ -20,7 +21,7 @@ abbrev pub bare_task_tick : Observation → ℕ → TaskTick
 bare_task_tick o k =
     record {
       tick = o.tick;
-      seen = slice_index_or o.tasks.items k unseen_task;
+      seen = task_seen o k;
       lower_executes = false;
       has_failed = is_task o.executor k && is_error o.answered;
       blockers = cond (is_task o.executor k) o.blockers None;
@@ -29,7 +30,7 @@ bare_task_tick o k =
 -- the most jobs of a task at once
 abbrev pub most_jobs : ℕ → List Observation → ℕ
 most_jobs k [] = 0
-most_jobs k (o ∷ before) = max (slice_index_or o.tasks.items k unseen_task).jobs (most_jobs k before)
+most_jobs k (o ∷ before) = max (task_seen o k).jobs (most_jobs k before)
 
 -- the figures of the things of a number, over observations, by the static priorities of all tasks
 pub record AreWatched (levels : List ℕ) (k : ℕ) (seen : List Observation)

@@ -1,18 +1,8 @@
 //! Figures of the things of one number, over the ticks that were seen.
 
-ghost use Rattle.std.specs.Prelude.{ℕ, List, [], ◌∷◌, ◌≡◌, None, cond, nat_lt, slice_index_or};
-ghost use Rattle.figures.specs.FigureSums.{
-  alarm_tick,
-  holder_tick,
-  is_error,
-  is_routine,
-  is_task,
-  levels_of,
-  routine_tick,
-  unseen_alarm,
-  unseen_routine,
-  unseen_task,
-};
+ghost use Rattle.std.specs.Prelude.{ℕ, List, [], ◌∷◌, ◌≡◌, None, cond, nat_lt};
+ghost use Rattle.observations.specs.Seen.{task_seen};
+ghost use Rattle.figures.specs.FigureSums.{alarm_tick, holder_tick, is_error, is_routine, is_task, levels_of, routine_tick};
 ghost use Rattle.figures.specs.declared.reached.Reached.{Reached};
 ghost use Rattle.observations.specs.declared.observation.Observation.{Observation};
 ghost use Rattle.bound_nodes.specs.Figures.{one_if};
@@ -29,8 +19,7 @@ use bound_labels::blocked_tick;
 use bound_nodes::Figure;
 use figures::{
     AlarmFigures, AlarmTick, HolderTick, Reached, ResourceFigures, RoutineFigures, RoutineTick,
-    TaskFigures, TaskTick, alarm_seen, holder_seen, is_error, is_routine, is_task, routine_seen,
-    task_seen,
+    TaskFigures, TaskTick, is_error, is_routine, is_task,
 };
 use observations::{Failure, Observation};
 use osek_base::System;
@@ -52,7 +41,7 @@ fn task_tick(seen: &Observation, number: usize) -> TaskTick
 {
     TaskTick {
         tick: seen.tick,
-        seen: task_seen(seen.tasks.as_slice(), number),
+        seen: seen.task(number),
         lower_executes: false,
         has_failed: is_task(&seen.executor, number) && is_error(&seen.answered),
         blockers: blockers_told(seen, number),
@@ -61,9 +50,9 @@ fn task_tick(seen: &Observation, number: usize) -> TaskTick
 
 /// How many jobs a task has in a tick.
 fn jobs_seen(seen: &Observation, number: usize) -> u32
-    ensures { result ≡ (slice_index_or seen.now.tasks.items number unseen_task).jobs }
+    ensures { result ≡ (task_seen seen.now number).jobs }
 {
-    u32::from(task_seen(seen.tasks.as_slice(), number).jobs)
+    u32::from(seen.task(number).jobs)
 }
 
 /// A routine in a tick.
@@ -72,7 +61,7 @@ fn routine_tick(seen: &Observation, number: usize) -> RoutineTick
 {
     RoutineTick {
         tick: seen.tick,
-        seen: routine_seen(seen.routines.as_slice(), number),
+        seen: seen.routine(number),
         has_failed: is_routine(&seen.executor, number) && is_error(&seen.answered),
     }
 }
@@ -82,7 +71,7 @@ fn holder_tick(seen: &Observation, number: usize) -> HolderTick
 {
     HolderTick {
         tick: seen.tick,
-        holder: holder_seen(seen.holders.as_slice(), number),
+        holder: seen.holder(number),
     }
 }
 
@@ -91,7 +80,7 @@ fn alarm_tick(seen: &Observation, number: usize) -> AlarmTick
 {
     AlarmTick {
         tick: seen.tick,
-        seen: alarm_seen(seen.alarms.as_slice(), number),
+        seen: seen.alarm(number),
     }
 }
 

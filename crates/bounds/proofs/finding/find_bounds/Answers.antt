@@ -1,7 +1,9 @@
-use Rattle.std.proofs.Common.{sym, subst}
-use Rattle.bound_nodes.specs.Ground.{IsGround}
-use Rattle.bounds.specs.Exploring.{Explorer}
-use Rattle.bounds.proofs.Deciding.{found, found_at}
+use Rattle.std.proofs.Common.{◌≡◌, ◌∙◌, ap}
+use Rattle.needs.specs.Table.{need_of}
+use Rattle.bound_nodes.specs.declared.found.Bounds.{Bounds}
+use Rattle.run_bounds.specs.Nodes.{Setting}
+use Rattle.bounds.proofs.Deciding.{all_are_found}
+use Rattle.bounds.proofs.Fallible.{if_ok}
 use Rattle.bounds.proofs.finding.find_bounds.Goals as goal
 
 pub new-requires : goal.new-requires
@@ -14,13 +16,32 @@ new-requires g c =
 
 pub returns-clause-found : goal.returns-clause-found
 returns-clause-found g c =
-    let e = c.in_ok-explorer.explorer in
-    let f = c.search.new.steps in
-    found_at c.args.system.now c.args.mode c.args.distances.now c.args.extent.cap
-    c.into_found-peaks.result.0 e f c.in_ok-outcome.outcome
-    c.in_ok-outcome.ensures.setting c.in_ok-explorer.ensures.system c.in_ok-explorer.ensures.mode
-    c.in_ok-explorer.ensures.distances
-    c.in_ok-explorer.ensures.cap (sym c.into_found-peaks.ensures)
-    (found c.searches_bound.ensures c.levels_bound.ensures e f _ c.in_ok-outcome.outcome
-    (subst (λ (x : Explorer). IsGround x.ground) c.explorer.view_is c.explorer.invariant.ground)
-    c.in_ok-outcome.ensures.setting c.in_ok-outcome.ensures.outcome)
+    let made = c.in_ok-explorer.ensures in
+    all_are_found (record { system = c.args.system.now; needs = c.in_ok-needs.needs })
+    c.args.mode c.args.distances.now c.args.extent.cap
+    c.in_ok-explorer.explorer c.search-searched.new.steps _ c.search-searched.result
+    c.into_bounds.result c.searches_bound.ensures c.levels_bound.ensures
+    (record {
+      proper = c.task_count-proper.ensures.proper;
+      suffices = c.in_ok-needs.ensures.closed;
+      own = c.in_ok-needs.ensures.within.words;
+    })
+    c.search-searched.ensures.setting
+    (λ i. record {
+      system = made.system i;
+      mode = made.mode i;
+      need = need_of (made.needs i);
+      distances = made.distances i;
+      cap = made.cap i;
+    })
+    c.search-searched.ensures.outcome c.into_bounds.ensures.outcome c.into_bounds.ensures.peaks
+    c.into_bounds.ensures.cap
+
+pub returns-clause-cap : goal.returns-clause-cap
+returns-clause-cap g c =
+    let f = c.search-searched.new.steps in
+    if_ok (λ (b : Bounds). b.cap ≡ f.cap) (λ (b : Bounds). b.cap ≡ c.args.extent.cap)
+    c.into_bounds.result
+    (λ b same. same ∙ ap (λ (s : Setting). s.cap) c.search-searched.ensures.setting
+    ∙ c.in_ok-explorer.ensures.cap)
+    c.into_bounds.ensures.cap

@@ -1,6 +1,7 @@
 use Rattle.std.proofs.Common.{map, sym, ◌∙◌}
 use Rattle.figures.specs.Counting.{routine_figures_of}
-use Rattle.figures.specs.FigureSums.{numbered, routine_tick}
+use Rattle.observations.specs.Seen.{numbered}
+use Rattle.figures.specs.FigureSums.{routine_tick}
 use Rattle.figures.proofs.PendLemmas.{routine_go}
 use Rattle.figures.proofs.RowLemmas.{row_settles}
 use Rattle.figures.proofs.kinds.observe_asked.Goals as goal

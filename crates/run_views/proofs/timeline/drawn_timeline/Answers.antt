@@ -1,17 +1,19 @@
-use Rattle.std.proofs.Common.{◌+◌, ◌-◌, ◌++◌, Err, ap, min, false, refl, sym, subst, ◌∙◌}
+use Rattle.std.proofs.Common.{List, ◌+◌, ◌-◌, ◌++◌, Err, ap, min, false, refl, sym, subst, ◌∙◌}
 use Rattle.std.proofs.lemmas.Result.{err_from_is_err_and}
 use Rattle.kernel.specs.Progress.{Progress}
 use Rattle.observations.specs.declared.observation.Observation.{Observation}
 use Rattle.osek_base.specs.System.{System}
+use Rattle.timelines.specs.Marks.{AreMarks}
 use Rattle.timelines.specs.Rows.{AreRows}
-use Rattle.run_views.proofs.DrawLemmas.{AreDrawn, same_ticks}
-use Rattle.run_views.proofs.TickLemmas.{all_made, alike_made, next_made, none_made, stays_made}
+use Rattle.run_views.proofs.DrawLemmas.{AreDrawn, told, told_last, told_nothing}
+use Rattle.run_views.proofs.TickLemmas.{Made, all_made, alike_made, next_made, none_made, stays_made}
 use Rattle.run_views.proofs.timeline.drawn_timeline.Goals as goal
 
 pub ticks-init : goal.ticks-init
 ticks-init g c =
     none_made false c.args.input.ticks c.in_ok-run.run' _ c.in_ok-run.ensures.begun.ticks (record {
       rows = c.in_ok-timeline.ensures.rows;
+      marks = c.in_ok-timeline.ensures.marks (told c.in_ok-run.run');
       first = c.in_ok-timeline.ensures.from;
       end = c.in_ok-timeline.ensures.to;
     })
@@ -20,12 +22,20 @@ pub ticks-preserved-in_default : goal.ticks-preserved-in_default
 ticks-preserved-in_default g c =
     let r : Progress = c.in_ok-run.run' in
     let from = c.args.from in
-    let Is = AreDrawn c.args.system.now from (min c.args.input.ticks (from + 5000)) c.observe.new.self in
-    stays_made false c.args.input.ticks r Is c.next_tick.new.run
-    (next_made false c.args.input.ticks r _ c.ticks.run c.ticks.invariant c.next_tick.new.run c.observation.result.now Is
-    (c.ticks-test.ensures.next refl) c.observation.ensures
+    let to = min c.args.input.ticks (from + 5000) in
+    let S : System = c.args.system.now in
+    let Was : List Observation → Type 0 = AreDrawn S (told r) from to c.ticks.timeline in
+    let Is : List Observation → Type 0 = AreDrawn S (told r) from to c.observe.new.self in
+    let w : Progress = c.next_tick.new.run in
+    let next = c.ticks-test.ensures.next refl in
+    stays_made false c.args.input.ticks r Is w
+    (next_made false c.args.input.ticks r Was c.ticks.run c.ticks.invariant w c.observation.result.now Is next c.observation.ensures
     (λ seen count was. record {
       rows = c.in_ok-observe.ensures.rows seen count was.rows;
+      marks =
+          c.in_ok-observe.ensures.marks (told r) seen count
+          (told_last false c.args.input.ticks r Was c.ticks.run c.ticks.invariant w c.observation.result.now _ next
+          c.observation.ensures c.records_into.ensures.done) was.marks;
       first = c.in_ok-observe.ensures.from ∙ was.first;
       end = c.in_ok-observe.ensures.to ∙ was.end;
     }))
@@ -36,23 +46,33 @@ ticks-preserved g c =
     let r : Progress = c.in_ok-run.run' in
     let S : System = c.args.system.now in
     let from = c.args.from in
+    let to = min c.args.input.ticks (from + 5000) in
     let first = c.in-Some.first in
     let end = c.ticks_done.result in
     let o : Observation = c.observation-in-ticks.result.now in
-    let Is = AreDrawn S from (min c.args.input.ticks (from + 5000)) c.observe.new.self in
-    alike_made false c.args.input.ticks r Is c.next_tick.new.run
-    (next_made false c.args.input.ticks r _ c.ticks.run c.ticks.invariant c.next_tick.new.run c.observation.result.now Is
-    (c.ticks-test.ensures.next refl) c.observation.ensures
+    let Was : List Observation → Type 0 = AreDrawn S (told r) from to c.ticks.timeline in
+    let Is : List Observation → Type 0 = AreDrawn S (told r) from to c.observe.new.self in
+    let w : Progress = c.next_tick.new.run in
+    let next = c.ticks-test.ensures.next refl in
+    let made : Made false c.args.input.ticks r w Is =
+    next_made false c.args.input.ticks r Was c.ticks.run c.ticks.invariant w c.observation.result.now Is next c.observation.ensures
     (λ seen count was. record {
       rows = c.in_ok-observe.ensures.rows seen count was.rows;
+      marks =
+          c.in_ok-observe.ensures.marks (told r) seen count
+          (told_last false c.args.input.ticks r Was c.ticks.run c.ticks.invariant w c.observation.result.now _ next
+          c.observation.ensures c.records_into.ensures.done) was.marks;
       first = c.in_ok-observe.ensures.from ∙ was.first;
       end = c.in_ok-observe.ensures.to ∙ was.end;
-    }))
-    first end c.pass_alike.new.run o _ c.in-Some.ensures.some c.ticks_done.ensures c.observation-in-ticks.ensures
+    }) in
+    alike_made false c.args.input.ticks r Is w made first end c.pass_alike.new.run o _ c.in-Some.ensures.some c.ticks_done.ensures
+    c.observation-in-ticks.ensures
     (λ seen count later calm was. record {
-      rows =
-          subst (λ x. AreRows S (seen ++ x) c.observe_alike.new.self) (same_ticks o first (end - first))
-          (c.in_ok-observe_alike.ensures.rows seen count later was.rows);
+      rows = c.in_ok-observe_alike.ensures.rows seen count later was.rows;
+      marks =
+          c.in_ok-observe_alike.ensures.marks (told r) seen count later
+          (told_nothing false c.args.input.ticks r Is w made c.pass_alike.new.run first end c.in-Some.ensures.some c.ticks_done.ensures)
+          was.marks;
       first = c.in_ok-observe_alike.ensures.from ∙ was.first;
       end = c.in_ok-observe_alike.ensures.to ∙ was.end;
     })
@@ -80,6 +100,7 @@ returns-clause-drawn g c =
       record {
         sees = all.0;
         rows = subst (λ (S : System). AreRows S all.0.seen c.ticks.timeline) (sym begun.system) all.1.rows;
+        marks = subst (λ (S : System). AreMarks S (told r) all.0.seen c.ticks.timeline) (sym begun.system) all.1.marks;
         first = all.1.first;
         end = all.1.end;
       },

@@ -5,5 +5,5 @@ use Rattle.trace_lines.proofs.block_outcome.push_value.Goals as goal
 
 pub returns-then-value-lt10-clause-same : goal.returns-then-value-lt10-clause-same
 returns-then-value-lt10-clause-same c =
-    c.push_array.ensures ∙ sym (append_assoc c.args.text.now (codes " -> ") _)
+    c.push_array.ensures.same ∙ sym (append_assoc c.args.text.now (codes " -> ") _)
     ∙ ap (λ digits. c.args.text.now ++ codes " -> " ++ digits) (sym (decimal_digit c.args.value c.if-value-lt10.true))

@@ -4,8 +4,8 @@ use Rattle.bounds.specs.Held.{IsOf}
 use Rattle.bounds.proofs.HeldLemmas.{push_in}
 use Rattle.bounds.proofs.bases.Bases.add.Goals as goal
 
-pub invariant_of-self-in_err-push : goal.invariant_of-self-in_err-push
-invariant_of-self-in_err-push c =
+pub invariant_of-self : goal.invariant_of-self
+invariant_of-self c =
     subst (All (λ h. IsOf c.self.inside.system.now h.machine)) (sym c.in_err-push.ensures.items)
     c.self.invariant
 

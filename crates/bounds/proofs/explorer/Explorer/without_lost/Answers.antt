@@ -1,70 +1,27 @@
-use Rattle.std.proofs.Common.{◌≡◌, length, arith, refl, sym, ◌∙◌, subst}
+use Rattle.std.proofs.Common.{length, arith, sym, subst}
 use Rattle.kernel.specs.Machine.{picture}
 use Rattle.bound_peaks.specs.Peaks.{has_come}
 use Rattle.run_bounds.specs.Nodes.{AreNoted, May, Node, rules_of}
-use Rattle.search.specs.Rules.{Repeats, StaysNoted}
-use Rattle.bounds.specs.Exploring.{AreNotedIn, Explorer, setting_of}
+use Rattle.search.specs.Rules.{Repeats}
+use Rattle.bounds.specs.Exploring.{Explorer, explorer_of, setting_of}
 use Rattle.bounds.proofs.Exploring.{is_in_of, stays_noted}
 use Rattle.bounds.proofs.Losing.{few_routines, losses_noted, repeats_it, without_lost}
 use Rattle.bounds.proofs.explorer.Explorer.without_lost.Goals as goal
 
-pub invariant_of-self-2 : goal.invariant_of-self-2
-invariant_of-self-2 g c =
-    let e : Explorer =
-    record {
-      ground = record { system = c.self.inside.system.now; needs = c.self.inside.needs.now };
-      mode = c.self.inside.mode;
-      distances = c.self.inside.distances.now;
-      cap = c.self.inside.cap;
-      peaks = c.self.inside.peaks;
-    } in
-    let f : Explorer = record e { peaks = c.note_losses-rises.new.self } in
-    record {
-      ground = c.self.invariant.ground;
-      machines = c.self.invariant.machines;
-      system = c.self.invariant.system;
-      of_run = c.self.invariant.of_run;
-    }
-
-pub returns-in_err-came-clause-notes : goal.returns-in_err-came-clause-notes
-returns-in_err-came-clause-notes g c =
-    let e : Explorer =
-    record {
-      ground = record { system = c.self.inside.system.now; needs = c.self.inside.needs.now };
-      mode = c.self.inside.mode;
-      distances = c.self.inside.distances.now;
-      cap = c.self.inside.cap;
-      peaks = c.self.inside.peaks;
-    } in
-    let f : Explorer = record e { peaks = c.note_losses-rises.new.self } in
-    subst (λ (h : Explorer). StaysNoted AreNotedIn h f) c.self.view_is
-    (stays_noted e f c.notes_stay.ensures refl c.note_losses-rises.ensures.rises)
+pub returns-in_err-note_losses-clause-notes : goal.returns-in_err-note_losses-clause-notes
+returns-in_err-note_losses-clause-notes g c =
+    stays_noted c.self.inside.ruling c.self.inside.noted.peaks c.note_losses.new.self.peaks
+    c.args.self.now c.notes_stay.ensures c.self.view_is c.note_losses.ensures.rises
 
 pub returns-clause-notes : goal.returns-clause-notes
 returns-clause-notes g c =
-    let e : Explorer =
-    record {
-      ground = record { system = c.self.inside.system.now; needs = c.self.inside.needs.now };
-      mode = c.self.inside.mode;
-      distances = c.self.inside.distances.now;
-      cap = c.self.inside.cap;
-      peaks = c.self.inside.peaks;
-    } in
-    let f : Explorer = record e { peaks = c.note_losses-rises.new.self } in
-    subst (λ (h : Explorer). StaysNoted AreNotedIn h f) c.self.view_is
-    (stays_noted e f c.notes_stay.ensures refl c.note_losses-rises.ensures.rises)
+    stays_noted c.self.inside.ruling c.self.inside.noted.peaks c.note_losses.new.self.peaks
+    c.args.self.now c.notes_stay.ensures c.self.view_is c.note_losses.ensures.rises
 
 pub returns-clause-repeats : goal.returns-clause-repeats
 returns-clause-repeats g c =
-    let e : Explorer =
-    record {
-      ground = record { system = c.self.inside.system.now; needs = c.self.inside.needs.now };
-      mode = c.self.inside.mode;
-      distances = c.self.inside.distances.now;
-      cap = c.self.inside.cap;
-      peaks = c.self.inside.peaks;
-    } in
-    let f : Explorer = record e { peaks = c.note_losses-rises.new.self } in
+    let e : Explorer = explorer_of c.self.inside.ruling c.self.inside.noted.peaks in
+    let peaks = c.note_losses.new.self.peaks in
     let x : Node = c.args.node.now in
     let m = c.in-Some.machine.now in
     let set = c.args.set in
@@ -75,16 +32,14 @@ returns-clause-repeats g c =
     subst (λ (h : Explorer). May (setting_of h) x set) (sym c.self.view_is) c.requires in
     let is = is_in_of e.ground c.self.inside.states x.key c.key.result.now m
     c.self.invariant.machines c.key.ensures c.in-Some.ensures in
-    let going : (picture m).over ≡ x.over =
-    c.if-not-can_go_on.ensures.going refl ∙ sym c.requires.going in
     let others = without_lost (setting_of e) set pending fewer (picture m)
     (omega (arith, low)) c.pending_routines-pending.ensures c.without-fewer.ensures.less
     c.without-fewer.ensures.others in
     subst (λ (h : Explorer).
-    Repeats (rules_of (setting_of h)) (AreNoted (setting_of e) f.peaks) x set fewer)
+    Repeats (rules_of (setting_of h)) (AreNoted (setting_of e) peaks) x set fewer)
     c.self.view_is
     (repeats_it e x set fewer m c.one_state_tells.ensures c.lost_change_nothing.ensures
-    c.self.invariant.ground may is going others c.if-set-fewer.false f.peaks
-    (losses_noted (has_come f.peaks.losses) (length e.ground.system.routines) set pending fewer
+    c.self.invariant.ground may is others c.if-set-fewer.false peaks
+    (losses_noted (has_come peaks.losses) (length e.ground.system.routines) set pending fewer
     c.common.result (omega (arith, low)) c.without-fewer.ensures.others c.common.ensures
-    c.note_losses-rises.ensures.losses))
+    c.note_losses.ensures.losses))

@@ -1,19 +1,12 @@
 use Rattle.std.proofs.Common.{◌≤◌, rules, sym, ◌∙◌}
 use Rattle.packed_labels.specs.Unpacked.{unpacked}
-use Rattle.bounds.specs.Exploring.{Explorer, setting_of}
+use Rattle.bounds.specs.Exploring.{Explorer, explorer_of, setting_of}
 use Rattle.bounds.proofs.Exploring.{free_choices, next_choice, no_choice}
 use Rattle.bounds.proofs.explorer.ExplorerSteps.choice_from.Goals as goal
 
 pub returns-clause-next : goal.returns-clause-next
 returns-clause-next g c =
-    let e : Explorer =
-    record {
-      ground = record { system = c.self.inside.system.now; needs = c.self.inside.needs.now };
-      mode = c.self.inside.mode;
-      distances = c.self.inside.distances.now;
-      cap = c.self.inside.cap;
-      peaks = c.self.inside.peaks;
-    } in
+    let e : Explorer = explorer_of c.self.inside.ruling c.self.inside.noted.peaks in
     let x = c.args.node.now in
     let whole = c.free_routines-free.result in
     let few : c.routine_count.result ≤ 16 = search rules in
@@ -30,14 +23,7 @@ returns-clause-next g c =
 
 pub returns-clause-none : goal.returns-clause-none
 returns-clause-none g c =
-    let e : Explorer =
-    record {
-      ground = record { system = c.self.inside.system.now; needs = c.self.inside.needs.now };
-      mode = c.self.inside.mode;
-      distances = c.self.inside.distances.now;
-      cap = c.self.inside.cap;
-      peaks = c.self.inside.peaks;
-    } in
+    let e : Explorer = explorer_of c.self.inside.ruling c.self.inside.noted.peaks in
     let x = c.args.node.now in
     let whole = c.free_routines-free.result in
     no_choice (setting_of c.args.self.now) c.args.node.now whole c.args.from

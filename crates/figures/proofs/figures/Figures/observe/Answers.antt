@@ -1,6 +1,7 @@
 use Rattle.std.proofs.Common.{◌∷◌, subst}
 use Rattle.std.proofs.Math.Nat.{add-zero}
-use Rattle.figures.specs.FigureSums.{AreFigures, numbered}
+use Rattle.observations.specs.Seen.{numbered}
+use Rattle.figures.specs.FigureSums.{AreFigures}
 use Rattle.figures.proofs.figures.Figures.observe.Goals as goal
 
 -- one tick, of its own number

@@ -1,6 +1,7 @@
 use Rattle.std.proofs.Common.{map, sym, ◌∙◌}
 use Rattle.figures.specs.Counting.{alarm_figures_of}
-use Rattle.figures.specs.FigureSums.{numbered, alarm_tick}
+use Rattle.observations.specs.Seen.{numbered}
+use Rattle.figures.specs.FigureSums.{alarm_tick}
 use Rattle.figures.proofs.QuietLemmas.{quiet_alarm}
 use Rattle.figures.proofs.RowLemmas.{row_stays}
 use Rattle.figures.proofs.kinds.AlarmFiguresCounted.observe_some.Goals as goal

@@ -1,6 +1,7 @@
 use Rattle.std.proofs.Common.{◌-◌, ◌^◌, ◌≤◌, suc, ◌≡◌, map, sym, ◌∙◌, subst, arith}
 use Rattle.figures.specs.Counting.{resource_figures_of}
-use Rattle.figures.specs.FigureSums.{numbered, holder_tick}
+use Rattle.observations.specs.Seen.{numbered}
+use Rattle.figures.specs.FigureSums.{holder_tick}
 use Rattle.figures.specs.Calm.{held_on}
 use Rattle.figures.proofs.HoldLemmas.{hold_start, resource_go}
 use Rattle.figures.proofs.QuietLemmas.{free_resource}

@@ -1,6 +1,7 @@
 use Rattle.std.proofs.Common.{map, sym, ◌∙◌}
 use Rattle.figures.specs.Counting.{routine_figures_of}
-use Rattle.figures.specs.FigureSums.{numbered, routine_tick}
+use Rattle.observations.specs.Seen.{numbered}
+use Rattle.figures.specs.FigureSums.{routine_tick}
 use Rattle.figures.proofs.QuietLemmas.{quiet_routine}
 use Rattle.figures.proofs.RowLemmas.{row_stays}
 use Rattle.figures.proofs.kinds.RoutineFiguresCounted.observe_some.Goals as goal

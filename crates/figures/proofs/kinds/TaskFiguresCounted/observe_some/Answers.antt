@@ -2,7 +2,8 @@ use Rattle.std.proofs.Common.{◌+◌, ◌-◌, suc, ◌≡◌, length, map, ref
 use Rattle.std.specs.Prelude.{nat_le}
 use Rattle.std.proofs.lemmas.Bool.{and_parts}
 use Rattle.figures.specs.Counting.{task_figures_of}
-use Rattle.figures.specs.FigureSums.{numbered, task_tick}
+use Rattle.observations.specs.Seen.{numbered}
+use Rattle.figures.specs.FigureSums.{task_tick}
 use Rattle.figures.specs.ResponseSums.{standing}
 use Rattle.figures.specs.Calm.{is_calm_next, is_calm_task, stayed}
 use Rattle.figures.specs.declared.task_figures.TaskFigures.{TaskFigures}

@@ -1,8 +1,15 @@
 use Rattle.std.proofs.Common.{◌≡◌, ◌<◌, ◌≤◌, false, sym, subst, arith}
 use Rattle.osek_base.specs.declared.limits.TheConstants.{MAX_TICKS}
 use Rattle.kernel.specs.Machine.{Machine, next_tick, picture}
-use Rattle.kernel.proofs.SteadyLemmas.{has_begun_steady, may_fetch, steady_ticked}
+use Rattle.kernel.proofs.SteadyLemmas.{has_begun_steady, may_begin, may_fetch, steady_ticked}
 use Rattle.kernel.proofs.ticking.Machine.tick_steady.Goals as goal
+
+pub begin-requires : goal.begin-requires
+begin-requires g c =
+    let k = c.self.inside in
+    may_begin g.B.Blockers.are_counted k.ticks k.watched k.opening k.acted c.self.invariant (omega (arith, c.if-self-eq0.false))
+    (subst (λ (x : Machine). next_tick x < MAX_TICKS) (sym c.self.view_is) c.requires.limit) c.begin_steady.new.self
+    c.in_ok-task.task c.in_ok-task.ensures
 
 pub finish-requires : goal.finish-requires
 finish-requires g c =

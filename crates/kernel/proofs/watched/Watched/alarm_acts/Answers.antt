@@ -12,7 +12,7 @@ restamp-requires g c = λ on.
     let may = subst (MayAct g.B.Blockers.are_counted) (sym c.self.view_is) c.requires.may in
     subst (λ (v : Look). MayLook v c.look.result k.blocking.stamps) (sym c.look-before.ensures.value)
     (record {
-      task = subst (λ n. task.result < n) (sym (c.self.invariant on)) task.ensures.known;
+      task = subst (λ n. task.result < n) (sym (c.self.invariant.sized on)) task.ensures.known;
       counted = may.each on task.result;
       few = c.look.ensures.few;
     })
@@ -34,7 +34,7 @@ returns g c =
           may_act_more counted c.args.alarm c.args.tick old new c.args.records.now r.new.records acted
           (λ on.
           subst (λ n. n < length c.self.inside.blocking.stamps) task.ensures.value
-          (subst (λ n. task.result < n) (sym (c.self.invariant on)) task.ensures.known))
+          (subst (λ n. task.result < n) (sym (c.self.invariant.sized on)) task.ensures.known))
           (subst (λ w. MayAct counted w) (sym c.self.view_is) c.requires.may);
       status = r.ensures.status;
       few = r.ensures.few;

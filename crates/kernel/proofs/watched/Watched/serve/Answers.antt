@@ -42,8 +42,8 @@ executed_since-requires g c = λ on.
     c.acting_task-named.ensures in
     let begun = subst (HasBegun g.B.Blockers.are_counted) (sym c.self.view_is) c.requires.may.ready.begun in
     record {
-      running = subst (λ n. IfSome c.stand-before.result.running (λ t. t < n)) (sym (c.self.invariant on)) c.stand-before.ensures.known;
-      task = subst (λ n. IfSome c.stand-before.result.named (λ b. b.task < n)) (sym (c.self.invariant on))
+      running = subst (λ n. IfSome c.stand-before.result.running (λ t. t < n)) (sym (c.self.invariant.sized on)) c.stand-before.ensures.known;
+      task = subst (λ n. IfSome c.stand-before.result.named (λ b. b.task < n)) (sym (c.self.invariant.sized on))
           (subst (λ (v : Stand). IfSome v.named (λ b. b.task < length (system_of k.processor).tasks)) (sym c.stand-before.ensures.value)
           (known_stand (picture k.processor) (length (system_of k.processor).tasks) c.acting_task-named.result known));
       counted = subst (λ (v : Stand). IfSome v.named (λ b. length (stamps_at k.blocking.stamps b.task) ≡ b.count)) (sym c.stand-before.ensures.value)

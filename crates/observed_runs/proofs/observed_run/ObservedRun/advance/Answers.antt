@@ -3,7 +3,7 @@ use Rattle.kernel.specs.Progress.{Progress}
 use Rattle.seen_ticks.specs.Observed.{holders_seen, tick_at}
 use Rattle.observed_runs.specs.Keeping.{IsBefore}
 use Rattle.observed_runs.proofs.Seeing.{one_on}
-use Rattle.observed_runs.proofs.Staying.{holders_stay}
+use Rattle.seen_ticks.proofs.Staying.{holders_stay}
 use Rattle.observed_runs.proofs.observed_run.ObservedRun.advance.Goals as goal
 
 pub see-requires-clause-holders : goal.see-requires-clause-holders

@@ -8,7 +8,7 @@ use Rattle.observed_runs.specs.Keeping.{IsTold}
 use Rattle.seen_ticks.specs.Told.{task_at}
 use Rattle.seen_ticks.specs.Observed.{ending, refusing, tick_at}
 use Rattle.observed_runs.proofs.Seeing.{one_on, state_more}
-use Rattle.observed_runs.proofs.Telling.{executed_told}
+use Rattle.seen_ticks.proofs.Telling.{executed_told}
 use Rattle.observed_runs.proofs.told_run.ToldRun.advance.Goals as goal
 
 pub invariant_of-self : goal.invariant_of-self

@@ -4,7 +4,7 @@ use Rattle.kernel.specs.Progress.{Progress}
 use Rattle.observed_runs.specs.Keeping.{last_tick}
 use Rattle.osek_base.specs.State.{State}
 use Rattle.seen_ticks.specs.Observed.{is_pending}
-use Rattle.observed_runs.proofs.Staying.{pending_stays}
+use Rattle.seen_ticks.proofs.Staying.{pending_stays}
 use Rattle.observed_runs.proofs.told_run.ToldRun.is_pending.Goals as goal
 
 pub returns-clause-at : goal.returns-clause-at

@@ -6,8 +6,7 @@ use Rattle.observed_runs.specs.Keeping.{last_tick}
 use Rattle.seen_ticks.specs.Observed.{jobs_before, task_seen}
 use Rattle.seen_ticks.specs.Told.{task_at}
 use Rattle.observed_runs.proofs.Replacing.{next_is, none_replaced, one_replaced}
-use Rattle.observed_runs.proofs.Seeing.{inside, read_at}
-use Rattle.observed_runs.proofs.SeenSteps.{seen_count}
+use Rattle.seen_ticks.proofs.SeenSteps.{inside, read_at, seen_count}
 use Rattle.observed_runs.proofs.told_run.ToldRun.see_tasks.Goals as goal
 
 pub bounds-stood-number : goal.bounds-stood-number

@@ -1,7 +1,7 @@
 use Rattle.osek_base.specs.System.{alarm}
 use Rattle.seen_ticks.specs.Observed.{is_activation}
-use Rattle.observed_runs.proofs.Counting.{AreCounted}
-use Rattle.observed_runs.proofs.readers.activations_by.Given as goal
+use Rattle.seen_ticks.proofs.Counting.{AreCounted}
+use Rattle.seen_ticks.proofs.alarms_told.activations_by.Given as goal
 
 -- those of the alarms gone over
 abbrev pub invariant-loop-place : goal.invariant-loop-place

@@ -1,6 +1,6 @@
 use Rattle.std.proofs.Common.{◌≡◌, drop}
 use Rattle.seen_ticks.specs.Observed.{is_among}
-use Rattle.observed_runs.proofs.readers.is_among.Given as goal
+use Rattle.seen_ticks.proofs.alarms_told.is_among.Given as goal
 
 -- whether it is among those left
 abbrev pub invariant-loop-place : goal.invariant-loop-place

@@ -1,6 +1,6 @@
 use Rattle.std.specs.Prelude.{◌==◌}
-use Rattle.observed_runs.proofs.Counting.{AreCounted}
-use Rattle.observed_runs.proofs.readers.times.Given as goal
+use Rattle.seen_ticks.proofs.Counting.{AreCounted}
+use Rattle.seen_ticks.proofs.routines_told.times.Given as goal
 
 -- those of the arrivals gone over
 abbrev pub invariant-loop-other : goal.invariant-loop-other
