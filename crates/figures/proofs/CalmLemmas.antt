@@ -1,6 +1,6 @@
 -- Ticks in a row in which nothing comes to a task: one more of them.
-use Rattle.std.proofs.Common.{ℕ, suc, ◌≡◌, ◌+◌, ◌-◌, ◌≤◌, length, Bool, true, false, not, ◌&&◌, List, ◌∷◌, cond, nat_lt, Option, Some, None, refl, sym, ◌∙◌, ap, ap₂, arith, eqb-true}
-use Rattle.std.specs.Prelude.{is_none, nat_le, ◌==◌, ◌||◌}
+use Rattle.std.proofs.Common.{get_or, ℕ, suc, ◌≡◌, ◌+◌, ◌-◌, ◌≤◌, length, Bool, true, false, not, ◌&&◌, List, ◌∷◌, cond, nat_lt, Option, Some, None, refl, sym, ◌∙◌, ap, ap₂, arith, eqb-true}
+use Rattle.std.specs.Prelude.{nat_le, ◌==◌, ◌||◌}
 use Rattle.std.proofs.lemmas.Bool.{and_parts, false≢true, leb-true, not-true}
 use Rattle.figures.specs.declared.task_tick.TaskTick.{TaskTick}
 use Rattle.figures.specs.declared.task_figures.TaskFigures.{TaskFigures}
@@ -13,11 +13,15 @@ use Rattle.figures.specs.Reaching.{first_tick}
 use Rattle.figures.specs.TaskSums.{task_counts, left_jobs, more_blockers}
 use Rattle.figures.specs.StateSums.{task_times, time_of, begun, has_begun, leaves, is_executed, is_ready, is_preempted, is_blocked, is_waited, is_running}
 use Rattle.figures.specs.ResponseSums.{Responses, response_figures, entered, later, some_more, standing, ready_since}
-use Rattle.figures.specs.FigureSums.{task_figures}
+use Rattle.observations.specs.Seen.{unseen_task}
+use Rattle.observations.specs.declared.observation.Observation.{Observation}
+use Rattle.observations.specs.declared.task_seen.TaskSeen.{TaskSeen}
+use Rattle.figures.specs.FigureSums.{task_figures, task_tick}
 use Rattle.figures.specs.Quiet.{gets_nothing}
-use Rattle.figures.specs.Calm.{is_calm_task, is_calm_next, stayed, times_on}
+use Rattle.figures.specs.Calm.{stayed, times_on, went_on}
 use Rattle.figures.proofs.StepLemmas.{task_more, times_more}
-use Rattle.figures.proofs.QuietLemmas.{kept_count, first_stays}
+use Rattle.figures.proofs.QuietLemmas.{IsSilent, kept_count, first_stays}
+use Rattle.figures.proofs.TimeLemmas.{went}
 use Rattle.figures.proofs.AddLemmas.{time_in}
 use Rattle.figures.proofs.EnterLemmas.{enters_once}
 
@@ -34,16 +38,11 @@ pub record IsCalm (t : TaskTick) : Type 0 where
   pub failed : t.has_failed ≡ false
   pub blockers : t.blockers ≡ None
 
-none_told : (b : Option ℕ) → is_none b ≡ true → b ≡ None
-none_told None _ = refl
-none_told (Some n) h = absurd (false≢true h)
-
-pub calm : (t : TaskTick) → is_calm_task t ≡ true → IsCalm t
-calm t h =
-    let s = t.seen in
-    let all = and_parts (gets_nothing s) (not t.has_failed && is_none t.blockers) h in
-    let tells = and_parts (not t.has_failed) (is_none t.blockers) all.1 in
-    let gets = and_parts (s.made == 0) ((s.refused == 0) && (not s.ended && not s.waits)) all.0 in
+pub calm : (levels : List ℕ) (o : Observation) (k : ℕ) → gets_nothing (get_or o.tasks.items k unseen_task) ≡ true
+    → IsSilent o k → IsCalm (task_tick levels o k)
+calm levels o k h silent =
+    let s : TaskSeen = get_or o.tasks.items k unseen_task in
+    let gets = and_parts (s.made == 0) ((s.refused == 0) && (not s.ended && not s.waits)) h in
     let more = and_parts (s.refused == 0) (not s.ended && not s.waits) gets.1 in
     let last = and_parts (not s.ended) (not s.waits) more.1 in
     record {
@@ -51,8 +50,8 @@ calm t h =
       refused = eqb-true s.refused 0 more.0;
       ended = not-true s.ended last.0;
       waits = not-true s.waits last.1;
-      failed = not-true t.has_failed tells.0;
-      blockers = none_told t.blockers tells.1;
+      failed = silent.0;
+      blockers = silent.1;
     }
 
 -- of what is counted only the jobs that stand are others
@@ -161,13 +160,12 @@ task_go t u n before seen f q first e =
     cc
 
 -- a tick in which the jobs that stand were all followed before
-pub task_stays : (t : TaskTick) (before : List TaskTick) (f : TaskFigures) → is_calm_next t f ≡ true → f ≡ task_figures before
+pub task_stays : (t : TaskTick) (before : List TaskTick) (f : TaskFigures) → IsCalm t
+    → nat_le (standing t) (length f.responses.ready_since) ≡ true → f ≡ task_figures before
     → stayed t 1 f ≡ task_figures (t ∷ before)
 unfolding task_figures
-task_stays t before f is e =
-    let both = and_parts (is_calm_task t) (nat_le (standing t) (length f.responses.ready_since)) is in
-    let q = calm t both.0 in
-    let all : standing t ≤ length f.responses.ready_since = leb-true (standing t) (length f.responses.ready_since) both.1 in
+task_stays t before f q follows e =
+    let all : standing t ≤ length f.responses.ready_since = leb-true (standing t) (length f.responses.ready_since) follows in
     let none : standing t - length f.responses.ready_since ≡ 0 = omega (arith, all) in
     let once : entered t f.responses.ready_since ≡ f.responses.ready_since =
     ap (λ n. some_more t.tick n f.responses.ready_since) none in
@@ -202,9 +200,8 @@ task_noted time t f n = record f {
 }
 
 -- the first tick and then so many more are one more at once
-pub stays_on : (t : TaskTick) (f : TaskFigures) (n : ℕ) → is_calm_task t ≡ true → task_on t (stayed t 1 f) n ≡ stayed t (suc n) f
-stays_on t f n is =
-    let q = calm t is in
+pub stays_on : (t : TaskTick) (f : TaskFigures) (n : ℕ) → IsCalm t → task_on t (stayed t 1 f) n ≡ stayed t (suc n) f
+stays_on t f n q =
     let no : leaves t ≡ false = ap₂ (λ x y. x || y) q.ended q.waits in
     let time = time_of t f.times.has_begun in
     let same = same_time t f.times.has_begun no in
@@ -214,3 +211,17 @@ stays_on t f n is =
     let b = more_once f.times.blocked n (is_blocked time) in
     let w = more_once f.times.waiting n (is_waited time) in
     ap (λ k. task_noted k t (stayed t 1 f) n) same ∙ (cc)
+
+-- its jobs stand, and the count of its state grows
+pub stayed_is : (t : TaskTick) (more : ℕ) (before : List TaskTick) (f : TaskFigures) → IsCalm t → f ≡ task_figures before
+    → (record f {
+      counts = record f.counts { unfinished = t.seen.jobs };
+      times = went_on t.seen.state t.lower_executes more f.times;
+    }) ≡ stayed t more f
+unfolding task_figures
+stayed_is t more before f q e =
+    let no : leaves t ≡ false = ap₂ (λ x y. x || y) q.ended q.waits in
+    let all : t.seen.jobs ≡ t.seen.jobs - 0 = omega arith in
+    let left : t.seen.jobs ≡ left_jobs t = all ∙ ap (λ b. t.seen.jobs - cond b 1 0) (sym q.ended) in
+    let times = went t more before f.times no (ap (λ (g : TaskFigures). g.times) e) in
+    ap₂ (λ n g. record f { counts = record f.counts { unfinished = n }; times = g }) left times

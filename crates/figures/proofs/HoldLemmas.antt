@@ -1,8 +1,8 @@
 -- Ticks in a row in which one task holds a resource: one more of them.
-use Rattle.std.proofs.Common.{ℕ, suc, ◌≡◌, ◌+◌, ◌-◌, ◌^◌, ◌<◌, ◌≤◌, ◌⊎◌, inl, inr, true, false, List, ◌∷◌, cond, nat_lt, Option, Some, None, sym, ◌∙◌, ap, ap₂, arith}
+use Rattle.std.proofs.Common.{ℕ, suc, ◌≡◌, ◌+◌, ◌-◌, ◌^◌, ◌<◌, ◌≤◌, ◌⊎◌, inl, inr, true, false, List, ◌∷◌, cond, nat_lt, refl, Option, Some, None, sym, ◌∙◌, ap, ap₂, arith}
 use Rattle.std.proofs.Math.Nat.{add-zero}
-use Rattle.std.specs.Prelude.{◌==◌}
-use Rattle.std.proofs.lemmas.Bool.{cases_Bool, false≢true, ltb-true, lt-ltb, leb-true}
+use Rattle.std.specs.Prelude.{Bool, ◌==◌, ◌&&◌, is_some, nat_le}
+use Rattle.std.proofs.lemmas.Bool.{cases_Bool, false≢true, ltb-true, lt-ltb, leb-true, le-leb}
 use Rattle.std.proofs.lemmas.Bool.Decides.{nat_tests}
 use Rattle.figures.specs.declared.reached.Reached.{Reached}
 use Rattle.figures.specs.declared.resource_figures.HolderTick.{HolderTick}
@@ -86,3 +86,26 @@ resource_go h m more seen f can fits low e = go h.holder can e
           held = n;
         }) one_more ∙ hold_step t (f.gets + cond (is_got (Some t) f.holder) 1 0) (held + m) (h.tick + m) (h.tick + suc m) f.longest seen
         (omega (arith, room, fits, low)) e
+
+is_held : (h before : Option ℕ) → is_same h before ≡ true → is_some h ≡ true
+is_held None before h = absurd (false≢true h)
+is_held (Some t) before h = refl
+
+-- a hold that goes on, with room for so many ticks more
+pub can_go : (h : HolderTick) (more : ℕ) (f : ResourceFigures) → is_same h.holder f.holder ≡ true
+    → f.held + more < 2 ^ 32 - 1 → can_hold_on h more f ≡ true
+can_go h more f same room =
+    let next = cond (is_some h.holder) 1 0 in
+    let low : capped (f.held + 1) ≤ 2 ^ 32 - 1 - more = omega (arith, room) in
+    ap₂ (λ a b. a && b) (is_held h.holder f.holder same)
+    (ap (λ b. nat_le (cond b (capped (f.held + 1)) next) (2 ^ 32 - 1 - more)) same
+    ∙ le-leb (capped (f.held + 1)) (2 ^ 32 - 1 - more) low)
+
+-- one that begins
+pub can_get : (h : HolderTick) (more : ℕ) (f : ResourceFigures) → is_some h.holder ≡ true
+    → is_same h.holder f.holder ≡ false → more < 2 ^ 32 - 1 → can_hold_on h more f ≡ true
+can_get h more f held other room =
+    let low : 1 ≤ 2 ^ 32 - 1 - more = omega (arith, room) in
+    ap₂ (λ a b. a && b) held
+    (ap₂ (λ b s. nat_le (cond b (capped (f.held + 1)) (cond s 1 0)) (2 ^ 32 - 1 - more)) other held
+    ∙ le-leb 1 (2 ^ 32 - 1 - more) low)

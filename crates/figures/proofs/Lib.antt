@@ -2,6 +2,7 @@ pub mod AddLemmas
 pub mod AlikeLemmas
 pub mod CalmLemmas
 pub mod EnterLemmas
+pub mod HeldRows
 pub mod HoldLemmas
 pub mod PendLemmas
 pub mod QuietLemmas

@@ -1,5 +1,5 @@
 -- In a quiet tick figures stay as they are, but for jobs that were unfinished and holds that went on.
-use Rattle.std.proofs.Common.{ℕ, ◌≡◌, ◌+◌, ◌-◌, Bool, true, false, not, ◌&&◌, List, ◌∷◌, cond, nat_lt, Option, Some, None, get_or, length, refl, ◌∙◌, ap, ap₂, arith, eqb-true}
+use Rattle.std.proofs.Common.{ℕ, ◌≡◌, ◌+◌, ◌-◌, Bool, true, false, not, ◌&&◌, List, ◌∷◌, cond, nat_lt, Option, Some, None, get_or, length, refl, sym, ◌∙◌, ap, ap₂, arith, eqb-true}
 use Rattle.std.specs.Prelude.{is_none, is_some, ◌==◌, ◌||◌}
 use Rattle.std.proofs.lemmas.Bool.{and_parts, false≢true, not-true}
 use Rattle.osek_base.specs.declared.status.TaskState.{TaskState}
@@ -29,7 +29,7 @@ use Rattle.figures.specs.ResourceSums.{resource_figures, is_got, hold_on, hold_a
 use Rattle.figures.specs.AlarmSums.{alarm_figures}
 use Rattle.observations.specs.Seen.{unseen_task, unseen_routine, unseen_alarm}
 use Rattle.figures.specs.FigureSums.{task_figures, task_tick, routine_tick, holder_tick, alarm_tick, is_task, is_routine, is_error}
-use Rattle.figures.specs.Quiet.{is_suspended, has_nothing, gets_nothing, is_quiet_task, is_unasked, is_quiet_routine, is_free, is_quiet_alarm}
+use Rattle.figures.specs.Quiet.{is_suspended, has_nothing, gets_nothing, rests, tells, is_untold, is_unasked, is_quiet_routine, is_free, is_quiet_alarm}
 use Rattle.figures.proofs.StepLemmas.{task_more, times_more, alarm_more, routine_more, resource_more}
 
 -- a count to which nothing comes
@@ -77,16 +77,40 @@ record IsQuiet (t : TaskTick) : Type 0 where
   pub failed : t.has_failed ≡ false
   pub blockers : t.blockers ≡ None
 
-quiet_seen : (levels : List ℕ) (o : Observation) (k : ℕ) → is_quiet_task o k ≡ true → IsQuiet (task_tick levels o k)
-quiet_seen levels o k h =
+-- of a task nothing is told
+abbrev pub IsSilent : Observation → ℕ → Type 0
+IsSilent o k = ((is_task o.executor k && is_error o.answered) ≡ false) × (cond (is_task o.executor k) o.blockers None ≡ None)
+
+none_told : (error : Bool) (blockers : Option ℕ) (own : Bool) → (error || is_some blockers) ≡ false
+    → ((own && error) ≡ false) × (cond own blockers None ≡ None)
+none_told true blockers own h = absurd (false≢true (sym h))
+none_told false (Some n) own h = absurd (false≢true (sym h))
+none_told false None true h = (refl, refl)
+none_told false None false h = (refl, refl)
+
+pub others : (o : Observation) (k : ℕ) → is_task o.executor k ≡ false → IsSilent o k
+others o k none = (ap (λ b. b && is_error o.answered) none, ap (λ b. cond b o.blockers None) none)
+
+not_own : (o : Observation) (k : ℕ) → not (is_task o.executor k) ≡ true → IsSilent o k
+not_own o k h = others o k (not-true (is_task o.executor k) h)
+
+pub untold : (o : Observation) (state : TaskState) (k : ℕ) → is_untold o state k ≡ true → IsSilent o k
+untold o state k h = elim state as (λ s. is_untold o s k ≡ true → IsSilent o k) [
+  | Running ↦ λ h. none_told (is_error o.answered) o.blockers (is_task o.executor k) (not-true (tells o) h)
+  | Waiting ↦ not_own o k
+  | Ready ↦ not_own o k
+  | Suspended ↦ not_own o k
+] h
+
+quiet_seen : (levels : List ℕ) (o : Observation) (k : ℕ) → rests (get_or o.tasks.items k unseen_task) ≡ true → IsSilent o k
+    → IsQuiet (task_tick levels o k)
+quiet_seen levels o k h silent =
     let s : TaskSeen = get_or o.tasks.items k unseen_task in
-    let all = and_parts (has_nothing s) (gets_nothing s && not (is_task o.executor k)) h in
-    let few = and_parts (gets_nothing s) (not (is_task o.executor k)) all.1 in
+    let all = and_parts (has_nothing s) (gets_nothing s) h in
     let has = and_parts (is_suspended s.state) (s.jobs == 0) all.0 in
-    let gets = and_parts (s.made == 0) ((s.refused == 0) && (not s.ended && not s.waits)) few.0 in
+    let gets = and_parts (s.made == 0) ((s.refused == 0) && (not s.ended && not s.waits)) all.1 in
     let more = and_parts (s.refused == 0) (not s.ended && not s.waits) gets.1 in
     let last = and_parts (not s.ended) (not s.waits) more.1 in
-    let idle = not-true (is_task o.executor k) few.1 in
     record {
       state = suspended s.state has.0;
       jobs = eqb-true s.jobs 0 has.1;
@@ -94,8 +118,8 @@ quiet_seen levels o k h =
       refused = eqb-true s.refused 0 more.0;
       ended = not-true s.ended last.0;
       waits = not-true s.waits last.1;
-      failed = ap (λ b. b && is_error o.answered) idle;
-      blockers = ap (λ b. cond b o.blockers None) idle;
+      failed = silent.0;
+      blockers = silent.1;
     }
 
 counts_stay : (t : TaskTick) (before : List TaskTick) (old : TaskCounts) → old ≡ task_counts before → IsQuiet t
@@ -153,12 +177,13 @@ responses_stay t before old e q =
     let none = none_enter t (ready_since before) q in
     rw (no, none) e
 
-pub quiet_task : (levels : List ℕ) (o : Observation) (k : ℕ) (before : List TaskTick) (old new : TaskFigures) → is_quiet_task o k ≡ true
+pub quiet_task : (levels : List ℕ) (o : Observation) (k : ℕ) (before : List TaskTick) (old new : TaskFigures)
+    → rests (get_or o.tasks.items k unseen_task) ≡ true → IsSilent o k
     → new ≡ (record old { counts = record old.counts { unfinished = 0 } }) → old ≡ task_figures before
     → new ≡ task_figures (task_tick levels o k ∷ before)
 unfolding task_figures
-quiet_task levels o k before old new quiet is e =
-    let q = quiet_seen levels o k quiet in
+quiet_task levels o k before old new quiet silent is e =
+    let q = quiet_seen levels o k quiet silent in
     let t = task_tick levels o k in
     let c = counts_stay t before old.counts (ap (λ (f : TaskFigures). f.counts) e) q in
     let s = times_stay t before old.times (ap (λ (f : TaskFigures). f.times) e) q in

@@ -1,13 +1,16 @@
 -- Ticks more of a task's times: one count alone grows.
-use Rattle.std.proofs.Common.{ℕ, ◌≡◌, ◌+◌, Bool, List, cond, refl, ◌∙◌, ap, ap₂}
+use Rattle.std.proofs.Common.{ℕ, ◌≡◌, ◌+◌, Bool, true, false, List, cond, refl, sym, ◌∙◌, ap, ap₂}
+use Rattle.std.specs.Prelude.{◌||◌}
+use Rattle.osek_base.specs.declared.status.TaskState.TheVariants.{Running, Waiting, Ready, Suspended}
 use Rattle.figures.specs.declared.task_tick.TaskTick.{TaskTick}
 use Rattle.figures.specs.declared.task_time.TaskTime.{TaskTime}
 use Rattle.figures.specs.declared.task_time.TaskTime.TheVariants.{Executed, StandsReady, Preempted, Blocked, Waits, HasNoJob}
 use Rattle.figures.specs.declared.task_times.TaskTimes.{TaskTimes}
 use Rattle.figures.specs.Counts.{capped}
-use Rattle.figures.specs.StateSums.{task_times, time_of, begun, is_executed, is_ready, is_preempted, is_blocked, is_waited}
-use Rattle.figures.specs.Calm.{time_on, times_stayed}
+use Rattle.figures.specs.StateSums.{task_times, time_of, ready_time, begun, leaves, is_running, is_executed, is_ready, is_preempted, is_blocked, is_waited}
+use Rattle.figures.specs.Calm.{time_on, times_on, times_stayed, went_on}
 use Rattle.figures.proofs.QuietLemmas.{kept_count}
+use Rattle.figures.proofs.AddLemmas.{time_in}
 
 -- the count of each kind, as it is or some more
 abbrev pub counted : TaskTime → ℕ → TaskTimes → TaskTimes
@@ -46,3 +49,20 @@ time_stays t more before f time noted had e is notes begins =
     notes ∙ one_counts time more before f e ∙ ap (λ x. counted x more f) is in
     let same : had ≡ begun t f.has_begun = begins ∙ ap (λ (g : TaskTimes). begun t g.has_begun) one in
     ap₂ (λ (g : TaskTimes) b. record g { has_begun = b }) one same
+
+-- where the oldest job neither ends nor waits, the state says which count grows
+pub went : (t : TaskTick) (more : ℕ) (before : List TaskTick) (f : TaskTimes) → leaves t ≡ false → f ≡ task_times before
+    → went_on t.seen.state t.lower_executes more f ≡ times_stayed t more f
+went t more before f stays e =
+    let had = f.has_begun in
+    let one : (time : TaskTime) → time_on time more f ≡ counted time more f = λ time. one_counts time more before f e in
+    elim t.seen.state as (λ s. went_on s t.lower_executes more f
+    ≡ (record (counted (time_in s t.lower_executes had) more f) {
+      has_begun = elim s [ Running ↦ true | Waiting ↦ false | Ready ↦ false | Suspended ↦ false ] || had;
+    })) [
+      | Running ↦ ap (λ (g : TaskTimes). record g { has_begun = true }) (one Executed)
+      | Waiting ↦ one Waits
+      | Ready ↦ one (ready_time t.lower_executes had)
+      | Suspended ↦ one HasNoJob
+    ]
+    ∙ ap (λ l. record (times_on t more f) { has_begun = cond l false (is_running t || had) }) (sym stays)

@@ -1,5 +1,7 @@
 -- Ticks in a row in which the same is seen, and what of them is counted at once.
-use Rattle.std.specs.Prelude.{ℕ, Bool, not, ◌&&◌, ◌==◌, ◌+◌, ◌-◌, ◌^◌, cond, is_none, is_some, nat_le, length}
+use Rattle.std.specs.Prelude.{ℕ, Bool, true, not, ◌&&◌, ◌==◌, ◌+◌, ◌-◌, ◌^◌, cond, is_none, is_some, nat_le, length}
+use Rattle.osek_base.specs.declared.status.TaskState.{TaskState}
+use Rattle.osek_base.specs.declared.status.TaskState.TheVariants.{Running, Waiting, Ready, Suspended}
 use Rattle.figures.specs.declared.task_tick.TaskTick.{TaskTick}
 use Rattle.figures.specs.declared.task_time.TaskTime.{TaskTime}
 use Rattle.figures.specs.declared.task_time.TaskTime.TheVariants.{Executed, StandsReady, Preempted, Blocked, Waits, HasNoJob}
@@ -11,18 +13,10 @@ use Rattle.figures.specs.declared.resource_figures.ResourceFigures.{ResourceFigu
 use Rattle.figures.specs.Counts.{capped}
 use Rattle.figures.specs.Reaching.{worse_of}
 use Rattle.figures.specs.TaskSums.{left_jobs}
-use Rattle.figures.specs.StateSums.{begun, time_of, is_executed, is_ready, is_preempted, is_blocked, is_waited}
+use Rattle.figures.specs.StateSums.{begun, ready_time, time_of, is_executed, is_ready, is_preempted, is_blocked, is_waited}
 use Rattle.figures.specs.ResponseSums.{standing}
 use Rattle.figures.specs.ResourceSums.{is_got, hold_on, hold_at}
 use Rattle.figures.specs.Quiet.{gets_nothing}
-
--- nothing comes to a task: no job of it is made, refused or left, it isn't answered an error, and no blockers are told
-abbrev pub is_calm_task : TaskTick → Bool
-is_calm_task t = gets_nothing t.seen && (not t.has_failed && is_none t.blockers)
-
--- so it is in a tick, and the jobs that stand in it were followed before
-abbrev pub is_calm_next : TaskTick → TaskFigures → Bool
-is_calm_next t f = is_calm_task t && nat_le (standing t) (length f.responses.ready_since)
 
 -- no interrupt of a routine arrives, it isn't started, and it isn't answered an error
 abbrev pub is_calm_routine : RoutineTick → Bool
@@ -50,6 +44,15 @@ time_on time more f = elim time [
   | Blocked ↦ record f { blocked = capped (f.blocked + more) }
   | Waits ↦ record f { waiting = capped (f.waiting + more) }
   | HasNoJob ↦ f
+]
+
+-- so many ticks more of a task that is in a state and stays
+abbrev pub went_on : TaskState → Bool → ℕ → TaskTimes → TaskTimes
+went_on state lower_executes more f = elim state [
+  | Running ↦ record f { executed = capped (f.executed + more); has_begun = true }
+  | Waiting ↦ record f { waiting = capped (f.waiting + more) }
+  | Ready ↦ time_on (ready_time lower_executes f.has_begun) more f
+  | Suspended ↦ f
 ]
 
 -- so many ticks more, each of which is the same for a task

@@ -1,5 +1,5 @@
 -- Ticks in which nothing comes to a thing, and it does nothing.
-use Rattle.std.specs.Prelude.{ℕ, Bool, true, false, not, ◌&&◌, ◌==◌, is_none, Option, Some, None, ◌-◌, ◌^◌}
+use Rattle.std.specs.Prelude.{ℕ, Bool, true, false, not, ◌&&◌, ◌||◌, ◌==◌, is_none, is_some, Option, Some, None, ◌-◌, ◌^◌}
 use Rattle.osek_base.specs.declared.ids.Owner.{Owner}
 use Rattle.osek_base.specs.declared.ids.Owner.TheVariants.{Task, Routine}
 use Rattle.osek_base.specs.declared.status.TaskState.{TaskState}
@@ -9,12 +9,12 @@ use Rattle.observations.specs.declared.routine_seen.RoutineSeen.{RoutineSeen}
 use Rattle.observations.specs.declared.alarm_seen.AlarmSeen.{AlarmSeen}
 use Rattle.observations.specs.declared.observation.Observation.{Observation}
 use Rattle.observations.specs.Seen.{alarm_seen, holder_seen, routine_seen, task_seen}
-use Rattle.figures.specs.FigureSums.{is_task, is_routine}
+use Rattle.figures.specs.FigureSums.{is_error, is_task, is_routine}
 
 abbrev pub is_suspended : TaskState → Bool
 is_suspended state = elim state [ Running ↦ false | Waiting ↦ false | Ready ↦ false | Suspended ↦ true ]
 
--- a task has no job, and nothing comes to it
+-- a task has no job
 abbrev pub has_nothing : TaskSeen → Bool
 has_nothing s = is_suspended s.state && (s.jobs == 0)
 
@@ -28,11 +28,22 @@ executing_number None = 2 ^ 64 - 1
 executing_number (Some (Task t)) = t
 executing_number (Some (Routine i)) = 2 ^ 64 - 1
 
--- of task k nothing is seen, and it doesn't execute
-abbrev pub is_quiet_task : Observation → ℕ → Bool
-is_quiet_task o k =
-    has_nothing (task_seen o k)
-    && (gets_nothing (task_seen o k) && not (is_task o.executor k))
+-- a task has no job, and nothing comes to it
+abbrev pub rests : TaskSeen → Bool
+rests s = has_nothing s && gets_nothing s
+
+-- an error is answered, or blockers are told
+abbrev pub tells : Observation → Bool
+tells o = is_error o.answered || is_some o.blockers
+
+-- of task k, which is in a state, neither is told: nothing is, or it doesn't execute
+abbrev pub is_untold : Observation → TaskState → ℕ → Bool
+is_untold o state k = elim state [
+  | Running ↦ not (tells o)
+  | Waiting ↦ not (is_task o.executor k)
+  | Ready ↦ not (is_task o.executor k)
+  | Suspended ↦ not (is_task o.executor k)
+]
 
 -- no interrupt of a routine arrives or is pending, and it isn't started
 abbrev pub is_unasked : RoutineSeen → Bool

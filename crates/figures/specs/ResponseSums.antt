@@ -1,6 +1,8 @@
 -- Responses of a task, over the ticks that were seen, newest first: of each job the ticks from that in which it became
 -- ready to that in which it ended or began to wait, both counted. Jobs of a task end in the order in which they were made.
-use Rattle.std.specs.Prelude.{ℕ, zero, suc, Option, Some, None, List, [], ◌∷◌, ◌++◌, sum_by, length, cond, min, nat_lt, ◌+◌, ◌-◌, ◌^◌}
+use Rattle.std.specs.Prelude.{ℕ, zero, suc, true, false, Option, Some, None, List, [], ◌∷◌, ◌++◌, sum_by, length, cond, min, nat_lt, ◌+◌, ◌-◌, ◌^◌}
+use Rattle.osek_base.specs.declared.status.TaskState.TheVariants.{Running, Waiting, Ready, Suspended}
+use Rattle.observations.specs.declared.task_seen.TaskSeen.{TaskSeen}
 use Rattle.figures.specs.declared.task_tick.TaskTick.{TaskTick}
 use Rattle.figures.specs.declared.reached.Reached.{Reached}
 use Rattle.figures.specs.declared.spread.Spread.{Spread}
@@ -25,6 +27,10 @@ spread rs = record {
 -- the jobs that stand ready or run at the instruction: of a task that waits its one job doesn't
 abbrev pub standing : TaskTick → ℕ
 standing t = t.seen.jobs - cond (is_waiting t) 1 0
+
+-- of what is seen of a task
+abbrev pub standing_jobs : TaskSeen → ℕ
+standing_jobs s = s.jobs - cond (elim s.state [ Running ↦ false | Waiting ↦ true | Ready ↦ false | Suspended ↦ false ]) 1 0
 
 -- a job more that is ready since a tick, the newest; it isn't followed where there are as many as can be
 abbrev pub one_more : ℕ → List ℕ → List ℕ

@@ -23,6 +23,9 @@ pub trait Counted: Default + Drop {
     fn unseen() -> Self
         ensures { result ≡ unseen };
 
+    /// Of how many such things something is seen.
+    fn count_in(scene: &Scene) -> usize;
+
     /// Of ticks in a row in which the same is seen, counts the first and those that can be counted
     /// with it at once, and tells how many these are.
     fn observe_some(&mut self, scene: &Scene, first: u32, count: u32, number: usize) -> u32
@@ -76,9 +79,38 @@ fn observe_rest<F: Counted>(figures: &mut F, scene: Scene, first: u32, count: u3
     }
 }
 
-/// So many ticks of each thing from one on, in which the same is seen.
+/// So many ticks of each thing from one on, in which the same is seen. Whether something is seen of
+/// each thing is asked once.
 #[inline(always)]
 pub fn observe_each<F: Counted>(figures: &mut [F], scene: &Scene, first: u32, count: u32)
+    requires some { 0 < count }
+    requires ends { first + count ≤ 2 ^ 32 }
+    requires known { (k : ℕ) → k < length figures.old → F.IsKnown scene.now.levels.now k }
+    ensures { AreCounted (F.figures scene.now.levels.now) scene.now.observation.now
+        first count figures.old figures.new }
+{
+    if figures.len() <= F::count_in(scene) {
+        observe_list(figures, scene, first, count);
+    } else {
+        observe_longer(figures, *scene, first, count);
+    }
+}
+
+// Such ticks of more things than are seen.
+#[inline(never)]
+fn observe_longer<F: Counted>(figures: &mut [F], scene: Scene, first: u32, count: u32)
+    requires some { 0 < count }
+    requires ends { first + count ≤ 2 ^ 32 }
+    requires known { (k : ℕ) → k < length figures.old → F.IsKnown scene.levels.now k }
+    ensures { AreCounted (F.figures scene.entry.levels.now) scene.entry.observation.now
+        first count figures.old figures.new }
+{
+    observe_list(figures, &scene, first, count);
+}
+
+// Such ticks of each thing, one after another.
+#[inline(always)]
+fn observe_list<F: Counted>(figures: &mut [F], scene: &Scene, first: u32, count: u32)
     requires some { 0 < count }
     requires ends { first + count ≤ 2 ^ 32 }
     requires known { (k : ℕ) → k < length figures.old → F.IsKnown scene.now.levels.now k }

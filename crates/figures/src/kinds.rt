@@ -12,7 +12,6 @@ ghost use Rattle.figures.specs.Counting.{
 };
 ghost use Rattle.observations.specs.Seen.{numbered};
 ghost use Rattle.figures.specs.FigureSums.{task_figures};
-ghost use Rattle.figures.specs.Quiet.{executing_number};
 ghost use Rattle.figures.specs.RoutineSums.{routine_figures};
 ghost use Rattle.figures.specs.ResourceSums.{resource_figures};
 ghost use Rattle.figures.specs.AlarmSums.{alarm_figures};
@@ -20,11 +19,13 @@ ghost use Rattle.figures.specs.AlarmSums.{alarm_figures};
 use crate::alarm_figures::AlarmFigures;
 use crate::calm::is_calm_routine;
 use crate::counted::Counted;
-use crate::quiet::{gets_nothing, is_free, is_quiet_alarm, is_quiet_routine, is_quiet_task};
+use crate::quiet::{gets_nothing, is_free, is_quiet_alarm, is_quiet_routine, rests};
 use crate::resource_figures::ResourceFigures;
 use crate::routine_figures::RoutineFigures;
 use crate::scene::Scene;
-use crate::seen::{alarm_tick, holder_tick, routine_tick, task_tick};
+use crate::seen::{
+    alarm_tick, executes, held_tick, holder_tick, is_untold, routine_tick, seen_of_task, task_tick,
+};
 use crate::task_figures::TaskFigures;
 use observations::Observation;
 
@@ -39,28 +40,28 @@ impl Counted for TaskFigures {
         TaskFigures::new()
     }
 
+    #[inline(always)]
+    fn count_in(scene: &Scene) -> usize {
+        scene.tasks.len()
+    }
+
     // Where nothing comes to a task, its times alone grow.
     #[inline(always)]
     fn observe_some(&mut self, scene: &Scene, first: u32, count: u32, number: usize) -> u32 {
-        if is_quiet_task(scene, number) {
-            self.pass();
-            return count;
-        }
-        if gets_nothing(scene.observation.task(number)) {
-            let now = task_tick(first, scene, number);
-            if self.is_calm(&now) {
-                self.stay(&now, count);
+        let seen = seen_of_task(scene, number);
+        if rests(seen) {
+            if !executes(scene, number) {
+                self.pass();
                 return count;
             }
+        } else if gets_nothing(seen)
+            && is_untold(scene, seen.state, number)
+            && self.responses.has_followed(seen)
+        {
+            self.stay(scene, number, seen, count);
+            return count;
         }
-        observe_task(
-            self,
-            scene.levels,
-            scene.observation,
-            scene.executing,
-            first,
-            number,
-        );
+        observe_task(self, scene.levels, scene.observation, first, number);
         1
     }
 }
@@ -71,20 +72,14 @@ fn observe_task(
     figures: &mut TaskFigures,
     levels: &[u8],
     observation: &Observation,
-    executing: usize,
     tick: u32,
     number: usize,
 )
-    requires one { executing ≡ executing_number observation.now.executor }
-    requires known { number < length levels.now }
+    requires { number < length levels.now }
     ensures { CountsOne (task_figures_of levels.now number) (numbered tick observation.now)
         figures.old figures.new }
 {
-    let scene = Scene {
-        levels,
-        observation,
-        executing,
-    };
+    let scene = Scene::new(levels, observation);
     figures.observe(&task_tick(tick, &scene, number));
 }
 
@@ -98,8 +93,13 @@ impl Counted for RoutineFigures {
     }
 
     #[inline(always)]
+    fn count_in(scene: &Scene) -> usize {
+        scene.routines.len()
+    }
+
+    #[inline(always)]
     fn observe_some(&mut self, scene: &Scene, first: u32, count: u32, number: usize) -> u32 {
-        if is_quiet_routine(scene.observation, number) {
+        if is_quiet_routine(scene, number) {
             return count;
         }
         observe_asked(self, scene.observation, first, count, number)
@@ -136,22 +136,45 @@ impl Counted for ResourceFigures {
         ResourceFigures::new()
     }
 
+    #[inline(always)]
+    fn count_in(scene: &Scene) -> usize {
+        scene.holders.len()
+    }
+
     // While one task holds it, its hold grows.
     #[inline(always)]
     fn observe_some(&mut self, scene: &Scene, first: u32, count: u32, number: usize) -> u32 {
-        if is_free(scene.observation, number) {
+        if is_free(scene, number) {
             self.pass();
             return count;
         }
-        let tick = holder_tick(first, scene.observation, number);
+        let tick = held_tick(first, scene, number);
         let more = count - 1;
-        if count > 1 && self.can_hold_on(&tick, more) {
-            self.hold(&tick, more);
+        if !self.has_before(&tick) {
+            self.get(&tick, more);
             return count;
         }
-        self.observe(&tick);
+        if self.held <= u32::MAX - count {
+            self.go_on(&tick, more);
+            return count;
+        }
+        observe_holder(self, scene.observation, first, number);
         1
     }
+}
+
+// A tick more of a resource whose hold is longer than can be counted.
+#[inline(never)]
+fn observe_holder(
+    figures: &mut ResourceFigures,
+    observation: &Observation,
+    tick: u32,
+    number: usize,
+)
+    ensures { CountsOne (resource_figures_of number) (numbered tick observation.now)
+        figures.old figures.new }
+{
+    figures.observe(&holder_tick(tick, observation, number));
 }
 
 impl Counted for AlarmFigures {
@@ -164,8 +187,13 @@ impl Counted for AlarmFigures {
     }
 
     #[inline(always)]
+    fn count_in(scene: &Scene) -> usize {
+        scene.alarms.len()
+    }
+
+    #[inline(always)]
     fn observe_some(&mut self, scene: &Scene, first: u32, count: u32, number: usize) -> u32 {
-        if is_quiet_alarm(scene.observation, number) {
+        if is_quiet_alarm(scene, number) {
             return count;
         }
         self.observe(&alarm_tick(first, scene.observation, number));

@@ -1,11 +1,11 @@
 //! Ticks in which nothing comes to a thing, and it does nothing: most ticks, of most things.
 
-ghost use Rattle.std.specs.Prelude.{◌≡◌, ◌<◌, length};
+ghost use Rattle.std.specs.Prelude.{◌≡◌};
 ghost use Rattle.figures.specs.Quiet.{
   is_suspended,
   has_nothing,
   gets_nothing,
-  is_quiet_task,
+  rests,
   is_unasked,
   is_quiet_routine,
   is_free,
@@ -14,8 +14,8 @@ ghost use Rattle.figures.specs.Quiet.{
 };
 
 use crate::scene::Scene;
-use crate::seen::{executes, is_routine};
-use observations::{AlarmSeen, Observation, RoutineSeen, TaskSeen};
+use crate::seen::is_routine;
+use observations::{AlarmSeen, RoutineSeen, TaskSeen};
 use osek_base::TaskState;
 
 #[inline(always)]
@@ -41,17 +41,12 @@ pub fn gets_nothing(seen: TaskSeen) -> bool
     seen.made == 0 && seen.refused == 0 && !seen.ended && !seen.waits
 }
 
-/// Whether a task has no job in a tick and doesn't execute, and nothing comes to it.
+/// Whether a task has no job, and nothing comes to it.
 #[inline(always)]
-pub fn is_quiet_task(scene: &Scene, number: usize) -> bool
-    requires { number < length scene.now.levels.now }
-    ensures { result ≡ is_quiet_task scene.now.observation.now number }
+pub fn rests(seen: TaskSeen) -> bool
+    ensures { result ≡ rests seen }
 {
-    let rests = match scene.observation.tasks.as_slice().get(number) {
-        Some(seen) => has_nothing(*seen) && gets_nothing(*seen),
-        None => true,
-    };
-    rests && !executes(scene, number)
+    has_nothing(seen) && gets_nothing(seen)
 }
 
 // Whether no interrupt of a routine arrives or is pending, and it isn't started.
@@ -64,22 +59,25 @@ fn is_unasked(seen: RoutineSeen) -> bool
 
 /// Whether no interrupt of a routine arrives in a tick or is pending, and it doesn't execute.
 #[inline(always)]
-pub fn is_quiet_routine(observation: &Observation, number: usize) -> bool
-    ensures { result ≡ is_quiet_routine observation.now number }
+pub fn is_quiet_routine(scene: &Scene, number: usize) -> bool
+    ensures { result ≡ is_quiet_routine scene.now.observation.now number }
 {
-    match observation.routines.as_slice().get(number) {
-        Some(seen) => is_unasked(*seen) && !is_routine(&observation.executor, number),
-        None => !is_routine(&observation.executor, number),
+    let executor = &scene.observation.executor;
+    match scene.routines.get(number) {
+        Some(seen) => is_unasked(*seen) && !is_routine(executor, number),
+        None => !is_routine(executor, number),
     }
 }
 
 /// Whether nobody holds a resource in a tick.
 #[inline(always)]
-pub fn is_free(observation: &Observation, number: usize) -> bool
-    ensures { result ≡ is_free observation.now number }
+pub fn is_free(scene: &Scene, number: usize) -> bool
+    ensures { result ≡ is_free scene.now.observation.now number }
 {
-    let holder = observation.holder(number);
-    holder.task().is_none()
+    match scene.holders.get(number) {
+        Some(holder) => holder.task().is_none(),
+        None => true,
+    }
 }
 
 #[inline(always)]
@@ -91,8 +89,11 @@ fn is_unexpired(seen: AlarmSeen) -> bool
 
 /// Whether an alarm doesn't expire in a tick.
 #[inline(always)]
-pub fn is_quiet_alarm(observation: &Observation, number: usize) -> bool
-    ensures { result ≡ is_quiet_alarm observation.now number }
+pub fn is_quiet_alarm(scene: &Scene, number: usize) -> bool
+    ensures { result ≡ is_quiet_alarm scene.now.observation.now number }
 {
-    is_unexpired(observation.alarm(number))
+    match scene.alarms.get(number) {
+        Some(seen) => is_unexpired(*seen),
+        None => true,
+    }
 }

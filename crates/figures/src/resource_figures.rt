@@ -1,11 +1,13 @@
 //! OSEK/VDX OS: resource management. Figures of a resource.
 
-ghost use Rattle.std.specs.Prelude.{List, [], ◌∷◌, ◌≡◌, ◌+◌, ◌<◌, ◌^◌, None, true};
+ghost use Rattle.std.specs.Prelude.{List, [], ◌∷◌, ◌≡◌, ◌+◌, ◌-◌, ◌<◌, ◌^◌};
+ghost use Rattle.std.specs.Prelude.{None, Some, is_some, true, false};
 ghost use Rattle.figures.specs.declared.resource_figures.HolderTick.{HolderTick};
 ghost use Rattle.figures.specs.ResourceSums.{resource_figures, is_same, is_got, hold_on, hold_at};
-ghost use Rattle.figures.specs.Calm.{can_hold_on, held_on};
+ghost use Rattle.figures.specs.Reaching.{worse_of};
+ghost use Rattle.figures.specs.Calm.{held_on};
 
-use crate::counts::add_where;
+use crate::counts::{add_where, added};
 use crate::reached::{Reached, raise};
 use observations::Holder;
 
@@ -111,28 +113,55 @@ impl ResourceFigures {
         self.holder = tick.holder;
     }
 
-    /// Whether a task holds it in a tick, and so many ticks more of its hold can be counted.
-    pub(crate) fn can_hold_on(&self, tick: &HolderTick, more: u32) -> bool
-        ensures { result ≡ can_hold_on tick.now more self.now }
+    /// Whether a task holds it in a tick that held it before.
+    #[inline(always)]
+    pub(crate) fn has_before(&self, tick: &HolderTick) -> bool
+        ensures { result ≡ is_same tick.now.holder self.now.holder }
     {
-        tick.holder.task().is_some() && self.hold_on(tick.holder) <= u32::MAX - more
+        is_same(tick.holder, self.holder)
     }
 
-    /// A tick and some more are seen, in all of which one task holds it: each finds a longer hold
-    /// than the one before, so the last one tells how long it is.
-    #[inline(never)]
-    pub(crate) fn hold(&mut self, tick: &HolderTick, more: u32)
+    // A hold is so long at a tick and some more: each finds a longer one than the one before, so
+    // the last one tells how long it is.
+    #[inline(always)]
+    fn tell(&mut self, tick: u32, more: u32)
+        requires { tick + more < 2 ^ 32 }
+        ensures { self.new ≡ record self.old {
+          longest = worse_of self.old.longest
+              (Some (record { ticks = self.old.held; at = tick + more }));
+        } }
+    {
+        let reached = Reached {
+            ticks: self.held,
+            at: tick + more,
+        };
+        raise(&mut self.longest, Some(reached));
+    }
+
+    /// A tick and some more are seen, in all of which one task holds it that didn't before.
+    #[inline(always)]
+    pub(crate) fn get(&mut self, tick: &HolderTick, more: u32)
         requires ends { tick.now.tick + more < 2 ^ 32 }
-        requires fits { can_hold_on tick.now more self.old ≡ true }
+        requires fits { more < 2 ^ 32 - 1 }
+        requires some { is_some tick.now.holder ≡ true }
+        requires other { is_same tick.now.holder self.old.holder ≡ false }
         ensures { self.new ≡ held_on tick.now more self.old }
     {
-        add_where(&mut self.gets, 1, is_got(tick.holder, self.holder));
-        self.held = self.hold_on(tick.holder) + more;
-        let last = HolderTick {
-            tick: tick.tick + more,
-            holder: tick.holder,
-        };
-        raise(&mut self.longest, last.hold(self.held));
+        self.gets = added(self.gets, 1);
+        self.held = 1 + more;
         self.holder = tick.holder;
+        self.tell(tick.tick, more);
+    }
+
+    /// A tick and some more are seen, in all of which the task holds it that did before.
+    #[inline(always)]
+    pub(crate) fn go_on(&mut self, tick: &HolderTick, more: u32)
+        requires ends { tick.now.tick + more < 2 ^ 32 }
+        requires fits { self.old.held + more < 2 ^ 32 - 1 }
+        requires same { is_same tick.now.holder self.old.holder ≡ true }
+        ensures { self.new ≡ held_on tick.now more self.old }
+    {
+        self.held += 1 + more;
+        self.tell(tick.tick, more);
     }
 }

@@ -9,6 +9,7 @@ ghost use Rattle.figures.specs.ResponseSums.{
   response,
   oldest_response,
   standing,
+  standing_jobs,
   later,
   entered,
   some_more,
@@ -20,7 +21,8 @@ use crate::reached::Reached;
 use crate::spread::Spread;
 use crate::task_tick::TaskTick;
 use arrayvec::ArrayVec;
-use osek_base::MAX_ACTIVATION;
+use observations::TaskSeen;
+use osek_base::{MAX_ACTIVATION, TaskState};
 use std::marker::Model;
 
 /// How many jobs of a task are followed: as many as it may have.
@@ -80,6 +82,18 @@ impl ResponseFigures {
         ensures { result ≡ nat_le (standing tick.now) (length self.now.ready_since) }
     {
         usize::from(tick.standing()) <= self.ready_since.len()
+    }
+
+    /// Whether all jobs of a task that stand, by what is seen of it, were followed before.
+    #[inline(always)]
+    pub(crate) fn has_followed(&self, seen: TaskSeen) -> bool
+        ensures { result ≡ nat_le (standing_jobs seen) (length self.now.ready_since) }
+    {
+        let followed = self.ready_since.len();
+        match seen.state {
+            TaskState::Waiting => usize::from(seen.jobs.saturating_sub(1)) <= followed,
+            _ => usize::from(seen.jobs) <= followed,
+        }
     }
 
     /// A tick more is seen.

@@ -4,7 +4,7 @@ ghost use Rattle.std.specs.Prelude.{◌≡◌};
 ghost use Rattle.figures.specs.Quiet.{executing_number};
 
 use crate::seen::executing;
-use observations::Observation;
+use observations::{AlarmSeen, Holder, Observation, RoutineSeen, TaskSeen};
 
 /// An observation, beside the static priorities of all tasks.
 #[derive(Clone, Copy)]
@@ -13,7 +13,16 @@ pub struct Scene<'a> {
     pub observation: &'a Observation,
     /// The number of the task that executes; where none does, one that no task has.
     pub executing: usize,
+    /// What is seen of each task, routine, resource and alarm.
+    pub tasks: &'a [TaskSeen],
+    pub routines: &'a [RoutineSeen],
+    pub holders: &'a [Holder],
+    pub alarms: &'a [AlarmSeen],
     ghost one: { executing ≡ executing_number observation.now.executor },
+    ghost of_tasks: { tasks.now ≡ observation.now.tasks.items },
+    ghost of_routines: { routines.now ≡ observation.now.routines.items },
+    ghost of_holders: { holders.now ≡ observation.now.holders.items },
+    ghost of_alarms: { alarms.now ≡ observation.now.alarms.items },
 }
 
 impl<'a> Scene<'a> {
@@ -27,6 +36,10 @@ impl<'a> Scene<'a> {
             levels,
             observation,
             executing: executing(&observation.executor),
+            tasks: observation.tasks.as_slice(),
+            routines: observation.routines.as_slice(),
+            holders: observation.holders.as_slice(),
+            alarms: observation.alarms.as_slice(),
         }
     }
 }

@@ -1,17 +1,17 @@
 //! What an observation has of each thing, by number.
 
 ghost use Rattle.std.specs.Prelude.{◌≡◌, ◌<◌, length};
-ghost use Rattle.observations.specs.Seen.{numbered};
+ghost use Rattle.observations.specs.Seen.{numbered, task_seen};
 ghost use Rattle.figures.specs.FigureSums.{lower_executes, task_tick, routine_tick, holder_tick, alarm_tick, is_idle, is_error, is_task, is_routine};
-ghost use Rattle.figures.specs.Quiet.{executing_number};
+ghost use Rattle.figures.specs.Quiet.{executing_number, tells, is_untold};
 
 use crate::alarm_figures::AlarmTick;
 use crate::resource_figures::HolderTick;
 use crate::routine_figures::RoutineTick;
 use crate::scene::Scene;
 use crate::task_tick::TaskTick;
-use observations::Observation;
-use osek_base::{Owner, Status};
+use observations::{Holder, Observation, TaskSeen};
+use osek_base::{Owner, Status, TaskState};
 
 /// Who holds a resource in a tick of that number.
 pub fn holder_tick(tick: u32, observation: &Observation, number: usize) -> HolderTick
@@ -20,6 +20,29 @@ pub fn holder_tick(tick: u32, observation: &Observation, number: usize) -> Holde
     HolderTick {
         tick,
         holder: observation.holder(number),
+    }
+}
+
+/// Who holds a resource in a tick of that number.
+#[inline(always)]
+pub fn held_tick(tick: u32, scene: &Scene, number: usize) -> HolderTick
+    ensures { result ≡ holder_tick (numbered tick scene.now.observation.now) number }
+{
+    let holder = match scene.holders.get(number) {
+        Some(holder) => *holder,
+        None => Holder::default(),
+    };
+    HolderTick { tick, holder }
+}
+
+/// What is seen of a task.
+#[inline(always)]
+pub fn seen_of_task(scene: &Scene, number: usize) -> TaskSeen
+    ensures { result ≡ task_seen scene.now.observation.now number }
+{
+    match scene.tasks.get(number) {
+        Some(seen) => *seen,
+        None => TaskSeen::default(),
     }
 }
 
@@ -85,9 +108,29 @@ pub fn executes(scene: &Scene, number: usize) -> bool
     scene.executing == number
 }
 
-// Whether a task executes whose static priority is lower than a task's.
+// Whether an error is answered, or blockers are told.
 #[inline(always)]
-fn lower_executes(scene: &Scene, number: usize) -> bool
+fn tells(observation: &Observation) -> bool
+    ensures { result ≡ tells observation.now }
+{
+    is_error(&observation.answered) || observation.blockers.is_some()
+}
+
+/// Whether of a task in a state no error and no blockers are told. One that is RUNNING executes.
+#[inline(always)]
+pub fn is_untold(scene: &Scene, state: TaskState, number: usize) -> bool
+    requires { number < length scene.now.levels.now }
+    ensures { result ≡ is_untold scene.now.observation.now state number }
+{
+    match state {
+        TaskState::Running => !tells(scene.observation),
+        _ => !executes(scene, number),
+    }
+}
+
+/// Whether a task executes whose static priority is lower than a task's.
+#[inline(always)]
+pub fn lower_executes(scene: &Scene, number: usize) -> bool
     requires { number < length scene.now.levels.now }
     ensures { result
         ≡ lower_executes scene.now.levels.now scene.now.observation.now.executor number }

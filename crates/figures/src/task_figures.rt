@@ -1,18 +1,19 @@
 //! OSEK/VDX OS: task management. Figures of a task.
 
-ghost use Rattle.std.specs.Prelude.{List, [], ◌∷◌, ◌≡◌, true};
+ghost use Rattle.std.specs.Prelude.{List, [], ◌∷◌, ◌≡◌, ◌<◌, length};
 ghost use Rattle.figures.specs.declared.task_tick.TaskTick.{TaskTick};
-ghost use Rattle.figures.specs.FigureSums.{task_figures};
+ghost use Rattle.figures.specs.FigureSums.{lower_executes, task_figures};
 ghost use Rattle.figures.specs.ResponseSums.{oldest_response};
 ghost use Rattle.figures.specs.Reaching.{worse_of};
-ghost use Rattle.figures.specs.Calm.{is_calm_next, stayed};
+ghost use Rattle.figures.specs.Calm.{went_on};
 
-use crate::calm::is_calm_task;
 use crate::reached::{Reached, worse_of};
 use crate::response_figures::ResponseFigures;
+use crate::scene::Scene;
 use crate::task_counts::TaskCounts;
 use crate::task_tick::TaskTick;
 use crate::task_times::TaskTimes;
+use observations::TaskSeen;
 
 /// Figures of a task.
 #[derive(Drop)]
@@ -66,24 +67,20 @@ impl TaskFigures {
         self.responses.observe(tick);
     }
 
-    /// Whether nothing comes to the task in a tick, and its jobs that stand were followed before.
-    #[inline(always)]
-    pub(crate) fn is_calm(&self, tick: &TaskTick) -> bool
-        ensures { result ≡ is_calm_next tick.now self.now }
-    {
-        is_calm_task(tick) && self.responses.follows(tick)
-    }
-
     /// Some ticks more are seen, in each of which nothing comes to the task, and its jobs that
     /// stand were followed before: its times alone grow.
     #[inline(always)]
-    pub(crate) fn stay(&mut self, tick: &TaskTick, more: u32)
-        requires { is_calm_next tick.now self.old ≡ true }
-        ensures { (before : List TaskTick) → self.old ≡ task_figures before
-            → self.new ≡ stayed tick.now more self.old }
+    pub(crate) fn stay(&mut self, scene: &Scene, number: usize, seen: TaskSeen, more: u32)
+        requires { number < length scene.now.levels.now }
+        ensures { self.new ≡ record self.old {
+          counts = record self.old.counts { unfinished = seen.jobs };
+          times = went_on seen.state
+              (lower_executes scene.now.levels.now scene.now.observation.now.executor number)
+              more self.old.times;
+        } }
     {
-        self.counts.unfinished = u32::from(tick.left_jobs());
-        self.times.stay(tick, more);
+        self.counts.unfinished = u32::from(seen.jobs);
+        self.times.go_on(scene, number, seen.state, more);
     }
 
     /// The greatest response, or the age of the oldest job behind a last tick, if that is greater.

@@ -1,13 +1,18 @@
 //! OSEK/VDX OS: task management, task state model. The ticks of a task by what they are for it.
 
-ghost use Rattle.std.specs.Prelude.{List, [], ◌∷◌, ◌≡◌};
+ghost use Rattle.std.specs.Prelude.{List, [], ◌∷◌, ◌≡◌, ◌<◌, length};
 ghost use Rattle.figures.specs.declared.task_tick.TaskTick.{TaskTick};
 ghost use Rattle.figures.specs.StateSums.{task_times};
-ghost use Rattle.figures.specs.Calm.{time_on, times_stayed};
+ghost use Rattle.osek_base.specs.declared.status.TaskState.{TaskState};
+ghost use Rattle.figures.specs.FigureSums.{lower_executes};
+ghost use Rattle.figures.specs.Calm.{time_on, went_on};
 
 use crate::counts::added;
+use crate::scene::Scene;
+use crate::seen::lower_executes;
 use crate::task_tick::TaskTick;
 use crate::task_time::TaskTime;
+use osek_base::TaskState;
 
 /// The ticks of a task by what they are for it.
 #[derive(Clone, Copy, Default)]
@@ -57,14 +62,37 @@ impl TaskTimes {
         }
     }
 
-    /// Some ticks more are seen, each of which is the same for the task.
+    // Some ticks more in which the task is READY.
     #[inline(always)]
-    pub(crate) fn stay(&mut self, tick: &TaskTick, more: u32)
-        ensures { (before : List TaskTick) → self.old ≡ task_times before
-            → self.new ≡ times_stayed tick.now more self.old }
+    fn stand(&mut self, lower_executes: bool, more: u32)
+        ensures { self.new ≡ went_on TaskState.Ready lower_executes more self.old }
     {
-        self.note(tick.time(self.has_begun), more);
-        self.has_begun = tick.begun(self.has_begun);
+        if lower_executes {
+            self.blocked = added(self.blocked, more);
+        } else if self.has_begun {
+            self.preempted = added(self.preempted, more);
+        } else {
+            self.ready = added(self.ready, more);
+        }
+    }
+
+    /// Some ticks more of a task in a state, to which nothing comes.
+    #[inline(always)]
+    pub(crate) fn go_on(&mut self, scene: &Scene, number: usize, state: TaskState, more: u32)
+        requires { number < length scene.now.levels.now }
+        ensures { self.new ≡ went_on state
+            (lower_executes scene.now.levels.now scene.now.observation.now.executor number)
+            more self.old }
+    {
+        match state {
+            TaskState::Running => {
+                self.executed = added(self.executed, more);
+                self.has_begun = true;
+            }
+            TaskState::Waiting => self.waiting = added(self.waiting, more),
+            TaskState::Ready => self.stand(lower_executes(scene, number), more),
+            TaskState::Suspended => {}
+        }
     }
 
     /// A tick more is seen.
@@ -73,6 +101,7 @@ impl TaskTimes {
         ensures { (before : List TaskTick) → self.old ≡ task_times before
             → self.new ≡ task_times (tick.now ∷ before) }
     {
-        self.stay(tick, 1);
+        self.note(tick.time(self.has_begun), 1);
+        self.has_begun = tick.begun(self.has_begun);
     }
 }

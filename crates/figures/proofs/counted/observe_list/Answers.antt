@@ -1,6 +1,6 @@
 use Rattle.std.proofs.Common.{rules}
 use Rattle.figures.proofs.RowLemmas.{below_more, below_all}
-use Rattle.figures.proofs.counted.observe_each.Goals as goal
+use Rattle.figures.proofs.counted.observe_list.Goals as goal
 
 -- one thing more
 pub loop-number-preserved : goal.loop-number-preserved

@@ -1,5 +1,5 @@
 use Rattle.figures.proofs.RowLemmas.{AreCountedBelow}
-use Rattle.figures.proofs.counted.observe_each.Given as goal
+use Rattle.figures.proofs.counted.observe_list.Given as goal
 
 -- the first ones have seen the ticks, the others haven't
 abbrev pub invariant-loop-number : goal.invariant-loop-number
