@@ -1,5 +1,6 @@
 -- The line of a time, whose last digit is written behind the others.
-use Rattle.std.proofs.Common.{◌≡◌, ℕ, zero, suc, ◌+◌, ◌/◌, ◌%◌, ◌^◌, ◌<◌, ◌≤◌, ◌==◌, cond, List, [], ◌∷◌, ◌++◌, append_assoc, ne_eqb, sym, ap, ◌∙◌, arith}
+use Rattle.std.proofs.Common.{◌≡◌, ℕ, zero, suc, ◌+◌, ◌-◌, ◌/◌, ◌%◌, ◌^◌, ◌<◌, ◌≤◌, ◌==◌, cond, List, [], ◌∷◌, ◌++◌, append_assoc, drop, get_or, length, length-append, ne_eqb, refl, set, subst, sym, take, ap, ap₂, ◌∙◌, arith}
+use Rattle.std.proofs.lemmas.List.{length-take-le}
 use Rattle.std.specs.Prelude.{decimal}
 use Rattle.std.proofs.Math.Nat.{suc-ne-zero}
 use Rattle.std.proofs.lemmas.Fmt.{decimal_digit, decimal_step}
@@ -29,3 +30,30 @@ line_pushed old front mid whole tick tens e h f m w =
     ∙ ap (λ t. old ++ 35 ∷ t)
     (sym (append_assoc (front_digits tens) ((48 + tick % 10) ∷ []) (10 ∷ []))
     ∙ ap (λ t. t ++ 10 ∷ []) (sym (split_at tick tens (sym e) (omega (arith, h)))))
+
+-- the last of some bytes becomes another
+last_set : (front cells : List ℕ) (n old new : ℕ) → take (suc n) cells ≡ front ++ old ∷ [] → n ≡ length front → n < length cells
+    → take (suc n) (set cells n new) ≡ front ++ new ∷ []
+last_set [] [] n old new e h w = absurd (omega (arith, h, w))
+last_set [] (c ∷ cells) zero old new e h w = refl
+last_set [] (c ∷ cells) (suc n) old new e h w = absurd (omega (arith, h))
+last_set (f ∷ front) [] n old new e h w = absurd (omega (arith, w))
+last_set (f ∷ front) (c ∷ cells) zero old new e h w = absurd (omega (arith, h))
+last_set (f ∷ front) (c ∷ cells) (suc n) old new e h w =
+    ap₂ (λ (x : ℕ) (xs : List ℕ). x ∷ xs) (ap (λ (l : List ℕ). get_or l 0 0) e) (last_set front cells n old new (ap (λ (l : List ℕ). drop 1 l) e) (omega (arith, h)) (omega (arith, w)))
+
+-- so the front of a time becomes that of the next ten times
+pub counted_up : (cells : List ℕ) (len last tens : ℕ) → 0 < tens → tens % 10 < 9 → tens < 429496729 → len ≤ length cells → last ≡ len - 1
+    → take len cells ≡ 35 ∷ front_digits tens → take len (set cells last (48 + (tens + 1) % 10)) ≡ 35 ∷ front_digits (tens + 1)
+counted_up cells len last tens some digit fits h at e =
+    let front : List ℕ = 35 ∷ front_digits (tens / 10) in
+    let was : take len cells ≡ front ++ (48 + tens % 10) ∷ [] =
+    e ∙ ap (λ l. 35 ∷ l) (rw (ne_eqb tens 0 (omega (arith, some))) (split_at tens (tens / 10) refl (omega (arith, fits)))) in
+    let size = sym (length-take-le len cells h) ∙ ap (λ (l : List ℕ). length l) was ∙ length-append front ((48 + tens % 10) ∷ []) in
+    let long : len ≡ suc last = omega (arith, at, size) in
+    let kept = subst (λ n. take n cells ≡ front ++ (48 + tens % 10) ∷ []) long was in
+    let same : (tens + 1) / 10 ≡ tens / 10 = omega (arith, digit) in
+    subst (λ n. take n (set cells last (48 + (tens + 1) % 10)) ≡ 35 ∷ front_digits (tens + 1)) (sym long)
+    (last_set front cells last (48 + tens % 10) (48 + (tens + 1) % 10) kept (omega (arith, long, size)) (omega (arith, long, h))
+    ∙ ap (λ l. 35 ∷ l)
+    (sym (rw (ne_eqb (tens + 1) 0 (omega arith)) (split_at (tens + 1) (tens / 10) same (omega (arith, fits))))))

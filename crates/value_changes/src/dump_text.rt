@@ -26,7 +26,7 @@ ghost use Rattle.value_changes.specs.Lines.{
   wire_line,
 };
 
-use crate::variable::{DIGITS, Variable, digit, push_code_of};
+use crate::variable::{DIGITS, Variable, digit};
 use itoa::Buffer;
 use sinks::Block;
 
@@ -74,8 +74,11 @@ fn end_line(variable: u16, text: &mut DumpText)
     if variable < DIGITS {
         text.push_array(&[digit(variable), b'\n']);
     } else {
-        push_code_of(variable, text);
-        text.push(b'\n');
+        text.push_array(&[
+            digit(variable % DIGITS),
+            digit(variable / DIGITS - 1),
+            b'\n',
+        ]);
     }
 }
 

@@ -25,6 +25,7 @@ ghost use Rattle.value_changes.specs.Ticks.{
 
 use crate::dump_text::{DumpText, TEXT_SIZE};
 use crate::events::{push_expiries, push_losses};
+use crate::last_number::LastNumber;
 use crate::last_value::LastValue;
 use crate::names::{push_executor, push_holder};
 use crate::routine_values::RoutineValues;
@@ -43,7 +44,7 @@ pub struct LastValues {
     pub executor: LastValue<Option<Owner>>,
     pub tasks: [TaskValues; MAX_TASKS],
     pub routines: [RoutineValues; MAX_ROUTINES],
-    pub holders: [LastValue<Holder>; MAX_HELD],
+    pub holders: [LastNumber; MAX_HELD],
 }
 
 /// The resource of that number; RES_SCHEDULER stands behind those that are declared.
@@ -91,12 +92,23 @@ fn push_routines(
     }
 }
 
+/// The number of the task that holds a resource, if one does.
+#[inline(always)]
+fn number_of(holder: Holder) -> Option<u8>
+    ensures { result ≡ holder }
+{
+    match holder.task() {
+        None => None,
+        Some(task) => Some(task.number()),
+    }
+}
+
 /// Appends who holds a resource, where that changes.
 #[inline(always)]
 fn push_holder_change(
     system: &System,
     number: usize,
-    last: &mut LastValue<Holder>,
+    last: &mut LastNumber,
     holder: Holder,
     text: &mut DumpText,
 )
@@ -105,7 +117,7 @@ fn push_holder_change(
     ensures after { last.new ≡ holder_after last.old holder }
     ensures short { length text.new ≤ length text.old + 37 }
 {
-    if let Some(holder) = last.change_to(holder) {
+    if let Some(holder) = last.change_to(number_of(holder)) {
         push_holder(system.names(), resource_at(system, number), holder, text);
     }
 }
@@ -113,7 +125,7 @@ fn push_holder_change(
 #[inline(always)]
 fn push_holders(
     system: &System,
-    values: &mut [LastValue<Holder>; MAX_HELD],
+    values: &mut [LastNumber; MAX_HELD],
     seen: &ArrayVec<Holder, MAX_HELD>,
     text: &mut DumpText,
 )
@@ -166,7 +178,7 @@ impl LastValues {
             executor: LastValue::default(),
             tasks: [TaskValues::default(); MAX_TASKS],
             routines: [RoutineValues::default(); MAX_ROUTINES],
-            holders: [LastValue::default(); MAX_HELD],
+            holders: [LastNumber::default(); MAX_HELD],
         }
     }
 

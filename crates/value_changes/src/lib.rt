@@ -5,6 +5,8 @@
 mod declarations;
 mod dump_text;
 mod events;
+mod last_byte;
+mod last_number;
 mod last_value;
 mod last_values;
 mod names;
@@ -15,6 +17,8 @@ mod time_front;
 mod value_changes;
 mod variable;
 
+pub use last_byte::LastByte;
+pub use last_number::LastNumber;
 pub use last_value::LastValue;
 pub use last_values::LastValues;
 pub use routine_values::RoutineValues;

@@ -1,12 +1,11 @@
 //! Value change dumps: names as the values of variables.
 
-ghost use Rattle.std.specs.Prelude.{◌≡◌, ◌+◌, ◌≤◌, ◌++◌, length};
+ghost use Rattle.std.specs.Prelude.{◌≡◌, ◌+◌, ◌≤◌, ◌++◌, codes, length};
 ghost use Rattle.osek_base.specs.Names.{name_at};
 ghost use Rattle.value_changes.specs.Lines.{executor_name, holder_name, string_line};
 
 use crate::dump_text::{DumpText, TEXT_SIZE, push_string};
 use crate::variable::Variable;
-use observations::Holder;
 use osek_base::{Name, Names, Owner, ResId};
 
 /// What stands for a name, behind the `s` of a string, where nobody executes, or a resource is
@@ -54,20 +53,38 @@ pub(crate) fn push_executor(names: &Names, executor: &Option<Owner>, text: &mut 
     }
 }
 
-/// Appends the name of the task that holds a resource, `-` where the resource is free.
+/// A resource is free.
 #[inline(never)]
-pub(crate) fn push_holder(names: &Names, resource: ResId, holder: Holder, text: &mut DumpText)
+fn push_free(resource: ResId, text: &mut DumpText)
+    requires { length text.old + 41 ≤ TEXT_SIZE }
+    ensures same { text.new ≡ text.old ++ string_line (Variable.Holder resource) (codes "-") }
+    ensures short { length text.new ≤ length text.old + 37 }
+{
+    push_string(Variable::Holder(resource), NOBODY, "", text);
+}
+
+/// A task holds a resource.
+#[inline(never)]
+fn push_held(names: &Names, resource: ResId, task: u8, text: &mut DumpText)
+    requires { length text.old + 41 ≤ TEXT_SIZE }
+    ensures same { text.new
+        ≡ text.old ++ string_line (Variable.Holder resource) (name_at names.now.tasks task) }
+    ensures short { length text.new ≤ length text.old + 37 }
+{
+    let name = name_at(names.tasks.as_slice(), task);
+    push_string(Variable::Holder(resource), TASK, name, text);
+}
+
+/// Appends the name of the task that holds a resource, `-` where the resource is free.
+#[inline(always)]
+pub(crate) fn push_holder(names: &Names, resource: ResId, holder: Option<u8>, text: &mut DumpText)
     requires { length text.old + 41 ≤ TEXT_SIZE }
     ensures same { text.new
         ≡ text.old ++ string_line (Variable.Holder resource) (holder_name names.now holder) }
     ensures short { length text.new ≤ length text.old + 37 }
 {
-    let variable = Variable::Holder(resource);
-    match holder.task() {
-        None => push_string(variable, NOBODY, "", text),
-        Some(task) => {
-            let name = name_at(names.tasks.as_slice(), task.number());
-            push_string(variable, TASK, name, text);
-        }
+    match holder {
+        None => push_free(resource, text),
+        Some(task) => push_held(names, resource, task, text),
     }
 }

@@ -14,6 +14,8 @@ ghost use Rattle.value_changes.specs.Ticks.{
 };
 
 use crate::dump_text::{DumpText, TEXT_SIZE, push_number, push_vector};
+use crate::last_byte::LastByte;
+use crate::last_number::LastNumber;
 use crate::last_value::LastValue;
 use crate::variable::Variable;
 use observations::TaskSeen;
@@ -23,8 +25,8 @@ use osek_base::{TaskId, TaskState};
 #[derive(Clone, Copy)]
 pub struct TaskValues {
     pub state: LastValue<TaskState>,
-    pub priority: LastValue<Option<u8>>,
-    pub jobs: LastValue<u8>,
+    pub priority: LastNumber,
+    pub jobs: LastByte,
 }
 
 /// Nothing was written yet.
@@ -34,8 +36,8 @@ impl Default for TaskValues {
     {
         TaskValues {
             state: LastValue::default(),
-            priority: LastValue::default(),
-            jobs: LastValue::default(),
+            priority: LastNumber::default(),
+            jobs: LastByte::default(),
         }
     }
 }
@@ -55,12 +57,7 @@ fn push_state(last: &mut LastValue<TaskState>, task: TaskId, state: TaskState, t
 
 /// Appends the priority, where it changes. It has no value where the task has no job.
 #[inline(always)]
-fn push_priority(
-    last: &mut LastValue<Option<u8>>,
-    task: TaskId,
-    priority: Option<u8>,
-    text: &mut DumpText,
-)
+fn push_priority(last: &mut LastNumber, task: TaskId, priority: Option<u8>, text: &mut DumpText)
     requires { length text.old + 13 ≤ TEXT_SIZE }
     ensures same { text.new ≡ text.old ++ priority_text task last.old priority }
     ensures after { last.new ≡ shown last.old (written (same_option nat_eq) last.old priority) }
@@ -73,7 +70,7 @@ fn push_priority(
 
 /// Appends the number of jobs, where it changes.
 #[inline(always)]
-fn push_jobs(last: &mut LastValue<u8>, task: TaskId, jobs: u8, text: &mut DumpText)
+fn push_jobs(last: &mut LastByte, task: TaskId, jobs: u8, text: &mut DumpText)
     requires { length text.old + 13 ≤ TEXT_SIZE }
     ensures same { text.new ≡ text.old ++ jobs_text task last.old jobs }
     ensures after { last.new ≡ shown last.old (written nat_eq last.old jobs) }

@@ -32,15 +32,14 @@ impl TickPage {
 
     /// The text becomes what is written of a tick, the first of those that are written or a later
     /// one.
-    #[inline(never)]
+    #[inline(always)]
     pub fn put_tick(&mut self, system: &System, is_later: bool, tick: u32, seen: &Observation)
         ensures text { self.new.text
             ≡ tick_text system.now is_later tick self.old.values seen.now }
         ensures after { self.new.values ≡ after_tick self.old.values seen.now }
     {
         let text = &mut self.text;
-        text.clear();
-        self.time.push_line(tick, text);
+        self.time.put_line(tick, text);
         if is_later {
             self.values.push_later(system, tick, seen, text);
         } else {

@@ -1,9 +1,9 @@
 //! Value change dumps: the line of a time.
 
-ghost use Rattle.std.specs.Prelude.{◌≡◌, ◌+◌, ◌≤◌, ◌++◌, length};
+ghost use Rattle.std.specs.Prelude.{◌≡◌, ◌+◌, ◌%◌, ◌<◌, ◌≤◌, length};
 ghost use Rattle.value_changes.specs.Lines.{time_line};
 
-use crate::dump_text::{DumpText, TEXT_SIZE};
+use crate::dump_text::DumpText;
 use arrayvec::ArrayString;
 use itoa::Buffer;
 use std::marker::Model;
@@ -52,17 +52,36 @@ impl TimeFront {
         }
     }
 
+    /// Goes on to the next ten times, where only the last digit becomes another.
+    #[inline(always)]
+    fn count_up(&mut self)
+        requires some { 0 < self.old }
+        requires digit { self.old % 10 < 9 }
+        requires fits { self.old < 429496729 }
+        ensures { self.new ≡ self.old + 1 }
+    {
+        let tens = self.tens + 1;
+        self.cells[self.len - 1] = b'0' + (tens % 10) as u8;
+        self.tens = tens;
+    }
+
     /// Goes to the times that are ten times that and up to nine more, of whatever times it was.
     #[inline(never)]
     fn spell(&mut self, tens: u32)
+        requires { tens ≤ 429496729 }
         ensures { self.new ≡ tens }
     {
-        *self = TimeFront::of(tens);
+        if tens > 1 && tens - 1 == self.tens && tens % 10 > 0 {
+            self.count_up();
+        } else {
+            *self = TimeFront::of(tens);
+        }
     }
 
     /// Goes on to the times that are ten times that and up to nine more.
     #[inline(always)]
     fn go_to(&mut self, tens: u32)
+        requires { tens ≤ 429496729 }
         ensures { self.new ≡ tens }
     {
         if tens != self.tens {
@@ -70,14 +89,14 @@ impl TimeFront {
         }
     }
 
-    /// Appends the line of a time.
+    /// The text becomes the line of a time.
     #[inline(always)]
-    pub fn push_line(&mut self, tick: u32, text: &mut DumpText)
-        requires { length text.old + 18 ≤ TEXT_SIZE }
-        ensures same { text.new ≡ text.old ++ time_line tick }
-        ensures short { length text.new ≤ length text.old + 18 }
+    pub fn put_line(&mut self, tick: u32, text: &mut DumpText)
+        ensures same { text.new ≡ time_line tick }
+        ensures short { length text.new ≤ 18 }
     {
         self.go_to(tick / 10);
+        text.clear();
         text.push_front(&self.cells, self.len);
         text.push_array(&[b'0' + (tick % 10) as u8, b'\n']);
     }

@@ -86,7 +86,7 @@ pub(crate) fn digit(value: u16) -> u8
 
 /// Appends a number in digits, the lowest first.
 #[inline(always)]
-pub(crate) fn push_code_of(number: u16, text: &mut DumpText)
+fn push_code_of(number: u16, text: &mut DumpText)
     requires small { number < DIGITS * DIGITS }
     requires room { length text.old + 2 ≤ TEXT_SIZE }
     ensures same { text.new ≡ text.old ++ code_of number }
