@@ -191,6 +191,12 @@ module _ (counted : Bool) (n : ℕ) (w : Watched) (opening : List TraceEvent) (a
   none_due =
       ap (λ k. due_alarms S (bare (picture (at_tick w.processor k)))) clock_is ∙ begins.passes.passed.none 0 (omega arith)
 
+  pub silent_before : before_execution_in S [] o ≡ silent_in o
+  silent_before = before_silent S o t steady size none_due
+
+  pub called : caller_in o ≡ ByTask t
+  called = calls S o t steady
+
   pub after : st ≡ watched_at w n
   after = λ i. record {
     processor = (begins.passes.passed.after ∙ ap (at_tick w.processor) (sym clock_is)) i;
@@ -201,7 +207,7 @@ module _ (counted : Bool) (n : ℕ) (w : Watched) (opening : List TraceEvent) (a
   pub begins_tick : Watches counted (early []) n (watched_at w n) st [] []
   begins_tick = subst (λ x. Watches counted (early []) n (watched_at w n) x [] []) (sym after)
       (record {
-        does = does_nothing (λ S. before_execution_in S []) (at_tick w.processor n) [] (before_silent S o t steady size none_due);
+        does = does_nothing (λ S. before_execution_in S []) (at_tick w.processor n) [] silent_before;
         stamps = λ counting. sym (before_unstamped S o t steady size none_due n w.blocking.stamps);
         told = refl;
       })
@@ -285,6 +291,9 @@ steady_ticked counted n w st bg la opening behind acted now t e m is h begun may
         unwritten = none;
         size = size counted n w opening acted h begun low st t begins;
         none_due = none_due counted n w opening acted h begun low st t begins;
+        before = silent_before counted n w opening acted h begun low st t begins;
+        task = t;
+        calls = called counted n w opening acted h begun low st t begins;
         number = number_told_so counted n w opening acted h begun low st t begins bg la e behind two r;
       };
     })

@@ -1,5 +1,5 @@
 -- Ticks in which the running task executes a plain instruction, and nothing else happens: what they record and leave.
-use Rattle.std.proofs.Common.{◌≡◌, ℕ, ◌+◌, Bool, true, false, cond, List, [], ◌∷◌, ◌++◌, length, refl, sym, ◌∙◌, ap}
+use Rattle.std.proofs.Common.{◌≡◌, ℕ, ◌+◌, Bool, true, false, cond, [], ◌∷◌, ◌++◌, length, refl, sym, ◌∙◌, ap}
 use Rattle.std.specs.Prelude.{◌==◌}
 use Rattle.std.proofs.Math.Path.{fun_ext}
 use Rattle.osek_base.specs.declared.ids.Owner.{Owner}
@@ -7,7 +7,7 @@ use Rattle.osek_base.specs.declared.instr.Instr.{Instr}
 use Rattle.osek_base.specs.declared.trace_event.Outcome.{Outcome}
 use Rattle.osek_base.specs.declared.trace_event.TraceEvent.{TraceEvent}
 use Rattle.osek_base.specs.Alarm.{due_alarms}
-use Rattle.osek_base.specs.Instruction.{Context, Done, plain}
+use Rattle.osek_base.specs.Instruction.{Done, plain}
 use Rattle.osek_base.specs.State.{words_after}
 use Rattle.osek_base.specs.System.{System, instruction_at}
 use Rattle.osek_base.specs.Types.{PlainInstr}
@@ -15,13 +15,13 @@ use Rattle.run_laws.proofs.Foremost.{equal}
 use Rattle.ready_queues.specs.QueueMoves.{changed_at}
 use Rattle.kept_state.specs.Kept.{Kept, Slot}
 use Rattle.kept_state.specs.KeptService.{ByTask, bare, slot_moved}
-use Rattle.kept_state.specs.KeptTick.{KeptStep, and_then_in, before_execution_in, caller_executes_in, execute_phase_in, executed_in, last_phase_in, silent_in, tick_in}
+use Rattle.kept_state.specs.KeptTick.{KeptStep, and_then_in, caller_executes_in, execute_phase_in, executed_in, last_phase_in, silent_in, tick_in}
 use Rattle.kept_state.specs.Moves.{KeptRecorded, rescheduled, slot_changed}
 use Rattle.kept_state.specs.Quiet.{later}
 use Rattle.services.specs.Dispatched.{is_dispatched_in}
 use Rattle.services.specs.Steady.{IsSteady}
 use Rattle.services.proofs.DispatchedLemmas.{gone_on_dispatched, rescheduled_again}
-use Rattle.kernel.specs.Working.{IsWork, at_rest, unplaced}
+use Rattle.kernel.specs.Working.{at_rest, unplaced}
 use Rattle.kernel.proofs.SteadyLemmas.{before_silent, calls}
 
 -- what a plain instruction does, records and leaves

@@ -1,5 +1,5 @@
 -- A kernel that does ticks in which the running task works, and what of its run they leave.
-use Rattle.std.proofs.Common.{◌≡◌, ℕ, ◌+◌, ◌-◌, ◌≤◌, Bool, true, false, List, [], ◌∷◌, ◌++◌, length, refl, sym, ◌∙◌, ap, subst, arith, map, zero, suc, ◌<◌}
+use Rattle.std.proofs.Common.{◌≡◌, ℕ, ◌+◌, ◌-◌, ◌≤◌, Bool, true, false, List, [], ◌∷◌, ◌++◌, refl, sym, ◌∙◌, ap, subst, arith, map, zero, suc, ◌<◌}
 use Rattle.std.specs.Option.{option_map}
 use Rattle.std.specs.Prelude.{Option, Some, None, is_none, is_some, ◌==◌}
 use Rattle.std.proofs.lemmas.Bool.{eqb-true, true≢false}
@@ -20,7 +20,7 @@ use Rattle.blocking_laws.specs.Steps.{record_at}
 use Rattle.blocking_laws.specs.Restamping.{stamps_at}
 use Rattle.blocking_laws.proofs.StepLemmas.{run_more}
 use Rattle.kept_state.specs.Kept.{Kept, kept}
-use Rattle.kept_state.specs.KeptService.{KeptCaller, ByTask, ByRoutine, bare, caller_by, caller_in}
+use Rattle.kept_state.specs.KeptService.{KeptCaller, ByTask, bare, caller_by, caller_in}
 use Rattle.machine.specs.Packed.{instr_of, is_plain, plain_of}
 use Rattle.services.specs.Calls.{IsExecuting, context_in}
 use Rattle.kept_state.specs.KeptTick.{KeptStep, tick_in}
@@ -38,19 +38,11 @@ use Rattle.kernel.proofs.ArrivalLemmas.{none_between}
 use Rattle.kernel.proofs.IdleRuns.{progress}
 use Rattle.kernel.proofs.RunLemmas.{going}
 use Rattle.kernel.proofs.SteadyLemmas.{before_silent, calls}
-use Rattle.kernel.proofs.SteadyRuns.{kernel_ticks}
+use Rattle.kernel.proofs.SteadyRuns.{first_event, kernel_ticks, owner_in}
 use Rattle.kernel.proofs.TickLemmas.{executing_told, record_told}
 use Rattle.kernel.proofs.WorkLemmas.{done_by, work_event, work_rests, work_step, worked}
 
--- who executed, and what came of it, as a record tells it
-abbrev first_event : List TraceEvent → TraceEvent
-first_event [] = TraceEvent.Idle
-first_event (e ∷ events) = e
-
-abbrev owner_in : TraceEvent → Owner
-owner_in (TraceEvent.Executed who place what outcome) = who
-owner_in _ = Owner.Task 0
-
+-- what came of an instruction, as a record tells it
 abbrev outcome_in : TraceEvent → Outcome
 outcome_in (TraceEvent.Executed who place what outcome) = outcome
 outcome_in _ = Outcome.Control
@@ -246,8 +238,8 @@ pub record GoesOnWorking (counted : Bool) (most : ℕ) (old now : Progress) (n :
   pub worked : HasWorked counted most old now n last
   pub rests : at_rest (kept old.system (run_of now).state) ≡ at_rest (kept old.system (run_of old).state)
 
-pub none_worked : (counted : Bool) (most : ℕ) (r : Progress) → GoesOnWorking counted most r r 0 None
-none_worked counted most r =
+pub none_worked : (counted : Bool) (most : ℕ) (r : Progress) (last : Option Executed) → GoesOnWorking counted most r r 0 last
+none_worked counted most r last =
     let more : r.ticks ≡ r.ticks + 0 = omega arith in
     record {
       worked = record {
@@ -257,7 +249,7 @@ none_worked counted most r =
         stays = λ k low. absurd (omega (arith, low));
         next = ap (λ t. record r { ticks = t }) more;
         recorded = λ some. absurd (omega (arith, some));
-        there = _;
+        there = λ some. absurd (omega (arith, some));
       };
       rests = refl;
     }
@@ -288,7 +280,7 @@ works_more counted most n old now new last e low so once =
         next = on.next ∙ ap (λ t. record old { ticks = t }) ticks_are;
         recorded = λ some.
             ap (λ i. record_at S old.mode old.arrivals (old.ticks + i)) last_is ∙ on.recorded;
-        there = on.there;
+        there = λ some. on.there;
       };
       rests = on.rests ∙ rests_at;
     }

@@ -3,6 +3,7 @@ use Rattle.std.specs.Prelude.{ℕ, ◌≡◌, ◌<◌, ◌≤◌, ◌+◌, ◌++
 use Rattle.std.specs.List.{All}
 use Rattle.osek_base.specs.declared.limits.TheConstants.{MAX_RECORDS, MAX_TICKS}
 use Rattle.osek_base.specs.declared.executed.Executed.{Executed}
+use Rattle.osek_base.specs.declared.ids.Owner.{Owner}
 use Rattle.osek_base.specs.declared.trace_event.TraceEvent.{TraceEvent}
 use Rattle.osek_base.specs.Alarm.{due_alarms}
 use Rattle.osek_base.specs.BlockingText.{blockers_at}
@@ -83,6 +84,17 @@ pub record HasRunApart (old new : Progress) (before : List TraceEvent) (executed
   pub there : IfSome executed (StandsIn old.system)
   pub few : length before + length behind < MAX_RECORDS
   pub proper : IsProper old.system
+
+-- and it was known before that nothing comes before the instruction of the running task: no interrupt arrives and no alarm is due,
+-- so all that is kept of the state is the same before the tick and at its instruction. The first tick is none of these
+pub record HasRunSteadily (old new : Progress) (executed : Executed) (behind : List TraceEvent) : Type 0 where
+  pub ran : HasRunApart old new [] (Some executed) behind
+  pub not_first : 1 ≤ old.ticks
+  pub task : ℕ
+  pub who : executed.owner ≡ Owner.Task task
+  pub none_arrive : arriving old.arrivals old.ticks ≡ []
+  pub none_due : due_alarms old.system (run_of old).state ≡ []
+  pub at : kept old.system (step_at old.system old.mode old.arrivals old.ticks).executing ≡ kept old.system (run_of old).state
 
 -- in a tick of a run nothing comes and nothing changes: no interrupt arrives, no alarm is due, no job has blockers, and what
 -- is kept of the state is the same before it, at its instruction and, but for the tick, behind it

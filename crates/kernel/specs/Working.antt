@@ -18,7 +18,8 @@ use Rattle.osek_base.specs.Trace.{arriving, run}
 use Rattle.osek_base.specs.Types.{PlainInstr}
 use Rattle.readiness.specs.Stamps.{stamp_of_oldest}
 use Rattle.kept_state.specs.Kept.{Kept, Slot, kept}
-use Rattle.kept_state.specs.KeptService.{bare, caller_in}
+use Rattle.kept_state.specs.KeptService.{ByTask, bare, caller_in}
+use Rattle.kept_state.specs.KeptTick.{before_execution_in, silent_in}
 use Rattle.blocking_laws.specs.Restamping.{stamps_at}
 use Rattle.blocking_laws.specs.Steps.{record_at, step_at}
 use Rattle.services.specs.Steady.{IsSteady}
@@ -64,7 +65,7 @@ pub record HasWorked (counted : Bool) (most : ℕ) (old new : Progress) (n : ℕ
       → LeavesRest counted old.system old.mode old.arrivals (old.ticks + k) (kept old.system (run_of old).state)
   pub next : new ≡ record old { ticks = old.ticks + n }
   pub recorded : 0 < n → record_at old.system old.mode old.arrivals (old.ticks + (n - 1)) ≡ idle_or_executed old.system last ∷ []
-  pub there : IfSome last (StandsIn old.system)
+  pub there : 0 < n → IfSome last (StandsIn old.system)
 
 -- one more tick was done, in which the running task worked, and at rest what is kept stays
 pub record WorksOnce (counted : Bool) (old new : Progress) (executed : Executed) : Type 0 where
@@ -94,13 +95,17 @@ pub record IsWorking (counted : Bool) (m : Machine) : Type 0 where
   pub plain : instruction_at (system_of m) (Owner.Task task) ((picture m).slots task).context.place ≡ Instr.Plain instruction
   pub spent : counted ≡ true → is_none (stamp_of_oldest (stamps_at m.blocking.stamps task)) ≡ true
 
--- a tick in which no alarm was due, and which wasn't the first; what is told of blockers is the number of who executed
+-- a tick in which no alarm was due, and which wasn't the first: nothing came before the instruction of the task that executed;
+-- what is told of blockers is its number
 pub record HasTickedSteady (counted : Bool) (old new : Machine) (executed : Executed) (behind : List TraceEvent) : Type 0 where
   pub ticked : HasTicked counted [] old new [] (Some executed) behind
   pub begun : 1 ≤ next_tick old
   pub unwritten : old.unwritten ≡ []
   pub size : length (picture old).alarms ≡ length (system_of old).alarms
   pub none_due : due_alarms (system_of old) (bare (picture old)) ≡ []
+  pub before : before_execution_in (system_of old) [] (picture old) ≡ silent_in (picture old)
+  pub task : ℕ
+  pub calls : caller_in (picture old) ≡ ByTask task
   pub number : counted ≡ true
       → number_told new.blocking.told
       ≡ number_for (system_of old) (caller_in (picture old)) old.blocking.told.last old.blocking.stamps

@@ -6,7 +6,7 @@ ghost use Rattle.osek_base.specs.Names.{number_of};
 ghost use Rattle.kept_state.specs.Kept.{kept};
 ghost use Rattle.kernel.specs.Stamping.{IsNumber};
 ghost use Rattle.kernel.specs.Machine.{HasCome};
-ghost use Rattle.kernel.specs.Progress.{AreFree, AreKnown, AreLeft, Boots, HasIdled, HasRun, HasRunApart, HaveArrived, IsNextArrival, is_over, run_of};
+ghost use Rattle.kernel.specs.Progress.{AreFree, AreKnown, AreLeft, Boots, HasIdled, HasRun, HasRunApart, HasRunSteadily, HaveArrived, IsNextArrival, is_over, run_of};
 ghost use Rattle.blocking_laws.specs.Steps.{step_at};
 ghost use Rattle.seen_ticks.specs.Told.{task_at};
 ghost use Rattle.osek_base.specs.Lists.{below};
@@ -219,13 +219,13 @@ impl<'s, Q: ReadyQueues, B: Blockers> Kernel<'s, Q, B> {
     /// instruction of the running task: no alarm is due, no routine is pending, and a reschedule
     /// would change nothing. Most ticks of a busy system are such. Answers what it executed;
     /// `behind` becomes the records behind that of the instruction, and none stand before it. None
-    /// is where that isn't known: then nothing of the run changed, and a caller does the usual tick,
+    /// is where that isn't known: then nothing changed, and a caller does the usual tick,
     /// [`tick_parts`](Kernel::tick_parts).
     #[inline(always)]
     pub fn tick_steady(&mut self, behind: &mut TickRecord) -> Option<Executed>
         requires { is_over self.old ≡ false }
-        ensures { MatchOption result (self.new ≡ self.old)
-            (λ e. HasRunApart self.old self.new [] (Some e) behind.new) }
+        ensures { MatchOption result ((self.new ≡ self.old) × (behind.new ≡ behind.old))
+            (λ e. HasRunSteadily self.old self.new e behind.new) }
     {
         if self.next == self.machine.next_tick() {
             return None;

@@ -30,4 +30,3 @@ pub use boot::BootFault;
 pub use kernel::{Kernel, push_all};
 pub use places::give_places;
 pub use ticking::Machine;
-pub use working::Worked;

@@ -215,12 +215,12 @@ impl<'s, Q: ReadyQueues, B: Blockers> Machine<'s, Q, B> {
     /// instruction of the running task: no alarm is due, no routine is pending, and a reschedule
     /// would change nothing. Answers what it executed; `behind` becomes the records behind that of
     /// the instruction, and none stand before it. None is where that isn't known, as in the first
-    /// tick: then the machine stays as it was, and a caller does the usual tick,
+    /// tick: then the machine and `behind` stay as they were, and a caller does the usual tick,
     /// [`tick`](Machine::tick).
     #[inline(always)]
     pub fn tick_steady(&mut self, behind: &mut TickRecord) -> Option<Executed>
         requires { MayTick [] self.old }
-        ensures { MatchOption result (self.new ≡ self.old)
+        ensures { MatchOption result ((self.new ≡ self.old) × (behind.new ≡ behind.old))
             (λ e. HasTickedSteady B.are_counted self.old self.new e behind.new) }
     {
         if self.ticks == 0 {

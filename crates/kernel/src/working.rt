@@ -15,14 +15,6 @@ use crate::watched::Watched;
 use osek_base::{Executed, MAX_TICKS, Owner, TaskId, TickRecord};
 use ready_queues::ReadyQueues;
 
-/// Ticks in which the running task executed plain instructions: how many, and what the last of them
-/// executed, where there is any.
-#[derive(Clone, Copy)]
-pub struct Worked {
-    pub ticks: u32,
-    pub last: Option<Executed>,
-}
-
 impl<'s, Q: ReadyQueues, B: Blockers> Watched<'s, Q, B> {
     /// The task that executes in a tick in which no alarm is due and no interrupt arrives, where it
     /// is known that nothing else comes before its instruction.
@@ -89,23 +81,29 @@ impl<'s, Q: ReadyQueues, B: Blockers> Kernel<'s, Q, B> {
 
     /// The ticks that follow, at most some, are done as long as it is known that the running task
     /// executes a plain instruction in each, and nothing else happens: no interrupt arrives, no
-    /// alarm is due, and no number of blockers is told. The first tick is none of these. `room` is
-    /// a list to work in.
+    /// alarm is due, and no number of blockers is told. The first tick is none of these. Answers how
+    /// many were done, and leaves what the last of them executed, where there is any. `room` is a
+    /// list to work in.
     #[inline(never)]
-    pub fn pass_plain(&mut self, most: u32, room: &mut TickRecord) -> Worked
+    pub fn pass_plain(
+        &mut self,
+        most: u32,
+        room: &mut TickRecord,
+        last: &mut Option<Executed>,
+    ) -> u32
         requires { self.old.ticks + most ≤ MAX_TICKS }
-        ensures { HasWorked B.are_counted most self.old self.new result.ticks result.last }
+        ensures worked { HasWorked B.are_counted most self.old self.new result last.new }
+        ensures same { result ≡ 0 → last.new ≡ last.old }
     {
-        let mut last = None;
         for ticks in 0..most {
             if self.is_over() {
-                return Worked { ticks, last };
+                return ticks;
             }
             match self.tick_plain(room) {
-                None => return Worked { ticks, last },
-                Some(executed) => last = Some(executed),
+                None => return ticks,
+                Some(executed) => *last = Some(executed),
             }
         }
-        Worked { ticks: most, last }
+        most
     }
 }

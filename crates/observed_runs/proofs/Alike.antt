@@ -1,12 +1,10 @@
 -- What is seen of a tick in which nothing comes to anything, by what is kept of the state at rest, which stays the same.
-use Rattle.std.proofs.Common.{◌≡◌, ℕ, ◌+◌, ◌-◌, ◌<◌, ◌≤◌, Bool, true, false, cond, List, [], ◌∷◌, ◌++◌, map, length, refl, sym, ◌∙◌, ap, ap₂, subst, arith}
-use Rattle.std.specs.Prelude.{Option, Some, None, IfSome, not, ◌&&◌, ◌||◌, ◌==◌, nat_le, slice_index_or}
+use Rattle.std.proofs.Common.{◌≡◌, ℕ, ◌+◌, ◌-◌, ◌<◌, ◌≤◌, Bool, false, cond, List, [], ◌∷◌, ◌++◌, map, length, refl, sym, ◌∙◌, ap, ap₂, subst, arith}
+use Rattle.std.specs.Prelude.{Option, Some, None, IfSome, ◌&&◌, ◌||◌, ◌==◌, nat_le, slice_index_or}
 use Rattle.std.specs.Option.{option_map}
 use Rattle.std.specs.List.{find}
 use Rattle.std.proofs.Math.Path.{fun_ext}
-use Rattle.observations.specs.declared.alarm_seen.AlarmSeen.{AlarmSeen}
 use Rattle.observations.specs.declared.observation.Observation.{Observation}
-use Rattle.observations.specs.declared.routine_seen.RoutineSeen.{RoutineSeen}
 use Rattle.observations.specs.declared.task_seen.TaskSeen.{TaskSeen}
 use Rattle.osek_base.specs.declared.arrivals.Arrival.{Arrival}
 use Rattle.osek_base.specs.declared.executed.Executed.{Executed}
@@ -37,10 +35,15 @@ use Rattle.seen_ticks.specs.Told.{refused_of, task_at, task_at_in}
 use Rattle.seen_ticks.proofs.SeenLemmas.{counted as counted_jobs, task_is}
 use Rattle.observed_runs.specs.declared.before.Before.{Before}
 use Rattle.seen_ticks.specs.declared.execution.Execution.{Execution}
-use Rattle.observed_runs.specs.Keeping.{IsBefore, IsTold, coming}
-use Rattle.seen_ticks.specs.Observed.{IsObserved, IsSeen, Ticked, activates, active_routine, alarm_seen, answered, ending, executed_in, failure_by, failure_of, holders_seen, instruction, is_accepted, is_by, is_end, is_limit, is_number, is_pending, is_waiting, jobs_before, lost_of, one_if, owner_of, refusing, routine_seen, state_seen, status_of, task_of, task_seen, tick_at}
+use Rattle.kernel.specs.declared.at_instruction.AtInstruction.{AtInstruction}
+use Rattle.observed_runs.specs.Keeping.{AreStanding, HasGoneSteadily, IsBefore, IsTold, coming, last_tick}
+use Rattle.observed_runs.specs.Resting.{IsRest, resting_alarm, resting_routine}
+use Rattle.observed_runs.proofs.Resting.{alarms_rest, routines_rest}
+use Rattle.seen_ticks.specs.declared.task_at.TaskAt.{TaskAt}
+use Rattle.seen_ticks.specs.Observed.{IsObserved, IsSeen, Ticked, activates, active_routine, alarm_seen, answered, ending, executed_in, failure_by, failure_of, holders_seen, instruction, is_accepted, is_by, is_end, is_limit, is_number, is_waiting, jobs_before, one_if, owner_of, refusing, routine_seen, state_seen, status_of, task_of, task_seen, tick_at}
 use Rattle.observed_runs.specs.Passing.{HasStayed, LeavesAll, PassesAlike, StaysAlike, task_left}
 use Rattle.seen_ticks.proofs.Staying.{holding}
+use Rattle.observed_runs.proofs.Seeing.{one_on}
 
 -- ---- a task, between two ticks and at the instruction of one
 
@@ -82,19 +85,6 @@ alike_task S o who t =
 abbrev active_of : Kept → Option ℕ
 active_of x = option_map routine_of x.active
 
-abbrev pub alike_routine : Kept → Option Owner → ℕ → RoutineSeen
-alike_routine o who i =
-    record {
-      executes = by_owner (Owner.Routine i) who;
-      is_pending = slice_index_or o.pending i false;
-      is_started = by_owner (Owner.Routine i) who && not (is_number i (active_of o));
-      arrived = 0;
-      lost = 0;
-    }
-
-abbrev pub quiet_alarm : ℕ → AlarmSeen
-quiet_alarm a = record { has_expired = false; is_refused = false }
-
 abbrev pub holders_by : System → (ResId → Option ℕ) → List (Option ℕ)
 holders_by S h =
     map (λ r. h (ResId.Declared r)) (below (length S.resources)) ++ cond S.use_res_scheduler (h ResId.Scheduler ∷ []) []
@@ -104,9 +94,9 @@ pub record IsAlike (S : System) (o : Kept) (who : Option Owner) (seen : Observat
   pub answered : seen.answered ≡ None
   pub failure : seen.failure ≡ None
   pub tasks : seen.tasks.items ≡ map (alike_task S o who) (below (length S.tasks))
-  pub routines : seen.routines.items ≡ map (alike_routine o who) (below (length S.routines))
+  pub routines : seen.routines.items ≡ map (resting_routine o.pending) (below (length S.routines))
   pub holders : seen.holders.items ≡ holders_by S (holder_in S o)
-  pub alarms : seen.alarms.items ≡ map quiet_alarm (below (length S.alarms))
+  pub alarms : seen.alarms.items ≡ map resting_alarm (below (length S.alarms))
 
 -- who holds what, by what is kept of a state at rest
 pub holders_kept : (S : System) (s : State) (o : Kept) → at_rest (kept S s) ≡ at_rest o
@@ -115,10 +105,6 @@ holders_kept S s o same =
     ap (holders_by S) (fun_ext (λ r.
     ap (λ p. find p (below (length S.tasks))) (fun_ext (λ t.
     sym (holding r (jobs_of t s.jobs)) ∙ ap (λ (k : Kept). holds_in r (k.slots t)) same))))
-
-none_lost : (was_pending : Bool) → lost_of was_pending 0 ≡ 0
-none_lost true = refl
-none_lost false = refl
 
 -- who executes, by whom the instruction is
 by_same : (w : Owner) (e : Option Executed) (who : Option Owner) → option_map owner_of e ≡ who → is_by w e ≡ by_owner w who
@@ -204,19 +190,14 @@ module _ (counted : Bool) (S : System) (proper : IsProper S) (mode : ℕ) (arriv
         waits = own i && is_waiting (task_behind t i).state;
       }
 
-  one_routine : (i : ℕ) → routine_seen (alike_tick before at after e) i ≡ alike_routine o who i
-  one_routine i =
-      let pending : is_pending at i ≡ slice_index_or o.pending i false =
-      ap (λ (x : Kept). slice_index_or x.pending i false) stays.at in
-      let active : active_routine before ≡ active_of o = ap (λ (x : Kept). active_of x) stays.before in
-      let own : is_by (Owner.Routine i) e ≡ by_owner (Owner.Routine i) who = by_same (Owner.Routine i) e who stays.owner in
-      λ j. record {
-        executes = own j;
-        is_pending = pending j;
-        is_started = own j && not (is_number i (active j));
-        arrived = 0;
-        lost = none_lost (is_pending before i) j;
-      }
+  pub rest : IsRest (tick_at S mode arrivals n)
+  rest = record {
+    none_due = ap (λ (k : Ticked). k.due) tick_is;
+    none_refused = ap (λ (k : Ticked). k.refused) tick_is;
+    none_arrive = ap (λ (k : Ticked). k.arrived) tick_is;
+    no_routine = λ i. ap (is_by (Owner.Routine i)) executed_is ∙ stays.no_routine i;
+    pending = ap (λ (x : Kept). x.pending) (stays.at ∙ sym stays.before);
+  }
 
   -- nothing comes to anything
   pub all_left : LeavesAll S (tick_at S mode arrivals n)
@@ -227,9 +208,7 @@ module _ (counted : Bool) (S : System) (proper : IsProper S) (mode : ℕ) (arriv
         sym (ap₂ task_left own (task_behind t)) in
         ap (λ k. task_seen S k t) tick_is ∙ one_task t ∙ left
         ∙ ap (λ x. task_left (is_by (Owner.Task t) x) (task_at S after t)) (sym executed_is);
-    none_due = ap (λ (k : Ticked). k.due) tick_is;
-    none_refused = ap (λ (k : Ticked). k.refused) tick_is;
-    none_arrive = ap (λ (k : Ticked). k.arrived) tick_is;
+    rest = rest;
   }
 
   tasks_are : map (task_seen S (tick_at S mode arrivals n)) (below (length S.tasks)) ≡ map (alike_task S o who) (below (length S.tasks))
@@ -238,13 +217,13 @@ module _ (counted : Bool) (S : System) (proper : IsProper S) (mode : ℕ) (arriv
       ∙ ap (λ (f : ℕ → TaskSeen). map f (below (length S.tasks))) (fun_ext one_task)
 
   routines_are : map (routine_seen (tick_at S mode arrivals n)) (below (length S.routines))
-      ≡ map (alike_routine o who) (below (length S.routines))
+      ≡ map (resting_routine o.pending) (below (length S.routines))
   routines_are =
-      ap (λ k. map (routine_seen k) (below (length S.routines))) tick_is
-      ∙ ap (λ (f : ℕ → RoutineSeen). map f (below (length S.routines))) (fun_ext one_routine)
+      routines_rest (tick_at S mode arrivals n) rest (length S.routines)
+      ∙ ap (λ (x : Kept). map (resting_routine x.pending) (below (length S.routines))) stays.at
 
-  alarms_are : map (alarm_seen (tick_at S mode arrivals n)) (below (length S.alarms)) ≡ map quiet_alarm (below (length S.alarms))
-  alarms_are = ap (λ k. map (alarm_seen k) (below (length S.alarms))) tick_is
+  alarms_are : map (alarm_seen (tick_at S mode arrivals n)) (below (length S.alarms)) ≡ map resting_alarm (below (length S.alarms))
+  alarms_are = alarms_rest (tick_at S mode arrivals n) rest (length S.alarms)
 
   pub alike_seen : (seen : Observation) → IsSeen S (tick_at S mode arrivals n) seen → IsAlike S o who seen
   alike_seen seen is = record {
@@ -272,7 +251,7 @@ module _ (counted : Bool) (S : System) (proper : IsProper S) (mode : ℕ) (arriv
   -- ---- what is told of it, by the state behind it
 
   pub alike_told : (now : State) → now ≡ after → (x : Execution) (ahead behind_it : List TraceEvent) (last : Option Executed)
-      → x.executed ≡ last → x.ending ≡ ending S last → x.refusing ≡ refusing S last
+      → x.executed ≡ last → x.ending ≡ None → x.refusing ≡ None
       → IfSome last (StandsIn S) → ahead ≡ [] → behind_it ≡ []
       → record_at S mode arrivals n ≡ idle_or_executed S last ∷ []
       → IsTold S mode arrivals n now x ahead behind_it
@@ -284,8 +263,8 @@ module _ (counted : Bool) (S : System) (proper : IsProper S) (mode : ℕ) (arriv
         behind = behind;
         done = record {
           executed = executed ∙ sym last_is;
-          ending = ends ∙ sym (ap (ending S) last_is);
-          refusing = refuses ∙ sym (ap (refusing S) last_is);
+          ending = ends ∙ sym (ap (ending S) executed_is ∙ stays.ends);
+          refusing = refuses ∙ sym (ap (refusing S) executed_is ∙ stays.refuses);
         };
         records = record {
           recorded =
@@ -315,6 +294,7 @@ idle_stays counted most n old new idled = record {
         executed = None;
         recorded = idled.records k low;
         owner = refl;
+        no_routine = λ i. refl;
         answer = refl;
         failure = refl;
         ends = refl;
@@ -326,6 +306,15 @@ idle_stays counted most n old new idled = record {
   recorded = λ some. idled.records (n - 1) (omega (arith, some));
   next = idled.next;
 }
+
+-- what a task executes no routine does
+by_task : (e : Executed) (running : Option ℕ) → Some e.owner ≡ option_map Owner.Task running → (i : ℕ)
+    → is_by (Owner.Routine i) (Some e) ≡ false
+by_task e running who i = ap (λ x. by_owner (Owner.Routine i) x) who ∙ none running
+  where
+    none : (running : Option ℕ) → by_owner (Owner.Routine i) (option_map Owner.Task running) ≡ false
+    none None = refl
+    none (Some t) = refl
 
 -- in which the running task works
 pub work_stays : (counted : Bool) (most n : ℕ) (old new : Progress) (last : Option Executed)
@@ -346,6 +335,7 @@ work_stays counted most n old new last worked = record {
         executed = Some e;
         recorded = leaves.work.recorded;
         owner = leaves.work.who;
+        no_routine = by_task e (kept old.system (run_of old).state).running leaves.work.who;
         answer = ap status_of plain;
         failure = ap (λ x. failure_by e (status_of x)) plain;
         ends = ap (λ x. cond (is_accepted x && is_end (instruction old.system e)) (task_of e.owner) None) plain;
@@ -360,11 +350,11 @@ work_stays counted most n old new last worked = record {
 
 -- ---- a kernel that passes such ticks
 
--- what is noted behind a run's last tick, in which that was executed
+-- what is noted behind a run's last tick, in which that was executed, and which ended and refused nothing
 pub record IsNoted (r : Progress) (last : Option Executed) (e : Execution) (ahead behind : List TraceEvent) : Type 0 where
   pub executed : e.executed ≡ last
-  pub ending : e.ending ≡ ending r.system last
-  pub refusing : e.refusing ≡ refusing r.system last
+  pub ending : e.ending ≡ None
+  pub refusing : e.refusing ≡ None
   pub there : IfSome last (StandsIn r.system)
   pub none_ahead : ahead ≡ []
   pub none_behind : behind ≡ []
@@ -427,7 +417,7 @@ module _ (counted : Bool) (most n : ℕ) (k new : Progress) (last : Option Execu
       ap (λ first. jobs_before first (run_of k).state t) was ∙ count_stays t
       ∙ sym (ap (λ first. jobs_before first (run_of new).state t) is)
 
-  pending_stays_so : (run_of k).state.pending ≡ (run_of new).state.pending
+  pub pending_stays_so : (run_of k).state.pending ≡ (run_of new).state.pending
   pending_stays_so =
       sym (ap (λ (x : Kept). x.pending) (stayed.stays (n - 1) last_low).behind)
       ∙ sym (ap (λ (s : State). s.pending) new_state)
@@ -453,11 +443,27 @@ module _ (counted : Bool) (most n : ℕ) (k new : Progress) (last : Option Execu
         active = is.active ∙ active_stays;
       })
 
-  pub stayed_active : active_routine (run_of k).state
-      ≡ active_routine (tick_at new.system new.mode new.arrivals (new.ticks - 1)).before
-  stayed_active =
-      last_on k new n (λ S mode arrivals m. active_routine (run_of k).state ≡ active_routine (tick_at S mode arrivals m).before)
-      stayed.next some (sym (ap (λ (x : Kept). active_of x) (stayed.stays (n - 1) last_low).before))
+  -- what tasks are before them, they are behind them
+  pub stayed_standing : IsProper new.system → (at : AtInstruction) → AreStanding k at → AreStanding new at
+  stayed_standing proper_now at stood =
+      let proper : IsProper k.system = subst IsProper (ap (λ (r : Progress). r.system) stayed.next) proper_now in
+      let each : (t : ℕ) → task_at k.system (run_of k).state t ≡ task_at k.system (run_of new).state t =
+      λ t. sym (task_between k.system proper k.mode k.arrivals k.ticks t)
+      ∙ sym (task_behind counted k.system proper k.mode k.arrivals (k.ticks + (n - 1)) kept_then stayed.who
+      (not_first_at (n - 1)) (stayed.going (n - 1) last_low) (stayed.stays (n - 1) last_low) t)
+      ∙ sym (ap (λ (s : State). task_at k.system s t) new_state) in
+      subst (λ (S : System). at.tasks.items ≡ map (task_at S (run_of new).state) (below (length S.tasks)))
+      (sym (ap (λ (r : Progress). r.system) stayed.next))
+      (stood ∙ ap (λ (f : ℕ → TaskAt). map f (below (length k.system.tasks))) (fun_ext each))
+
+  pub stayed_after : (run_of new).state ≡ (last_tick new).after
+  stayed_after = last_on k new n (λ S mode arrivals m. (run_of new).state ≡ (tick_at S mode arrivals m).after) stayed.next some new_state
+
+  -- and so are the pending routines, at the last one's instruction and behind it
+  pub stayed_pending : (run_of k).state.pending ≡ (tick_at new.system new.mode new.arrivals (new.ticks - 1)).at.pending
+  stayed_pending =
+      last_on k new n (λ S mode arrivals m. (run_of k).state.pending ≡ (tick_at S mode arrivals m).at.pending) stayed.next some
+      (sym (ap (λ (x : Kept). x.pending) (stayed.stays (n - 1) last_low).at))
 
   -- nothing comes to anything in the last of them
   pub stayed_all : IsProper new.system
@@ -519,3 +525,23 @@ module _ (counted : Bool) (most n : ℕ) (k new : Progress) (last : Option Execu
               uncounted = was.uncounted;
             };
       }
+
+-- ---- a tick of which it was known that nothing comes before its instruction
+
+-- what tasks are before it, they are at its instruction
+pub steady_standing : (k new : Progress) → IsProper k.system → (run_of k).state.over ≡ false → HasGoneSteadily k new
+    → (at : AtInstruction) → AreStanding k at
+    → at.tasks.items ≡ map (task_at new.system (last_tick new).at) (below (length new.system.tasks))
+steady_standing k new proper on gone at stood =
+    let S : System = k.system in
+    let each : (t : ℕ) → task_at S (run_of k).state t ≡ task_at S (tick_at S k.mode k.arrivals k.ticks).at t =
+    λ t. sym (task_between S proper k.mode k.arrivals k.ticks t) ∙ sym (ap (λ o. task_at_in S o t) gone.at)
+    ∙ task_executing S proper k.mode k.arrivals k.ticks on t in
+    one_on k new (λ T mode arrivals n. at.tasks.items ≡ map (task_at T (tick_at T mode arrivals n).at) (below (length T.tasks)))
+    gone.next (stood ∙ ap (λ (f : ℕ → TaskAt). map f (below (length S.tasks))) (fun_ext each))
+
+-- and so are the pending routines
+pub steady_pending : (k new : Progress) → HasGoneSteadily k new → (run_of k).state.pending ≡ (last_tick new).at.pending
+steady_pending k new gone =
+    one_on k new (λ S mode arrivals n. (run_of k).state.pending ≡ (tick_at S mode arrivals n).at.pending) gone.next
+    (sym (ap (λ (x : Kept). x.pending) gone.at))

@@ -2,6 +2,6 @@ pub mod Bounds
 pub mod RefusedAlarms
 pub mod Refusals
 pub mod Alike
-pub mod Left
+pub mod Resting
 pub mod Seeing
 pub mod Replacing

@@ -1,9 +1,7 @@
 -- What is seen of an object, put together.
-use Rattle.std.proofs.Common.{◌≡◌, cond, true, ℕ, zero, suc, ◌+◌, ◌-◌, ◌<◌, ◌≤◌, Bool, false, List, [], ◌∷◌, get_or, map, length, refl, sym, ◌∙◌, ap, subst, arith, inl, inr}
-use Rattle.std.proofs.lemmas.Bool.{cases_eq}
-use Rattle.std.proofs.lemmas.List.{get_or_push, get_or_append_left, map-append, length-map}
+use Rattle.std.proofs.Common.{◌≡◌, cond, true, ℕ, ◌+◌, ◌-◌, ◌≤◌, Bool, false, List, [], ◌∷◌, length, sym, ◌∙◌, ap, subst, arith}
+use Rattle.std.proofs.lemmas.List.{length-map}
 use Rattle.osek_base.specs.declared.arrivals.Arrival.{Arrival}
-use Rattle.osek_base.specs.Lists.{below}
 use Rattle.osek_base.specs.System.{System}
 use Rattle.osek_base.specs.declared.limits.TheConstants.{MAX_ARRIVALS}
 use Rattle.osek_base.specs.Trace.{Run, arriving}
@@ -13,7 +11,6 @@ use Rattle.kernel.specs.Progress.{Progress, is_over, run_of}
 use Rattle.seen_ticks.specs.Observed.{tick_at}
 use Rattle.std.specs.Prelude.{◌==◌}
 use Rattle.std.specs.List.{filter}
-use Rattle.seen_ticks.proofs.SeenSteps.{seen_count}
 
 -- what is said of the tick that comes is said of the last one behind it
 pub one_on : (k new : Progress) (P : System → ℕ → List Arrival → ℕ → Type 0) → new ≡ record k { ticks = k.ticks + 1 }

@@ -9,9 +9,13 @@ use Rattle.osek_base.specs.Lists.{below}
 use Rattle.osek_base.specs.State.{State}
 use Rattle.osek_base.specs.System.{System}
 use Rattle.observations.specs.declared.observation.Observation.{Observation}
-use Rattle.blocking_laws.specs.Steps.{record_at}
+use Rattle.blocking_laws.specs.Steps.{record_at, step_at}
+use Rattle.kept_state.specs.Kept.{kept}
+use Rattle.kernel.specs.declared.at_instruction.AtInstruction.{AtInstruction}
 use Rattle.kernel.specs.Progress.{Progress, run_of}
 use Rattle.observed_runs.specs.declared.before.Before.{Before}
+use Rattle.observed_runs.specs.Resting.{AreAtRest, IsRest}
+use Rattle.seen_ticks.specs.Told.{task_at}
 use Rattle.seen_ticks.specs.declared.execution.Execution.{Execution}
 use Rattle.seen_ticks.specs.Observed.{IsObserved, Ticked, active_routine, ending, holders_seen, is_pending, jobs_before, refusing, tick_at}
 
@@ -53,9 +57,22 @@ pub record IsTelling (r : Progress) (S : System) (e : Execution) (ahead behind :
   pub few : length r.arrivals ≤ MAX_ARRIVALS
   pub told : 1 ≤ r.ticks → IsTold r.system r.mode r.arrivals (r.ticks - 1) (run_of r).state e ahead behind
 
--- what is known before the tick that comes next, what is seen of the last one, and whether its holders are those before the
--- next, too
-pub record IsObservedRun (counted : Bool) (r : Progress) (before : Before) (o : Observation) (is_held : Bool) : Type 0 where
+-- behind a tick, what each task is
+abbrev pub AreStanding : Progress → AtInstruction → Type 0
+AreStanding r at = at.tasks.items ≡ map (task_at r.system (run_of r).state) (below (length r.system.tasks))
+
+-- a tick more was done, which wasn't the first: nothing came to a routine or an alarm, and up to its instruction all was kept
+pub record HasGoneSteadily (old new : Progress) : Type 0 where
+  pub next : new ≡ record old { ticks = old.ticks + 1 }
+  pub not_first : 1 ≤ old.ticks
+  pub rest : IsRest (last_tick new)
+  pub at : kept old.system (step_at old.system old.mode old.arrivals old.ticks).executing ≡ kept old.system (run_of old).state
+
+-- what is known before the tick that comes next, what the tasks are behind the last one, and what was seen of it; whether its
+-- holders are those before the next, too, and whether its routines and alarms are those of ticks in which nothing comes to any
+pub record IsObservedRun (counted : Bool) (r : Progress) (before : Before) (at : AtInstruction) (o : Observation) (is_held rests : Bool) : Type 0 where
   pub known : IsBefore r.system (coming r) before
+  pub standing : 1 ≤ r.ticks → AreStanding r at
   pub observed : 1 ≤ r.ticks → IsObserved counted r.system r.mode r.arrivals (r.ticks - 1) o
   pub held : is_held ≡ true → o.holders.items ≡ holders_seen r.system (run_of r).state
+  pub resting : rests ≡ true → AreAtRest r.system (run_of r).state.pending o

@@ -1,2 +1,3 @@
 pub mod Keeping
 pub mod Passing
+pub mod Resting

@@ -15,13 +15,14 @@ use Rattle.blocking_laws.specs.Steps.{record_at, step_at}
 use Rattle.kept_state.specs.Kept.{Kept, kept}
 use Rattle.kernel.specs.Progress.{Progress, is_over, run_of}
 use Rattle.kernel.specs.Working.{at_rest}
+use Rattle.observed_runs.specs.Resting.{IsRest}
 use Rattle.seen_ticks.specs.declared.task_at.TaskAt.{TaskAt}
 use Rattle.seen_ticks.specs.Told.{due_in, task_at}
 use Rattle.seen_ticks.specs.Observed.{IsObserved, Ticked, answered, ending, failure_of, is_by, is_waiting, owner_of, refusing, state_seen, task_seen}
 
 -- in a tick of a run nothing comes to a task, routine, resource or alarm: no interrupt arrives, no alarm is due, no number of
--- blockers is told where they are counted, who executes, if anybody does, is answered nothing and neither ends a job nor makes
--- one, and at rest what is kept of the state is the same before the tick, at its instruction and behind it
+-- blockers is told where they are counted, who executes, if anybody does, is no routine, is answered nothing and neither ends a
+-- job nor makes one, and at rest what is kept of the state is the same before the tick, at its instruction and behind it
 pub record StaysAlike (counted : Bool) (S : System) (mode : ℕ) (arrivals : List Arrival) (t : ℕ) (o : Kept) (who : Option Owner) : Type 0 where
   pub none_arrive : arriving arrivals t ≡ []
   pub none_due : due_alarms S (run S mode arrivals t).state ≡ []
@@ -29,6 +30,7 @@ pub record StaysAlike (counted : Bool) (S : System) (mode : ℕ) (arrivals : Lis
   pub executed : Option Executed
   pub recorded : record_at S mode arrivals t ≡ idle_or_executed S executed ∷ []
   pub owner : option_map owner_of executed ≡ who
+  pub no_routine : (i : ℕ) → is_by (Owner.Routine i) executed ≡ false
   pub answer : answered executed ≡ None
   pub failure : failure_of executed ≡ None
   pub ends : ending S executed ≡ None
@@ -85,10 +87,8 @@ task_left executes at =
       waits = executes && is_waiting at.state;
     }
 
--- nothing comes to anything in a tick: tasks are behind it what they are at its instruction, no alarm is due, and no interrupt
--- arrives
+-- nothing comes to anything in a tick: tasks are behind it what they are at its instruction, and nothing comes to a routine or an
+-- alarm
 pub record LeavesAll (S : System) (k : Ticked) : Type 0 where
   pub each : (t : ℕ) → task_seen S k t ≡ task_left (is_by (Owner.Task t) k.executed) (task_at S k.after t)
-  pub none_due : k.due ≡ []
-  pub none_refused : k.refused ≡ []
-  pub none_arrive : k.arrived ≡ []
+  pub rest : IsRest k

@@ -1,8 +1,9 @@
 //! OSEK/VDX OS: alarms. What is seen of the alarms.
 
-ghost use Rattle.std.specs.Prelude.{◌≡◌, ◌≤◌, [], map, length};
+ghost use Rattle.std.specs.Prelude.{◌≡◌, ◌≤◌, map, length};
 ghost use Rattle.osek_base.specs.Lists.{below};
 ghost use Rattle.observed_runs.specs.Keeping.{last_tick};
+ghost use Rattle.observed_runs.specs.Resting.{resting_alarm};
 ghost use Rattle.seen_ticks.specs.Observed.{alarm_seen};
 
 use crate::told_run::ToldRun;
@@ -38,14 +39,11 @@ impl<'s, B: Blockers> ToldRun<'s, B> {
         }
     }
 
-    /// Leaves what is seen of the alarms in the tick that was done last, in which none is due.
+    /// Leaves what is seen of the alarms in a tick in which none is due.
     #[tactic(auto, using(kernel::proofs::Filled::one_more, kernel::proofs::Filled::all_of))]
     #[inline(always)]
-    pub(crate) fn see_alarms_left(&self, alarms: &mut ArrayVec<AlarmSeen, MAX_ALARMS>)
-        requires due { (last_tick self.now).due ≡ [] }
-        requires refused { (last_tick self.now).refused ≡ [] }
-        ensures { alarms.new.items
-            ≡ map (alarm_seen (last_tick self.now)) (below (length self.now.system.alarms)) }
+    pub(crate) fn see_alarms_at_rest(&self, alarms: &mut ArrayVec<AlarmSeen, MAX_ALARMS>)
+        ensures { alarms.new.items ≡ map resting_alarm (below (length self.now.system.alarms)) }
     {
         let count = self.system().alarm_count();
         give_places(alarms, count);

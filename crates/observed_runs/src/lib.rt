@@ -8,6 +8,7 @@ mod observed_run;
 mod readers;
 mod routines_seen;
 mod tasks_seen;
+mod tick_seen;
 mod told_run;
 
 pub use observed_run::ObservedRun;

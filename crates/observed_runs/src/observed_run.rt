@@ -2,31 +2,18 @@
 
 ghost use Rattle.std.specs.Prelude.{◌≡◌, ◌+◌, ◌-◌, ◌≤◌, [], not, map, length, IsTrue, IsFalse, Some, IfOk};
 ghost use Rattle.std.specs.Option.{option_map};
-ghost use Rattle.osek_base.specs.BlockingText.{blockers_at};
-ghost use Rattle.osek_base.specs.Lists.{below};
 ghost use Rattle.osek_base.specs.Names.{number_of};
 ghost use Rattle.kernel.specs.declared.boot.BootFault.{BootFault};
 ghost use Rattle.kernel.specs.Progress.{AreKnown, is_over};
-ghost use Rattle.kernel.specs.Stamping.{IsNumber};
 ghost use Rattle.blocking_laws.specs.Steps.{record_at, step_at};
-ghost use Rattle.observed_runs.specs.Keeping.{IsBefore, coming, last_tick};
-ghost use Rattle.observed_runs.specs.Passing.{LeavesAll, PassesAlike};
-ghost use Rattle.seen_ticks.specs.Told.{task_at};
-ghost use Rattle.seen_ticks.specs.Observed.{
-  IsObserved,
-  active_routine,
-  answered,
-  failure_of,
-  holders_seen,
-  owner_of,
-};
+ghost use Rattle.observed_runs.specs.Passing.{PassesAlike};
+ghost use Rattle.seen_ticks.specs.Observed.{IsObserved};
 
 use crate::before::Before;
 use crate::told_run::ToldRun;
 use kernel::{AtInstruction, Blockers, BootFault};
 use observations::Observation;
-use osek_base::{Arrivals, IsrId, MAX_TICKS, System, TickRecord};
-use seen_ticks::{answered, executor, failure};
+use osek_base::{Arrivals, MAX_TICKS, System, TickRecord};
 use std::alloc::Global;
 use std::cmp;
 use std::marker::Model;
@@ -38,11 +25,15 @@ pub struct ObservedRun<'s, B: Blockers> {
     told: ToldRun<'s, B>,
     /// What is known before the tick that comes next.
     before: Before,
-    /// Room for what the tasks are at a tick's instruction.
+    /// What the tasks are behind the last tick, and room for what they are at the next one's
+    /// instruction.
     at: AtInstruction,
     seen: Observation,
     /// Whether the holders that are seen are those before the tick that comes next, too.
     is_held: bool,
+    /// Whether what is seen of routines and alarms is what is seen in each tick in which nothing comes
+    /// to any of them.
+    rests: bool,
 }
 
 impl<'s, B: Blockers> Model for ObservedRun<'s, B> {
@@ -53,71 +44,8 @@ impl<'s, B: Blockers> Model for ObservedRun<'s, B> {
 
     ghost view = { λ r. r.told };
 
-    ghost invariant = { λ r. IsObservedRun B.are_counted r.told r.before r.seen r.is_held };
-}
-
-impl<'s, B: Blockers> ToldRun<'s, B> {
-    /// Leaves who executed in the tick that was done last, and how that went.
-    #[inline(always)]
-    fn see_executed(&self, seen: &mut Observation)
-        requires { 1 ≤ self.now.ticks }
-        ensures holders { seen.new.holders ≡ seen.old.holders }
-        ensures number { seen.new.tick ≡ self.now.ticks - 1 }
-        ensures executor { seen.new.executor ≡ option_map owner_of (last_tick self.now).executed }
-        ensures answered { seen.new.answered ≡ answered (last_tick self.now).executed }
-        ensures failure { seen.new.failure ≡ failure_of (last_tick self.now).executed }
-        ensures blockers { IsNumber B.are_counted
-            (blockers_at self.now.system self.now.mode self.now.arrivals (self.now.ticks - 1))
-            seen.new.blockers }
-    {
-        seen.tick = self.ticks() - 1;
-        let executed = self.executed();
-        seen.executor = executor(&executed);
-        seen.answered = answered(&executed);
-        seen.failure = failure(&executed);
-        seen.blockers = self.kernel.blockers();
-    }
-
-    /// Leaves what is seen of the tick that was done last, by what the tasks were at its instruction,
-    /// and by what was known before it. Its holders stand already. What is known before the next tick
-    /// is left, too.
-    #[inline(always)]
-    fn see(&self, at: &AtInstruction, before: &mut Before, seen: &mut Observation)
-        requires ticked { 1 ≤ self.now.ticks }
-        requires each { at.now.tasks.items
-            ≡ map (task_at self.now.system (last_tick self.now).at)
-            (below (length self.now.system.tasks)) }
-        requires known { IsBefore self.now.system (last_tick self.now) before.old }
-        requires holders { seen.old.holders.items
-            ≡ holders_seen self.now.system (last_tick self.now).at }
-        ensures seen { IsObserved B.are_counted self.now.system self.now.mode self.now.arrivals
-            (self.now.ticks - 1) seen.new }
-        ensures next { IsBefore self.now.system (coming self.now) before.new }
-    {
-        self.see_executed(seen);
-        self.see_tasks(at, &mut before.jobs, &mut seen.tasks);
-        self.see_routines(&before.active, &mut before.pending, &mut seen.routines);
-        self.see_alarms(&mut seen.alarms);
-        before.active = self.kernel.active_routine();
-    }
-
-    /// Leaves what is seen of the tick that was done last, in which nothing comes to anything, by which
-    /// routine was active before it. Its holders stand already.
-    #[inline(always)]
-    fn see_alike(&self, active: &Option<IsrId>, seen: &mut Observation)
-        requires ticked { 1 ≤ self.now.ticks }
-        requires active { active.now ≡ active_routine (last_tick self.now).before }
-        requires leaves { LeavesAll self.now.system (last_tick self.now) }
-        requires holders { seen.old.holders.items
-            ≡ holders_seen self.now.system (last_tick self.now).at }
-        ensures { IsObserved B.are_counted self.now.system self.now.mode self.now.arrivals
-            (self.now.ticks - 1) seen.new }
-    {
-        self.see_executed(seen);
-        self.see_tasks_left(&mut seen.tasks);
-        self.see_routines_left(active, &mut seen.routines);
-        self.see_alarms_left(&mut seen.alarms);
-    }
+    ghost invariant = { λ r. IsObservedRun B.are_counted r.told r.before r.at r.seen r.is_held
+        r.rests };
 }
 
 impl<'s, B: Blockers> ObservedRun<'s, B> {
@@ -143,6 +71,7 @@ impl<'s, B: Blockers> ObservedRun<'s, B> {
             at: AtInstruction::new(),
             seen: Observation::new(),
             is_held: false,
+            rests: false,
         })
     }
 
@@ -158,9 +87,18 @@ impl<'s, B: Blockers> ObservedRun<'s, B> {
         }
         self.told
             .see_holders_once(self.is_held, &mut self.seen.holders);
+        if self.told.advance_steady() {
+            self.told
+                .see_steady(self.rests, &mut self.at, &mut self.before, &mut self.seen);
+            self.is_held = false;
+            self.rests = true;
+            return true;
+        }
         self.told.advance(&mut self.at);
-        self.told.see(&self.at, &mut self.before, &mut self.seen);
+        self.told
+            .see(&mut self.at, &mut self.before, &mut self.seen);
         self.is_held = false;
+        self.rests = false;
         true
     }
 
@@ -194,7 +132,8 @@ impl<'s, B: Blockers> ObservedRun<'s, B> {
             return 0;
         }
         self.told.see_holders(&mut self.seen.holders);
-        self.told.see_alike(&self.before.active, &mut self.seen);
+        self.told.see_alike(self.rests, &self.at, &mut self.seen);
+        self.rests = true;
         self.is_held = true;
         passed
     }

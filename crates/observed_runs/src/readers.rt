@@ -2,8 +2,6 @@
 
 ghost use Rattle.std.specs.Prelude.{◌≡◌, ◌<◌, ◌≤◌, ◌-◌, [], false, None, length};
 ghost use Rattle.std.specs.List.{AllByRecursion};
-ghost use Rattle.osek_base.specs.Service.{task_state};
-ghost use Rattle.osek_base.specs.State.{jobs_of};
 ghost use Rattle.osek_base.specs.System.{alarm};
 ghost use Rattle.kernel.specs.Progress.{run_of};
 ghost use Rattle.observed_runs.specs.Keeping.{last_tick};
@@ -25,21 +23,25 @@ use alarms::DueList;
 use kernel::{Blockers, Kernel};
 use osek_base::{
     Action, AlarmId, Executed, IsrId, MAX_ACTIVATION, MAX_ALARMS, MAX_ARRIVALS, Owner, System,
-    TaskId, TaskState,
+    TaskId,
 };
 use ready_queues::LevelQueues;
 use seen_ticks::{TaskAt, activations_by, is_among, is_by, is_task, times};
 
-/// How many jobs a kernel's task has, at most MAX_ACTIVATION.
-fn few_jobs<B: Blockers>(kernel: &Kernel<'_, LevelQueues, B>, system: &System, task: TaskId) -> u8
+/// What a kernel's task is. It has at most MAX_ACTIVATION jobs.
+fn task_of_few<B: Blockers>(
+    kernel: &Kernel<'_, LevelQueues, B>,
+    system: &System,
+    task: TaskId,
+) -> TaskAt
     requires system { kernel.now.system ≡ system.now }
     requires task { task < length system.now.tasks }
-    ensures value { result ≡ length (jobs_of task (run_of kernel.now).state.jobs) }
-    ensures few { result ≤ MAX_ACTIVATION }
+    ensures value { result ≡ task_at system.now (run_of kernel.now).state task }
+    ensures few { result.jobs ≤ MAX_ACTIVATION }
 {
     // Who asks for the count of tasks learns that the system is proper, so that few jobs are allowed.
     let _proper = system.task_count();
-    kernel.job_count(task)
+    kernel.task_at(task)
 }
 
 impl<'s, B: Blockers> ToldRun<'s, B> {
@@ -47,28 +49,10 @@ impl<'s, B: Blockers> ToldRun<'s, B> {
     pub(crate) fn task_behind(&self, task: TaskId) -> TaskAt
         requires ticked { 1 ≤ self.now.ticks }
         requires task { task < length self.now.system.tasks }
-        ensures { result ≡ task_at self.now.system (last_tick self.now).after task }
+        ensures value { result ≡ task_at self.now.system (last_tick self.now).after task }
+        ensures few { result.jobs ≤ MAX_ACTIVATION }
     {
-        self.kernel.task_at(task)
-    }
-
-    /// How many jobs it has behind the tick.
-    pub(crate) fn jobs_behind(&self, task: TaskId) -> u8
-        requires ticked { 1 ≤ self.now.ticks }
-        requires task { task < length self.now.system.tasks }
-        ensures value { result ≡ length (jobs_of task (last_tick self.now).after.jobs) }
-        ensures few { result ≤ MAX_ACTIVATION }
-    {
-        few_jobs(&self.kernel, self.system, task)
-    }
-
-    /// Its state behind the tick.
-    pub(crate) fn state_behind(&self, task: TaskId) -> TaskState
-        requires ticked { 1 ≤ self.now.ticks }
-        requires task { task < length self.now.system.tasks }
-        ensures { result ≡ task_state (last_tick self.now).after task }
-    {
-        self.task_behind(task).state
+        task_of_few(&self.kernel, self.system, task)
     }
 
     /// What was executed.

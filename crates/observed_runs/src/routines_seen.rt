@@ -1,8 +1,9 @@
 //! OSEK/VDX OS: interrupt processing. What is seen of the interrupt routines.
 
-ghost use Rattle.std.specs.Prelude.{◌≡◌, ◌<◌, ◌≤◌, [], map, length};
+ghost use Rattle.std.specs.Prelude.{◌≡◌, ◌<◌, ◌≤◌, map, length};
 ghost use Rattle.osek_base.specs.Lists.{below};
 ghost use Rattle.observed_runs.specs.Keeping.{last_tick};
+ghost use Rattle.observed_runs.specs.Resting.{resting_routine};
 ghost use Rattle.seen_ticks.specs.Observed.{
   active_routine,
   is_number,
@@ -43,49 +44,37 @@ impl<'s, B: Blockers> ToldRun<'s, B> {
         }
     }
 
-    /// What is seen of a routine in the tick that was done last, in which no interrupt arrives, by
-    /// whether it was active before the tick.
+    /// What is seen of a routine in the tick that was done last, in which nothing comes to any.
     #[inline(always)]
-    #[tactic(auto, using(crate::proofs::Left::none_arrived))]
-    fn routine_left(&self, routine: IsrId, was_active: bool) -> RoutineSeen
+    fn routine_at_rest(&self, routine: IsrId) -> RoutineSeen
         requires ticked { 1 ≤ self.now.ticks }
         requires routine { routine < length self.now.system.routines }
-        requires active { was_active
-            ≡ is_number routine (active_routine (last_tick self.now).before) }
-        requires none { (last_tick self.now).arrived ≡ [] }
-        ensures { result ≡ routine_seen (last_tick self.now) routine }
+        ensures { result ≡ resting_routine (last_tick self.now).at.pending routine }
     {
-        let executes = self.is_by(Owner::Routine(routine));
         RoutineSeen {
-            executes,
+            executes: false,
             is_pending: self.is_pending(routine),
-            is_started: executes && !was_active,
+            is_started: false,
             arrived: 0,
             lost: 0,
         }
     }
 
-    /// Leaves what is seen of the routines in the tick that was done last, in which no interrupt
-    /// arrives, by which was active before the tick.
+    /// Leaves what is seen of the routines in the tick that was done last, in which nothing comes to
+    /// any.
     #[tactic(auto, using(kernel::proofs::Filled::one_more, kernel::proofs::Filled::all_of))]
     #[inline(always)]
-    pub(crate) fn see_routines_left(
-        &self,
-        active: &Option<IsrId>,
-        routines: &mut ArrayVec<RoutineSeen, MAX_ROUTINES>,
-    )
-        requires ticked { 1 ≤ self.now.ticks }
-        requires active { active.now ≡ active_routine (last_tick self.now).before }
-        requires none { (last_tick self.now).arrived ≡ [] }
+    pub(crate) fn see_routines_at_rest(&self, routines: &mut ArrayVec<RoutineSeen, MAX_ROUTINES>)
+        requires { 1 ≤ self.now.ticks }
         ensures { routines.new.items
-            ≡ map (routine_seen (last_tick self.now)) (below (length self.now.system.routines)) }
+            ≡ map (resting_routine (last_tick self.now).at.pending)
+            (below (length self.now.system.routines)) }
     {
         let count = self.system().routine_count();
         give_places(routines, count);
         let places = routines.as_mut_slice();
         for number in 0..count {
-            let routine = IsrId::new(number as u8);
-            places[number] = self.routine_left(routine, is_routine(routine, *active));
+            places[number] = self.routine_at_rest(IsrId::new(number as u8));
         }
     }
 

@@ -1,6 +1,6 @@
 //! A run beside what its kernel tells of the last tick, no part of the standards.
 
-ghost use Rattle.std.specs.Prelude.{◌≡◌, ◌+◌, ◌-◌, ◌≤◌, true, false, length, map, IfOk, IfSome, Some, None};
+ghost use Rattle.std.specs.Prelude.{◌≡◌, ◌+◌, ◌-◌, ◌≤◌, true, false, length, map, IfOk, IfSome, IsFalse, IsTrue, Some, None};
 ghost use Rattle.osek_base.specs.Executed.{StandsIn, idle_or_executed};
 ghost use Rattle.osek_base.specs.Lists.{below};
 ghost use Rattle.osek_base.specs.Names.{number_of};
@@ -8,7 +8,7 @@ ghost use Rattle.osek_base.specs.Proper.{IsProper};
 ghost use Rattle.kernel.specs.declared.boot.BootFault.{BootFault};
 ghost use Rattle.kernel.specs.Progress.{AreKnown, HasIdled, is_over, run_of};
 ghost use Rattle.blocking_laws.specs.Steps.{record_at};
-ghost use Rattle.observed_runs.specs.Keeping.{IsBefore, coming, last_tick};
+ghost use Rattle.observed_runs.specs.Keeping.{HasGoneSteadily, IsBefore, coming, last_tick};
 ghost use Rattle.observed_runs.specs.Passing.{StaysOn};
 ghost use Rattle.seen_ticks.specs.Observed.{executed_in, holders_seen};
 ghost use Rattle.seen_ticks.specs.Told.{task_at};
@@ -104,6 +104,7 @@ impl<'s, B: Blockers> ToldRun<'s, B> {
     }
 
     /// Does one tick, and leaves what the tasks are at its instruction.
+    #[inline(never)]
     pub(crate) fn advance(&mut self, at: &mut AtInstruction)
         requires { is_over self.old ≡ false }
         ensures next { self.new ≡ record self.old { ticks = self.old.ticks + 1 } }
@@ -113,6 +114,22 @@ impl<'s, B: Blockers> ToldRun<'s, B> {
     {
         let executed = self.kernel.tick_seen(&mut self.ahead, &mut self.behind, at);
         self.execution = Execution::of(self.system, executed);
+    }
+
+    /// Does one tick, where it is known that nothing comes before the instruction of the running
+    /// task. Answers false, and does nothing, where that isn't known, as in the first tick.
+    #[inline(always)]
+    pub(crate) fn advance_steady(&mut self) -> bool
+        requires { is_over self.old ≡ false }
+        ensures gone { IsTrue result → HasGoneSteadily self.old self.new }
+        ensures same { IsFalse result → self.new ≡ self.old }
+    {
+        let Some(executed) = self.kernel.tick_steady(&mut self.behind) else {
+            return false;
+        };
+        self.execution = Execution::of(self.system, Some(executed));
+        self.ahead.clear();
+        true
     }
 
     /// Does the ticks that follow at once, at most some, as long as nothing happens in them but that
@@ -139,15 +156,17 @@ impl<'s, B: Blockers> ToldRun<'s, B> {
         requires { self.old.ticks + most ≤ MAX_TICKS }
         ensures { StaysOn B.are_counted most self.old self.new result }
     {
-        let worked = self.kernel.pass_plain(most, &mut self.room);
-        if worked.ticks == 0 {
+        let executed = &mut self.execution.executed;
+        let worked = self.kernel.pass_plain(most, &mut self.room, executed);
+        if worked == 0 {
             return 0;
         }
         let _proper = self.system.task_count();
-        self.execution = Execution::of(self.system, worked.last);
+        self.execution.ending = None;
+        self.execution.refusing = None;
         self.ahead.clear();
         self.behind.clear();
-        worked.ticks
+        worked
     }
 
     /// Whether ticks may follow that [`pass_alike`](ToldRun::pass_alike) does. Where none may, none is

@@ -1,5 +1,4 @@
-use Rattle.std.proofs.Common.{◌≡◌, ℕ, refl, sym, subst}
-use Rattle.osek_base.specs.declared.ids.Owner.{Owner}
+use Rattle.std.proofs.Common.{refl, subst}
 use Rattle.kernel.specs.Machine.{Machine}
 use Rattle.kernel.specs.Processor.{at_tick, picture}
 use Rattle.kernel.specs.Working.{IsWorking}

@@ -1,4 +1,4 @@
-use Rattle.std.proofs.Common.{◌≡◌, false, true, not, sym, ◌∙◌, ap}
+use Rattle.std.proofs.Common.{not, sym, ◌∙◌, ap}
 use Rattle.std.specs.Prelude.{is_none}
 use Rattle.std.proofs.lemmas.Bool.{false≢true}
 use Rattle.readiness.specs.Stamps.{stamp_of_oldest}

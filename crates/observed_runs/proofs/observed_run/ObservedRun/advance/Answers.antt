@@ -1,20 +1,61 @@
-use Rattle.std.proofs.Common.{◌≡◌, ◌∙◌}
-use Rattle.kernel.specs.Progress.{Progress}
+use Rattle.std.proofs.Common.{◌≡◌, true, false, sym, ◌∙◌, subst}
+use Rattle.std.proofs.lemmas.Bool.{true≢false}
+use Rattle.kernel.specs.Progress.{Progress, run_of}
+use Rattle.kernel.proofs.RunLemmas.{going}
 use Rattle.seen_ticks.specs.Observed.{holders_seen, tick_at}
-use Rattle.observed_runs.specs.Keeping.{IsBefore}
-use Rattle.observed_runs.proofs.Seeing.{one_on}
+use Rattle.observed_runs.specs.Keeping.{HasGoneSteadily, IsBefore, coming}
+use Rattle.observed_runs.proofs.Alike.{steady_standing}
+use Rattle.observed_runs.proofs.Resting.{rested}
+use Rattle.observed_runs.proofs.Seeing.{one_on, state_more}
 use Rattle.seen_ticks.proofs.Staying.{holders_stay}
 use Rattle.observed_runs.proofs.observed_run.ObservedRun.advance.Goals as goal
+
+pub see_steady-requires-clause-holders : goal.see_steady-requires-clause-holders
+see_steady-requires-clause-holders g c =
+    let k : Progress = c.self.inside.told in
+    let new : Progress = c.advance_steady.new.self in
+    let gone : HasGoneSteadily k new = c.if-advance_steady.ensures.gone (λ i. true) in
+    one_on k new (λ S mode arrivals n. c.see_holders_once.new.holders.items ≡ holders_seen S (tick_at S mode arrivals n).at) gone.next
+    (c.see_holders_once.ensures.holders ∙ holders_stay k.system c.see_holders_once.ensures.proper k.mode k.arrivals k.ticks)
+
+pub see_steady-requires-clause-each : goal.see_steady-requires-clause-each
+see_steady-requires-clause-each g c =
+    let k : Progress = c.self.inside.told in
+    let new : Progress = c.advance_steady.new.self in
+    let gone : HasGoneSteadily k new = c.if-advance_steady.ensures.gone (λ i. true) in
+    let on = (going k.system k.mode k.arrivals k.ticks (sym c.if-is_over.ensures)).on in
+    steady_standing k new c.see_holders_once.ensures.proper on gone c.self.inside.at (c.self.invariant.standing gone.not_first)
+
+pub invariant_of-self : goal.invariant_of-self
+invariant_of-self g c =
+    let k : Progress = c.self.inside.told in
+    let new : Progress = c.advance_steady.new.self in
+    let gone : HasGoneSteadily k new = c.if-advance_steady.ensures.gone (λ i. true) in
+    let behind =
+    one_on k new (λ S mode arrivals n. (run_of new).state ≡ (tick_at S mode arrivals n).after) gone.next
+    (state_more k new gone.next (sym c.if-is_over.ensures)) in
+    record {
+      known = c.see_steady.ensures.next;
+      standing = λ begun. c.see_steady.ensures.each;
+      observed = λ begun. c.see_steady.ensures.seen;
+      held = λ h. absurd (true≢false (sym h));
+      resting = λ _. rested new c.see_steady.new.seen gone.rest c.see_steady.ensures.seen.seen behind;
+    }
 
 pub see-requires-clause-holders : goal.see-requires-clause-holders
 see-requires-clause-holders g c =
     let k : Progress = c.self.inside.told in
-    one_on k c.advance.new.self
-    (λ S mode arrivals n. c.see_holders_once.new.holders.items ≡ holders_seen S (tick_at S mode arrivals n).at) c.advance.ensures.next
-    (c.see_holders_once.ensures.holders ∙ holders_stay k.system c.see_holders_once.ensures.proper k.mode k.arrivals k.ticks)
+    let m : Progress = c.advance_steady.new.self in
+    let same : m ≡ k = c.if-advance_steady.ensures.same (λ i. false) in
+    let holders = c.see_holders_once.new.holders.items in
+    one_on m c.advance.new.self (λ S mode arrivals n. holders ≡ holders_seen S (tick_at S mode arrivals n).at) c.advance.ensures.next
+    (subst (λ (r : Progress). holders ≡ holders_seen r.system (coming r).at) (sym same)
+    (c.see_holders_once.ensures.holders ∙ holders_stay k.system c.see_holders_once.ensures.proper k.mode k.arrivals k.ticks))
 
 pub see-requires-clause-known : goal.see-requires-clause-known
 see-requires-clause-known g c =
-    let k : Progress = c.self.inside.told in
-    one_on k c.advance.new.self (λ S mode arrivals n. IsBefore S (tick_at S mode arrivals n) c.self.inside.before)
-    c.advance.ensures.next c.self.invariant.known
+    let m : Progress = c.advance_steady.new.self in
+    let before = c.self.inside.before in
+    one_on m c.advance.new.self (λ S mode arrivals n. IsBefore S (tick_at S mode arrivals n) before) c.advance.ensures.next
+    (subst (λ (r : Progress). IsBefore r.system (coming r) before) (sym (c.if-advance_steady.ensures.same (λ i. false)))
+    c.self.invariant.known)

@@ -1,8 +1,14 @@
-use Rattle.std.proofs.Common.{◌≡◌, ◌+◌, ◌≤◌, ◌<◌, false, sym, ◌∙◌, subst, arith}
+use Rattle.std.proofs.Common.{◌≡◌, ◌+◌, ◌≤◌, ◌<◌, false, length, map, sym, ◌∙◌, ap, subst, arith}
+use Rattle.osek_base.specs.Lists.{below}
+use Rattle.osek_base.specs.State.{State}
 use Rattle.kernel.specs.Progress.{Progress, is_over}
+use Rattle.seen_ticks.specs.Told.{task_at}
+use Rattle.observed_runs.specs.Keeping.{last_tick}
+use Rattle.observed_runs.specs.Resting.{AreAtRest}
+use Rattle.observed_runs.proofs.Resting.{rested}
 use Rattle.kernel.proofs.RunLemmas.{going}
 use Rattle.observed_runs.specs.Passing.{PassesAlike}
-use Rattle.observed_runs.proofs.Alike.{passes_alike, stayed_active, stayed_all, stayed_holders, stayed_known}
+use Rattle.observed_runs.proofs.Alike.{passes_alike, stayed_after, stayed_all, stayed_holders, stayed_known, stayed_pending, stayed_standing}
 use Rattle.observed_runs.proofs.observed_run.ObservedRun.pass_some.Goals as goal
 
 pub see_alike-requires-clause-holders : goal.see_alike-requires-clause-holders
@@ -12,12 +18,32 @@ see_alike-requires-clause-holders g c =
     c.see_holders.ensures.holders
     ∙ stayed_holders g.B.Blockers.are_counted c.min.result p.result c.self.inside.told p.new.self p.ensures.last p.ensures.stayed some
 
-pub see_alike-requires-clause-active : goal.see_alike-requires-clause-active
-see_alike-requires-clause-active g c =
+pub see_alike-requires-clause-each : goal.see_alike-requires-clause-each
+see_alike-requires-clause-each g c =
     let p = c.pass_alike-passed in
     let some : 0 < p.result = omega (arith, c.if-passed-eq0.false) in
-    c.self.invariant.known.active
-    ∙ stayed_active g.B.Blockers.are_counted c.min.result p.result c.self.inside.told p.new.self p.ensures.last p.ensures.stayed some
+    let r : Progress = p.new.self in
+    let k : Progress = c.self.inside.told in
+    let counted = g.B.Blockers.are_counted in
+    stayed_standing counted c.min.result p.result k r p.ensures.last p.ensures.stayed some c.see_holders.ensures.proper c.self.inside.at
+    (c.self.invariant.standing (p.ensures.stayed.not_first some))
+    ∙ ap (λ (s : State). map (task_at r.system s) (below (length r.system.tasks)))
+    (stayed_after counted c.min.result p.result k r p.ensures.last p.ensures.stayed some)
+
+pub see_alike-requires-clause-resting : goal.see_alike-requires-clause-resting
+see_alike-requires-clause-resting g c rests =
+    let p = c.pass_alike-passed in
+    let some : 0 < p.result = omega (arith, c.if-passed-eq0.false) in
+    let r : Progress = p.new.self in
+    let k : Progress = c.self.inside.told in
+    let counted = g.B.Blockers.are_counted in
+    let stood : AreAtRest k.system (last_tick r).at.pending c.self.inside.seen =
+    subst (λ v. AreAtRest k.system v c.self.inside.seen)
+    (stayed_pending counted c.min.result p.result k r p.ensures.last p.ensures.stayed some) (c.self.invariant.resting rests) in
+    let now : AreAtRest r.system (last_tick r).at.pending c.self.inside.seen =
+    subst (λ S. AreAtRest S (last_tick r).at.pending c.self.inside.seen)
+    (sym (ap (λ (x : Progress). x.system) p.ensures.stayed.next)) stood in
+    record { routines = now.routines; alarms = now.alarms }
 
 pub see_alike-requires-clause-leaves : goal.see_alike-requires-clause-leaves
 see_alike-requires-clause-leaves g c =
@@ -34,7 +60,15 @@ invariant_of-self-2 g c =
       known =
           stayed_known g.B.Blockers.are_counted c.min.result p.result c.self.inside.told p.new.self p.ensures.last p.ensures.stayed some
           c.self.inside.before c.self.invariant.known;
+      standing = λ later.
+          stayed_standing g.B.Blockers.are_counted c.min.result p.result c.self.inside.told p.new.self p.ensures.last p.ensures.stayed some
+          c.see_holders.ensures.proper c.self.inside.at (c.self.invariant.standing (p.ensures.stayed.not_first some));
       observed = λ later. c.see_alike.ensures;
+      resting = λ _.
+          rested p.new.self c.see_alike.new.seen
+          (stayed_all g.B.Blockers.are_counted c.min.result p.result c.self.inside.told p.new.self p.ensures.last p.ensures.stayed some
+          c.see_holders.ensures.proper).rest c.see_alike.ensures.seen
+          (stayed_after g.B.Blockers.are_counted c.min.result p.result c.self.inside.told p.new.self p.ensures.last p.ensures.stayed some);
       held = λ _.
           c.see_alike.ensures.seen.holders
           ∙ sym (stayed_holders g.B.Blockers.are_counted c.min.result p.result c.self.inside.told p.new.self p.ensures.last p.ensures.stayed some);

@@ -4,20 +4,11 @@ use Rattle.osek_base.specs.System.{System}
 use Rattle.kernel.proofs.Filled.{goes_on}
 use Rattle.observed_runs.specs.Keeping.{last_tick}
 use Rattle.seen_ticks.specs.Observed.{jobs_before, task_seen}
+use Rattle.seen_ticks.specs.declared.task_at.TaskAt.{TaskAt}
 use Rattle.seen_ticks.specs.Told.{task_at}
 use Rattle.observed_runs.proofs.Replacing.{next_is, none_replaced, one_replaced}
-use Rattle.seen_ticks.proofs.SeenSteps.{inside, read_at, seen_count}
+use Rattle.seen_ticks.proofs.SeenSteps.{read_at, seen_count}
 use Rattle.observed_runs.proofs.told_run.ToldRun.see_tasks.Goals as goal
-
-pub bounds-stood-number : goal.bounds-stood-number
-bounds-stood-number g c =
-    let r = c.args.self.now in
-    let all : c.task_count-count.result ≡ length r.system.tasks =
-    c.task_count-count.ensures.value ∙ ap (λ (S : System). length S.tasks) c.system.ensures in
-    let low = c.loop-number-test.true in
-    let within : c.loop-number.number < length r.system.tasks = omega (arith, low, all) in
-    inside (task_at r.system (last_tick r).at) (length r.system.tasks) c.as_slice-stood.result.now c.args.at.now.tasks.items
-    c.loop-number.number c.loop-number.number c.as_slice-stood.ensures.value c.requires.each refl within
 
 pub see_task-requires-clause-at : goal.see_task-requires-clause-at
 see_task-requires-clause-at g c =
@@ -26,9 +17,12 @@ see_task-requires-clause-at g c =
     c.task_count-count.ensures.value ∙ ap (λ (S : System). length S.tasks) c.system.ensures in
     let low = c.loop-number-test.true in
     let within : c.loop-number.number < length r.system.tasks = omega (arith, low, all) in
-    read_at (task_at r.system (last_tick r).at) (length r.system.tasks) c.as_slice-stood.result.now c.args.at.now.tasks.items
-    c.loop-number.number c.loop-number.number _ c.as_slice-stood.ensures.value c.requires.each refl within
-    ∙ ap (task_at r.system (last_tick r).at) (sym c.new-task.ensures)
+    let (long, done, replaced, stands) = c.loop-number.invariant in
+    let f : ℕ → TaskAt = task_at r.system (last_tick r).at in
+    next_is (task_at r.system (last_tick r).after) c.as_mut_slice-stood.result.now (length r.system.tasks) c.loop-number.number c.loop-number.stood stands _
+    ∙ read_at f (length r.system.tasks) c.as_mut_slice-stood.result.now c.args.at.now.tasks.items
+    c.loop-number.number c.loop-number.number _ c.as_mut_slice-stood.ensures.value c.requires.each refl within
+    ∙ ap f (sym c.new-task.ensures)
 
 pub see_task-requires-clause-jobs : goal.see_task-requires-clause-jobs
 see_task-requires-clause-jobs g c =
@@ -37,7 +31,7 @@ see_task-requires-clause-jobs g c =
     c.task_count-count.ensures.value ∙ ap (λ (S : System). length S.tasks) c.system.ensures in
     let low = c.loop-number-test.true in
     let within : c.loop-number.number < length r.system.tasks = omega (arith, low, all) in
-    let (long, done, replaced) = c.loop-number.invariant in
+    let (long, done, replaced, stands) = c.loop-number.invariant in
     let f : ℕ → ℕ = jobs_before (last_tick r).first (last_tick r).before in
     next_is (jobs_before false (last_tick r).after) c.as_mut_slice-had.result.now (length r.system.tasks) c.loop-number.number c.loop-number.had replaced _
     ∙ read_at f (length r.system.tasks) c.as_mut_slice-had.result.now c.args.jobs.now.items
@@ -54,6 +48,9 @@ loop-number-init g c =
       none_replaced (jobs_before false (last_tick r).after) c.as_mut_slice-had.result.now (length r.system.tasks)
           (seen_count (jobs_before (last_tick r).first (last_tick r).before) (length r.system.tasks) c.as_mut_slice-had.result.now
           (c.as_mut_slice-had.ensures.value ∙ c.requires.jobs)),
+      none_replaced (task_at r.system (last_tick r).after) c.as_mut_slice-stood.result.now (length r.system.tasks)
+          (seen_count (task_at r.system (last_tick r).at) (length r.system.tasks) c.as_mut_slice-stood.result.now
+          (c.as_mut_slice-stood.ensures.value ∙ c.requires.each)),
     )
 
 pub loop-number-preserved : goal.loop-number-preserved
@@ -62,7 +59,7 @@ loop-number-preserved g c =
     let low = c.loop-number-test.true in
     let all : c.task_count-count.result ≡ length r.system.tasks =
     c.task_count-count.ensures.value ∙ ap (λ (S : System). length S.tasks) c.system.ensures in
-    let (long, done, replaced) = c.loop-number.invariant in
+    let (long, done, replaced, stands) = c.loop-number.invariant in
     let (longer, more) =
     goes_on (task_seen r.system (last_tick r)) c.loop-number.number c.loop-number.places (length r.system.tasks) c.task_count-count.result c.new-task.result
     (long, done) low all c.new-task.ensures c.see_task.new.seen c.see_task.ensures.seen in (
@@ -74,4 +71,10 @@ loop-number-preserved g c =
           (c.as_mut_slice-had.ensures.value ∙ c.requires.jobs))
           c.see_task.new.jobs
           (c.see_task.ensures.jobs ∙ ap (jobs_before false (last_tick r).after) c.new-task.ensures),
+      one_replaced (task_at r.system (last_tick r).after) c.as_mut_slice-stood.result.now (length r.system.tasks) c.loop-number.number c.loop-number.stood
+          stands (omega (arith, low, all))
+          (seen_count (task_at r.system (last_tick r).at) (length r.system.tasks) c.as_mut_slice-stood.result.now
+          (c.as_mut_slice-stood.ensures.value ∙ c.requires.each))
+          c.see_task.new.at
+          (c.see_task.ensures.at ∙ ap (task_at r.system (last_tick r).after) c.new-task.ensures),
     )

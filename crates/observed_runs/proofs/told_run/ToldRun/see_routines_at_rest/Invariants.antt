@@ -1,11 +1,11 @@
 use Rattle.std.proofs.Common.{◌≡◌, length, map, take}
 use Rattle.osek_base.specs.Lists.{below}
 use Rattle.observed_runs.specs.Keeping.{last_tick}
-use Rattle.seen_ticks.specs.Observed.{routine_seen}
-use Rattle.observed_runs.proofs.told_run.ToldRun.see_routines_left.Given as goal
+use Rattle.observed_runs.specs.Resting.{resting_routine}
+use Rattle.observed_runs.proofs.told_run.ToldRun.see_routines_at_rest.Given as goal
 
 -- what is seen of those gone over
 abbrev pub invariant-loop-number : goal.invariant-loop-number
 invariant-loop-number g l =
     (length l.places ≡ length l.self.system.routines) × (
-    take l.number l.places ≡ map (routine_seen (last_tick l.self)) (below l.number))
+    take l.number l.places ≡ map (resting_routine (last_tick l.self).at.pending) (below l.number))

@@ -1,11 +1,10 @@
 use Rattle.std.proofs.Common.{◌≡◌, length, map, take}
 use Rattle.osek_base.specs.Lists.{below}
-use Rattle.observed_runs.specs.Keeping.{last_tick}
-use Rattle.seen_ticks.specs.Observed.{alarm_seen}
-use Rattle.observed_runs.proofs.told_run.ToldRun.see_alarms_left.Given as goal
+use Rattle.observed_runs.specs.Resting.{resting_alarm}
+use Rattle.observed_runs.proofs.told_run.ToldRun.see_alarms_at_rest.Given as goal
 
 -- what is seen of those gone over
 abbrev pub invariant-loop-number : goal.invariant-loop-number
 invariant-loop-number g l =
     (length l.places ≡ length l.self.system.alarms) × (
-    take l.number l.places ≡ map (alarm_seen (last_tick l.self)) (below l.number))
+    take l.number l.places ≡ map resting_alarm (below l.number))

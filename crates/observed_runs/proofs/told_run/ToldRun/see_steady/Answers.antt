@@ -1,0 +1,53 @@
+use Rattle.std.proofs.Common.{◌≡◌, ◌≤◌, ◌-◌, Bool, false, List, length, map, sym, ◌∙◌, ap, ap₂, subst, arith}
+use Rattle.std.specs.Prelude.{◌==◌}
+use Rattle.osek_base.specs.Lists.{below}
+use Rattle.osek_base.specs.State.{State}
+use Rattle.kernel.specs.Progress.{Progress, run_of}
+use Rattle.seen_ticks.specs.Observed.{active_routine, jobs_before}
+use Rattle.seen_ticks.specs.Told.{task_at}
+use Rattle.observed_runs.specs.Keeping.{last_tick}
+use Rattle.std.specs.Prelude.{slice_index_or}
+use Rattle.seen_ticks.proofs.Staying.{pending_stays}
+use Rattle.observed_runs.proofs.Resting.{alarms_rest, routines_rest}
+use Rattle.observed_runs.proofs.told_run.ToldRun.see_steady.Goals as goal
+
+pub see_rest-requires-clause-routines : goal.see_rest-requires-clause-routines
+see_rest-requires-clause-routines g c rests =
+    let r : Progress = c.args.self.now in
+    ap (λ v. v.items) c.see_executed.ensures.routines ∙ (c.requires.resting rests).routines
+    ∙ sym (routines_rest (last_tick r) c.requires.rest (length r.system.routines))
+
+pub see_rest-requires-clause-alarms : goal.see_rest-requires-clause-alarms
+see_rest-requires-clause-alarms g c rests =
+    let r : Progress = c.args.self.now in
+    ap (λ v. v.items) c.see_executed.ensures.alarms ∙ (c.requires.resting rests).alarms
+    ∙ sym (alarms_rest (last_tick r) c.requires.rest (length r.system.alarms))
+
+pub returns-clause-next : goal.returns-clause-next
+returns-clause-next g c =
+    let r : Progress = c.args.self.now in
+    let told = c.self.invariant.told (subst (λ (x : Progress). 1 ≤ x.ticks) (sym c.self.view_is) c.requires.ticked) in
+    let ticked = c.requires.ticked in
+    let later : (r.ticks == 0) ≡ false = grind (arith, ticked) in
+    let behind : (run_of r).state ≡ (last_tick r).after =
+    subst (λ (x : Progress). (run_of x).state ≡ (last_tick x).after) c.self.view_is told.behind in
+    let pending =
+    sym c.requires.rest.pending ∙ sym (pending_stays r.system r.mode r.arrivals (r.ticks - 1))
+    ∙ sym (ap (λ (s : State). s.pending) behind) in
+    record {
+      jobs =
+          c.see_tasks.ensures.jobs
+          ∙ sym (ap₂ (λ first (s : State). map (jobs_before first s) (below (length r.system.tasks))) later behind);
+      pending =
+          c.requires.known.pending
+          ∙ ap (λ (v : List Bool). map (λ i. slice_index_or v i false) (below (length r.system.routines))) pending;
+      active = c.active_routine-before.ensures ∙ ap (λ (x : Progress). active_routine (run_of x).state) c.self.view_is;
+    }
+
+pub returns-clause-each : goal.returns-clause-each
+returns-clause-each g c =
+    let r : Progress = c.args.self.now in
+    let told = c.self.invariant.told (subst (λ (x : Progress). 1 ≤ x.ticks) (sym c.self.view_is) c.requires.ticked) in
+    let behind : (run_of r).state ≡ (last_tick r).after =
+    subst (λ (x : Progress). (run_of x).state ≡ (last_tick x).after) c.self.view_is told.behind in
+    c.see_tasks.ensures.each ∙ sym (ap (λ (s : State). map (task_at r.system s) (below (length r.system.tasks))) behind)
