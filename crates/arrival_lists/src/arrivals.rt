@@ -31,8 +31,8 @@ fn push_arrival(list: &mut Vec<Arrival>, arrival: Arrival) -> Result<(), AllocEr
     Ok(())
 }
 
-/// Reads an arrival list: on each line a tick in decimal without leading zeros, one space and a routine's name.
-/// Lines end with LF, which the last may lack. Ticks don't fall from line to line.
+/// Reads an arrival list: on each line a tick in decimal without leading zeros, one space and a
+/// routine's name. Lines end with LF, which the last may lack. Ticks don't fall from line to line.
 pub fn read_arrivals(alloc: Global, text: &[u8], system: &System) -> Result<Arrivals, IrqFault>
     ensures read { IfOk result (λ arrivals. IsArrivalList system.now.names text.now arrivals) }
     ensures known { IfOk result
@@ -56,8 +56,8 @@ pub fn read_arrivals(alloc: Global, text: &[u8], system: &System) -> Result<Arri
     Ok(Arrivals::new(list).unwrap())
 }
 
-/// A law of the definitions: a text is one arrival list, or has one first fault, and never both. Want of memory is no fault
-/// of a text.
+/// A law of the definitions: a text is one arrival list, or has one first fault, and never both.
+/// Want of memory is no fault of a text.
 pub fn one_meaning()
     ensures lists { (names : Names) (text : List ℕ) (all other : List Arrival)
         → IsArrivalList names text all → IsArrivalList names text other → all ≡ other }

@@ -1,4 +1,5 @@
-//! The kinds of objects of which bounds are told, and the words of their figures. No part of the standards.
+//! The kinds of objects of which bounds are told, and the words of their figures. No part of the
+//! standards.
 #![tactic(auto)]
 
 mod kinds;

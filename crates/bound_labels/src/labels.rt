@@ -263,8 +263,8 @@ impl Labels {
         hold_of(&self.holds, resource).is_longer(hold_of(&other.holds, resource))
     }
 
-    /// Whether a task's oldest job has been blocked for at least as many ticks as with other labels;
-    /// at true it has.
+    /// Whether a task's oldest job has been blocked for at least as many ticks as with other
+    /// labels; at true it has.
     pub fn has_more_blocked(&self, other: &Labels, task: usize) -> bool
         ensures { IsTrue result → blocked_of other.now task ≤ blocked_of self.now task }
     {

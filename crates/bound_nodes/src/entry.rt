@@ -14,8 +14,8 @@ pub(crate) enum Entry {
     Joined { older: u32, raised: u32 },
 }
 
-/// An entry as it is kept. There is one for each node and more, so it takes eight bytes: entries are
-/// numbered below 2^32 - 1, and sets of routines and what was raised below [`NONE`].
+/// An entry as it is kept. There is one for each node and more, so it takes eight bytes: entries
+/// are numbered below 2^32 - 1, and sets of routines and what was raised below [`NONE`].
 #[derive(Clone, Copy)]
 pub(crate) struct Kept {
     /// The entry before it or the older one; none for the first.

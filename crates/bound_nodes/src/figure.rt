@@ -46,8 +46,8 @@ fn coming(has_come: bool) -> u32
 }
 
 impl Figure {
-    /// What peaks tell of it: ticks of a time; a number of jobs or of blockers; of what comes or not
-    /// 1 where it has come, and 0 where not.
+    /// What peaks tell of it: ticks of a time; a number of jobs or of blockers; of what comes or
+    /// not 1 where it has come, and 0 where not.
     pub fn told(self, peaks: &Peaks) -> u32
         ensures { result ≡ told peaks.now self }
     {

@@ -15,8 +15,8 @@ use std::alloc::{AllocError, Global};
 use std::marker::Model;
 use std::mem;
 
-/// What a node takes beside the bytes of its key and its labels, about: itself, its block, its entry
-/// of the trail, and its places among hashes and open nodes.
+/// What a node takes beside the bytes of its key and its labels, about: itself, its block, its
+/// entry of the trail, and its places among hashes and open nodes.
 const BYTES_BESIDE: u64 = 88;
 
 /// In place of the number of an entry, where there is none.
@@ -67,7 +67,8 @@ fn no_machine(is_over: bool) -> u16
     if is_over { OVER } else { NO_MACHINE }
 }
 
-/// The place of a machine as it is kept. One that doesn't fit isn't, and where the run is over none.
+/// The place of a machine as it is kept. One that doesn't fit isn't, and where the run is over
+/// none.
 fn place_of(place: usize, is_over: bool) -> u16
     ensures { (result == OVER) ≡ is_over }
 {
@@ -123,8 +124,8 @@ impl Node {
         self.bytes
     }
 
-    /// It has room for its bytes and no more, as it has where it was kept before. Answers the room in
-    /// which they were, if that is another one.
+    /// It has room for its bytes and no more, as it has where it was kept before. Answers the room
+    /// in which they were, if that is another one.
     pub fn fit(&mut self, alloc: Global) -> Result<Vec<u8>, AllocError>
         ensures { self.new ≡ self.old }
     {
@@ -216,9 +217,9 @@ impl Node {
     }
 
     /// Makes it stand for all that another one stands for too, where both are of one state, and
-    /// answers whether that could be done: where interrupts can arrive as soon in both, or the other
-    /// stands for all that this one does. With the waits of one and the ages of another, interrupts
-    /// would come sooner than they can.
+    /// answers whether that could be done: where interrupts can arrive as soon in both, or the
+    /// other stands for all that this one does. With the waits of one and the ages of another,
+    /// interrupts would come sooner than they can.
     pub fn join(
         &mut self,
         alloc: Global,

@@ -1,4 +1,5 @@
-//! OSEK/VDX OS: interrupt processing, category 2. Sets of routines whose interrupts arrive in a tick.
+//! OSEK/VDX OS: interrupt processing, category 2. Sets of routines whose interrupts arrive in a
+//! tick.
 
 ghost use Rattle.std.specs.Prelude.{ℕ, ◌≡◌, ◌≢◌, ◌<◌, ◌≤◌, ◌==◌, OnOk, length};
 ghost use Rattle.std.specs.Int.{bit_at};

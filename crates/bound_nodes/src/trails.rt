@@ -29,7 +29,8 @@ pub struct Trails {
     entries: Vec<Kept>,
     raised: Vec<Raised>,
     origins: Vec<Origin>,
-    /// The tick in which each service was answered other than E_OK first, in the order of the peaks.
+    /// The tick in which each service was answered other than E_OK first, in the order of the
+    /// peaks.
     failed: Vec<Step>,
     last: Step,
 }
@@ -60,8 +61,8 @@ impl Trails {
         })
     }
 
-    /// A tick was made from the node of an entry, in which the routines of a set arrive. Where peaks
-    /// rise by it, it is the first that shows them. An error is want of memory.
+    /// A tick was made from the node of an entry, in which the routines of a set arrive. Where
+    /// peaks rise by it, it is the first that shows them. An error is want of memory.
     pub fn came(
         &mut self,
         before: Option<usize>,
@@ -96,8 +97,8 @@ impl Trails {
         Ok(number)
     }
 
-    /// The node that the last tick has made is kept. Where it was joined with one that had an entry,
-    /// it raised some labels of that. Answers the number of the entry that tells it.
+    /// The node that the last tick has made is kept. Where it was joined with one that had an
+    /// entry, it raised some labels of that. Answers the number of the entry that tells it.
     pub fn enter(
         &mut self,
         older: Option<usize>,
@@ -185,8 +186,8 @@ impl Trails {
         }
     }
 
-    /// The sets of routines that arrive in the ticks up to a step, the last tick first, by which the
-    /// label of a figure came to be, if it goes by one.
+    /// The sets of routines that arrive in the ticks up to a step, the last tick first, by which
+    /// the label of a figure came to be, if it goes by one.
     fn path_to(
         &self,
         alloc: Global,

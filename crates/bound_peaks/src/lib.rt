@@ -1,4 +1,5 @@
-//! The greatest times that ticks have shown, and what has happened in any. No part of the standards.
+//! The greatest times that ticks have shown, and what has happened in any. No part of the
+//! standards.
 #![tactic(auto)]
 
 mod failures;

@@ -22,8 +22,8 @@ fn write_object<W: Write>(
     Ok(())
 }
 
-/// A line for each service that may be answered other than E_OK: whose it is, its place and the number
-/// of the status.
+/// A line for each service that may be answered other than E_OK: whose it is, its place and the
+/// number of the status.
 fn write_services<W: Write>(system: &System, told: Told<'_, '_>, out: &mut W) -> io::Result<()> {
     for (number, failure) in told.bounds.peaks.failures().iter().enumerate() {
         let (name, place) = (name_of(system, failure.owner), failure.place.number());

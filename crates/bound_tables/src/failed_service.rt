@@ -58,8 +58,8 @@ fn record_of(system: &System, failure: &Failure) -> Option<TraceEvent> {
     Some(TraceEvent::Executed(failure.owner, failure.place, instruction, outcome))
 }
 
-/// Leaves a service that may fail as a trace writes it at tick 0: who, at which place, which, and the
-/// number of the status. Nothing, where the system has no such place.
+/// Leaves a service that may fail as a trace writes it at tick 0: who, at which place, which, and
+/// the number of the status. Nothing, where the system has no such place.
 pub(crate) fn put_failure(system: &System, failure: &Failure, text: &mut LineText) {
     text.clear();
     if let Some(record) = record_of(system, failure) {

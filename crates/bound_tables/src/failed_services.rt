@@ -6,8 +6,8 @@ use osek_base::System;
 use std::io::{self, Write};
 use trace_lines::LineText;
 
-/// Writes a line for each service that may be answered other than E_OK, as a trace writes it but for
-/// the tick, behind `<=` where no run is known in which it is, all behind an empty line and a
+/// Writes a line for each service that may be answered other than E_OK, as a trace writes it but
+/// for the tick, behind `<=` where no run is known in which it is, all behind an empty line and a
 /// heading; nothing where none may. An error is a failed write.
 pub fn write_services<W: Write>(
     system: &System,

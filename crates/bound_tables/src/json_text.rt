@@ -66,8 +66,8 @@ fn objects(
     Ok(Value::Object(objects))
 }
 
-/// A service that may be answered other than E_OK: whose it is, its place, the number of the status,
-/// and what is promised of it.
+/// A service that may be answered other than E_OK: whose it is, its place, the number of the
+/// status, and what is promised of it.
 fn service(
     alloc: Global,
     system: &System,

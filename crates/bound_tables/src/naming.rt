@@ -41,8 +41,8 @@ pub fn figure_named(system: &System, name: &str, word: Option<&str>) -> Option<N
     None
 }
 
-/// Whether a word may be asked for of the thing of a name: that of a column, or of a task or routine
-/// the place of a service.
+/// Whether a word may be asked for of the thing of a name: that of a column, or of a task or
+/// routine the place of a service.
 pub fn is_known(system: &System, name: &str, word: Option<&str>) -> bool {
     if figure_named(system, name, word).is_some() {
         return true;

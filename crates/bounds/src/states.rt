@@ -178,8 +178,9 @@ impl<'s> States<'s> {
         self.stops.pass(alloc, self.origin.machine(), spot, number)
     }
 
-    /// Keeps that machine, where much is done to make machines again, it was made by many ticks, and
-    /// there is room. What comes of the node is made from it then, and else from that at the place.
+    /// Keeps that machine, where much is done to make machines again, it was made by many ticks,
+    /// and there is room. What comes of the node is made from it then, and else from that at the
+    /// place.
     fn settle_on(&mut self, alloc: Global, trails: &Trails, base: usize) -> Result<(), AllocError>
         ensures { self.new ≡ self.old }
     {
@@ -196,8 +197,9 @@ impl<'s> States<'s> {
         Ok(())
     }
 
-    /// A node that an entry tells is open: it is what comes of the node that is visited, or of boot,
-    /// whose machine is lent. Answers the place of the machine from which that of the node is made.
+    /// A node that an entry tells is open: it is what comes of the node that is visited, or of
+    /// boot, whose machine is lent. Answers the place of the machine from which that of the node is
+    /// made.
     pub(crate) fn open(
         &mut self,
         alloc: Global,

@@ -12,8 +12,8 @@ use std::marker::Model;
 const RANKS: usize = 16;
 
 /// Machines of states on the ways to those that were visited last. A state has rank r where the
-/// number of ticks up to it can be divided by 2^r, and by no higher power of 2; of each rank the last
-/// one is kept. So there are many near the state that was visited last, and few far behind it.
+/// number of ticks up to it can be divided by 2^r, and by no higher power of 2; of each rank the
+/// last one is kept. So there are many near the state that was visited last, and few far behind it.
 #[derive(Drop)]
 pub(crate) struct Stops<'s> {
     machines: Bases<'s>,
@@ -68,8 +68,8 @@ impl<'s> Stops<'s> {
         self.machines.spot(place)
     }
 
-    /// On the way to a state there is one at a spot, with a machine, and so many ticks are left. It is
-    /// kept, unless another one of its rank comes.
+    /// On the way to a state there is one at a spot, with a machine, and so many ticks are left. It
+    /// is kept, unless another one of its rank comes.
     pub(crate) fn pass(
         &mut self,
         alloc: Global,

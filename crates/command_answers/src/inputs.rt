@@ -30,8 +30,8 @@ pub fn read_texts<'a, F: Files>(
     Ok(Texts { oil, asm, irq })
 }
 
-/// The name of a run's mode: the one that its line has, or else the only one of the OIL file. It is empty where the file has
-/// several.
+/// The name of a run's mode: the one that its line has, or else the only one of the OIL file. It is
+/// empty where the file has several.
 pub fn mode_of(alloc: Global, texts: &Texts, mode: Option<&str>) -> Result<String, RunFault> {
     if let Some(mode) = mode {
         return Ok(format!(in alloc; "{mode}")?);

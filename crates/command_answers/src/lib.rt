@@ -1,5 +1,5 @@
-//! What the answers to command lines of `osek` have in common, no part of the standards: the texts that are read, what becomes
-//! of a request, and what is written of partitions.
+//! What the answers to command lines of `osek` have in common, no part of the standards: the texts
+//! that are read, what becomes of a request, and what is written of partitions.
 #![tactic(auto)]
 
 mod inputs;

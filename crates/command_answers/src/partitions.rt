@@ -10,7 +10,8 @@ use std::fmt;
 use std::io::Write;
 use tracer::RunFault;
 
-/// Writes a denial at a priority: the rule, its subject by name, and a place where the rule is on programs.
+/// Writes a denial at a priority: the rule, its subject by name, and a place where the rule is on
+/// programs.
 pub fn write_denial<O: Write>(
     priority: u8,
     denial: NamedDenial,

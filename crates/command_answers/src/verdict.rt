@@ -45,8 +45,8 @@ pub enum Verdict<'a> {
     NoDistance(DistanceFault<'a>),
     /// What a search found is written, and whether it has come to its end: a line for each remark.
     Searched { is_decided: bool, remarks: Vec<u8> },
-    /// The arrivals of a run that shows a figure are written: a line tells its ticks and the figure,
-    /// and where it has no bound another one which ticks can come again.
+    /// The arrivals of a run that shows a figure are written: a line tells its ticks and the
+    /// figure, and where it has no bound another one which ticks can come again.
     Witnessed(String),
     /// A run is wanted of a figure that no thing has: nothing is written.
     NoFigure(Wanted<'a>),

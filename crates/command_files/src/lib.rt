@@ -1,5 +1,5 @@
-//! The files of a command line of `osek`, no part of the standards: where they are read and written, the folder that a line
-//! names in their place, and the exit statuses.
+//! The files of a command line of `osek`, no part of the standards: where they are read and
+//! written, the folder that a line names in their place, and the exit statuses.
 #![tactic(auto)]
 
 mod folder;

@@ -38,8 +38,8 @@ fn line_of(
     format!(in alloc; "{} ticks: {kind} {name} {column} {value}\n", witness.ticks)
 }
 
-/// A run in which the ticks that show a figure can go on without end, where it is a time of a task and
-/// one is found.
+/// A run in which the ticks that show a figure can go on without end, where it is a time of a task
+/// and one is found.
 fn endless_of(
     alloc: Global,
     system: &System,

@@ -86,8 +86,8 @@ fn answer_texts<O: Write, E: Write>(
     Ok(verdict.status())
 }
 
-/// Writes the line of a refusal, and gives the exit status. Where it is wanted, an explanation follows, as far as memory and
-/// `err` allow.
+/// Writes the line of a refusal, and gives the exit status. Where it is wanted, an explanation
+/// follows, as far as memory and `err` allow.
 fn refuse<E: Write>(
     alloc: Global,
     request: &Request<'_>,
@@ -160,7 +160,8 @@ fn answer_asked<F: Files, O: Write, E: Write>(
     }
 }
 
-/// Reads a line, or another one without the mode where a word is missing in it, and in that none is.
+/// Reads a line, or another one without the mode where a word is missing in it, and in that none
+/// is.
 fn read_either<'a>(
     alloc: Global,
     whole: &'a [String],
@@ -201,12 +202,13 @@ fn is_short(asked: &Result<Asked<'_>, LineError>) -> bool {
     }
 }
 
-/// Answers a command line, of which the first word is the program's name, and gives the exit status: 0, also after help;
-/// 1 for a refused input, an unreadable file or want of memory; 2 for a refused line; 3 for a denied partition; 4 for a
-/// failed write; 5 for an undecided search; 6 where a run breaks a limit. For 1 and 4 one line says on `err` what it was,
-/// for 6 and of a refused import a line for each limit and refusal. Where the line asks for it, an explanation of the
-/// refusal, of the denial or of what is undecided follows on `err`. With `shows_progress` a long run says on `err`, on one
-/// line that is written over and taken away, how far it is.
+/// Answers a command line, of which the first word is the program's name, and gives the exit
+/// status: 0, also after help; 1 for a refused input, an unreadable file or want of memory; 2 for a
+/// refused line; 3 for a denied partition; 4 for a failed write; 5 for an undecided search; 6 where
+/// a run breaks a limit. For 1 and 4 one line says on `err` what it was, for 6 and of a refused
+/// import a line for each limit and refusal. Where the line asks for it, an explanation of the
+/// refusal, of the denial or of what is undecided follows on `err`. With `shows_progress` a long
+/// run says on `err`, on one line that is written over and taken away, how far it is.
 pub fn command<S: AsStr, F: Files, O: Write, E: Write>(
     alloc: Global,
     words: &[S],

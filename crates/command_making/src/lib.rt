@@ -1,4 +1,5 @@
-//! Answers to command lines of `osek` that make the files of a system or import OIL. No part of the standards.
+//! Answers to command lines of `osek` that make the files of a system or import OIL. No part of the
+//! standards.
 #![tactic(auto)]
 
 mod imports;

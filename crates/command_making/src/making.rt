@@ -86,7 +86,8 @@ fn make_text<F: Files, E: Write>(
     }
 }
 
-/// Makes the files of a description, and gives the exit status. Where anything is wrong with it, no file is written.
+/// Makes the files of a description, and gives the exit status. Where anything is wrong with it, no
+/// file is written.
 pub fn make_files<F: Files, E: Write>(
     alloc: Global,
     line: MakeLine<'_>,

@@ -97,7 +97,8 @@ fn figure_wanted<'a>(matches: &ArgMatches<'a>) -> Option<Wanted<'a>> {
     }
 }
 
-/// Why a line is refused that wants a run of a figure: no column has it, and it is no place of a service.
+/// Why a line is refused that wants a run of a figure: no column has it, and it is no place of a
+/// service.
 pub(crate) fn figure_fault(matches: &ArgMatches<'_>) -> Option<&'static str> {
     let word = figure_wanted(matches)?.column?;
     (!is_column(word) && place_of(word).is_none()).then_some(help::NO_FIGURE)

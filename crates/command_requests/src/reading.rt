@@ -103,7 +103,8 @@ fn limits<'a>(alloc: Global, matches: &ArgMatches<'a>) -> Result<Vec<Limit<'a>>,
     Ok(limits)
 }
 
-/// Why a line that names a folder is refused: it was taken for the files already, so this is a second one.
+/// Why a line that names a folder is refused: it was taken for the files already, so this is a
+/// second one.
 fn folder_fault(matches: &ArgMatches<'_>) -> Option<&'static str> {
     matches.get_str("in").map(|_name| help::TWO_FOLDERS)
 }
@@ -225,8 +226,9 @@ fn read_by<'a, S: AsStr>(
     }
 }
 
-/// Reads a command line, of which the first word is the program's name. Where it has no mode, a word stands in its place. An
-/// error is a refused line, a call for help or for the version, or want of memory.
+/// Reads a command line, of which the first word is the program's name. Where it has no mode, a
+/// word stands in its place. An error is a refused line, a call for help or for the version, or
+/// want of memory.
 pub fn read_line<'a, S: AsStr>(
     alloc: Global,
     words: &'a [S],

@@ -5,7 +5,8 @@ use crate::help;
 use figure_texts::{Form, Limit};
 use timelines::MAX_DRAWN;
 
-/// What a run is of besides its system: the name of its arrival list, the mode, and how many ticks, 0 to 1,000,000.
+/// What a run is of besides its system: the name of its arrival list, the mode, and how many ticks,
+/// 0 to 1,000,000.
 #[derive(Clone, Copy)]
 pub struct RunLine<'a> {
     pub irq: &'a str,
@@ -41,7 +42,8 @@ pub struct StatsLine {
 pub enum View<'a> {
     /// The value change dump of the ticks from that one on.
     Vcd { from: u32 },
-    /// The picture of the ticks from that one on: of all rows, or of those in a list with commas between its names.
+    /// The picture of the ticks from that one on: of all rows, or of those in a list with commas
+    /// between its names.
     Timeline { from: u32, rows: Option<&'a str> },
     /// The figures.
     Stats(StatsLine),
@@ -71,7 +73,8 @@ pub enum Question<'a> {
         line: RunLine<'a>,
         view: View<'a>,
     },
-    /// Whether the part from a priority upward is separable from what is below; the first denial, or all.
+    /// Whether the part from a priority upward is separable from what is below; the first denial,
+    /// or all.
     Check {
         priority: u8,
         is_whole: bool,
@@ -152,8 +155,8 @@ impl<'a> Question<'a> {
     }
 }
 
-/// A command line: the names of the two files that a system is made of, what is asked of it, and whether a refusal or a
-/// denial is explained.
+/// A command line: the names of the two files that a system is made of, what is asked of it, and
+/// whether a refusal or a denial is explained.
 #[derive(Drop)]
 pub struct Request<'a> {
     pub oil: &'a str,
@@ -173,7 +176,8 @@ pub struct MakeLine<'a> {
     pub folder: &'a str,
 }
 
-/// What a command line asks for: something of a system, the files of a description, or the import of files of these names.
+/// What a command line asks for: something of a system, the files of a description, or the import
+/// of files of these names.
 #[derive(Drop)]
 pub enum Asked<'a> {
     System(Request<'a>),

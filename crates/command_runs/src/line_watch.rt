@@ -4,7 +4,8 @@ use osek_base::words::number_at;
 use run_views::Progress;
 use std::io::{self, Write};
 
-/// A stream of a trace. What is written by one call begins with a line, and so with the number of a tick.
+/// A stream of a trace. What is written by one call begins with a line, and so with the number of a
+/// tick.
 #[derive(Drop)]
 pub(crate) struct LineWatch<'w, 'e, O, E> {
     out: O,

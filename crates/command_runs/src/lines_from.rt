@@ -3,8 +3,8 @@
 use osek_base::words::number_at;
 use std::io::{self, Write};
 
-/// A stream of a trace, of which the lines of the ticks before one are left out. What is written by one call begins with a
-/// line, until that tick is reached, and so with the number of a tick.
+/// A stream of a trace, of which the lines of the ticks before one are left out. What is written by
+/// one call begins with a line, until that tick is reached, and so with the number of a tick.
 #[derive(Drop)]
 pub(crate) struct LinesFrom<O> {
     out: O,

@@ -55,8 +55,8 @@ fn refused_line(fault: &IrqFault) -> Option<(usize, LineFault)> {
     }
 }
 
-/// Writes where a refusal is in the texts, what is wrong there, and what would be allowed. Want of memory and a failed write
-/// have no explanation.
+/// Writes where a refusal is in the texts, what is wrong there, and what would be allowed. Want of
+/// memory and a failed write have no explanation.
 pub fn explain_fault<W: Write>(
     alloc: Global,
     request: &Request<'_>,
@@ -141,7 +141,8 @@ fn explain_partitions<E: Write>(
     Ok(())
 }
 
-/// Explains a stretch of priorities at which a system can't be cut, at the lowest of them. The stretch stands behind the place.
+/// Explains a stretch of priorities at which a system can't be cut, at the lowest of them. The
+/// stretch stands behind the place.
 fn explain_stretch<E: Write>(
     alloc: Global,
     request: &Request<'_>,

@@ -1,4 +1,5 @@
-//! From the keys and values of a description's text to what it tells, with what is wrong in each. No part of the standards.
+//! From the keys and values of a description's text to what it tells, with what is wrong in each.
+//! No part of the standards.
 #![tactic(auto)]
 
 mod lists;

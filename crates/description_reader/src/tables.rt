@@ -1,5 +1,5 @@
-//! The tables of a description, and what stands in them: each value is asked for by its key, and told where it isn't of the
-//! kind or within the range that is wanted.
+//! The tables of a description, and what stands in them: each value is asked for by its key, and
+//! told where it isn't of the kind or within the range that is wanted.
 
 use descriptions::fault::{Fault, Wrong, tell};
 use descriptions::lists::behind;

@@ -1,4 +1,5 @@
-//! The three texts that a system's description is made into: OIL, programs and an arrival list. No part of the standards.
+//! The three texts that a system's description is made into: OIL, programs and an arrival list. No
+//! part of the standards.
 #![tactic(auto)]
 
 mod arrival_text;

@@ -18,7 +18,8 @@ const CLOCK: &[u8] =
     b"  COUNTER Clock { MAXALLOWEDVALUE = 2147483647; TICKSPERBASE = 1; MINCYCLE = 1; };
 ";
 
-/// Whether the first job of a task is there from the beginning: it is said so, or its period begins at tick 0.
+/// Whether the first job of a task is there from the beginning: it is said so, or its period begins
+/// at tick 0.
 fn starts(task: &Task<'_>) -> bool {
     match task.release {
         Release::Periodic { offset: 0, .. } => true,

@@ -1,8 +1,9 @@
 //! The programs of a description.
 //!
-//! Each step is one instruction, so one tick, but for these: `work` is as many ticks as it says, and `repeat` is two before
-//! its first round and two behind each. Registers: r1 and r2 are those of `work`, r4 and r5 count rounds, r6 is 1 in a
-//! repeat, and r7 is never written, so it is 0, as at each job's and routine's beginning.
+//! Each step is one instruction, so one tick, but for these: `work` is as many ticks as it says,
+//! and `repeat` is two before its first round and two behind each. Registers: r1 and r2 are those
+//! of `work`, r4 and r5 count rounds, r6 is 1 in a repeat, and r7 is never written, so it is 0, as
+//! at each job's and routine's beginning.
 
 use descriptions::described::{Body, Described, Does, Release};
 use descriptions::lists::names;
@@ -150,7 +151,8 @@ fn write_task<W: Write>(
     out.write_all(b"      TERM\nlast: JMP last\n\n")
 }
 
-/// Writes the programs of all tasks, then those of all routines. An error is a failed write or want of memory.
+/// Writes the programs of all tasks, then those of all routines. An error is a failed write or want
+/// of memory.
 pub fn write_programs<W: Write>(
     alloc: Global,
     nodes: &[Node],

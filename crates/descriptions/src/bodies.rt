@@ -1,4 +1,5 @@
-//! What is wrong in a body, step by step: what its caller may not do, and resources that aren't got and released in pairs.
+//! What is wrong in a body, step by step: what its caller may not do, and resources that aren't got
+//! and released in pairs.
 
 use crate::described::{Body, Does, Step};
 use crate::fault::{Fault, Wrong, tell};

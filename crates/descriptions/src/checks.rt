@@ -1,4 +1,5 @@
-//! What is wrong of a description as a whole: names that stand twice or nowhere, and more objects than there may be.
+//! What is wrong of a description as a whole: names that stand twice or nowhere, and more objects
+//! than there may be.
 
 use crate::bodies::{tell_routine, tell_task};
 use crate::described::{Action, Alarm, Body, Described, Does, Release, Task};
@@ -21,7 +22,8 @@ fn task_of<'d, 'a>(described: &'d Described<'a>, name: &str) -> Option<&'d Task<
     None
 }
 
-/// Adds a name to those of its kind, told where it is there already. An empty name was told as missing.
+/// Adds a name to those of its kind, told where it is there already. An empty name was told as
+/// missing.
 fn add_name<'a>(
     name: &'a str,
     place: usize,

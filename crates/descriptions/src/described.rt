@@ -1,4 +1,5 @@
-//! What a description has. Names are those of the text; places are those of the keys or values that say so.
+//! What a description has. Names are those of the text; places are those of the keys or values that
+//! say so.
 
 /// One step of a body.
 #[derive(Clone, Copy)]

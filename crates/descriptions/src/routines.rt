@@ -1,4 +1,5 @@
-//! The routines of a description: those of its interrupts, and behind them one for each task that is released by arrivals.
+//! The routines of a description: those of its interrupts, and behind them one for each task that
+//! is released by arrivals.
 
 use crate::described::{Arriving, Described, Release};
 use std::alloc::{AllocError, Global};

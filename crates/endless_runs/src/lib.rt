@@ -1,4 +1,5 @@
-//! Runs in which a job stands for as many ticks as one likes, by a run that comes twice to one state.
+//! Runs in which a job stands for as many ticks as one likes, by a run that comes twice to one
+//! state.
 #![tactic(auto)]
 
 mod laws;

@@ -38,7 +38,8 @@ fn cut_of<'d>(p: u8, lead: &'d str, denial: &'d NamedDenial) -> Cut<'d> {
     }
 }
 
-/// The names of the objects of a kind that a rule allows: the upper ones for upper programs, or else the lower ones.
+/// The names of the objects of a kind that a rule allows: the upper ones for upper programs, or
+/// else the lower ones.
 fn allowed<'a>(
     alloc: Global,
     tree: &SyntaxTree<'a>,
@@ -251,9 +252,9 @@ fn explain_cut<'a, W: Write>(
     }
 }
 
-/// Explains denials at a priority, of the system of an OIL file and its programs: what is named or listed, where, and what would
-/// be allowed. They stand one behind the other, and the lead behind the place of each. An error is a failed write, or want of
-/// memory for the explanation.
+/// Explains denials at a priority, of the system of an OIL file and its programs: what is named or
+/// listed, where, and what would be allowed. They stand one behind the other, and the lead behind
+/// the place of each. An error is a failed write, or want of memory for the explanation.
 pub fn explain_denials<'a, W: Write>(
     alloc: Global,
     oil: Source<'a>,

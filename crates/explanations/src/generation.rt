@@ -151,7 +151,8 @@ fn explain_no_program<'a, W: Write>(
     parsed.oil.note(owner.place, &what, "wanted", &wanted, out)
 }
 
-/// The place of the end of a program that can be left there: of its last mnemonic, or else of its name.
+/// The place of the end of a program that can be left there: of its last mnemonic, or else of its
+/// name.
 fn open_end(words: &[CodeWord<'_>], kind: ProgramKind, name: &str) -> Option<usize> {
     let owner = owner_word(words, kind, name)?;
     match last_mnemonic(words, owner.program) {
@@ -161,7 +162,8 @@ fn open_end(words: &[CodeWord<'_>], kind: ProgramKind, name: &str) -> Option<usi
     }
 }
 
-/// Explains a program that can be left at its end: that of the task of a name, or else that of the routine.
+/// Explains a program that can be left at its end: that of the task of a name, or else that of the
+/// routine.
 fn explain_last<W: Write>(parsed: Parsed<'_, '_>, name: &str, out: &mut W) -> io::Result<()> {
     let words = parsed.words;
     let of_task = open_end(words, ProgramKind::Task, name);
@@ -224,8 +226,8 @@ fn explain_fault<'a, W: Write>(
     }
 }
 
-/// Explains why an OIL file and its programs, each without a fault of its own, make no system. Want of memory has no
-/// explanation. An error is a failed write, or want of memory for the explanation.
+/// Explains why an OIL file and its programs, each without a fault of its own, make no system. Want
+/// of memory has no explanation. An error is a failed write, or want of memory for the explanation.
 pub fn explain_generation<'a, W: Write>(
     alloc: Global,
     oil: Source<'a>,

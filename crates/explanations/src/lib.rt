@@ -1,5 +1,6 @@
-//! Explanations of systems that generation refuses and of denied partitions, no part of the standards: where it is, what is
-//! wrong there, and what would be allowed. Each is written behind the fixed line of the refusal.
+//! Explanations of systems that generation refuses and of denied partitions, no part of the
+//! standards: where it is, what is wrong there, and what would be allowed. Each is written behind
+//! the fixed line of the refusal.
 #![tactic(auto)]
 
 mod denied;

@@ -130,7 +130,8 @@ fn explain_basic<'a, W: Write>(
     )
 }
 
-/// Explains an alarm with times that its counter doesn't have, or that sets an event of a basic task.
+/// Explains an alarm with times that its counter doesn't have, or that sets an event of a basic
+/// task.
 pub(crate) fn explain_alarm<'a, W: Write>(
     source: Source<'a>,
     tree: &SyntaxTree<'a>,

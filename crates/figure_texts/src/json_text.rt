@@ -1,4 +1,5 @@
-//! Figures as JSON: an object by kinds, and in each one by names, or the figures themselves of the run.
+//! Figures as JSON: an object by kinds, and in each one by names, or the figures themselves of the
+//! run.
 
 use crate::cells::Cell;
 use crate::line::{Group, Line, Section};

@@ -1,5 +1,5 @@
-//! The texts of a run's figures, no part of the standards: tables, comma-separated values, JSON, and
-//! the limits that a run breaks.
+//! The texts of a run's figures, no part of the standards: tables, comma-separated values, JSON,
+//! and the limits that a run breaks.
 #![tactic(auto)]
 
 mod broken;

@@ -1,7 +1,7 @@
 -- Ticks in a row in which nothing comes to a task: one more of them.
-use Rattle.std.proofs.Common.{get_or, ℕ, suc, ◌≡◌, ◌+◌, ◌-◌, ◌≤◌, length, Bool, true, false, not, ◌&&◌, List, ◌∷◌, cond, nat_lt, Option, Some, None, refl, sym, ◌∙◌, ap, ap₂, arith, eqb-true}
+use Rattle.std.proofs.Common.{get_or, ℕ, suc, ◌≡◌, ◌+◌, ◌-◌, ◌≤◌, length, Bool, true, false, not, ◌&&◌, List, ◌∷◌, cond, nat_lt, None, refl, sym, ◌∙◌, ap, ap₂, arith, eqb-true}
 use Rattle.std.specs.Prelude.{nat_le, ◌==◌, ◌||◌}
-use Rattle.std.proofs.lemmas.Bool.{and_parts, false≢true, leb-true, not-true}
+use Rattle.std.proofs.lemmas.Bool.{and_parts, leb-true, not-true}
 use Rattle.figures.specs.declared.task_tick.TaskTick.{TaskTick}
 use Rattle.figures.specs.declared.task_figures.TaskFigures.{TaskFigures}
 use Rattle.figures.specs.declared.task_counts.TaskCounts.{TaskCounts}

@@ -1,7 +1,7 @@
 -- Ticks in a row in which one task holds a resource: one more of them.
 use Rattle.std.proofs.Common.{ℕ, suc, ◌≡◌, ◌+◌, ◌-◌, ◌^◌, ◌<◌, ◌≤◌, ◌⊎◌, inl, inr, true, false, List, ◌∷◌, cond, nat_lt, refl, Option, Some, None, sym, ◌∙◌, ap, ap₂, arith}
 use Rattle.std.proofs.Math.Nat.{add-zero}
-use Rattle.std.specs.Prelude.{Bool, ◌==◌, ◌&&◌, is_some, nat_le}
+use Rattle.std.specs.Prelude.{◌==◌, ◌&&◌, is_some, nat_le}
 use Rattle.std.proofs.lemmas.Bool.{cases_Bool, false≢true, ltb-true, lt-ltb, leb-true, le-leb}
 use Rattle.std.proofs.lemmas.Bool.Decides.{nat_tests}
 use Rattle.figures.specs.declared.reached.Reached.{Reached}

@@ -1,6 +1,7 @@
 -- In a quiet tick figures stay as they are, but for jobs that were unfinished and holds that went on.
-use Rattle.std.proofs.Common.{ℕ, ◌≡◌, ◌+◌, ◌-◌, Bool, true, false, not, ◌&&◌, List, ◌∷◌, cond, nat_lt, Option, Some, None, get_or, length, refl, sym, ◌∙◌, ap, ap₂, arith, eqb-true}
-use Rattle.std.specs.Prelude.{is_none, is_some, ◌==◌, ◌||◌}
+use Rattle.std.proofs.Common.{ℕ, ◌≡◌, ◌+◌, ◌-◌, Bool, true, false, not, ◌&&◌, List, ◌∷◌, cond, nat_lt, Option, Some, None, get_or, length, refl, sym, ◌∙◌, ap, ap₂, arith, eqb-true, le-ltb}
+use Rattle.osek_base.specs.declared.ids.Owner.{Owner}
+use Rattle.std.specs.Prelude.{slice_index_or, is_none, is_some, ◌==◌, ◌||◌}
 use Rattle.std.proofs.lemmas.Bool.{and_parts, false≢true, not-true}
 use Rattle.osek_base.specs.declared.status.TaskState.{TaskState}
 use Rattle.osek_base.specs.declared.status.TaskState.TheVariants.{Running, Waiting, Ready, Suspended}
@@ -27,8 +28,8 @@ use Rattle.figures.specs.ResponseSums.{Responses, response_figures, entered, sta
 use Rattle.figures.specs.RoutineSums.{routine_figures, since, still, latency}
 use Rattle.figures.specs.ResourceSums.{resource_figures, is_got, hold_on, hold_at}
 use Rattle.figures.specs.AlarmSums.{alarm_figures}
-use Rattle.observations.specs.Seen.{unseen_task, unseen_routine, unseen_alarm}
-use Rattle.figures.specs.FigureSums.{task_figures, task_tick, routine_tick, holder_tick, alarm_tick, is_task, is_routine, is_error}
+use Rattle.observations.specs.Seen.{numbered, task_seen, unseen_task, unseen_routine, unseen_alarm}
+use Rattle.figures.specs.FigureSums.{executing_tick, lower_executes, task_figures, task_tick, routine_tick, holder_tick, alarm_tick, is_task, is_routine, is_error}
 use Rattle.figures.specs.Quiet.{is_suspended, has_nothing, gets_nothing, rests, tells, is_untold, is_unasked, is_quiet_routine, is_free, is_quiet_alarm}
 use Rattle.figures.proofs.StepLemmas.{task_more, times_more, alarm_more, routine_more, resource_more}
 
@@ -96,7 +97,9 @@ not_own o k h = others o k (not-true (is_task o.executor k) h)
 
 pub untold : (o : Observation) (state : TaskState) (k : ℕ) → is_untold o state k ≡ true → IsSilent o k
 untold o state k h = elim state as (λ s. is_untold o s k ≡ true → IsSilent o k) [
-  | Running ↦ λ h. none_told (is_error o.answered) o.blockers (is_task o.executor k) (not-true (tells o) h)
+  | Running ↦ λ h.
+      none_told (is_error o.answered) o.blockers (is_task o.executor k)
+      (not-true (tells o) (and_parts (is_task o.executor k) (not (tells o)) h).1)
   | Waiting ↦ not_own o k
   | Ready ↦ not_own o k
   | Suspended ↦ not_own o k
@@ -260,3 +263,39 @@ quiet_alarm o k before old quiet e =
     let r = kept_count old.refused _ (cond s.is_refused 1 0) (ap (λ (f : AlarmFigures). f.refused) e) (ap (λ b. cond b 1 0) refused) in
     let n : first_tick s.is_refused a.tick old.first_refusal ≡ old.first_refusal = rw refused (first_stays a.tick old.first_refusal) in
     cc
+
+own_not_other : {X : Type 0} (own : Bool) → not own ≡ true → own ≡ true → X
+own_not_other true other own = absurd (false≢true other)
+own_not_other false other own = absurd (false≢true own)
+
+-- one that executes is RUNNING
+pub executes_running : (o : Observation) (state : TaskState) (k : ℕ) → is_untold o state k ≡ true → is_task o.executor k ≡ true → state ≡ Running
+executes_running o state k untold own = elim state as (λ s. is_untold o s k ≡ true → s ≡ Running) [
+  | Running ↦ λ _. refl
+  | Waiting ↦ λ h. own_not_other (is_task o.executor k) h own
+  | Ready ↦ λ h. own_not_other (is_task o.executor k) h own
+  | Suspended ↦ λ h. own_not_other (is_task o.executor k) h own
+] untold
+
+and_false : (b : Bool) → (b && false) ≡ false
+and_false true = refl
+and_false false = refl
+
+not_lower : (levels : List ℕ) (executor : Option Owner) (k : ℕ) → is_task executor k ≡ true → lower_executes levels executor k ≡ false
+not_lower levels None k own = refl
+not_lower levels (Some (Owner.Task t)) k own =
+    let n = slice_index_or levels k 0 in
+    ap (λ u. nat_lt u (length levels) && nat_lt (slice_index_or levels u 0) n) (eqb-true t k own)
+    ∙ ap (λ b. nat_lt k (length levels) && b) (le-ltb n n (omega arith)) ∙ and_false (nat_lt k (length levels))
+not_lower levels (Some (Owner.Routine r)) k own = refl
+
+-- the levels tell nothing of a task that executes
+pub own_tick : (levels : List ℕ) (o : Observation) (t k : ℕ) → is_task o.executor k ≡ true → task_tick levels (numbered t o) k ≡ executing_tick o t k
+own_tick levels o t k own =
+    λ i. record {
+      tick = t;
+      seen = task_seen o k;
+      lower_executes = not_lower levels o.executor k own i;
+      has_failed = own i && is_error o.answered;
+      blockers = cond (own i) o.blockers None;
+    }

@@ -1,6 +1,7 @@
 -- Ticks more of a task's times: one count alone grows.
-use Rattle.std.proofs.Common.{ℕ, ◌≡◌, ◌+◌, Bool, true, false, List, cond, refl, sym, ◌∙◌, ap, ap₂}
+use Rattle.std.proofs.Common.{ℕ, ◌≡◌, ◌+◌, Bool, true, false, not, List, cond, refl, sym, ◌∙◌, ap, ap₂}
 use Rattle.std.specs.Prelude.{◌||◌}
+use Rattle.std.proofs.lemmas.Bool.{false≢true}
 use Rattle.osek_base.specs.declared.status.TaskState.TheVariants.{Running, Waiting, Ready, Suspended}
 use Rattle.figures.specs.declared.task_tick.TaskTick.{TaskTick}
 use Rattle.figures.specs.declared.task_time.TaskTime.{TaskTime}
@@ -49,6 +50,23 @@ time_stays t more before f time noted had e is notes begins =
     notes ∙ one_counts time more before f e ∙ ap (λ x. counted x more f) is in
     let same : had ≡ begun t f.has_begun = begins ∙ ap (λ (g : TaskTimes). begun t g.has_begun) one in
     ap₂ (λ (g : TaskTimes) b. record g { has_begun = b }) one same
+
+-- a task that is RUNNING executes, and has begun unless its job leaves
+pub runs_executed : (t : TaskTick) (had : Bool) → is_running t ≡ true → Executed ≡ time_of t had
+runs_executed t had runs = elim t.seen.state as (λ s.
+    elim s [ Running ↦ true | Waiting ↦ false | Ready ↦ false | Suspended ↦ false ] ≡ true → Executed ≡ time_in s t.lower_executes had) [
+      | Running ↦ λ _. refl
+      | Waiting ↦ λ h. absurd (false≢true h)
+      | Ready ↦ λ h. absurd (false≢true h)
+      | Suspended ↦ λ h. absurd (false≢true h)
+    ] runs
+
+not_left : (b : Bool) → not b ≡ cond b false true
+not_left true = refl
+not_left false = refl
+
+pub begun_running : (t : TaskTick) (had : Bool) → is_running t ≡ true → not (leaves t) ≡ begun t had
+begun_running t had runs = not_left (leaves t) ∙ ap (λ b. cond (leaves t) false (b || had)) (sym runs)
 
 -- where the oldest job neither ends nor waits, the state says which count grows
 pub went : (t : TaskTick) (more : ℕ) (before : List TaskTick) (f : TaskTimes) → leaves t ≡ false → f ≡ task_times before

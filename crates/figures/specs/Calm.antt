@@ -1,5 +1,5 @@
 -- Ticks in a row in which the same is seen, and what of them is counted at once.
-use Rattle.std.specs.Prelude.{ℕ, Bool, true, not, ◌&&◌, ◌==◌, ◌+◌, ◌-◌, ◌^◌, cond, is_none, is_some, nat_le, length}
+use Rattle.std.specs.Prelude.{ℕ, Bool, true, not, ◌&&◌, ◌==◌, ◌+◌, ◌-◌, ◌^◌, cond, is_some, nat_le}
 use Rattle.osek_base.specs.declared.status.TaskState.{TaskState}
 use Rattle.osek_base.specs.declared.status.TaskState.TheVariants.{Running, Waiting, Ready, Suspended}
 use Rattle.figures.specs.declared.task_tick.TaskTick.{TaskTick}
@@ -14,9 +14,7 @@ use Rattle.figures.specs.Counts.{capped}
 use Rattle.figures.specs.Reaching.{worse_of}
 use Rattle.figures.specs.TaskSums.{left_jobs}
 use Rattle.figures.specs.StateSums.{begun, ready_time, time_of, is_executed, is_ready, is_preempted, is_blocked, is_waited}
-use Rattle.figures.specs.ResponseSums.{standing}
 use Rattle.figures.specs.ResourceSums.{is_got, hold_on, hold_at}
-use Rattle.figures.specs.Quiet.{gets_nothing}
 
 -- no interrupt of a routine arrives, it isn't started, and it isn't answered an error
 abbrev pub is_calm_routine : RoutineTick → Bool

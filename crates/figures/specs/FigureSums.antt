@@ -59,6 +59,16 @@ task_tick levels o k = record {
   blockers = cond (is_task o.executor k) o.blockers None;
 }
 
+-- of task k, which executes, as of tick t
+abbrev pub executing_tick : Observation → ℕ → ℕ → TaskTick
+executing_tick o t k = record {
+  tick = t;
+  seen = task_seen o k;
+  lower_executes = false;
+  has_failed = is_error o.answered;
+  blockers = o.blockers;
+}
+
 abbrev pub routine_tick : Observation → ℕ → RoutineTick
 routine_tick o k = record {
   tick = o.tick;

@@ -8,7 +8,7 @@ use Rattle.observations.specs.declared.task_seen.TaskSeen.{TaskSeen}
 use Rattle.observations.specs.declared.routine_seen.RoutineSeen.{RoutineSeen}
 use Rattle.observations.specs.declared.alarm_seen.AlarmSeen.{AlarmSeen}
 use Rattle.observations.specs.declared.observation.Observation.{Observation}
-use Rattle.observations.specs.Seen.{alarm_seen, holder_seen, routine_seen, task_seen}
+use Rattle.observations.specs.Seen.{alarm_seen, holder_seen, routine_seen}
 use Rattle.figures.specs.FigureSums.{is_error, is_task, is_routine}
 
 abbrev pub is_suspended : TaskState → Bool
@@ -36,10 +36,10 @@ rests s = has_nothing s && gets_nothing s
 abbrev pub tells : Observation → Bool
 tells o = is_error o.answered || is_some o.blockers
 
--- of task k, which is in a state, neither is told: nothing is, or it doesn't execute
+-- of task k, which executes where it is RUNNING and nowhere else, neither is told
 abbrev pub is_untold : Observation → TaskState → ℕ → Bool
 is_untold o state k = elim state [
-  | Running ↦ not (tells o)
+  | Running ↦ is_task o.executor k && not (tells o)
   | Waiting ↦ not (is_task o.executor k)
   | Ready ↦ not (is_task o.executor k)
   | Suspended ↦ not (is_task o.executor k)

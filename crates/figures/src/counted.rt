@@ -1,11 +1,12 @@
 //! Figures of things of one kind, and ticks in a row in which the same is seen.
 
-ghost use Rattle.std.specs.Prelude.{ℕ, List, ◌≡◌, ◌<◌, ◌≤◌, ◌+◌, ◌^◌, length, replicate};
+ghost use Rattle.std.specs.Prelude.{ℕ, List, ◌≡◌, ◌<◌, ◌≤◌, ◌+◌, ◌-◌, ◌^◌, length, replicate};
 ghost use Rattle.observations.specs.declared.observation.Observation.{Observation};
 ghost use Rattle.figures.specs.Counting.{AreCounted, Counts};
 
 use crate::scene::Scene;
 use arrayvec::ArrayVec;
+use observations::Observation;
 
 /// Figures of a task, a routine, a resource or an alarm.
 pub trait Counted: Default + Drop {
@@ -61,51 +62,93 @@ fn observe_all<F: Counted>(figures: &mut F, scene: &Scene, first: u32, count: u3
 {
     let passed = figures.observe_some(scene, first, count, number);
     if passed < count {
-        observe_rest(figures, *scene, first + passed, count - passed, number);
+        observe_rest(
+            figures,
+            scene.levels,
+            scene.observation,
+            first,
+            count,
+            passed,
+            number,
+        );
     }
 }
 
-// Such ticks of which not all could be counted at once.
+// Such ticks behind those that could be counted at once.
 #[inline(never)]
-fn observe_rest<F: Counted>(figures: &mut F, scene: Scene, first: u32, count: u32, number: usize)
+fn observe_rest<F: Counted>(
+    figures: &mut F,
+    levels: &[u8],
+    observation: &Observation,
+    first: u32,
+    count: u32,
+    passed: u32,
+    number: usize,
+)
+    requires some { passed < count }
     requires ends { first + count ≤ 2 ^ 32 }
-    requires known { F.IsKnown scene.levels.now number }
-    ensures { Counts (F.figures scene.entry.levels.now number) scene.entry.observation.now
+    requires known { F.IsKnown levels.now number }
+    ensures { Counts (F.figures levels.now number) observation.now (first + passed) (count - passed)
+        figures.old figures.new }
+{
+    let scene = Scene::new(levels, observation);
+    observe_rows(figures, &scene, first + passed, count - passed, number);
+}
+
+// Such ticks, of which not all can be counted at once.
+#[inline(always)]
+fn observe_rows<F: Counted>(figures: &mut F, scene: &Scene, first: u32, count: u32, number: usize)
+    requires ends { first + count ≤ 2 ^ 32 }
+    requires known { F.IsKnown scene.now.levels.now number }
+    ensures { Counts (F.figures scene.now.levels.now number) scene.now.observation.now
         first count figures.old figures.new }
 {
     let mut passed = 0;
     while passed < count {
-        passed += figures.observe_some(&scene, first + passed, count - passed, number);
+        passed += figures.observe_some(scene, first + passed, count - passed, number);
     }
 }
 
 /// So many ticks of each thing from one on, in which the same is seen. Whether something is seen of
 /// each thing is asked once.
 #[inline(always)]
-pub fn observe_each<F: Counted>(figures: &mut [F], scene: &Scene, first: u32, count: u32)
+pub fn observe_each<F: Counted>(
+    figures: &mut [F],
+    levels: &[u8],
+    observation: &Observation,
+    first: u32,
+    count: u32,
+)
     requires some { 0 < count }
     requires ends { first + count ≤ 2 ^ 32 }
-    requires known { (k : ℕ) → k < length figures.old → F.IsKnown scene.now.levels.now k }
-    ensures { AreCounted (F.figures scene.now.levels.now) scene.now.observation.now
-        first count figures.old figures.new }
+    requires known { (k : ℕ) → k < length figures.old → F.IsKnown levels.now k }
+    ensures { AreCounted (F.figures levels.now) observation.now first count figures.old
+        figures.new }
 {
-    if figures.len() <= F::count_in(scene) {
-        observe_list(figures, scene, first, count);
+    let scene = Scene::new(levels, observation);
+    if figures.len() <= F::count_in(&scene) {
+        observe_list(figures, &scene, first, count);
     } else {
-        observe_longer(figures, *scene, first, count);
+        observe_longer(figures, levels, observation, first, count);
     }
 }
 
 // Such ticks of more things than are seen.
 #[inline(never)]
-fn observe_longer<F: Counted>(figures: &mut [F], scene: Scene, first: u32, count: u32)
+fn observe_longer<F: Counted>(
+    figures: &mut [F],
+    levels: &[u8],
+    observation: &Observation,
+    first: u32,
+    count: u32,
+)
     requires some { 0 < count }
     requires ends { first + count ≤ 2 ^ 32 }
-    requires known { (k : ℕ) → k < length figures.old → F.IsKnown scene.levels.now k }
-    ensures { AreCounted (F.figures scene.entry.levels.now) scene.entry.observation.now
-        first count figures.old figures.new }
+    requires known { (k : ℕ) → k < length figures.old → F.IsKnown levels.now k }
+    ensures { AreCounted (F.figures levels.now) observation.now first count figures.old
+        figures.new }
 {
-    observe_list(figures, &scene, first, count);
+    observe_list(figures, &Scene::new(levels, observation), first, count);
 }
 
 // Such ticks of each thing, one after another.

@@ -11,7 +11,6 @@ use crate::counts::{add_where, added};
 use crate::of_system::{held_count, levels_of};
 use crate::resource_figures::ResourceFigures;
 use crate::routine_figures::RoutineFigures;
-use crate::scene::Scene;
 use crate::seen::is_idle;
 use crate::task_figures::TaskFigures;
 use arrayvec::ArrayVec;
@@ -90,20 +89,20 @@ impl Figures {
 
     // So many ticks from one on are seen at once.
     #[inline(always)]
-    fn observe_row(&mut self, observation: &Observation, first: u32, count: u32)
+    fn observe_row(&mut self, seen: &Observation, first: u32, count: u32)
         requires some { 0 < count }
         requires ends { first + count ≤ 2 ^ 32 }
         ensures { (S : System) (before : List Observation) → AreFigures S before self.old
-            → AreFigures S (alike observation.now first count before) self.new }
+            → AreFigures S (alike seen.now first count before) self.new }
     {
         self.ticks = added(self.ticks, count);
         self.last = first + (count - 1);
-        add_where(&mut self.idle, count, is_idle(observation));
-        let scene = Scene::new(self.levels.as_slice(), observation);
-        observe_each(self.tasks.as_mut_slice(), &scene, first, count);
-        observe_each(self.routines.as_mut_slice(), &scene, first, count);
-        observe_each(self.resources.as_mut_slice(), &scene, first, count);
-        observe_each(self.alarms.as_mut_slice(), &scene, first, count);
+        add_where(&mut self.idle, count, is_idle(seen));
+        let levels = self.levels.as_slice();
+        observe_each(self.tasks.as_mut_slice(), levels, seen, first, count);
+        observe_each(self.routines.as_mut_slice(), levels, seen, first, count);
+        observe_each(self.resources.as_mut_slice(), levels, seen, first, count);
+        observe_each(self.alarms.as_mut_slice(), levels, seen, first, count);
     }
 
     /// How many ticks were seen.

@@ -1,7 +1,15 @@
 //! What ticks add to the figures of each kind of thing. In most there is nothing to count; what is
 //! rare is a call.
 
-ghost use Rattle.std.specs.Prelude.{[], ◌≡◌, ◌<◌, ◌≤◌, length};
+ghost use Rattle.std.specs.Prelude.{
+  List,
+  [],
+  ◌∷◌,
+  ◌≡◌,
+  ◌<◌,
+  ◌≤◌,
+  length,
+};
 ghost use Rattle.figures.specs.Counting.{
   Counts,
   CountsOne,
@@ -11,7 +19,8 @@ ghost use Rattle.figures.specs.Counting.{
   alarm_figures_of,
 };
 ghost use Rattle.observations.specs.Seen.{numbered};
-ghost use Rattle.figures.specs.FigureSums.{task_figures};
+ghost use Rattle.figures.specs.FigureSums.{executing_tick, task_figures};
+ghost use Rattle.figures.specs.declared.task_tick.TaskTick.{TaskTick};
 ghost use Rattle.figures.specs.RoutineSums.{routine_figures};
 ghost use Rattle.figures.specs.ResourceSums.{resource_figures};
 ghost use Rattle.figures.specs.AlarmSums.{alarm_figures};
@@ -24,7 +33,8 @@ use crate::resource_figures::ResourceFigures;
 use crate::routine_figures::RoutineFigures;
 use crate::scene::Scene;
 use crate::seen::{
-    alarm_tick, executes, held_tick, holder_tick, is_untold, routine_tick, seen_of_task, task_tick,
+    alarm_tick, executes, executing_tick, held_tick, holder_tick, is_untold, routine_tick,
+    seen_of_task, task_tick,
 };
 use crate::task_figures::TaskFigures;
 use observations::Observation;
@@ -61,9 +71,33 @@ impl Counted for TaskFigures {
             self.stay(scene, number, seen, count);
             return count;
         }
-        observe_task(self, scene.levels, scene.observation, first, number);
+        observe_one(self, scene, first, number);
         1
     }
+}
+
+// A tick more of a task.
+#[inline(always)]
+fn observe_one(figures: &mut TaskFigures, scene: &Scene, tick: u32, number: usize)
+    requires { number < length scene.now.levels.now }
+    ensures { CountsOne (task_figures_of scene.now.levels.now number)
+        (numbered tick scene.now.observation.now) figures.old figures.new }
+{
+    if executes(scene, number) {
+        observe_executing(figures, scene.observation, tick, number);
+    } else {
+        observe_task(figures, scene.levels, scene.observation, tick, number);
+    }
+}
+
+// A tick more of a task that executes, where something comes to it or is told of it, or a job of it
+// wasn't followed before.
+#[inline(never)]
+fn observe_executing(figures: &mut TaskFigures, observation: &Observation, tick: u32, number: usize)
+    ensures { (before : List TaskTick) → figures.old ≡ task_figures before
+        → figures.new ≡ task_figures (executing_tick observation.now tick number ∷ before) }
+{
+    figures.observe(&executing_tick(tick, observation, number));
 }
 
 // A tick more of a task to which something comes, or a job of which wasn't followed before.
@@ -196,7 +230,7 @@ impl Counted for AlarmFigures {
         if is_quiet_alarm(scene, number) {
             return count;
         }
-        self.observe(&alarm_tick(first, scene.observation, number));
+        self.observe(&alarm_tick(first, scene, number));
         1
     }
 }

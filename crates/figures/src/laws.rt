@@ -2,7 +2,8 @@
 
 ghost use Rattle.figures.specs.StateSums.{AddUp};
 
-/// The ticks in which a task is READY or RUNNING are those that count as executed, ready, preempted or blocked, each once.
+/// The ticks in which a task is READY or RUNNING are those that count as executed, ready, preempted
+/// or blocked, each once.
 pub fn add_up()
     ensures { AddUp }
 {}

@@ -1,6 +1,6 @@
 //! Numbers of ticks, and when they were reached.
 
-ghost use Rattle.std.specs.Prelude.{◌≡◌};
+ghost use Rattle.std.specs.Prelude.{◌≡◌, Some};
 ghost use Rattle.figures.specs.Reaching.{first_tick, worse_of};
 
 /// A number of ticks, and the tick at which it was reached first.
@@ -22,6 +22,25 @@ pub fn raise(worst: &mut Option<Reached>, reached: Option<Reached>)
             Some(worst) if worst.ticks >= reached.ticks => {}
             _ => *worst = Some(reached),
         }
+    }
+}
+
+// The greatest number so far becomes that one.
+#[inline(never)]
+fn rise(worst: &mut Option<Reached>, ticks: u32, at: u32)
+    ensures { worst.new ≡ Some (record { ticks = ticks; at = at }) }
+{
+    *worst = Some(Reached { ticks, at });
+}
+
+/// The greatest number so far rises where a new one is greater, which is rare.
+#[inline(always)]
+pub fn raise_rarely(worst: &mut Option<Reached>, ticks: u32, at: u32)
+    ensures { worst.new ≡ worse_of worst.old (Some (record { ticks = ticks; at = at })) }
+{
+    match *worst {
+        Some(worst) if worst.ticks >= ticks => {}
+        _ => rise(worst, ticks, at),
     }
 }
 

@@ -8,7 +8,7 @@ ghost use Rattle.figures.specs.Reaching.{worse_of};
 ghost use Rattle.figures.specs.Calm.{held_on};
 
 use crate::counts::{add_where, added};
-use crate::reached::{Reached, raise};
+use crate::reached::{Reached, raise, raise_rarely};
 use observations::Holder;
 
 // Whether a task holds it, and held it before.
@@ -131,11 +131,7 @@ impl ResourceFigures {
               (Some (record { ticks = self.old.held; at = tick + more }));
         } }
     {
-        let reached = Reached {
-            ticks: self.held,
-            at: tick + more,
-        };
-        raise(&mut self.longest, Some(reached));
+        raise_rarely(&mut self.longest, self.held, tick + more);
     }
 
     /// A tick and some more are seen, in all of which one task holds it that didn't before.

@@ -1,6 +1,6 @@
 //! OSEK/VDX OS: task management. Responses of a task's jobs.
 
-ghost use Rattle.std.specs.Prelude.{List, [], ◌∷◌, ◌≡◌, nat_le, length};
+ghost use Rattle.std.specs.Prelude.{List, [], ◌∷◌, ◌≡◌, ◌<◌, Some, nat_le, length};
 ghost use Rattle.figures.specs.declared.task_tick.TaskTick.{TaskTick};
 ghost use Rattle.figures.specs.declared.reached.Reached.{Reached};
 ghost use Rattle.figures.specs.Reaching.{put};
@@ -35,7 +35,8 @@ fn response(since: u32, tick: u32) -> u32
     tick.saturating_sub(since).saturating_add(1)
 }
 
-/// The responses of a task's jobs, and since which tick each job is ready that neither ended nor waits, oldest first.
+/// The responses of a task's jobs, and since which tick each job is ready that neither ended nor
+/// waits, oldest first.
 #[derive(Drop)]
 pub struct ResponseFigures {
     ready_since: ArrayVec<u32, MAX_UNFINISHED>,
@@ -69,7 +70,8 @@ impl ResponseFigures {
         self.spread
     }
 
-    /// The age in a tick of the oldest job that neither ended nor waits: as its response, if it ended in that tick.
+    /// The age in a tick of the oldest job that neither ended nor waits: as its response, if it
+    /// ended in that tick.
     pub fn oldest(&self, tick: u32) -> Option<Reached>
         ensures { result ≡ oldest_response tick self.now.ready_since }
     {
@@ -132,18 +134,33 @@ fn oldest(since: &ArrayVec<u32, MAX_UNFINISHED>, tick: u32) -> Option<Reached>
 }
 
 // The oldest job ends or waits in a tick: its response, where there is one.
+#[inline(always)]
 fn leave(since: &mut ArrayVec<u32, MAX_UNFINISHED>, tick: u32) -> Option<Reached>
     ensures response { result ≡ oldest_response tick since.old.items }
     ensures left { since.new.items ≡ later since.old.items }
 {
-    if since.is_empty() {
-        return None;
+    if since.len() > 1 {
+        return Some(leave_some(since, tick));
     }
-    let oldest = since.remove(0);
+    let oldest = since.pop()?;
     Some(Reached {
         ticks: response(oldest, tick),
         at: tick,
     })
+}
+
+// The oldest of some jobs ends or waits in a tick: its response.
+#[inline(never)]
+fn leave_some(since: &mut ArrayVec<u32, MAX_UNFINISHED>, tick: u32) -> Reached
+    requires { 0 < length since.old.items }
+    ensures response { Some result ≡ oldest_response tick since.old.items }
+    ensures left { since.new.items ≡ later since.old.items }
+{
+    let oldest = since.remove(0);
+    Reached {
+        ticks: response(oldest, tick),
+        at: tick,
+    }
 }
 
 // The jobs that stand and weren't followed are ready since this tick.

@@ -2,7 +2,7 @@
 
 ghost use Rattle.std.specs.Prelude.{◌≡◌, ◌<◌, length};
 ghost use Rattle.observations.specs.Seen.{numbered, task_seen};
-ghost use Rattle.figures.specs.FigureSums.{lower_executes, task_tick, routine_tick, holder_tick, alarm_tick, is_idle, is_error, is_task, is_routine};
+ghost use Rattle.figures.specs.FigureSums.{lower_executes, task_tick, executing_tick, routine_tick, holder_tick, alarm_tick, is_idle, is_error, is_task, is_routine};
 ghost use Rattle.figures.specs.Quiet.{executing_number, tells, is_untold};
 
 use crate::alarm_figures::AlarmTick;
@@ -10,7 +10,7 @@ use crate::resource_figures::HolderTick;
 use crate::routine_figures::RoutineTick;
 use crate::scene::Scene;
 use crate::task_tick::TaskTick;
-use observations::{Holder, Observation, TaskSeen};
+use observations::{AlarmSeen, Holder, Observation, TaskSeen};
 use osek_base::{Owner, Status, TaskState};
 
 /// Who holds a resource in a tick of that number.
@@ -47,13 +47,15 @@ pub fn seen_of_task(scene: &Scene, number: usize) -> TaskSeen
 }
 
 /// What an observation has of an alarm, as of a tick of that number.
-pub fn alarm_tick(tick: u32, observation: &Observation, number: usize) -> AlarmTick
-    ensures { result ≡ alarm_tick (numbered tick observation.now) number }
+#[inline(always)]
+pub fn alarm_tick(tick: u32, scene: &Scene, number: usize) -> AlarmTick
+    ensures { result ≡ alarm_tick (numbered tick scene.now.observation.now) number }
 {
-    AlarmTick {
-        tick,
-        seen: observation.alarm(number),
-    }
+    let seen = match scene.alarms.get(number) {
+        Some(seen) => *seen,
+        None => AlarmSeen::default(),
+    };
+    AlarmTick { tick, seen }
 }
 
 /// Whether a status is told, other than E_OK.
@@ -123,7 +125,7 @@ pub fn is_untold(scene: &Scene, state: TaskState, number: usize) -> bool
     ensures { result ≡ is_untold scene.now.observation.now state number }
 {
     match state {
-        TaskState::Running => !tells(scene.observation),
+        TaskState::Running => executes(scene, number) && !tells(scene.observation),
         _ => !executes(scene, number),
     }
 }
@@ -137,6 +139,20 @@ pub fn lower_executes(scene: &Scene, number: usize) -> bool
 {
     let levels = scene.levels;
     scene.executing < levels.len() && levels[scene.executing] < levels[number]
+}
+
+/// What an observation has of a task that executes, as of a tick of that number.
+#[inline(always)]
+pub fn executing_tick(tick: u32, observation: &Observation, number: usize) -> TaskTick
+    ensures { result ≡ executing_tick observation.now tick number }
+{
+    TaskTick {
+        tick,
+        seen: observation.task(number),
+        lower_executes: false,
+        has_failed: is_error(&observation.answered),
+        blockers: observation.blockers,
+    }
 }
 
 /// What an observation has of a task, as of a tick of that number.

@@ -1,11 +1,12 @@
 //! OSEK/VDX OS: task management. Figures of a task.
 
-ghost use Rattle.std.specs.Prelude.{List, [], ◌∷◌, ◌≡◌, ◌<◌, length};
+ghost use Rattle.std.specs.Prelude.{List, [], ◌∷◌, ◌≡◌, ◌<◌, length, true};
 ghost use Rattle.figures.specs.declared.task_tick.TaskTick.{TaskTick};
 ghost use Rattle.figures.specs.FigureSums.{lower_executes, task_figures};
 ghost use Rattle.figures.specs.ResponseSums.{oldest_response};
 ghost use Rattle.figures.specs.Reaching.{worse_of};
 ghost use Rattle.figures.specs.Calm.{went_on};
+ghost use Rattle.figures.specs.Quiet.{is_untold};
 
 use crate::reached::{Reached, worse_of};
 use crate::response_figures::ResponseFigures;
@@ -71,7 +72,8 @@ impl TaskFigures {
     /// stand were followed before: its times alone grow.
     #[inline(always)]
     pub(crate) fn stay(&mut self, scene: &Scene, number: usize, seen: TaskSeen, more: u32)
-        requires { number < length scene.now.levels.now }
+        requires known { number < length scene.now.levels.now }
+        requires untold { is_untold scene.now.observation.now seen.state number ≡ true }
         ensures { self.new ≡ record self.old {
           counts = record self.old.counts { unfinished = seen.jobs };
           times = went_on seen.state

@@ -81,14 +81,16 @@ impl TaskTick {
         }
     }
 
-    /// Whether its oldest job has executed since it became ready, behind the tick, where it had or hadn't before.
+    /// Whether its oldest job has executed since it became ready, behind the tick, where it had or
+    /// hadn't before.
     pub fn begun(&self, has_begun: bool) -> bool
         ensures { result ≡ begun self.now has_begun }
     {
         !self.leaves() && (self.is_running() || has_begun)
     }
 
-    /// What the tick is for the task, whose oldest job had or hadn't executed before since it became ready.
+    /// What the tick is for the task, whose oldest job had or hadn't executed before since it
+    /// became ready.
     pub fn time(&self, has_begun: bool) -> TaskTime
         ensures { result ≡ time_of self.now has_begun }
     {

@@ -1,15 +1,16 @@
 //! OSEK/VDX OS: task management, task state model. The ticks of a task by what they are for it.
 
-ghost use Rattle.std.specs.Prelude.{List, [], ◌∷◌, ◌≡◌, ◌<◌, length};
+ghost use Rattle.std.specs.Prelude.{List, [], ◌∷◌, ◌≡◌, ◌<◌, length, true, false};
 ghost use Rattle.figures.specs.declared.task_tick.TaskTick.{TaskTick};
 ghost use Rattle.figures.specs.StateSums.{task_times};
 ghost use Rattle.osek_base.specs.declared.status.TaskState.{TaskState};
 ghost use Rattle.figures.specs.FigureSums.{lower_executes};
+ghost use Rattle.figures.specs.Quiet.{is_untold};
 ghost use Rattle.figures.specs.Calm.{time_on, went_on};
 
 use crate::counts::added;
 use crate::scene::Scene;
-use crate::seen::lower_executes;
+use crate::seen::{executes, lower_executes};
 use crate::task_tick::TaskTick;
 use crate::task_time::TaskTime;
 use osek_base::TaskState;
@@ -19,9 +20,11 @@ use osek_base::TaskState;
 pub struct TaskTimes {
     /// In how many ticks the task executed.
     pub executed: u32,
-    /// In how many ticks it was READY, not blocked, and its oldest job hadn't executed since it became ready.
+    /// In how many ticks it was READY, not blocked, and its oldest job hadn't executed since it
+    /// became ready.
     pub ready: u32,
-    /// In how many ticks it was READY, not blocked, and its oldest job had executed since it became ready.
+    /// In how many ticks it was READY, not blocked, and its oldest job had executed since it became
+    /// ready.
     pub preempted: u32,
     /// In how many ticks it was READY while a task of lower static priority executed.
     pub blocked: u32,
@@ -62,6 +65,15 @@ impl TaskTimes {
         }
     }
 
+    // Some ticks more in which the task is RUNNING.
+    #[inline(always)]
+    fn run(&mut self, more: u32)
+        ensures { self.new ≡ went_on TaskState.Running false more self.old }
+    {
+        self.executed = added(self.executed, more);
+        self.has_begun = true;
+    }
+
     // Some ticks more in which the task is READY.
     #[inline(always)]
     fn stand(&mut self, lower_executes: bool, more: u32)
@@ -79,19 +91,19 @@ impl TaskTimes {
     /// Some ticks more of a task in a state, to which nothing comes.
     #[inline(always)]
     pub(crate) fn go_on(&mut self, scene: &Scene, number: usize, state: TaskState, more: u32)
-        requires { number < length scene.now.levels.now }
+        requires known { number < length scene.now.levels.now }
+        requires untold { is_untold scene.now.observation.now state number ≡ true }
         ensures { self.new ≡ went_on state
             (lower_executes scene.now.levels.now scene.now.observation.now.executor number)
             more self.old }
     {
+        if executes(scene, number) {
+            return self.run(more);
+        }
         match state {
-            TaskState::Running => {
-                self.executed = added(self.executed, more);
-                self.has_begun = true;
-            }
-            TaskState::Waiting => self.waiting = added(self.waiting, more),
             TaskState::Ready => self.stand(lower_executes(scene, number), more),
-            TaskState::Suspended => {}
+            TaskState::Waiting => self.waiting = added(self.waiting, more),
+            _ => {}
         }
     }
 
@@ -101,6 +113,11 @@ impl TaskTimes {
         ensures { (before : List TaskTick) → self.old ≡ task_times before
             → self.new ≡ task_times (tick.now ∷ before) }
     {
+        if tick.is_running() {
+            self.executed = added(self.executed, 1);
+            self.has_begun = !tick.leaves();
+            return;
+        }
         self.note(tick.time(self.has_begun), 1);
         self.has_begun = tick.begun(self.has_begun);
     }

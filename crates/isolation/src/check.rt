@@ -17,10 +17,10 @@ use upper_figures::upper_parts_show_the_same;
 /// the lower one. What is upper and which denial is told, `check_partition` says.
 ///
 /// Where the answer is Ok, whatever stands below can neither delay nor disturb the upper part. The
-/// system's upper part run by itself, and every proper system that is separable at p and agrees with
-/// this one from p upward, has the same view at p, in every mode, under every arrival list and for
-/// every number of ticks. Each tick shows the same of upper tasks (their states, priorities, jobs
-/// and refusals, and whether they are READY while a lower task executes), of routines (what
+/// system's upper part run by itself, and every proper system that is separable at p and agrees
+/// with this one from p upward, has the same view at p, in every mode, under every arrival list and
+/// for every number of ticks. Each tick shows the same of upper tasks (their states, priorities,
+/// jobs and refusals, and whether they are READY while a lower task executes), of routines (what
 /// arrives, is lost and starts), of who holds upper resources, of upper alarms, and of the services
 /// of upper tasks and routines that fail. So all figures of these are the same: of upper tasks all
 /// but the number of blockers.

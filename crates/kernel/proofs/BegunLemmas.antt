@@ -13,9 +13,11 @@ use Rattle.osek_base.specs.Tick.{at_values}
 use Rattle.osek_base.proofs.PlaceLemmas.{KnownPlace}
 use Rattle.run_laws.proofs.Foremost.{equal}
 use Rattle.kept_state.specs.Kept.{Kept}
+use Rattle.services.proofs.BoundLemmas.{activation_few}
 use Rattle.services.specs.Calls.{IsKnown, IsTaskOperand}
 use Rattle.blocking_laws.specs.Restamping.{StampLists, acting_task, named_by, stamps_at}
 use Rattle.blocking_laws.proofs.KnownTasks.{acts_task}
+use Rattle.kernel.specs.Answered.{Activates}
 use Rattle.kernel.specs.Stamping.{IsActedOn}
 use Rattle.kernel.proofs.PlaceLemmas.{service_known}
 
@@ -48,6 +50,11 @@ acted_on_is S T a action proper here inside is =
       value = ap acting_task (sym is);
       known = acts_task S a action proper (subst (λ (U : System). a < length U.alarms) here inside) is;
     })
+
+pub activates_is : (S T : System) (a t : ℕ) → IsProper S → T ≡ S → a < length T.alarms → (alarm S a).action ≡ Action.ActivateTask t → Activates T a t
+activates_is S T a t proper here inside is =
+    let known = acts_task S a (Action.ActivateTask t) proper (subst (λ (U : System). a < length U.alarms) here inside) is in
+    subst (λ (U : System). Activates U a t) (sym here) (record { value = is; known = known; few = activation_few S proper t known })
 
 -- ---- boot
 

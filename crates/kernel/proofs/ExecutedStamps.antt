@@ -43,12 +43,12 @@ instr_there S o (Owner.Routine i) x h =
     ap (λ d. instr_in S d o) (caller_is o (Owner.Routine i) x h)
     ∙ ap (option_map (λ (a : Active). instruction_at S (Owner.Routine a.routine) a.context.place)) h
 
-instr_next : (p : Processor) (next : Next) → IsNext p next → instr_in (system_of p) (caller_in (picture p)) (picture p) ≡ Some (instr_of next.packed)
+pub instr_next : (p : Processor) (next : Next) → IsNext p next → instr_in (system_of p) (caller_in (picture p)) (picture p) ≡ Some (instr_of next.packed)
 instr_next p next n = instr_there (system_of p) (picture p) next.owner (context_in (picture p) next.owner) n.who ∙ ap (λ i. Some i) n.instruction
 
 -- ---- instructions that end no job and act on no task
 
-moved_gone : (d : KeptCaller) (x : Context) (o : Kept) → (with_context_in d x o).gone ≡ o.gone
+pub moved_gone : (d : KeptCaller) (x : Context) (o : Kept) → (with_context_in d x o).gone ≡ o.gone
 moved_gone (ByTask t) x o = go o.gone
   where
     go : (b : Bool) → (cond b o (slot_changed t (slot_moved x) o)).gone ≡ o.gone
@@ -57,7 +57,7 @@ moved_gone (ByTask t) x o = go o.gone
 moved_gone ByRoutine x o = refl
 moved_gone ByNobody x o = refl
 
-unended : (r : Option ℕ) (old new : Bool) (xs : StampLists) → new ≡ old → xs ≡ ended_of r (not old && new) xs
+pub unended : (r : Option ℕ) (old new : Bool) (xs : StampLists) → new ≡ old → xs ≡ ended_of r (not old && new) xs
 unended None old new xs same = refl
 unended (Some t) true new xs same = refl
 unended (Some t) false true xs same = absurd (grind arith)
@@ -200,18 +200,6 @@ pub control_watched : (counted : Bool) (u : ℕ) (old : Watched) (new : Processo
     → Watches counted executing u old (watched_of new old.blocking) first second
 control_watched counted u old new next first second n control does =
     stay_watched counted u old new first second (control_stay old.processor next n u old.blocking.stamps control) does
-
--- a service that changes no jobs, where blockers are counted
-pub call_watched : (counted : Bool) (u : ℕ) (old : Watched) (new : Processor) (next : Next)
-    (call : ServiceCall) (first second : List TraceEvent) → IsNext old.processor next
-    → instr_of next.packed ≡ Instr.Service call → (counted ≡ true → changes_jobs call ≡ false)
-    → Does execute_phase_in old.processor new first second
-    → Watches counted executing u old (watched_of new old.blocking) first second
-call_watched counted u old new next call first second n is none does = record {
-  does = does;
-  stamps = λ on. call_stay old.processor next n u old.blocking.stamps call is (none on);
-  told = refl;
-}
 
 -- nobody executes
 pub idle_watched : (counted : Bool) (u : ℕ) (w : Watched) (behind : List TraceEvent) → caller_in (picture w.processor) ≡ ByNobody → behind ≡ []

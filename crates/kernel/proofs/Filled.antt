@@ -1,7 +1,9 @@
 -- A list whose places are filled by number, from the first on.
-use Rattle.std.proofs.Common.{◌≡◌, ℕ, ◌+◌, ◌<◌, List, [], ◌∷◌, ◌++◌, map, take, set, length, sym, ◌∙◌, ap, arith}
+use Rattle.std.proofs.Common.{◌≡◌, ℕ, ◌+◌, ◌<◌, List, [], ◌∷◌, ◌++◌, get_or, map, take, set, length, sym, ◌∙◌, ap, ap₂, arith}
 use Rattle.std.proofs.Math.Numerals.{add-one}
-use Rattle.std.proofs.lemmas.List.{length-set, map-append, take_all, take_more_set}
+use Rattle.std.proofs.lemmas.List.{append-nil, length-set, map-append, take_all, take_more, take_more_set}
+use Rattle.std.proofs.Math.ListN.{drop_of_length-le}
+use Rattle.std.specs.List.{refill}
 use Rattle.osek_base.specs.Lists.{below}
 
 module _ {X : Type 0} (f : ℕ → X) (n : ℕ) (xs : List X) where
@@ -10,6 +12,13 @@ module _ {X : Type 0} (f : ℕ → X) (n : ℕ) (xs : List X) where
       → take (n + 1) (set xs n x) ≡ map f (below (n + 1))
   one_more h low x e =
       take_more_set xs n x low ∙ ap (λ v. v ++ x ∷ []) h ∙ ap (λ y. map f (below n) ++ y ∷ []) e
+      ∙ sym (map-append f (below n) (n ∷ [])) ∙ ap (λ m. map f (below m)) (sym (add-one n))
+
+  -- one that is what fills its place counts, too
+  pub one_stands : take n xs ≡ map f (below n) → n < length xs → (d : X) → get_or xs n d ≡ f n
+      → take (n + 1) xs ≡ map f (below (n + 1))
+  one_stands h low d e =
+      take_more xs n d low ∙ ap₂ (λ v y. v ++ y ∷ []) h e
       ∙ sym (map-append f (below n) (n ∷ [])) ∙ ap (λ m. map f (below m)) (sym (add-one n))
 
   -- so it goes on in a list of some length, by the element of a number that is the next one
@@ -23,9 +32,8 @@ module _ {X : Type 0} (f : ℕ → X) (n : ℕ) (xs : List X) where
   pub all_of : take n xs ≡ map f (below n) → length xs ≡ n → xs ≡ map f (below n)
   all_of h long = sym (take_all n xs (omega (arith, long))) ∙ h
 
--- one stands behind those that are filled
-pub one_behind : {X : Type 0} (xs ys : List X) (n : ℕ) → take n xs ≡ ys → length xs ≡ n + 1 → (x : X)
-    → set xs n x ≡ ys ++ x ∷ []
-one_behind xs ys n h long x =
-    sym (take_all (n + 1) (set xs n x) (omega (arith, long, length-set xs n x)))
-    ∙ take_more_set xs n x (omega (arith, long)) ∙ ap (λ v. v ++ x ∷ []) h
+-- where all places are filled anew, what stood there is gone
+pub filled_anew : {X : Type 0} (xs ws : List X) → length ws ≡ length xs → refill (length xs) xs ws ≡ ws
+filled_anew xs ws long =
+    ap (λ v. take (length xs) (ws ++ v)) (drop_of_length-le xs (omega (arith, long)))
+    ∙ ap (take (length xs)) (append-nil ws) ∙ take_all (length xs) ws (omega (arith, long))

@@ -9,12 +9,15 @@ pub mod AlarmLemmas
 pub mod StartLemmas
 pub mod DoesLemmas
 pub mod Filled
+pub mod Replacing
+pub mod HolderLemmas
 pub mod ActLemmas
 pub mod NextLemmas
 pub mod StampingLemmas
 pub mod BegunLemmas
 pub mod WatchLemmas
 pub mod ExecutedStamps
+pub mod AnsweredStamps
 pub mod NumberLemmas
 pub mod KeepingLemmas
 pub mod SeenLemmas

@@ -1,7 +1,10 @@
 -- What is seen of what a kernel keeps is what the state of its run has.
-use Rattle.std.proofs.Common.{◌≡◌, ℕ, Bool, List, length, ◌∙◌, ap, ap₂}
+use Rattle.std.proofs.Common.{◌≡◌, ℕ, Bool, cond, List, [], ◌∷◌, ◌++◌, map, length, ◌∙◌, ap, ap₂}
+use Rattle.std.specs.Prelude.{Option}
+use Rattle.std.proofs.Math.Path.{fun_ext}
 use Rattle.osek_base.specs.declared.arrivals.Arrival.{Arrival}
 use Rattle.osek_base.specs.declared.ids.ResId.{ResId}
+use Rattle.osek_base.specs.Lists.{below}
 use Rattle.osek_base.specs.System.{System}
 use Rattle.osek_base.specs.State.{State, jobs_of}
 use Rattle.osek_base.specs.Service.{task_state}
@@ -13,11 +16,13 @@ use Rattle.kept_state.specs.Kept.{Kept, kept}
 use Rattle.kept_state.specs.KeptService.{task_state_in}
 use Rattle.kept_state.specs.Seen.{holder_in}
 use Rattle.kept_state.proofs.Ticked.{settled_of, known_of}
+use Rattle.seen_ticks.specs.Observed.{holders_seen}
 use Rattle.seen_ticks.specs.Shown.{holder}
 use Rattle.seen_ticks.specs.Told.{task_at, task_at_in}
 use Rattle.seen_ticks.proofs.SeenLemmas.{counted, holder_is, state_is, task_is}
 use Rattle.services.specs.Objects.{Objects, kept_in, kept_of}
 use Rattle.machine.specs.Windows.{word}
+use Rattle.kernel.specs.Holders.{holders_in}
 use Rattle.kernel.specs.Machine.{HasCome, Machine, next_tick, system_of}
 
 -- ---- what is kept of the state of a run
@@ -45,6 +50,13 @@ module _ (counting : Bool) (S : System) (proper : IsProper S) (mode : ℕ) (arri
   holder_seen r =
       ap (λ T. holder_in T (kept_in o) r) system ∙ ap (λ k. holder_in S k r) same
       ∙ holder_is S (run S mode arrivals (next_tick m)).state r
+
+  pub holders_told : holders_in o.system (kept_in o) ≡ holders_seen S (run S mode arrivals (next_tick m)).state
+  holders_told =
+      ap (λ T. holders_in T (kept_in o)) system
+      ∙ ap (λ (h : ResId → Option ℕ). map (λ r. h (ResId.Declared r)) (below (length S.resources))
+      ++ cond S.use_res_scheduler (h ResId.Scheduler ∷ []) [])
+      (fun_ext (λ r. ap (λ k. holder_in S k r) same ∙ holder_is S (run S mode arrivals (next_tick m)).state r))
 
   pub task_seen : (t : ℕ) → task_at_in o.system (kept_in o) t ≡ task_at S (run S mode arrivals (next_tick m)).state t
   task_seen t =

@@ -2,10 +2,10 @@
 -- it.
 use Rattle.std.specs.Prelude.{ℕ, ◌≡◌, ◌<◌, ◌≤◌, ◌-◌, ◌+◌, true, false, not, List, [], Option, length}
 use Rattle.std.specs.List.{list_all}
-use Rattle.osek_base.specs.declared.limits.TheConstants.{MAX_RECORDS, MAX_TICKS}
+use Rattle.osek_base.specs.declared.limits.TheConstants.{MAX_ACTIVATION, MAX_RECORDS, MAX_TICKS}
 use Rattle.osek_base.specs.declared.ids.Owner.{Owner}
 use Rattle.osek_base.specs.declared.trace_event.TraceEvent.{TraceEvent}
-use Rattle.osek_base.specs.System.{System, instruction_at}
+use Rattle.osek_base.specs.System.{System, activation_of, instruction_at}
 use Rattle.osek_base.specs.Alarm.{is_due_at}
 use Rattle.osek_base.specs.Proper.{IsProper}
 use Rattle.osek_base.specs.State.{Expiry}
@@ -71,6 +71,10 @@ pub record MayExecute (p : Processor) : Type 0 where
   pub serves : MayServe (system_of p) (picture p)
   pub all : p.objects.suspended_all < MAX_TICKS
   pub os : p.objects.suspended_os < MAX_TICKS
+
+-- no task may have more jobs than the limit
+abbrev pub HasFewJobs : System → Type 0
+HasFewJobs S = (t : ℕ) → t < length S.tasks → activation_of S t ≤ MAX_ACTIVATION
 
 -- who executes, at its place
 pub record MayFetch (p : Processor) (who : Owner) : Type 0 where

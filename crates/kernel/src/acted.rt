@@ -4,7 +4,8 @@ ghost use Rattle.std.specs.Prelude.{◌≡◌, []};
 
 use alarms::DueList;
 
-/// The alarms that were due in a tick, in declaration order, and those of them whose action was refused.
+/// The alarms that were due in a tick, in declaration order, and those of them whose action was
+/// refused.
 #[derive(Drop)]
 pub struct Acted {
     pub due: DueList,

@@ -15,8 +15,8 @@ use osek_base::{
 use ready_queues::ReadyQueues;
 
 impl<'s, Q: ReadyQueues> Processor<'s, Q> {
-    /// The next tick begins, and the alarms that are due in it expire. The content of `due` becomes these alarms, in
-    /// declaration order.
+    /// The next tick begins, and the alarms that are due in it expire. The content of `due` becomes
+    /// these alarms, in declaration order.
     #[inline(always)]
     pub fn advance(&mut self, due: &mut DueList)
         requires { self.old.objects.tick + 1 < MAX_TICKS }
@@ -25,8 +25,8 @@ impl<'s, Q: ReadyQueues> Processor<'s, Q> {
         self.core.advance(due);
     }
 
-    /// An alarm acts: it activates a task, or sets events. A refusal is an error record of the alarm, and changes nothing.
-    /// Answers the status of its action.
+    /// An alarm acts: it activates a task, or sets events. A refusal is an error record of the
+    /// alarm, and changes nothing. Answers the status of its action.
     #[inline(always)]
     pub fn alarm_acts(&mut self, alarm: AlarmId, records: &mut TickRecord) -> Status
         requires { AlarmMayAct alarm self.old records.old }

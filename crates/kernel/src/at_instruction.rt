@@ -1,4 +1,5 @@
-//! OSEK/VDX OS: task management, task state model. All tasks as they are when a tick's instruction is executed.
+//! OSEK/VDX OS: task management, task state model. All tasks as they are when a tick's instruction
+//! is executed.
 
 ghost use Rattle.std.specs.Prelude.{◌≡◌, []};
 

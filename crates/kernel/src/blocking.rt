@@ -1,21 +1,28 @@
-//! Since which tick each job is ready, and how many blockers it had, in a kernel that counts blockers. No part of the standards.
+//! Since which tick each job is ready, and how many blockers it had, in a kernel that counts
+//! blockers. No part of the standards.
 
 ghost use Rattle.std.specs.Prelude.{◌≡◌, ◌<◌, true, IfSome, length};
 ghost use Rattle.blocking_laws.specs.Restamping.{preempted_by};
+ghost use Rattle.machine.specs.Packed.{instr_of, service_of};
+ghost use Rattle.kernel.specs.Controls.{IsCall};
 ghost use Rattle.kernel.specs.Idle.{rested};
+ghost use Rattle.kernel.specs.Answered.{IsStamped, MayAdd, MayAddIf, MayChange, MayChangeIf, job_added, job_added_if, job_changed, job_changed_if, job_ended};
 ghost use Rattle.kernel.specs.Stamping.{IsNumber, MayFollow, MayLook, restamped_between, number_told, stood_between};
 ghost use Rattle.kernel.specs.Watches.{Follows, IsFresh, MaySpend, Spends};
 
 use crate::blockers::Blockers;
+use crate::execute_phase::changes_job;
 use crate::processor::Processor;
 use crate::stamping::{Look, Stand, is_that, without_ended};
-use osek_base::TaskId;
+use machine::PackedInstr;
+use osek_base::{Owner, Service, Status, TaskId};
 use readiness::{JobStamps, LastTicks};
 use ready_queues::ReadyQueues;
 use std::marker::{Model, PhantomData};
 
-/// The stamps of all tasks' jobs, which tell since which tick each is ready; the last tick of each level; and what tells the
-/// number of blockers of who executed last. They are followed where blockers are counted, and else there are no stamps.
+/// The stamps of all tasks' jobs, which tell since which tick each is ready; the last tick of each
+/// level; and what tells the number of blockers of who executed last. They are followed where
+/// blockers are counted, and else there are no stamps.
 #[derive(Drop)]
 pub struct Blocking<B: Blockers> {
     pub(crate) stamps: JobStamps,
@@ -39,8 +46,8 @@ impl<B: Blockers> Model for Blocking<B> {
 }
 
 impl<B: Blockers> Blocking<B> {
-    /// With the stamps of the jobs with which a system begins, where blockers are counted; else with
-    /// none. No job has executed.
+    /// With the stamps of the jobs with which a system begins, where blockers are counted; else
+    /// with none. No job has executed.
     pub fn boot<Q: ReadyQueues>(processor: &Processor<'_, Q>) -> Self
         ensures { IsFresh B.are_counted processor.now result }
     {
@@ -65,9 +72,9 @@ impl<B: Blockers> Blocking<B> {
         self.stamp = other.stamp;
     }
 
-    /// How many blockers the job had that executed last, where it did so for the first time since it became ready: 1 where a
-    /// job of a lower level has executed since, else 0. It is never 2, since each time that a job becomes ready it has at most
-    /// one blocker.
+    /// How many blockers the job had that executed last, where it did so for the first time since
+    /// it became ready: 1 where a job of a lower level has executed since, else 0. It is never 2,
+    /// since each time that a job becomes ready it has at most one blocker.
     #[inline(always)]
     pub fn number(&self) -> Option<u32>
         ensures { IsNumber B.are_counted (number_told self.now.told) result }
@@ -87,8 +94,8 @@ impl<B: Blockers> Blocking<B> {
         }
     }
 
-    /// A task is looked at behind something that it was looked at before: where it has a job more, the new one is ready; where
-    /// its oldest job waited and doesn't any more, that one is.
+    /// A task is looked at behind something that it was looked at before: where it has a job more,
+    /// the new one is ready; where its oldest job waited and doesn't any more, that one is.
     #[inline(always)]
     pub fn restamp(&mut self, before: &Look, after: &Look, tick: u32)
         requires { B.are_counted ≡ true → MayLook before.now after.now self.old.stamps }
@@ -121,8 +128,8 @@ impl<B: Blockers> Blocking<B> {
         }
     }
 
-    /// Behind an instruction: the job of the task that ran may have ended, and the task on which the instruction acts is looked
-    /// at again.
+    /// Behind an instruction: the job of the task that ran may have ended, and the task on which
+    /// the instruction acts is looked at again.
     #[inline(always)]
     pub fn executed_since(&mut self, before: &Stand, after: &Stand, tick: u32)
         requires { B.are_counted ≡ true → MayFollow before.now after.now self.old.stamps }
@@ -139,6 +146,76 @@ impl<B: Blockers> Blocking<B> {
         if let (Some(earlier), Some(later)) = (&before.named, &after.named) {
             let stood = without_ended(earlier, &before.running, has_ended);
             self.restamp(&stood, later, tick);
+        }
+    }
+
+    /// A job more of a task, where there is one, is ready.
+    #[inline(always)]
+    fn job_added(&mut self, task: &Option<TaskId>, tick: u32)
+        requires { MayAdd task.now self.old.stamps }
+        ensures { Follows true (job_added tick task.now) self.old self.new }
+    {
+        if let Some(task) = task {
+            self.stamps.add(*task, tick);
+        }
+    }
+
+    /// The oldest job of a task that executes has ended.
+    #[inline(always)]
+    fn job_ended(&mut self, owner: &Owner)
+        requires { IsStamped owner.now self.old.stamps }
+        ensures { Follows true (job_ended owner.now) self.old self.new }
+    {
+        if let Owner::Task(task) = owner {
+            self.stamps.end(*task);
+        }
+    }
+
+    /// Behind a service that was answered E_OK: it may have made or ended a job.
+    #[inline(never)]
+    fn job_changed(&mut self, owner: Owner, packed: PackedInstr, tick: u32)
+        requires call { IsCall (instr_of packed) }
+        requires room { MayChange owner (service_of (instr_of packed)) self.old.stamps }
+        ensures { Follows true (job_changed tick owner (service_of (instr_of packed))) self.old
+            self.new }
+    {
+        match &packed.service() {
+            Service::ActivateTask(task) => self.job_added(task, tick),
+            Service::TerminateTask => self.job_ended(&owner),
+            _ => {}
+        }
+    }
+
+    /// Behind a service of which its status tells what it does to jobs.
+    #[inline(always)]
+    pub fn answered(&mut self, status: Status, owner: Owner, packed: PackedInstr, tick: u32)
+        requires call { IsCall (instr_of packed) }
+        requires room { B.are_counted ≡ true
+            → MayChangeIf status owner (service_of (instr_of packed)) self.old.stamps }
+        ensures { Follows B.are_counted
+            (job_changed_if status tick owner (service_of (instr_of packed))) self.old self.new }
+    {
+        if !B::are_counted() {
+            return;
+        }
+        if let Status::Ok = status
+            && changes_job(packed)
+        {
+            self.job_changed(owner, packed, tick);
+        }
+    }
+
+    /// Behind the activation of a task, of which its status tells whether the task has a job more.
+    #[inline(always)]
+    pub fn activated(&mut self, status: Status, task: TaskId, tick: u32)
+        requires { B.are_counted ≡ true → MayAddIf status task self.old.stamps }
+        ensures { Follows B.are_counted (job_added_if status tick task) self.old self.new }
+    {
+        if !B::are_counted() {
+            return;
+        }
+        if let Status::Ok = status {
+            self.stamps.add(task, tick);
         }
     }
 

@@ -38,8 +38,9 @@ impl From<AllocError> for BootFault {
 }
 
 impl<'s, Q: ReadyQueues> Processor<'s, Q> {
-    /// Boots a system in a mode: its tasks of the mode are activated by number, its alarms of the mode are set, and the task
-    /// that is to run was dispatched, which `opening` tells. Its programs are packed here, once.
+    /// Boots a system in a mode: its tasks of the mode are activated by number, its alarms of the
+    /// mode are set, and the task that is to run was dispatched, which `opening` tells. Its
+    /// programs are packed here, once.
     pub fn boot(
         alloc: Global,
         system: &'s System,
@@ -75,7 +76,8 @@ impl<'s, Q: ReadyQueues> Processor<'s, Q> {
     }
 }
 
-/// The core of a system whose tasks of a mode are activated by number, and its alarms of the mode set.
+/// The core of a system whose tasks of a mode are activated by number, and its alarms of the mode
+/// set.
 fn started<'s, Q: ReadyQueues>(
     alloc: Global,
     system: &'s System,

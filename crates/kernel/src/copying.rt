@@ -1,4 +1,5 @@
-//! OSEK/VDX OS: system services; the modelled processor. What a tick works on becomes that of another run of the same system.
+//! OSEK/VDX OS: system services; the modelled processor. What a tick works on becomes that of
+//! another run of the same system.
 
 ghost use Rattle.std.specs.Prelude.{◌≡◌};
 ghost use Rattle.kernel.specs.Processor.{system_of};
@@ -9,7 +10,8 @@ use crate::watched::Watched;
 use services::CopyQueues;
 
 impl<'s, Q: CopyQueues> Processor<'s, Q> {
-    /// All of it becomes that of another processor of the same system, whose programs it has already.
+    /// All of it becomes that of another processor of the same system, whose programs it has
+    /// already.
     pub fn copy_from(&mut self, other: &Processor<'s, Q>)
         requires { system_of self.old ≡ system_of other.now }
         ensures { self.new ≡ other.now }

@@ -1,4 +1,5 @@
-//! OSEK/VDX OS: system services; the modelled processor. One instruction of who executes, by its kind.
+//! OSEK/VDX OS: system services; the modelled processor. One instruction of who executes, by its
+//! kind.
 
 ghost use Rattle.std.specs.Prelude.{◌≡◌, ◌<◌, ◌+◌, ◌∷◌, ◌++◌, [], true, false, length};
 ghost use Rattle.osek_base.specs.declared.trace_event.Outcome.{Outcome};
@@ -9,9 +10,9 @@ ghost use Rattle.osek_base.specs.Tick.{error_record, shutdown_record};
 ghost use Rattle.machine.specs.Packed.{instr_of, is_control, is_plain, service_of};
 ghost use Rattle.kept_state.specs.KeptTick.{execute_phase_in};
 ghost use Rattle.blocking_laws.specs.Restamping.{named_by};
-ghost use Rattle.kernel.specs.Processor.{ComesTo, IsNext, MayFetch};
+ghost use Rattle.kernel.specs.Processor.{ComesTo, HasFewJobs, IsNext, MayFetch, system_of};
 ghost use Rattle.kernel.specs.Does.{Adds, Does, DoesWithin};
-ghost use Rattle.kernel.specs.Controls.{IsCall, changes_jobs, control_context, ends_routine};
+ghost use Rattle.kernel.specs.Controls.{IsCall, changes_job, control_context, ends_routine, needs_look};
 
 use crate::next::Next;
 use crate::processor::Processor;
@@ -68,8 +69,8 @@ impl<'s, Q: ReadyQueues> Processor<'s, Q> {
         record_shutdown(self.system, &control, behind);
     }
 
-    /// A service with a status, which goes to r0, with its results behind it. It answers the status, and leaves the results,
-    /// which most services don't have, in place of earlier ones.
+    /// A service with a status, which goes to r0, with its results behind it. It answers the
+    /// status, and leaves the results, which most services don't have, in place of earlier ones.
     #[inline(never)]
     pub fn execute_service(
         &mut self,
@@ -79,9 +80,10 @@ impl<'s, Q: ReadyQueues> Processor<'s, Q> {
     ) -> Status
         requires comes { ComesTo self.old next.now behind.old }
         requires call { IsCall (instr_of next.now.packed) }
-        ensures { DoesWithin 2 execute_phase_in self.old self.new []
+        ensures does { DoesWithin 2 execute_phase_in self.old self.new []
             (TraceEvent.Executed next.now.owner next.now.place (instr_of next.now.packed)
             (Outcome.Answer result results.new) ∷ behind.new) }
+        ensures few { HasFewJobs (system_of self.old) }
     {
         let answer = self.core.serve(next.owner, next.packed);
         let Some(status) = answer.status else {
@@ -94,7 +96,8 @@ impl<'s, Q: ReadyQueues> Processor<'s, Q> {
     }
 }
 
-/// Records what a service answers other than E_OK, where ErrorHook is on. Only then is the instruction unpacked again.
+/// Records what a service answers other than E_OK, where ErrorHook is on. Only then is the
+/// instruction unpacked again.
 #[inline(always)]
 fn record_refusal(system: &System, next: &Next, status: Status, behind: &mut TickRecord)
     requires call { IsCall (instr_of next.now.packed) }
@@ -111,18 +114,27 @@ fn record_refusal(system: &System, next: &Next, status: Status, behind: &mut Tic
     }
 }
 
-/// Whether the service of an instruction may make, release or end a job. It has no hint to write it
-/// out: what unpacks a service counts as large where it is written out, though little of it is left
-/// here.
-pub fn changes_jobs(packed: PackedInstr) -> bool
+/// Whether a task has to be looked at before and behind the service of an instruction, since it may
+/// release a job, or end one and make another. It has no hint to write it out: what unpacks a
+/// service counts as large where it is written out, though little of it is left here.
+pub fn needs_look(packed: PackedInstr) -> bool
     requires { IsCall (instr_of packed) }
-    ensures { result ≡ changes_jobs (service_of (instr_of packed)) }
+    ensures { result ≡ needs_look (service_of (instr_of packed)) }
 {
     match packed.service() {
-        Service::ActivateTask(_)
-        | Service::TerminateTask
-        | Service::ChainTask(_)
-        | Service::SetEvent(..) => true,
+        Service::ChainTask(_) | Service::SetEvent(..) => true,
+        _ => false,
+    }
+}
+
+/// Whether the service of an instruction makes or ends one job where it is answered E_OK. It has no
+/// hint either.
+pub fn changes_job(packed: PackedInstr) -> bool
+    requires { IsCall (instr_of packed) }
+    ensures { result ≡ changes_job (service_of (instr_of packed)) }
+{
+    match packed.service() {
+        Service::ActivateTask(_) | Service::TerminateTask => true,
         _ => false,
     }
 }
@@ -140,7 +152,8 @@ pub fn acting_task(service: &Service<Register>) -> Option<TaskId>
     }
 }
 
-/// Where who executes a service without a status goes on: behind it, but not at the end of a routine.
+/// Where who executes a service without a status goes on: behind it, but not at the end of a
+/// routine.
 #[inline(always)]
 fn following(control: &Control, cpu: Cpu) -> Cpu
     requires { ends_routine control.now ≡ false → cpu.place + 1 < MAX_INSTRUCTIONS }

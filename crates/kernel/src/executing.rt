@@ -1,13 +1,14 @@
-//! OSEK/VDX OS: system services; the modelled processor. The last two phases of a tick: one instruction of who executes, and a
-//! reschedule.
+//! OSEK/VDX OS: system services; the modelled processor. The last two phases of a tick: one
+//! instruction of who executes, and a reschedule.
 
 ghost use Rattle.std.specs.Prelude.{◌≡◌, ◌<◌, ◌∷◌, [], Some, false, true};
 ghost use Rattle.osek_base.specs.declared.trace_event.TraceEvent.{TraceEvent};
-ghost use Rattle.machine.specs.Packed.{instr_of, is_plain};
+ghost use Rattle.machine.specs.Packed.{instr_of, is_plain, service_of};
+ghost use Rattle.kernel.specs.Controls.{needs_look};
 ghost use Rattle.kernel.specs.Watches.{Begins, Finishes, IsReady, MayBegin, MayCall, MayFinish, MayRun, WatchesWithin, executing};
 
 use crate::blockers::Blockers;
-use crate::execute_phase::{acting_task, changes_jobs};
+use crate::execute_phase::{acting_task, needs_look};
 use crate::next::Next;
 use crate::watched::Watched;
 use osek_base::{Executed, Outcome, Owner, Results, TaskId, TickRecord};
@@ -23,9 +24,9 @@ impl<'s, Q: ReadyQueues, B: Blockers> Watched<'s, Q, B> {
         self.blocking.begin(&self.processor, task, tick);
     }
 
-    /// The last two phases: who executes, the active routine or else the running task, executes one instruction, and the task
-    /// that is to run becomes the running one. Where there is neither, nobody executes. `behind` gets the records behind that
-    /// of the instruction.
+    /// The last two phases: who executes, the active routine or else the running task, executes one
+    /// instruction, and the task that is to run becomes the running one. Where there is neither,
+    /// nobody executes. `behind` gets the records behind that of the instruction.
     #[inline(always)]
     pub fn late_phases(&mut self, tick: u32, behind: &mut TickRecord) -> Option<Executed>
         requires { IsReady B.are_counted self.old behind.old }
@@ -52,8 +53,8 @@ impl<'s, Q: ReadyQueues, B: Blockers> Watched<'s, Q, B> {
         self.finish(who, tick, behind)
     }
 
-    /// The last two phases, where somebody executes. A plain instruction and a service have each a way to the end of their own,
-    /// so that most ticks wait for nothing that only services have.
+    /// The last two phases, where somebody executes. A plain instruction and a service have each a
+    /// way to the end of their own, so that most ticks wait for nothing that only services have.
     #[inline(always)]
     pub fn finish(&mut self, who: Owner, tick: u32, behind: &mut TickRecord) -> Executed
         requires { MayFinish B.are_counted self.old who behind.old }
@@ -104,17 +105,32 @@ impl<'s, Q: ReadyQueues, B: Blockers> Watched<'s, Q, B> {
         if next.packed.is_control() {
             self.processor.execute_control(&next, behind);
             Outcome::Control
-        } else if !B::are_counted() || !changes_jobs(next.packed) {
-            let mut results = Results::Nothing;
-            let status = self.processor.execute_service(&next, &mut results, behind);
-            Outcome::Answer(status, results)
-        } else {
+        } else if B::are_counted() && needs_look(next.packed) {
             self.serve(&next, tick, behind)
+        } else {
+            self.serve_unlooked(&next, tick, behind)
         }
     }
 
-    /// A service that may make, release or end a job, where blockers are counted: the task on which
-    /// it acts is looked at before and after.
+    /// A service of which its status tells what it does to jobs.
+    #[inline(always)]
+    fn serve_unlooked(&mut self, next: &Next, tick: u32, behind: &mut TickRecord) -> Outcome
+        requires may { MayCall B.are_counted self.old next.now behind.old }
+        requires told { B.are_counted ≡ true
+            → needs_look (service_of (instr_of next.now.packed)) ≡ false }
+        ensures { WatchesWithin B.are_counted 2 executing tick self.old self.new []
+            (TraceEvent.Executed next.now.owner next.now.place (instr_of next.now.packed) result
+            ∷ behind.new) }
+    {
+        let mut results = Results::Nothing;
+        let status = self.processor.execute_service(next, &mut results, behind);
+        self.blocking
+            .answered(status, next.owner, next.packed, tick);
+        Outcome::Answer(status, results)
+    }
+
+    /// A service that may end one job and make another, or release one, where blockers are counted:
+    /// the task on which it acts is looked at before and after.
     #[inline(never)]
     fn serve(&mut self, next: &Next, tick: u32, behind: &mut TickRecord) -> Outcome
         requires { MayCall B.are_counted self.old next.now behind.old }

@@ -1,4 +1,5 @@
-//! OSEK/VDX OS: system start-up; application modes. The kernel: a machine with all interrupts that arrive.
+//! OSEK/VDX OS: system start-up; application modes. The kernel: a machine with all interrupts that
+//! arrive.
 
 ghost use Rattle.std.specs.Prelude.{◌≡◌, ◌<◌, ◌≤◌, ◌+◌, ◌-◌, ◌++◌, [], false, IfOk, MatchOption, Some, map, length};
 ghost use Rattle.osek_base.specs.BlockingText.{blockers_at};
@@ -25,8 +26,8 @@ use std::alloc::{AllocError, Global};
 use std::cmp;
 use std::marker::Model;
 
-/// A kernel that runs a system from boot in a mode, with the interrupts of a list of arrivals, over ready queues of any kind.
-/// It counts the blockers of jobs, if it isn't told not to.
+/// A kernel that runs a system from boot in a mode, with the interrupts of a list of arrivals, over
+/// ready queues of any kind. It counts the blockers of jobs, if it isn't told not to.
 #[derive(Drop)]
 pub struct Kernel<'s, Q: ReadyQueues, B: Blockers = Counted> {
     system: &'s System,
@@ -101,7 +102,8 @@ impl<'s, Q: ReadyQueues, B: Blockers> Kernel<'s, Q, B> {
         })
     }
 
-    /// The machine that came so far in the run. It lends the objects of the services, which tell what is kept of its state.
+    /// The machine that came so far in the run. It lends the objects of the services, which tell
+    /// what is kept of its state.
     pub fn machine(&self) -> &Machine<'s, Q, B>
         ensures { HasCome B.are_counted self.now.system self.now.mode self.now.arrivals
             self.now.ticks result.now }
@@ -125,7 +127,8 @@ impl<'s, Q: ReadyQueues, B: Blockers> Kernel<'s, Q, B> {
         self.machine.is_shut_down()
     }
 
-    /// Whether the run is over: after a ShutdownOS, or when [`MAX_TICKS`](osek_base::MAX_TICKS) are done.
+    /// Whether the run is over: after a ShutdownOS, or when [`MAX_TICKS`](osek_base::MAX_TICKS) are
+    /// done.
     #[inline(always)]
     pub fn is_over(&self) -> bool
         ensures { result ≡ is_over self.now }
@@ -133,8 +136,8 @@ impl<'s, Q: ReadyQueues, B: Blockers> Kernel<'s, Q, B> {
         MAX_TICKS <= self.ticks() || self.is_shut_down()
     }
 
-    /// The number of blockers of the job that executed in the last tick, where that was its first instruction since it became
-    /// ready. None where blockers aren't counted.
+    /// The number of blockers of the job that executed in the last tick, where that was its first
+    /// instruction since it became ready. None where blockers aren't counted.
     #[inline(always)]
     pub fn blockers(&self) -> Option<u32>
         requires { 1 ≤ self.now.ticks }
@@ -145,8 +148,9 @@ impl<'s, Q: ReadyQueues, B: Blockers> Kernel<'s, Q, B> {
         self.machine.blockers()
     }
 
-    /// The ticks that follow, at most some, are done at once as long as nothing happens in them: no interrupt arrives, no alarm
-    /// is due, and nobody executes. Answers how many were done. The first tick is none of these.
+    /// The ticks that follow, at most some, are done at once as long as nothing happens in them: no
+    /// interrupt arrives, no alarm is due, and nobody executes. Answers how many were done. The
+    /// first tick is none of these.
     #[tactic(auto, using(crate::proofs::LawLemmas::lawful))]
     #[inline(always)]
     pub fn pass_idle(&mut self, most: u32) -> u32
@@ -187,8 +191,8 @@ impl<'s, Q: ReadyQueues, B: Blockers> Kernel<'s, Q, B> {
         record_of_tick
     }
 
-    /// Does one tick, and leaves its records in place of those of an earlier one. That spares making lists a tick; `room` is
-    /// another list to work in.
+    /// Does one tick, and leaves its records in place of those of an earlier one. That spares
+    /// making lists a tick; `room` is another list to work in.
     pub fn tick_into(&mut self, record_of_tick: &mut TickRecord, room: &mut TickRecord)
         requires { is_over self.old ≡ false }
         ensures { HasRun self.old self.new record_of_tick.new }
@@ -201,8 +205,8 @@ impl<'s, Q: ReadyQueues, B: Blockers> Kernel<'s, Q, B> {
         push_all(record_of_tick, room);
     }
 
-    /// Does one tick, and answers what it executed. The records before and behind that of the instruction are left in two
-    /// lists, in place of those of earlier ticks; most ticks have none.
+    /// Does one tick, and answers what it executed. The records before and behind that of the
+    /// instruction are left in two lists, in place of those of earlier ticks; most ticks have none.
     #[inline(always)]
     pub fn tick_parts(
         &mut self,
@@ -215,11 +219,11 @@ impl<'s, Q: ReadyQueues, B: Blockers> Kernel<'s, Q, B> {
         self.tick_with(&mut Unseen, before, behind)
     }
 
-    /// Does one tick, where no interrupt arrives in it and it is known that nothing comes before the
-    /// instruction of the running task: no alarm is due, no routine is pending, and a reschedule
-    /// would change nothing. Most ticks of a busy system are such. Answers what it executed;
-    /// `behind` becomes the records behind that of the instruction, and none stand before it. None
-    /// is where that isn't known: then nothing changed, and a caller does the usual tick,
+    /// Does one tick, where no interrupt arrives in it and it is known that nothing comes before
+    /// the instruction of the running task: no alarm is due, no routine is pending, and a
+    /// reschedule would change nothing. Most ticks of a busy system are such. Answers what it
+    /// executed; `behind` becomes the records behind that of the instruction, and none stand before
+    /// it. None is where that isn't known: then nothing changed, and a caller does the usual tick,
     /// [`tick_parts`](Kernel::tick_parts).
     #[inline(always)]
     pub fn tick_steady(&mut self, behind: &mut TickRecord) -> Option<Executed>
@@ -235,8 +239,9 @@ impl<'s, Q: ReadyQueues, B: Blockers> Kernel<'s, Q, B> {
         Some(executed)
     }
 
-    /// As [`tick_parts`](Kernel::tick_parts), and leaves what the tasks are when the instruction is executed: that is behind
-    /// phases 1 to 4 of the tick, in which alarms act, interrupts arrive, a task is dispatched and a routine starts.
+    /// As [`tick_parts`](Kernel::tick_parts), and leaves what the tasks are when the instruction is
+    /// executed: that is behind phases 1 to 4 of the tick, in which alarms act, interrupts arrive,
+    /// a task is dispatched and a routine starts.
     pub fn tick_seen(
         &mut self,
         before: &mut TickRecord,
@@ -291,7 +296,8 @@ fn arrived_by(list: &[Arrival], arrived: usize, tick: u32) -> usize
     next
 }
 
-/// The tick of the next arrival, where so many have arrived; the greatest number where none is left.
+/// The tick of the next arrival, where so many have arrived; the greatest number where none is
+/// left.
 #[inline(always)]
 fn next_arrival(list: &[Arrival], arrived: usize) -> u32
     ensures { IsNextArrival list.now arrived result }
@@ -303,7 +309,8 @@ fn next_arrival(list: &[Arrival], arrived: usize) -> u32
     }
 }
 
-/// How many of the ticks from one on, at most some, come before the next arrival, where so many have arrived.
+/// How many of the ticks from one on, at most some, come before the next arrival, where so many
+/// have arrived.
 fn ticks_before(list: &[Arrival], arrived: usize, tick: u32, most: u32) -> u32
     requires { AreLeft list.now arrived tick }
     ensures { AreFree list.now arrived tick most result }

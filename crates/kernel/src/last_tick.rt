@@ -9,7 +9,8 @@ use osek_base::IsrId;
 use ready_queues::ReadyQueues;
 
 impl<'s, Q: ReadyQueues, B: Blockers> Kernel<'s, Q, B> {
-    /// The routines whose interrupts arrived in the last tick, in the order of the list of arrivals.
+    /// The routines whose interrupts arrived in the last tick, in the order of the list of
+    /// arrivals.
     pub fn last_arrived(&self) -> &[IsrId]
         requires { 1 ≤ self.now.ticks }
         ensures { result.now ≡ arriving self.now.arrivals (self.now.ticks - 1) }

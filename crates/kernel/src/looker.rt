@@ -1,4 +1,5 @@
-//! OSEK/VDX OS: task management, task state model. What looks at a system when a tick's instruction is executed.
+//! OSEK/VDX OS: task management, task state model. What looks at a system when a tick's instruction
+//! is executed.
 
 ghost use Rattle.std.specs.Prelude.{◌≡◌, map, length};
 ghost use Rattle.osek_base.specs.Lists.{below};

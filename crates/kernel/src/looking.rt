@@ -5,6 +5,7 @@ ghost use Rattle.kept_state.specs.KeptService.{ByNobody, caller_in};
 ghost use Rattle.kept_state.specs.KeptTick.{silent_in};
 ghost use Rattle.kept_state.specs.Moves.{rescheduled};
 ghost use Rattle.services.specs.Calls.{calling_task};
+ghost use Rattle.kernel.specs.Answered.{Activates};
 ghost use Rattle.kernel.specs.Stamping.{IsActedOn, IsLevel, IsLook, IsStand, IsTask, IsTaskCount};
 ghost use Rattle.kernel.specs.Processor.{MayFetch, picture, system_of};
 ghost use Rattle.seen_ticks.specs.Told.{task_at_in};
@@ -25,6 +26,18 @@ impl<'s, Q: ReadyQueues> Processor<'s, Q> {
         match self.system.action_of(alarm) {
             Action::ActivateTask(task) => task,
             Action::SetEvent(task, _) => task,
+        }
+    }
+
+    /// The task that an alarm activates, if it activates one.
+    #[inline(always)]
+    pub fn activated_by(&self, alarm: AlarmId) -> Option<TaskId>
+        requires { alarm < length (system_of self.now).alarms }
+        ensures { IfSome result (Activates (system_of self.now) alarm) }
+    {
+        match self.system.action_of(alarm) {
+            Action::ActivateTask(task) => Some(task),
+            Action::SetEvent(..) => None,
         }
     }
 

@@ -1,4 +1,5 @@
-//! OSEK/VDX OS: system services; the modelled processor. A system in the midst of a tick, and three of its phases.
+//! OSEK/VDX OS: system services; the modelled processor. A system in the midst of a tick, and three
+//! of its phases.
 
 ghost use Rattle.std.specs.Prelude.{◌≤◌, ◌+◌, ◌<◌, length};
 ghost use Rattle.std.specs.List.{All};
@@ -16,8 +17,8 @@ use ready_queues::ReadyQueues;
 use services::Core;
 use std::marker::Model;
 
-/// A system between two phases of a tick: the objects of its services, its windows, and its programs. Contracts see the
-/// objects and the words.
+/// A system between two phases of a tick: the objects of its services, its windows, and its
+/// programs. Contracts see the objects and the words.
 #[derive(Drop)]
 pub struct Processor<'s, Q: ReadyQueues> {
     pub system: &'s System,
@@ -48,7 +49,8 @@ impl<'s, Q: ReadyQueues> Processor<'s, Q> {
         }
     }
 
-    /// The task that is to run becomes the running one. Answers the task that ran, if its job stood and didn't wait.
+    /// The task that is to run becomes the running one. Answers the task that ran, if its job stood
+    /// and didn't wait.
     #[inline(never)]
     pub fn reschedule(&mut self, records: &mut TickRecord) -> Option<TaskId>
         requires { length records.old + 2 ≤ MAX_RECORDS }

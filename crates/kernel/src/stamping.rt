@@ -1,4 +1,5 @@
-//! What is seen of tasks before and after something, which the stamps of jobs follow. No part of the standards.
+//! What is seen of tasks before and after something, which the stamps of jobs follow. No part of
+//! the standards.
 
 ghost use Rattle.std.specs.Prelude.{◌≡◌};
 ghost use Rattle.blocking_laws.specs.Restamping.{is_task};

@@ -1,5 +1,5 @@
-//! OSEK/VDX OS: system start-up; application modes. A booted system that does tick by tick, each with the interrupts that arrive
-//! in it.
+//! OSEK/VDX OS: system start-up; application modes. A booted system that does tick by tick, each
+//! with the interrupts that arrive in it.
 
 ghost use Rattle.std.specs.Prelude.{◌≡◌, ◌<◌, ◌≤◌, ◌+◌, [], IfOk, MatchOption, Some, map, slice_index, length};
 ghost use Rattle.osek_base.specs.Lists.{below};
@@ -31,9 +31,10 @@ use std::alloc::{AllocError, Global};
 use std::marker::Model;
 use std::mem;
 
-/// A booted system after some ticks, over ready queues of any kind: which interrupts arrive in a tick is told when it is done.
-/// Contracts see what is kept of its state, which is that of a state of a run, with the number of the next tick. It counts the
-/// blockers of jobs, if it isn't told not to.
+/// A booted system after some ticks, over ready queues of any kind: which interrupts arrive in a
+/// tick is told when it is done. Contracts see what is kept of its state, which is that of a state
+/// of a run, with the number of the next tick. It counts the blockers of jobs, if it isn't told not
+/// to.
 #[derive(Drop)]
 pub struct Machine<'s, Q: ReadyQueues, B: Blockers = Counted> {
     pub(crate) watched: Watched<'s, Q, B>,
@@ -56,7 +57,8 @@ impl<'s, Q: ReadyQueues, B: Blockers> Model for Machine<'s, Q, B> {
 }
 
 impl<'s, Q: ReadyQueues, B: Blockers> Machine<'s, Q, B> {
-    /// Boots a system in a mode. Its programs are packed here, once. Err is a growth that was refused.
+    /// Boots a system in a mode. Its programs are packed here, once. Err is a growth that was
+    /// refused.
     pub fn boot(alloc: Global, system: &'s System, mode: ModeId) -> Result<Self, AllocError>
         ensures { IfOk result (IsBooted B.are_counted system.now mode) }
     {
@@ -116,8 +118,8 @@ impl<'s, Q: ReadyQueues, B: Blockers> Machine<'s, Q, B> {
         self.core().objects().queues()
     }
 
-    /// The number of blockers of the job that executed in the last tick, where that was its first instruction since it became
-    /// ready. None where blockers aren't counted.
+    /// The number of blockers of the job that executed in the last tick, where that was its first
+    /// instruction since it became ready. None where blockers aren't counted.
     #[inline(always)]
     pub fn blockers(&self) -> Option<u32>
         ensures { IsNumber B.are_counted (number_told self.now.blocking.told) result }
@@ -139,15 +141,16 @@ impl<'s, Q: ReadyQueues, B: Blockers> Machine<'s, Q, B> {
         &self.acted.refused
     }
 
-    /// All that is kept of the state but the words of tasks and routines. Its clock shows the tick that was done last, from which
-    /// the counts left of alarms are told.
+    /// All that is kept of the state but the words of tasks and routines. Its clock shows the tick
+    /// that was done last, from which the counts left of alarms are told.
     pub fn objects(&self) -> &Objects<'s, Q>
         ensures { ShowsObjects self.now result.now }
     {
         self.core().objects()
     }
 
-    /// The core of the services, whose clock shows the tick that was done last. It tells the running task and who executes.
+    /// The core of the services, whose clock shows the tick that was done last. It tells the
+    /// running task and who executes.
     #[inline(always)]
     pub fn core(&self) -> &Core<'s, Q>
         ensures { IsCore self.now result.now }
@@ -155,8 +158,9 @@ impl<'s, Q: ReadyQueues, B: Blockers> Machine<'s, Q, B> {
         &self.watched.processor.core
     }
 
-    /// The ticks that follow, at most some, are done at once as long as nothing happens in them: no interrupt arrives, no alarm
-    /// is due, and nobody executes. Answers how many were done. The first tick is none of these.
+    /// The ticks that follow, at most some, are done at once as long as nothing happens in them: no
+    /// interrupt arrives, no alarm is due, and nobody executes. Answers how many were done. The
+    /// first tick is none of these.
     pub fn pass_idle(&mut self, most: u32) -> u32
         requires { next_tick self.old + most ≤ MAX_TICKS }
         ensures { StaysIdle B.are_counted most result self.old self.new }
@@ -173,9 +177,10 @@ impl<'s, Q: ReadyQueues, B: Blockers> Machine<'s, Q, B> {
         idle
     }
 
-    /// Does one tick in which the interrupts of some routines arrive, and answers what it executed. The records before and
-    /// behind that of the instruction are left in two lists, in place of those of earlier ticks; those of boot stand in front of
-    /// the first tick's. It takes no memory and never fails.
+    /// Does one tick in which the interrupts of some routines arrive, and answers what it executed.
+    /// The records before and behind that of the instruction are left in two lists, in place of
+    /// those of earlier ticks; those of boot stand in front of the first tick's. It takes no memory
+    /// and never fails.
     #[inline(always)]
     pub fn tick(
         &mut self,
@@ -190,8 +195,9 @@ impl<'s, Q: ReadyQueues, B: Blockers> Machine<'s, Q, B> {
         self.tick_with(arrived, &mut Unseen, before, behind)
     }
 
-    /// As [`tick`](Machine::tick), and leaves what the tasks are when the instruction is executed: that is behind phases 1 to 4
-    /// of the tick, in which alarms act, interrupts arrive, a task is dispatched and a routine starts.
+    /// As [`tick`](Machine::tick), and leaves what the tasks are when the instruction is executed:
+    /// that is behind phases 1 to 4 of the tick, in which alarms act, interrupts arrive, a task is
+    /// dispatched and a routine starts.
     pub fn tick_seen(
         &mut self,
         arrived: &[IsrId],
@@ -263,8 +269,8 @@ impl<'s, Q: ReadyQueues, B: Blockers> Machine<'s, Q, B> {
 }
 
 impl<'s, Q: CopyQueues, B: Blockers> Machine<'s, Q, B> {
-    /// All of it becomes that of another machine of the same system, so that both go on alike. It takes no memory and never
-    /// fails.
+    /// All of it becomes that of another machine of the same system, so that both go on alike. It
+    /// takes no memory and never fails.
     pub fn copy_from(&mut self, other: &Machine<'s, Q, B>)
         requires { system_of self.old ≡ system_of other.now }
         ensures { self.new ≡ other.now }

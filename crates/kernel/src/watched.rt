@@ -1,11 +1,12 @@
-//! OSEK/VDX OS: alarms; interrupt processing; task management, scheduling policy. The phases of a tick round its instruction,
-//! in which the stamps follow that tell since when jobs are ready.
+//! OSEK/VDX OS: alarms; interrupt processing; task management, scheduling policy. The phases of a
+//! tick round its instruction, in which the stamps follow that tell since when jobs are ready.
 
 ghost use Rattle.std.specs.Prelude.{◌≡◌, ◌<◌, ◌≤◌, ◌+◌, MatchOption, true, length};
 ghost use Rattle.std.specs.List.{All};
 ghost use Rattle.kernel.specs.Does.{Adds};
 ghost use Rattle.kernel.specs.Idle.{Passes};
 ghost use Rattle.kernel.specs.Processor.{picture, system_of};
+ghost use Rattle.kernel.specs.Answered.{Activates};
 ghost use Rattle.kernel.specs.Steady.{BeginsSteady};
 ghost use Rattle.seen_ticks.specs.Told.{if_refused};
 ghost use Rattle.kernel.specs.Watches.{AlarmActs, AllAct, MayActAll, MayActNow, MayStart, Starts, WatchesWithin, early, last, phase_of_alarms, rescheduling};
@@ -37,8 +38,8 @@ impl<'s, Q: ReadyQueues, B: Blockers> Model for Watched<'s, Q, B> {
 }
 
 impl<'s, Q: ReadyQueues, B: Blockers> Watched<'s, Q, B> {
-    /// The first four phases of a tick: alarms act, interrupts arrive, the task that is to run becomes the running one, and a
-    /// routine starts. `acted` becomes the alarms that were due.
+    /// The first four phases of a tick: alarms act, interrupts arrive, the task that is to run
+    /// becomes the running one, and a routine starts. `acted` becomes the alarms that were due.
     #[inline(always)]
     pub fn early_phases(
         &mut self,
@@ -58,8 +59,9 @@ impl<'s, Q: ReadyQueues, B: Blockers> Watched<'s, Q, B> {
         self.processor.start_phase();
     }
 
-    /// The first four phases of a tick in which no interrupt arrives, where it is known that they do
-    /// nothing but begin it, and that a task executes then. Answers that task; else nothing changes.
+    /// The first four phases of a tick in which no interrupt arrives, where it is known that they
+    /// do nothing but begin it, and that a task executes then. Answers that task; else nothing
+    /// changes.
     #[inline(always)]
     pub fn begin_steady(&mut self) -> Option<TaskId>
         ensures { MatchOption result (self.new ≡ self.old) (BeginsSteady self.old self.new) }
@@ -71,8 +73,8 @@ impl<'s, Q: ReadyQueues, B: Blockers> Watched<'s, Q, B> {
         Some(task)
     }
 
-    /// The ticks that follow pass, at most some, up to the one before the first in which an alarm is due; nobody executes in
-    /// them. Answers how many passed.
+    /// The ticks that follow pass, at most some, up to the one before the first in which an alarm
+    /// is due; nobody executes in them. Answers how many passed.
     pub fn pass(&mut self, most: u32) -> u32
         requires { self.old.processor.objects.tick + most < MAX_TICKS }
         ensures { Passes most result self.old self.new }
@@ -84,7 +86,8 @@ impl<'s, Q: ReadyQueues, B: Blockers> Watched<'s, Q, B> {
         passed
     }
 
-    /// Counters advance, and the due alarms act in declaration order. In the first tick the counters stand, and none is due.
+    /// Counters advance, and the due alarms act in declaration order. In the first tick the
+    /// counters stand, and none is due.
     #[inline(always)]
     fn alarm_phase(&mut self, tick: u32, acted: &mut Acted, records: &mut TickRecord)
         requires { MayStart B.are_counted tick self.old records.old }
@@ -120,9 +123,41 @@ impl<'s, Q: ReadyQueues, B: Blockers> Watched<'s, Q, B> {
         }
     }
 
-    /// An alarm acts, and the task on which it acts is looked at before and after. Answers the status of its action.
+    /// An alarm acts, and the stamps follow. Answers the status of its action.
     #[inline(never)]
     pub fn alarm_acts(&mut self, alarm: AlarmId, tick: u32, records: &mut TickRecord) -> Status
+        requires { MayActNow B.are_counted alarm self.old records.old }
+        ensures { AlarmActs B.are_counted alarm tick self.old self.new records.old records.new
+            result }
+    {
+        match self.processor.activated_by(alarm) {
+            None => self.alarm_looked(alarm, tick, records),
+            Some(task) => self.alarm_activates(alarm, task, tick, records),
+        }
+    }
+
+    /// An alarm activates a task. Its status tells whether the task has a job more.
+    #[inline(always)]
+    fn alarm_activates(
+        &mut self,
+        alarm: AlarmId,
+        task: TaskId,
+        tick: u32,
+        records: &mut TickRecord,
+    ) -> Status
+        requires may { MayActNow B.are_counted alarm self.old records.old }
+        requires task { Activates (system_of self.old.processor) alarm task }
+        ensures { AlarmActs B.are_counted alarm tick self.old self.new records.old records.new
+            result }
+    {
+        let status = self.processor.alarm_acts(alarm, records);
+        self.blocking.activated(status, task, tick);
+        status
+    }
+
+    /// An alarm acts, and the task on which it acts is looked at before and after.
+    #[inline(always)]
+    fn alarm_looked(&mut self, alarm: AlarmId, tick: u32, records: &mut TickRecord) -> Status
         requires { MayActNow B.are_counted alarm self.old records.old }
         ensures { AlarmActs B.are_counted alarm tick self.old self.new records.old records.new
             result }

@@ -81,9 +81,9 @@ impl<'s, Q: ReadyQueues, B: Blockers> Kernel<'s, Q, B> {
 
     /// The ticks that follow, at most some, are done as long as it is known that the running task
     /// executes a plain instruction in each, and nothing else happens: no interrupt arrives, no
-    /// alarm is due, and no number of blockers is told. The first tick is none of these. Answers how
-    /// many were done, and leaves what the last of them executed, where there is any. `room` is a
-    /// list to work in.
+    /// alarm is due, and no number of blockers is told. The first tick is none of these. Answers
+    /// how many were done, and leaves what the last of them executed, where there is any. `room` is
+    /// a list to work in.
     #[inline(never)]
     pub fn pass_plain(
         &mut self,

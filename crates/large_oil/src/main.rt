@@ -1,5 +1,5 @@
-//! Makes a large OIL text and reads it, to measure the reader: `large_oil FORM COUNT`. The forms are `objects`, `list`,
-//! `block`, `comments` and `kinds`.
+//! Makes a large OIL text and reads it, to measure the reader: `large_oil FORM COUNT`. The forms
+//! are `objects`, `list`, `block`, `comments` and `kinds`.
 #![tactic(auto)]
 
 mod text;

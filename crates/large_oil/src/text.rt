@@ -39,8 +39,9 @@ CPU c {
   APPMODE M;
 ";
 
-/// Each line has 28 bytes and the digits of its number. So the text of 30,000 objects has 182 bytes of `HEAD`, 840,000 of
-/// lines, 10 + 2 * 90 + 3 * 900 + 4 * 9,000 + 5 * 20,000 = 138,890 of digits and 3 of the end: 979,075.
+/// Each line has 28 bytes and the digits of its number. So the text of 30,000 objects has 182 bytes
+/// of `HEAD`, 840,000 of lines, 10 + 2 * 90 + 3 * 900 + 4 * 9,000 + 5 * 20,000 = 138,890 of digits
+/// and 3 of the end: 979,075.
 fn objects(text: &mut String, count: u32) -> Result<(), AllocError> {
     for n in 0..count {
         write!(text, "  EVENT E{n} {{ MASK = AUTO; }};\n")?;

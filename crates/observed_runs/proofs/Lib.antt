@@ -4,4 +4,4 @@ pub mod Refusals
 pub mod Alike
 pub mod Resting
 pub mod Seeing
-pub mod Replacing
+pub mod Jobless

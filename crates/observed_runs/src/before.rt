@@ -1,4 +1,5 @@
-//! What has to be known of the state before a tick, to tell what comes in it. No part of the standards.
+//! What has to be known of the state before a tick, to tell what comes in it. No part of the
+//! standards.
 
 ghost use Rattle.std.specs.Prelude.{◌≡◌, ◌<◌, ◌==◌, map, length};
 ghost use Rattle.osek_base.specs.Lists.{below};
@@ -14,7 +15,8 @@ use ready_queues::LevelQueues;
 /// What is known before a tick, of each task or routine by number.
 #[derive(Drop)]
 pub(crate) struct Before {
-    /// How many jobs each task has; none before the first tick, so that those of boot are made in it.
+    /// How many jobs each task has; none before the first tick, so that those of boot are made in
+    /// it.
     pub(crate) jobs: ArrayVec<u8, MAX_TASKS>,
     /// Which routines are pending.
     pub(crate) pending: ArrayVec<bool, MAX_ROUTINES>,

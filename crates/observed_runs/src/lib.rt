@@ -3,7 +3,6 @@
 
 mod alarms_seen;
 mod before;
-mod holders_seen;
 mod observed_run;
 mod readers;
 mod routines_seen;

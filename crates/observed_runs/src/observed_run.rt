@@ -18,8 +18,8 @@ use std::alloc::Global;
 use std::cmp;
 use std::marker::Model;
 
-/// A run of a system, tick by tick, beside what is seen of the tick that was done last. `B` says whether the blockers of jobs
-/// are counted.
+/// A run of a system, tick by tick, beside what is seen of the tick that was done last. `B` says
+/// whether the blockers of jobs are counted.
 #[derive(Drop)]
 pub struct ObservedRun<'s, B: Blockers> {
     told: ToldRun<'s, B>,
@@ -31,8 +31,8 @@ pub struct ObservedRun<'s, B: Blockers> {
     seen: Observation,
     /// Whether the holders that are seen are those before the tick that comes next, too.
     is_held: bool,
-    /// Whether what is seen of routines and alarms is what is seen in each tick in which nothing comes
-    /// to any of them.
+    /// Whether what is seen of routines and alarms is what is seen in each tick in which nothing
+    /// comes to any of them.
     rests: bool,
 }
 
@@ -49,7 +49,8 @@ impl<'s, B: Blockers> Model for ObservedRun<'s, B> {
 }
 
 impl<'s, B: Blockers> ObservedRun<'s, B> {
-    /// Boots a system in the application mode of that name, with those arrivals. Memory is taken here alone.
+    /// Boots a system in the application mode of that name, with those arrivals. Memory is taken
+    /// here alone.
     pub fn boot(
         alloc: Global,
         system: &'s System,
@@ -75,8 +76,9 @@ impl<'s, B: Blockers> ObservedRun<'s, B> {
         })
     }
 
-    /// Does a tick, and sees what comes in it. Answers false, and does nothing, where the run is over: after a ShutdownOS, or
-    /// when [`MAX_TICKS`](osek_base::MAX_TICKS) are done. It takes no memory.
+    /// Does a tick, and sees what comes in it. Answers false, and does nothing, where the run is
+    /// over: after a ShutdownOS, or when [`MAX_TICKS`](osek_base::MAX_TICKS) are done. It takes no
+    /// memory.
     pub fn advance(&mut self) -> bool
         ensures over { result ≡ not (is_over self.old) }
         ensures next { IsTrue result → self.new ≡ record self.old { ticks = self.old.ticks + 1 } }
@@ -102,10 +104,10 @@ impl<'s, B: Blockers> ObservedRun<'s, B> {
         true
     }
 
-    /// Does the ticks that follow, at most some, as long as the same is seen of each, and sees the last
-    /// of them: of the others the same is seen, but for the number. Such are ticks in which nobody
-    /// executes, and those in which the running task executes plain instructions, where nothing else
-    /// happens. Answers how many were done. The first tick is none of these.
+    /// Does the ticks that follow, at most some, as long as the same is seen of each, and sees the
+    /// last of them: of the others the same is seen, but for the number. Such are ticks in which
+    /// nobody executes, and those in which the running task executes plain instructions, where
+    /// nothing else happens. Answers how many were done. The first tick is none of these.
     #[inline(always)]
     pub fn pass_alike(&mut self, most: u32) -> u32
         ensures { PassesAlike B.are_counted most self.old self.new result }

@@ -1,6 +1,7 @@
-//! OSEK/VDX OS: task management; interrupt processing; alarms. What a run tells of the tick that was done last.
+//! OSEK/VDX OS: task management; interrupt processing; alarms. What a run tells of the tick that
+//! was done last.
 
-ghost use Rattle.std.specs.Prelude.{◌≡◌, ◌<◌, ◌≤◌, ◌-◌, [], false, None, length};
+ghost use Rattle.std.specs.Prelude.{◌≡◌, ◌<◌, ◌≤◌, ◌-◌, [], false, None, is_some, length};
 ghost use Rattle.std.specs.List.{AllByRecursion};
 ghost use Rattle.osek_base.specs.System.{alarm};
 ghost use Rattle.kernel.specs.Progress.{run_of};
@@ -39,7 +40,8 @@ fn task_of_few<B: Blockers>(
     ensures value { result ≡ task_at system.now (run_of kernel.now).state task }
     ensures few { result.jobs ≤ MAX_ACTIVATION }
 {
-    // Who asks for the count of tasks learns that the system is proper, so that few jobs are allowed.
+    // Who asks for the count of tasks learns that the system is proper, so that few jobs are
+    // allowed.
     let _proper = system.task_count();
     kernel.task_at(task)
 }
@@ -71,12 +73,12 @@ impl<'s, B: Blockers> ToldRun<'s, B> {
         is_by(who, &self.executed())
     }
 
-    /// Whether a job of a task ended.
-    pub(crate) fn is_ended(&self, task: TaskId) -> bool
+    /// Whether a job ended.
+    pub(crate) fn is_any_ended(&self) -> bool
         requires { 1 ≤ self.now.ticks }
-        ensures { result ≡ is_number task (ending self.now.system (last_tick self.now).executed) }
+        ensures { result ≡ is_some (ending self.now.system (last_tick self.now).executed) }
     {
-        is_task(task, self.execution.ending)
+        self.execution.ending.is_some()
     }
 
     /// Whether the instruction was an activation of a task that was refused.

@@ -19,8 +19,8 @@ use osek_base::{IsrId, MAX_ROUTINES, Owner};
 use seen_ticks::{is_routine, lost_of};
 
 impl<'s, B: Blockers> ToldRun<'s, B> {
-    /// What is seen of a routine in the tick that was done last, by whether it was active and pending
-    /// before the tick. Whether it is pending now is left.
+    /// What is seen of a routine in the tick that was done last, by whether it was active and
+    /// pending before the tick. Whether it is pending now is left.
     #[inline(always)]
     fn routine_seen(&self, routine: IsrId, was_active: bool, pending: &mut bool) -> RoutineSeen
         requires ticked { 1 ≤ self.now.ticks }
@@ -60,8 +60,8 @@ impl<'s, B: Blockers> ToldRun<'s, B> {
         }
     }
 
-    /// Leaves what is seen of the routines in the tick that was done last, in which nothing comes to
-    /// any.
+    /// Leaves what is seen of the routines in the tick that was done last, in which nothing comes
+    /// to any.
     #[tactic(auto, using(kernel::proofs::Filled::one_more, kernel::proofs::Filled::all_of))]
     #[inline(always)]
     pub(crate) fn see_routines_at_rest(&self, routines: &mut ArrayVec<RoutineSeen, MAX_ROUTINES>)

@@ -1,10 +1,13 @@
 //! OSEK/VDX OS: task management, task state model. What is seen of the tasks.
 
-ghost use Rattle.std.specs.Prelude.{ℕ, ◌≡◌, ◌<◌, ◌≤◌, ◌+◌, ◌-◌, [], true, false, None, map, length};
+ghost use Rattle.std.specs.Prelude.{ℕ, ◌≡◌, ◌<◌, ◌≤◌, ◌+◌, ◌-◌, [], true, false, None, IsTrue, map, length};
 ghost use Rattle.osek_base.specs.declared.ids.Owner.{Owner};
+ghost use Rattle.osek_base.specs.declared.limits.TheConstants.{MAX_ACTIVATION};
+ghost use Rattle.osek_base.specs.declared.status.TaskState.{TaskState};
 ghost use Rattle.osek_base.specs.Lists.{below};
 ghost use Rattle.observed_runs.specs.Keeping.{last_tick};
 ghost use Rattle.observed_runs.specs.Passing.{LeavesAll};
+ghost use Rattle.observed_runs.specs.Tasks.{other_seen, own_seen};
 ghost use Rattle.seen_ticks.specs.Told.{task_at};
 ghost use Rattle.seen_ticks.specs.Observed.{
   activations_by,
@@ -22,7 +25,7 @@ use crate::told_run::ToldRun;
 use arrayvec::ArrayVec;
 use kernel::{AtInstruction, Blockers, give_places};
 use observations::TaskSeen;
-use osek_base::{Executed, MAX_TASKS, Owner, TaskId};
+use osek_base::{Executed, MAX_ACTIVATION, MAX_TASKS, Owner, TaskId, TaskState};
 use seen_ticks::{TaskAt, is_task, is_waiting, made, state_seen};
 
 /// The task of which an instruction was.
@@ -37,6 +40,43 @@ fn executing_task(executed: &Option<Executed>) -> Option<TaskId>
             Owner::Routine(_) => None,
         },
     }
+}
+
+/// Whether a state is SUSPENDED.
+#[inline(always)]
+fn is_suspended(state: TaskState) -> bool
+    ensures { IsTrue result → state ≡ TaskState.Suspended }
+{
+    matches!(state, TaskState::Suspended)
+}
+
+/// Leaves what is seen of the task that executes, but how many activations were refused: by what
+/// it was at the instruction and is behind it, how many jobs it had before the tick, and whether
+/// one ended.
+#[inline(always)]
+fn see_own(seen: &mut TaskSeen, at: &TaskAt, behind: &TaskAt, before: u8, ended: bool)
+    requires { behind.now.jobs ≤ MAX_ACTIVATION }
+    ensures { seen.new ≡ own_seen at.now behind.now before seen.old.refused ended }
+{
+    seen.state = TaskState::Running;
+    seen.priority = at.priority;
+    seen.jobs = at.jobs;
+    seen.made = made(behind.jobs, ended, before);
+    seen.ended = ended;
+    seen.waits = is_waiting(behind.state);
+}
+
+/// As [`see_own`], of a task that doesn't execute. It has so many jobs behind the tick.
+#[inline(always)]
+fn see_other(seen: &mut TaskSeen, at: &TaskAt, jobs: u8, before: u8)
+    ensures { seen.new ≡ other_seen at.now jobs before seen.old.refused }
+{
+    seen.state = state_seen(false, at.state);
+    seen.priority = at.priority;
+    seen.jobs = at.jobs;
+    seen.made = jobs.saturating_sub(before);
+    seen.ended = false;
+    seen.waits = false;
 }
 
 impl<'s, B: Blockers> ToldRun<'s, B> {
@@ -59,11 +99,27 @@ impl<'s, B: Blockers> ToldRun<'s, B> {
         }
     }
 
-    /// Leaves what is seen of a task in the tick that was done last, by what it was at the tick's
-    /// instruction, how many jobs it had before the tick, the task of which the instruction was, and
-    /// whether any activation may have been refused. What it is now and how many jobs it has is left,
-    /// too.
+    /// Whether a task had no job before the tick that was done last, none at its instruction, and
+    /// has none behind it.
     #[inline(always)]
+    fn has_none(&self, task: TaskId, at: &TaskAt, before: u8) -> bool
+        requires ticked { 1 ≤ self.now.ticks }
+        requires task { task < length self.now.system.tasks }
+        ensures before { IsTrue result → before ≡ 0 }
+        ensures at { IsTrue result → at.now.state ≡ TaskState.Suspended }
+        ensures behind { IsTrue result
+            → (task_at self.now.system (last_tick self.now).after task).state
+            ≡ TaskState.Suspended }
+    {
+        before == 0 && is_suspended(at.state) && is_suspended(self.task_behind(task).state)
+    }
+
+    /// Leaves what is seen of a task in the tick that was done last, by what it was at the tick's
+    /// instruction, how many jobs it had before the tick, the task of which the instruction was,
+    /// and whether any activation may have been refused. What it is now and how many jobs it has is
+    /// left, too.
+    #[inline(always)]
+    #[tactic(auto, using(crate::proofs::Jobless::stays_without, crate::proofs::Jobless::none_behind))]
     fn see_task(
         &self,
         task: TaskId,
@@ -88,22 +144,25 @@ impl<'s, B: Blockers> ToldRun<'s, B> {
         ensures jobs { jobs.new ≡ jobs_before false (last_tick self.now).after task }
     {
         let is_own = is_task(task, *by);
-        seen.state = state_seen(is_own, at.state);
-        seen.priority = at.priority;
-        seen.jobs = at.jobs;
-        let ended = self.is_ended(task);
+        if !is_own && !is_any_refused && self.has_none(task, at, *jobs) {
+            *seen = TaskSeen::default();
+            return;
+        }
         let behind = self.task_behind(task);
-        seen.made = made(behind.jobs, ended, *jobs);
-        seen.refused = self.refused(task, is_any_refused);
-        seen.ended = ended;
-        seen.waits = is_own && is_waiting(behind.state);
+        let refused = self.refused(task, is_any_refused);
+        if is_own {
+            see_own(seen, at, &behind, *jobs, self.is_any_ended());
+        } else {
+            see_other(seen, at, behind.jobs, *jobs);
+        }
+        seen.refused = refused;
         *at = behind;
         *jobs = behind.jobs;
     }
 
     /// Leaves what is seen of the tasks in the tick that was done last, by what they were at its
-    /// instruction, and how many jobs each had before the tick. What each is now and how many jobs it
-    /// has is left, too.
+    /// instruction, and how many jobs each had before the tick. What each is now and how many jobs
+    /// it has is left, too.
     #[tactic(auto, using(kernel::proofs::Filled::one_more, kernel::proofs::Filled::all_of))]
     #[inline(always)]
     pub(crate) fn see_tasks(
@@ -145,32 +204,35 @@ impl<'s, B: Blockers> ToldRun<'s, B> {
         }
     }
 
-    /// What is seen of a task in the tick that was done last, where nothing comes to any in it, by
-    /// what it is behind it.
+    /// Leaves what is seen of a task in the tick that was done last, where nothing comes to any in
+    /// it, by what it is behind it.
     #[inline(always)]
-    fn task_left(&self, task: TaskId, at: TaskAt, by: &Option<TaskId>) -> TaskSeen
+    #[tactic(auto, using(crate::proofs::Jobless::left_without))]
+    fn see_left(&self, task: TaskId, at: &TaskAt, by: &Option<TaskId>, seen: &mut TaskSeen)
         requires ticked { 1 ≤ self.now.ticks }
         requires task { task < length self.now.system.tasks }
-        requires at { at ≡ task_at self.now.system (last_tick self.now).after task }
+        requires at { at.now ≡ task_at self.now.system (last_tick self.now).after task }
         requires by { (t : ℕ) → is_number t by.now
             ≡ is_by (Owner.Task t) (last_tick self.now).executed }
         requires leaves { LeavesAll self.now.system (last_tick self.now) }
-        ensures { result ≡ task_seen self.now.system (last_tick self.now) task }
+        ensures { seen.new ≡ task_seen self.now.system (last_tick self.now) task }
     {
         let is_own = is_task(task, *by);
-        TaskSeen {
-            state: state_seen(is_own, at.state),
-            priority: at.priority,
-            jobs: at.jobs,
-            made: 0,
-            refused: 0,
-            ended: false,
-            waits: is_own && is_waiting(at.state),
+        if !is_own && is_suspended(at.state) {
+            *seen = TaskSeen::default();
+            return;
         }
+        seen.state = state_seen(is_own, at.state);
+        seen.priority = at.priority;
+        seen.jobs = at.jobs;
+        seen.made = 0;
+        seen.refused = 0;
+        seen.ended = false;
+        seen.waits = is_own && is_waiting(at.state);
     }
 
-    /// Leaves what is seen of the tasks in the tick that was done last, where nothing comes to any, by
-    /// what they are behind it.
+    /// Leaves what is seen of the tasks in the tick that was done last, where nothing comes to any,
+    /// by what they are behind it.
     #[tactic(auto, using(kernel::proofs::Filled::one_more, kernel::proofs::Filled::all_of))]
     #[inline(always)]
     pub(crate) fn see_tasks_left(
@@ -194,7 +256,8 @@ impl<'s, B: Blockers> ToldRun<'s, B> {
         let by = executing_task(&self.executed());
         for number in 0..count {
             let task = TaskId::new(number as u8);
-            places[number] = self.task_left(task, stand[number], &by);
+            let place = &mut places[number];
+            self.see_left(task, &stand[number], &by, place);
         }
     }
 }

@@ -51,9 +51,9 @@ impl<'s, B: Blockers> ToldRun<'s, B> {
         seen.blockers = self.kernel.blockers();
     }
 
-    /// Leaves what is seen of the tick that was done last, by what the tasks were at its instruction,
-    /// and by what was known before it. Its holders stand already. What the tasks are behind it and
-    /// what is known before the next tick is left, too.
+    /// Leaves what is seen of the tick that was done last, by what the tasks were at its
+    /// instruction, and by what was known before it. Its holders stand already. What the tasks are
+    /// behind it and what is known before the next tick is left, too.
     #[inline(never)]
     pub(crate) fn see(&self, at: &mut AtInstruction, before: &mut Before, seen: &mut Observation)
         requires ticked { 1 ≤ self.now.ticks }
@@ -106,9 +106,9 @@ impl<'s, B: Blockers> ToldRun<'s, B> {
         before.active = self.kernel.active_routine();
     }
 
-    /// Leaves what is seen of the tick that was done last, in which nothing comes to anything, by what
-    /// the tasks are behind it, where it is known whether what is seen of routines and alarms stands
-    /// already. Its holders do.
+    /// Leaves what is seen of the tick that was done last, in which nothing comes to anything, by
+    /// what the tasks are behind it, where it is known whether what is seen of routines and alarms
+    /// stands already. Its holders do.
     #[inline(always)]
     pub(crate) fn see_alike(&self, rests: bool, at: &AtInstruction, seen: &mut Observation)
         requires ticked { 1 ≤ self.now.ticks }

@@ -14,7 +14,6 @@ ghost use Rattle.seen_ticks.specs.Observed.{executed_in, holders_seen};
 ghost use Rattle.seen_ticks.specs.Told.{task_at};
 
 use crate::before::Before;
-use crate::holders_seen::see_holders;
 use arrayvec::ArrayVec;
 use kernel::{AtInstruction, Blockers, BootFault, Kernel, push_all};
 use observations::{Holder, MAX_HELD};
@@ -49,7 +48,8 @@ impl<'s, B: Blockers> Model for ToldRun<'s, B> {
 }
 
 impl<'s, B: Blockers> ToldRun<'s, B> {
-    /// Boots a system in the application mode of that name, with those arrivals. Memory is taken here alone.
+    /// Boots a system in the application mode of that name, with those arrivals. Memory is taken
+    /// here alone.
     pub(crate) fn boot(
         alloc: Global,
         system: &'s System,
@@ -132,8 +132,8 @@ impl<'s, B: Blockers> ToldRun<'s, B> {
         true
     }
 
-    /// Does the ticks that follow at once, at most some, as long as nothing happens in them but that
-    /// nobody executes. Answers how many were done. The first tick is none of these.
+    /// Does the ticks that follow at once, at most some, as long as nothing happens in them but
+    /// that nobody executes. Answers how many were done. The first tick is none of these.
     pub(crate) fn pass_idle(&mut self, most: u32) -> u32
         requires { self.old.ticks + most ≤ MAX_TICKS }
         ensures { HasIdled most self.old self.new result }
@@ -149,9 +149,9 @@ impl<'s, B: Blockers> ToldRun<'s, B> {
         passed
     }
 
-    /// Does the ticks that follow, at most some, as long as it is known that in each the running task
-    /// executes a plain instruction and nothing else happens. Answers how many were done. The first
-    /// tick is none of these.
+    /// Does the ticks that follow, at most some, as long as it is known that in each the running
+    /// task executes a plain instruction and nothing else happens. Answers how many were done. The
+    /// first tick is none of these.
     fn pass_plain(&mut self, most: u32) -> u32
         requires { self.old.ticks + most ≤ MAX_TICKS }
         ensures { StaysOn B.are_counted most self.old self.new result }
@@ -169,8 +169,8 @@ impl<'s, B: Blockers> ToldRun<'s, B> {
         worked
     }
 
-    /// Whether ticks may follow that [`pass_alike`](ToldRun::pass_alike) does. Where none may, none is
-    /// done.
+    /// Whether ticks may follow that [`pass_alike`](ToldRun::pass_alike) does. Where none may, none
+    /// is done.
     #[inline(always)]
     pub(crate) fn may_pass(&self, is_idle: bool) -> bool {
         if is_idle {
@@ -181,8 +181,8 @@ impl<'s, B: Blockers> ToldRun<'s, B> {
     }
 
     /// Does the ticks that follow, at most some, as long as the same is seen of each: while nobody
-    /// executes, where nobody did last, and else while the running task executes plain instructions.
-    /// Answers how many were done.
+    /// executes, where nobody did last, and else while the running task executes plain
+    /// instructions. Answers how many were done.
     pub(crate) fn pass_alike(&mut self, is_idle: bool, most: u32) -> u32
         requires { self.old.ticks + most ≤ MAX_TICKS }
         ensures { StaysOn B.are_counted most self.old self.new result }
@@ -200,7 +200,8 @@ impl<'s, B: Blockers> ToldRun<'s, B> {
         ensures holders { holders.new.items ≡ holders_seen self.now.system (run_of self.now).state }
         ensures proper { IsProper self.now.system }
     {
-        see_holders(&self.kernel, self.system, holders);
+        let _proper = self.system.task_count();
+        self.kernel.see_holders(holders);
     }
 
     /// Leaves who holds each resource, where it isn't known that they stand there.

@@ -1,5 +1,5 @@
-//! OIL: standard objects and their attributes. Which attributes there are, what they take, and what they are where they
-//! are missing.
+//! OIL: standard objects and their attributes. Which attributes there are, what they take, and what
+//! they are where they are missing.
 
 use crate::reasons;
 use oil_reader::{AttributeName, Ident, Kind, Value};

@@ -1,4 +1,5 @@
-//! OIL: standard objects. The objects that are declared, as far as the limits of a system allow them.
+//! OIL: standard objects. The objects that are declared, as far as the limits of a system allow
+//! them.
 
 use crate::attributes::{is_object_name, kind_of};
 use crate::braces::inside;

@@ -59,8 +59,8 @@ fn printed(alloc: Global, importer: &mut Importer<'_>) -> Result<Option<String>,
 
 /// Imports OIL files as they are used: the first one, and the others where they are included.
 ///
-/// What is left out, set or refused is told by messages. Where nothing is refused there is a text, and `read_oil` takes
-/// it. The only error is want of memory.
+/// What is left out, set or refused is told by messages. Where nothing is refused there is a text,
+/// and `read_oil` takes it. The only error is want of memory.
 pub fn import<'a>(alloc: Global, sources: &[Source<'a>]) -> Result<PlainOil<'a>, AllocError>
     ensures { IfOk result (λ i. IfSome i.text (λ text. IsPlain (string_bytes text))) }
 {

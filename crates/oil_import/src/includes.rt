@@ -188,8 +188,8 @@ fn take_all<'a>(
     Ok(end)
 }
 
-/// The tokens of all files that are included, and the place of the end. Files are included where they are named, each
-/// once, the first file from the front.
+/// The tokens of all files that are included, and the place of the end. Files are included where
+/// they are named, each once, the first file from the front.
 pub fn all_tokens<'a>(
     alloc: Global,
     sources: &[Source<'a>],

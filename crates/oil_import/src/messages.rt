@@ -1,4 +1,5 @@
-//! What is told of an import: what was left out, set, kept with another meaning, or refused, where and why.
+//! What is told of an import: what was left out, set, kept with another meaning, or refused, where
+//! and why.
 
 use crate::sources::{Place, Source};
 use std::alloc::{AllocError, Global};
@@ -111,7 +112,8 @@ impl<'a> Messages<'a> {
         self.tell(place, Verdict::LeftOut, subject, reason)
     }
 
-    /// Writes a line `FILE:LINE:COLUMN: VERDICT: SUBJECT: REASON` for each message. An error is a failed write.
+    /// Writes a line `FILE:LINE:COLUMN: VERDICT: SUBJECT: REASON` for each message. An error is a
+    /// failed write.
     pub fn write<W: Write>(&self, sources: &[Source<'_>], out: &mut W) -> io::Result<()> {
         for message in &self.list {
             write_message(message, sources, out)?;

@@ -1,4 +1,5 @@
-//! OIL: standard objects and their attributes. The value of an attribute, and what stands where it is missing.
+//! OIL: standard objects and their attributes. The value of an attribute, and what stands where it
+//! is missing.
 
 use crate::attributes::{default_of, is_hook, is_of_hook_code, named_by, reason_against, value_of};
 use crate::declared::{DEFAULT_MODE, Objects, is_scheduler};
@@ -284,7 +285,8 @@ impl<'a> Importer<'a> {
         self.tell(attribute, taken)
     }
 
-    /// Sets an attribute that is missing, before the end of its object or block, where it has a default.
+    /// Sets an attribute that is missing, before the end of its object or block, where it has a
+    /// default.
     pub(crate) fn set_missing(
         &mut self,
         attribute: AttributeName,

@@ -7,8 +7,8 @@ pub struct Source<'a> {
     pub text: &'a [u8],
 }
 
-/// A place in a file: which file of those given, counted from 0, and a line and a column in bytes, counted from 1. LF, CR
-/// and CR LF end a line. A byte order mark isn't counted.
+/// A place in a file: which file of those given, counted from 0, and a line and a column in bytes,
+/// counted from 1. LF, CR and CR LF end a line. A byte order mark isn't counted.
 #[derive(Clone, Copy)]
 pub struct Place {
     pub file: usize,

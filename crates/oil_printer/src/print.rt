@@ -43,8 +43,9 @@ fn close_file(text: &mut String) -> Result<(), AllocError>
 
 /// Prints an OIL file (OIL 2.5: grammar, standard objects and their attributes).
 ///
-/// Kinds stand in the order of OIL's table, objects in the order of the file, attributes a line each, and numbers are
-/// decimal. The text is read as the file again. The only error is want of memory.
+/// Kinds stand in the order of OIL's table, objects in the order of the file, attributes a line
+/// each, and numbers are decimal. The text is read as the file again. The only error is want of
+/// memory.
 pub fn print_oil(alloc: Global, file: &OilFile) -> Result<String, AllocError>
     ensures printed { IfOk result (λ text. string_bytes text ≡ printed file.now) }
     ensures read_again { IfOk result (λ text. Means (string_bytes text) file.now) }

@@ -8,7 +8,8 @@ use crate::print::print_oil;
 use oil_reader::{OilFault, read_oil};
 use std::alloc::{AllocError, Global};
 
-/// Prints the file that a draft means. `None` where the reader refuses the draft. The only error is want of memory.
+/// Prints the file that a draft means. `None` where the reader refuses the draft. The only error is
+/// want of memory.
 pub fn reprint_oil(alloc: Global, draft: &[u8]) -> Result<Option<String>, AllocError>
     ensures { IfOk result (λ printed. IfSome printed (λ text. IsPlain (string_bytes text))) }
 {

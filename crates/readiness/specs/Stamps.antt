@@ -1,5 +1,6 @@
 -- Since which tick each job of a task is ready, where it hasn't executed since. No part of the standards.
-use Rattle.std.specs.Prelude.{ℕ, ◌≡◌, List, [], ◌∷◌, Option, Some, None, IfSome, slice_index_or, slice_set}
+use Rattle.std.specs.Prelude.{ℕ, ◌≡◌, List, [], ◌∷◌, Option, Some, None, IfSome, nat_lt, if◌then◌else◌, slice_index_or, slice_set}
+use Rattle.osek_base.specs.declared.limits.TheConstants.{MAX_TASKS}
 
 -- the oldest job gets a stamp where it has none
 abbrev pub stamp_oldest : ℕ → List (Option ℕ) → List (Option ℕ)
@@ -25,6 +26,10 @@ without_oldest (p ∷ later) = later
 pub record Stamped : Type 0 where
   pub lists : List (List (Option ℕ))
   pub spent : Option ℕ
+
+-- the task that a number means, which is that of none where it is too high
+abbrev pub task_of : ℕ → Option ℕ
+task_of n = if nat_lt n MAX_TASKS then Some n else None
 
 -- the stamps of one task are changed, and of that one or none it is known then
 abbrev pub changed : ℕ → (List (Option ℕ) → List (Option ℕ)) → Option ℕ → Stamped → Stamped

@@ -12,18 +12,21 @@ use std::marker::Model;
 #[derive(Drop)]
 pub struct JobStamps {
     tasks: ArrayVec<TaskStamps, MAX_TASKS>,
-    /// A task whose oldest job is known to have no stamp: the one that executed last, as long as no stamp has changed since.
-    spent: Option<TaskId>,
+    /// A task whose oldest job is known to have no stamp: the one that executed last, as long as no
+    /// stamp has changed since; or else `NOBODY`. One byte, so that one comparison tells.
+    spent: u8,
 }
 
+const NOBODY: u8 = u8::MAX;
+
 impl Model for JobStamps {
-    ghost use Rattle.readiness.specs.Stamps.{HasNone, Stamped};
+    ghost use Rattle.readiness.specs.Stamps.{HasNone, Stamped, task_of};
 
     ghost Value = { Stamped };
 
-    ghost view = { λ s. record { lists = s.tasks.items; spent = s.spent } };
+    ghost view = { λ s. record { lists = s.tasks.items; spent = task_of s.spent } };
 
-    ghost invariant = { λ s. HasNone s.spent s.tasks.items };
+    ghost invariant = { λ s. HasNone (task_of s.spent) s.tasks.items };
 }
 
 /// The content becomes the stamps of some tasks.
@@ -63,7 +66,10 @@ impl JobStamps {
         for _made in 0..count {
             tasks.push(TaskStamps::new());
         }
-        JobStamps { tasks, spent: None }
+        JobStamps {
+            tasks,
+            spent: NOBODY,
+        }
     }
 
     /// The stamps become those of others.
@@ -80,7 +86,7 @@ impl JobStamps {
         requires room { length (slice_index_or self.old.lists task []) < MAX_ACTIVATION }
         ensures { self.new ≡ changed task (λ list. list ++ Some tick ∷ []) None self.old }
     {
-        self.spent = None;
+        self.spent = NOBODY;
         self.tasks[task.number() as usize].add(tick);
     }
 
@@ -89,7 +95,7 @@ impl JobStamps {
         requires { task < length self.old.lists }
         ensures { self.new ≡ changed task without_oldest None self.old }
     {
-        self.spent = None;
+        self.spent = NOBODY;
         self.tasks[task.number() as usize].end();
     }
 
@@ -98,22 +104,19 @@ impl JobStamps {
         requires { task < length self.old.lists }
         ensures { self.new ≡ changed task (stamp_oldest tick) None self.old }
     {
-        self.spent = None;
+        self.spent = NOBODY;
         self.tasks[task.number() as usize].stamp(tick);
     }
 
-    /// Whether it is known that the oldest job of a task has no stamp any more: its stamp was taken last, and no stamp has
-    /// changed since.
+    /// Whether it is known that the oldest job of a task has no stamp any more: its stamp was taken
+    /// last, and no stamp has changed since.
     #[inline(always)]
     pub fn is_known_spent(&self, task: TaskId) -> bool
         ensures spent { result ≡ true → self.now.spent ≡ Some task }
         ensures none { result ≡ true
             → stamp_of_oldest (slice_index_or self.now.lists task []) ≡ None }
     {
-        match self.spent {
-            None => false,
-            Some(spent) => spent.number() == task.number(),
-        }
+        self.spent == task.number()
     }
 
     /// Whether the oldest job of a task has no stamp any more, or the task has no job.
@@ -140,7 +143,7 @@ impl JobStamps {
         if self.is_known_spent(task) {
             return None;
         }
-        self.spent = Some(task);
+        self.spent = task.number();
         self.tasks[task.number() as usize].take()
     }
 }

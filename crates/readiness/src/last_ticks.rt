@@ -10,7 +10,8 @@ use std::marker::Model;
 
 const LEVELS: usize = MAX_TASK_PRIORITY as usize + 1;
 
-/// For each static priority the tick after the last one in which a job of it executed, 0 where none has.
+/// For each static priority the tick after the last one in which a job of it executed, 0 where none
+/// has.
 #[derive(Drop)]
 pub struct LastTicks {
     after: [u32; LEVELS],
@@ -18,16 +19,18 @@ pub struct LastTicks {
     level: u8,
     /// No number of another level is greater.
     others: u32,
+    /// No number of a lower level is greater.
+    lower: u32,
 }
 
 impl Model for LastTicks {
-    ghost use Rattle.readiness.specs.Last.{AreOthers, Last};
+    ghost use Rattle.readiness.specs.Last.{AreBounds, Last};
 
     ghost Value = { Last };
 
     ghost view = { λ l. record { after = l.after; level = l.level } };
 
-    ghost invariant = { λ l. AreOthers l.after l.level l.others };
+    ghost invariant = { λ l. AreBounds l.after l.level l.others l.lower };
 }
 
 impl LastTicks {
@@ -39,6 +42,7 @@ impl LastTicks {
             after: [0; LEVELS],
             level: 0,
             others: 0,
+            lower: 0,
         }
     }
 
@@ -49,6 +53,7 @@ impl LastTicks {
         self.after.copy_from_slice(&other.after);
         self.level = other.level;
         self.others = other.others;
+        self.lower = other.lower;
     }
 
     /// A job of a level executes in a tick.
@@ -60,6 +65,9 @@ impl LastTicks {
     {
         if level != self.level {
             self.others = cmp::max(self.others, self.after[self.level as usize]);
+            if self.level < level {
+                self.lower = self.others;
+            }
             self.level = level;
         }
         self.after[level as usize] = tick + 1;
@@ -80,7 +88,7 @@ impl LastTicks {
         ensures { result
             ≡ list_any (λ after. nat_lt tick after) (take self.now.level self.now.after) }
     {
-        if self.others <= tick {
+        if self.lower <= tick {
             return false;
         }
         is_one_since(&self.after[..self.level as usize], tick)

@@ -9,8 +9,8 @@ use std::marker::Model;
 
 const MOST_JOBS: usize = MAX_ACTIVATION as usize;
 
-/// The stamps of a task's jobs, oldest first: of each the first tick whose instruction comes behind the moment at which the
-/// job became ready, while it hasn't executed since.
+/// The stamps of a task's jobs, oldest first: of each the first tick whose instruction comes behind
+/// the moment at which the job became ready, while it hasn't executed since.
 #[derive(Drop)]
 pub struct TaskStamps {
     stamps: ArrayVec<Option<u32>, MOST_JOBS>,

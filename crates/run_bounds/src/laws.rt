@@ -68,8 +68,8 @@ pub fn searches_bound()
     ensures { SearchesBound }
 {}
 
-/// Where a search has tried all that can come in so many ticks, what it has noted bounds the figures
-/// of every run whose interrupts keep their distances, after at most so many.
+/// Where a search has tried all that can come in so many ticks, what it has noted bounds the
+/// figures of every run whose interrupts keep their distances, after at most so many.
 pub fn levels_bound()
     ensures { LevelsBound }
 {}

@@ -10,7 +10,8 @@ use osek_base::System;
 use std::alloc::Global;
 use tracer::RunFault;
 
-/// What a run is of besides its system: its arrival list, the mode, and how many ticks, at most 1,000,000.
+/// What a run is of besides its system: its arrival list, the mode, and how many ticks, at most
+/// 1,000,000.
 #[derive(Clone, Copy)]
 pub struct RunInput<'a> {
     pub irqs: &'a [u8],
@@ -18,8 +19,8 @@ pub struct RunInput<'a> {
     pub ticks: u32,
 }
 
-/// The system, booted in a mode with the arrivals of a list, or the first fault of these. `B` says whether the blockers of
-/// jobs are counted.
+/// The system, booted in a mode with the arrivals of a list, or the first fault of these. `B` says
+/// whether the blockers of jobs are counted.
 pub(crate) fn begin<'s, B: Blockers>(
     alloc: Global,
     system: &'s System,

@@ -8,8 +8,8 @@ const TICKS_BETWEEN: u32 = 50_000;
 /// After how many visits of states at least the numbers of a search are shown anew.
 const VISITS_BETWEEN: u64 = 10_000;
 
-/// How far a run or a search through all runs is: a line on a terminal, which is written over and over, and nothing where
-/// there is no terminal.
+/// How far a run or a search through all runs is: a line on a terminal, which is written over and
+/// over, and nothing where there is no terminal.
 #[derive(Drop)]
 pub struct Progress<'e, E> {
     err: &'e mut E,
@@ -52,8 +52,8 @@ impl<'e, E: Write> Progress<'e, E> {
         let _ = self.err.flush();
     }
 
-    /// A search has made so many visits, keeps so many states, has so many of them open, has tried all that can come up to a
-    /// tick, and takes so many bytes. A failed write is forgotten.
+    /// A search has made so many visits, keeps so many states, has so many of them open, has tried
+    /// all that can come up to a tick, and takes so many bytes. A failed write is forgotten.
     pub fn note_search(&mut self, visits: u64, states: usize, open: usize, tick: u64, bytes: u64) {
         if self.is_shown && self.next_visit <= visits {
             self.next_visit = visits.saturating_add(VISITS_BETWEEN);

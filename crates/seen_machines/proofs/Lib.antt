@@ -3,4 +3,3 @@ pub mod Executing
 pub mod Stays
 pub mod Shows
 pub mod Bystanders
-pub mod Holding

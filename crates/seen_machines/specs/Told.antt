@@ -7,14 +7,13 @@ use Rattle.observations.specs.declared.routine_seen.RoutineSeen.{RoutineSeen}
 use Rattle.observations.specs.declared.task_seen.TaskSeen.{TaskSeen}
 use Rattle.osek_base.specs.declared.executed.Executed.{Executed}
 use Rattle.osek_base.specs.declared.ids.Owner.{Owner}
-use Rattle.osek_base.specs.declared.ids.ResId.{ResId}
 use Rattle.osek_base.specs.declared.status.TaskState.{TaskState}
 use Rattle.osek_base.specs.Lists.{below}
 use Rattle.osek_base.specs.System.{System}
 use Rattle.kept_state.specs.Kept.{Kept}
 use Rattle.kept_state.specs.KeptService.{task_state_in}
 use Rattle.same_future.specs.Spans.{is_pending_in}
-use Rattle.kept_state.specs.Seen.{holder_in, routine_of}
+use Rattle.kept_state.specs.Seen.{routine_of}
 use Rattle.kernel.specs.declared.acted.Acted.{Acted}
 use Rattle.seen_ticks.specs.declared.task_at.TaskAt.{TaskAt}
 use Rattle.seen_ticks.specs.Told.{task_at_in}
@@ -121,8 +120,3 @@ pub record NoneActed (acted : Acted) : Type 0 where
 
 abbrev pub not_due : AlarmSeen
 not_due = record { has_expired = false; is_refused = false }
-
--- ---- of most resources, which nobody holds
-
-abbrev pub NoneIsHeld : System → Kept → Type 0
-NoneIsHeld S o = (r : ResId) → holder_in S o r ≡ None

@@ -4,15 +4,13 @@ ghost use Rattle.std.specs.Prelude.{◌≡◌, ◌<◌, ◌≤◌, length};
 ghost use Rattle.std.specs.Option.{option_map};
 ghost use Rattle.kept_state.specs.KeptService.{task_state_in};
 ghost use Rattle.same_future.specs.Spans.{is_pending_in};
-ghost use Rattle.osek_base.specs.Lists.{is_empty};
-ghost use Rattle.services.specs.Objects.{by_task};
-ghost use Rattle.kept_state.specs.Seen.{holder_in, routine_of};
+ghost use Rattle.kept_state.specs.Seen.{routine_of};
 ghost use Rattle.kernel.specs.Machine.{picture, system_of};
 
 use kernel::{Blockers, Machine};
-use osek_base::{IsrId, MAX_ACTIVATION, ResId, System, TaskId, TaskState};
+use osek_base::{IsrId, MAX_ACTIVATION, System, TaskId, TaskState};
 use ready_queues::ReadyQueues;
-use services::{Objects, Slot};
+use services::Objects;
 
 /// The system of some objects.
 #[inline(always)]
@@ -20,15 +18,6 @@ fn system_of<'s, Q: ReadyQueues>(objects: &Objects<'s, Q>) -> &'s System
     ensures { result.now ≡ objects.now.system }
 {
     objects.system
-}
-
-/// The slot of a task.
-#[inline(always)]
-fn slot<'o, Q: ReadyQueues>(objects: &'o Objects<'_, Q>, task: TaskId) -> &'o Slot
-    requires { task < length objects.now.system.tasks }
-    ensures { result.now ≡ by_task objects.now.slots task }
-{
-    objects.slot(task)
 }
 
 /// The system of a machine.
@@ -83,26 +72,4 @@ pub(crate) fn active_routine<Q: ReadyQueues, B: Blockers>(
     ensures { result ≡ option_map routine_of (picture machine.now).active }
 {
     machine.core().objects().active_routine()
-}
-
-/// Whether the oldest job of a task holds no resource.
-#[inline(always)]
-pub(crate) fn holds_none<Q: ReadyQueues, B: Blockers>(
-    machine: &Machine<'_, Q, B>,
-    task: TaskId,
-) -> bool
-    requires { task < length (system_of machine.now).tasks }
-    ensures { result ≡ is_empty ((picture machine.now).slots task).held }
-{
-    slot(machine.core().objects(), task).holds_none()
-}
-
-/// The first task whose oldest job holds a resource.
-pub(crate) fn holder<Q: ReadyQueues, B: Blockers>(
-    machine: &Machine<'_, Q, B>,
-    resource: &ResId,
-) -> Option<TaskId>
-    ensures { result ≡ holder_in (system_of machine.now) (picture machine.now) resource.now }
-{
-    machine.core().objects().holder(resource)
 }

@@ -21,8 +21,8 @@ use ready_queues::ReadyQueues;
 use seen_ticks::{answered, executor, failure};
 use std::marker::Model;
 
-/// What is seen of the ticks of machines, one at a time. Contracts see what is seen of the tick that
-/// was done last.
+/// What is seen of the ticks of machines, one at a time. Contracts see what is seen of the tick
+/// that was done last.
 #[derive(Drop)]
 pub struct Watcher {
     told: Told,

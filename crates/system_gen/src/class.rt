@@ -7,8 +7,8 @@ ghost use Rattle.osek_base.specs.Classes.{are_distinct, is_basic, is_single, cla
 
 use osek_base::{Class, System, TaskId};
 
-/// The conformance class of a system: the first of BCC1, BCC2, ECC1 and ECC2 that allows its extended tasks, its
-/// tasks of equal priority and its ACTIVATION values.
+/// The conformance class of a system: the first of BCC1, BCC2, ECC1 and ECC2 that allows its
+/// extended tasks, its tasks of equal priority and its ACTIVATION values.
 pub fn class_of(system: &System) -> Class
     ensures { result ≡ class_of system.now }
 {

@@ -78,7 +78,8 @@ impl<'a> Declared<'a> {
         Ok(joined(owners, listed, timers))
     }
 
-    /// The number of the application mode of that name, 0 where there is none; so for the other kinds.
+    /// The number of the application mode of that name, 0 where there is none; so for the other
+    /// kinds.
     pub(crate) fn mode(&self, name: &Name) -> ModeId
         requires { length self.now.modes ≤ MAX_MODES }
         ensures { result ≡ number self.now.modes name.now }

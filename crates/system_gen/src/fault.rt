@@ -28,11 +28,12 @@ pub enum ObjectKind {
 
 /// Why the two files make no system, with the name of the subject.
 ///
-/// The lowest number that applies is answered, and of it the first subject: objects in the order of declaration,
-/// programs in the order of the file.
+/// The lowest number that applies is answered, and of it the first subject: objects in the order of
+/// declaration, programs in the order of the file.
 #[derive(Debug, Drop, Error)]
 pub enum GenFault {
-    /// A name that stands for no declared object of the kind that is wanted, or for one that can't be meant there.
+    /// A name that stands for no declared object of the kind that is wanted, or for one that can't
+    /// be meant there.
     #[error("fault 1 in {}", .0.as_str())]
     UnknownName(Name),
     /// More objects of a kind than a system may have.
@@ -47,8 +48,9 @@ pub enum GenFault {
     /// A task or routine without a program.
     #[error("fault 5 in {}", .0.as_str())]
     NoProgram(Name),
-    /// A program that can be left: it is empty, or its last instruction is neither JMP nor RETI. Also one with a jump past
-    /// its end or with more than 1,024 instructions, which no program text gives.
+    /// A program that can be left: it is empty, or its last instruction is neither JMP nor RETI.
+    /// Also one with a jump past its end or with more than 1,024 instructions, which no program
+    /// text gives.
     #[error("fault 6 in {}", .0.as_str())]
     LastNotJump(Name),
     /// A task's program with RETI.
@@ -60,7 +62,8 @@ pub enum GenFault {
     /// A counter with values that can't be.
     #[error("fault 9 in {}", .0.as_str())]
     Counter(Name),
-    /// An alarm with times that its counter doesn't have, or one that sets an event of a basic task.
+    /// An alarm with times that its counter doesn't have, or one that sets an event of a basic
+    /// task.
     #[error("fault 10 in {}", .0.as_str())]
     Alarm(Name),
     /// A growth of the memory was refused.

@@ -1,4 +1,5 @@
-//! OIL: standard objects; OSEK/VDX OS: system generation. From an OIL file and its programs to a system.
+//! OIL: standard objects; OSEK/VDX OS: system generation. From an OIL file and its programs to a
+//! system.
 
 ghost use Rattle.std.specs.Prelude.{◌≡◌, ◌<◌, IfOk, IfErr, OnOk, IsTrue, None, length, map};
 ghost use Rattle.std.specs.Option.{option_map};
@@ -124,7 +125,8 @@ fn parts_of(alloc: Global, file: &OilFile, programs: &[NamedProgram]) -> Result<
     })
 }
 
-/// Checks the file and its programs, and resolves their names: the objects and the masks of the events.
+/// Checks the file and its programs, and resolves their names: the objects and the masks of the
+/// events.
 fn resolve<'a>(
     alloc: Global,
     file: &OilFile,

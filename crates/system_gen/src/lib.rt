@@ -1,4 +1,5 @@
-//! Makes a system of an OIL file and its programs: names become numbers, events get masks, and what is wrong is told.
+//! Makes a system of an OIL file and its programs: names become numbers, events get masks, and what
+//! is wrong is told.
 #![tactic(auto)]
 
 mod class;

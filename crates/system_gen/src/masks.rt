@@ -16,7 +16,8 @@ const BITS: [u32; MAX_EVENTS] = [
     0x2000000, 0x4000000, 0x8000000, 0x10000000, 0x20000000, 0x40000000, 0x80000000,
 ];
 
-/// The mask of each event. AUTO gets the lowest bit that is in no written mask and in no AUTO mask of an earlier event.
+/// The mask of each event. AUTO gets the lowest bit that is in no written mask and in no AUTO mask
+/// of an earlier event.
 pub(crate) fn masks(alloc: Global, events: &[EventObject]) -> Result<Vec<u32>, GenFault>
     ensures made { IfOk result (λ masks. all_masks events.now ≡ Ok masks.items) }
     ensures refused { IfErr result (λ e. (e ≡ Memory) ⊎ (all_masks events.now ≡ Err e)) }

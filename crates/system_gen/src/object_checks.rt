@@ -1,4 +1,5 @@
-//! OIL: standard objects and their attributes; OSEK/VDX OS: constraints. What generation refuses in an OIL file.
+//! OIL: standard objects and their attributes; OSEK/VDX OS: constraints. What generation refuses in
+//! an OIL file.
 
 ghost use Rattle.std.specs.Prelude.{◌≡◌, Some, None};
 ghost use Rattle.std.specs.List.{list_any};

@@ -10,7 +10,8 @@ use oil_reader::{
 use osek_base::{Name, Names};
 use std::alloc::{AllocError, Global};
 
-/// The names that a system keeps: of tasks by their numbers, of all else in the order of declaration.
+/// The names that a system keeps: of tasks by their numbers, of all else in the order of
+/// declaration.
 pub(crate) fn names_of(alloc: Global, file: &OilFile, order: &[usize]) -> Result<Names, AllocError>
     requires places { ArePlaces (length file.now.tasks) order.now }
     requires order { order.now ≡ order_of file.now.tasks }

@@ -1,4 +1,5 @@
-//! OIL: references between objects; the modelled processor: operands. Each name must stand for a declared object.
+//! OIL: references between objects; the modelled processor: operands. Each name must stand for a
+//! declared object.
 
 ghost use Rattle.std.specs.Prelude.{◌≡◌, OnOk, None, IsTrue};
 ghost use Rattle.system_gen.specs.Checks.{Answers};

@@ -22,8 +22,9 @@ use std::alloc::{AllocError, Global};
 use std::marker::Model;
 use task_asm::{NamedInstr, NamedLine, NamedService};
 
-/// Turns names into numbers and masks, once the checks have passed: there are no more objects than allowed. Events
-/// have these masks, in the order of declaration. A name that isn't declared, which the checks exclude, gives 0.
+/// Turns names into numbers and masks, once the checks have passed: there are no more objects than
+/// allowed. Events have these masks, in the order of declaration. A name that isn't declared, which
+/// the checks exclude, gives 0.
 #[derive(Drop)]
 pub(crate) struct Resolver<'d, 'a, 'm> {
     declared: &'d Declared<'a>,

@@ -108,8 +108,8 @@ fn make_nodes(alloc: Global, nodes: &[Node]) -> io::Result<Answer> {
     }
 }
 
-/// Makes the texts of a system from its description, or tells all that is wrong with it; of a text that is no TOML only
-/// the first fault. An error is want of memory.
+/// Makes the texts of a system from its description, or tells all that is wrong with it; of a text
+/// that is no TOML only the first fault. An error is want of memory.
 pub fn make(alloc: Global, text: &[u8]) -> io::Result<Answer> {
     match toml::table_from_slice(alloc, text) {
         Ok(_table) => {}

@@ -1,5 +1,6 @@
-//! A TOML text as the list of its keys and values with their places. The crate `toml` reads the text first and says what is
-//! no TOML; it keeps no places of values, so the text is gone over once more, by the readers of `toml_parser`.
+//! A TOML text as the list of its keys and values with their places. The crate `toml` reads the
+//! text first and says what is no TOML; it keeps no places of values, so the text is gone over once
+//! more, by the readers of `toml_parser`.
 
 use descriptions::node::{Kind, Node};
 use std::alloc::{AllocError, Global};

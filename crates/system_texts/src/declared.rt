@@ -95,7 +95,8 @@ fn priority_of(tree: &SyntaxTree<'_>, name: &str) -> u32 {
     }
 }
 
-/// The ceiling of a resource: the greatest priority of the tasks that list it, or of all tasks for RES_SCHEDULER.
+/// The ceiling of a resource: the greatest priority of the tasks that list it, or of all tasks for
+/// RES_SCHEDULER.
 fn ceiling(tree: &SyntaxTree<'_>, resource: &str) -> u32 {
     let is_scheduler = resource == "RES_SCHEDULER";
     let mut ceiling = 0;
@@ -118,8 +119,8 @@ fn target<'a>(tree: &SyntaxTree<'a>, alarm: &str) -> &'a str {
     }
 }
 
-/// By what an object is upper or lower: the priority of a task, the ceiling of a resource, the priority of the task that an
-/// alarm acts on; 0 for all else.
+/// By what an object is upper or lower: the priority of a task, the ceiling of a resource, the
+/// priority of the task that an alarm acts on; 0 for all else.
 pub fn level(tree: &SyntaxTree<'_>, kind: Kind, name: &str) -> u32 {
     match kind {
         Kind::Task => priority_of(tree, name),

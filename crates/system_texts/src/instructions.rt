@@ -16,7 +16,8 @@ const ON_ALARMS: [&str; 5] = ["SREL", "SABS", "CANA", "GALM", "GBAS"];
 /// Those that name events: SETE behind its first operand.
 const ON_EVENTS: [&str; 3] = ["SETE", "CLRE", "WAIT"];
 
-/// The kind of object that an operand of a mnemonic names: the first operand, of number 0, or a later one.
+/// The kind of object that an operand of a mnemonic names: the first operand, of number 0, or a
+/// later one.
 pub fn named_kind(mnemonic: &str, number: usize) -> Option<Kind> {
     if number == 0 && ON_TASKS.contains(&mnemonic) {
         Some(Kind::Task)

@@ -1,4 +1,5 @@
-//! The two texts of a system, taken apart: what an OIL file declares, and what programs name, each with its place.
+//! The two texts of a system, taken apart: what an OIL file declares, and what programs name, each
+//! with its place.
 #![tactic(auto)]
 
 mod declared;

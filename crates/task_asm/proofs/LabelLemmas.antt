@@ -1,6 +1,6 @@
 -- The labels of a program, one statement after the other, and what they say of it.
 use Rattle.std.proofs.Common.{◌≡◌, ℕ, suc, ◌+◌, ◌<◌, ◌≤◌, Bool, true, false, List, [], ◌∷◌, ◌++◌, length, drop, get_or, Option, Some, None, cond, refl, sym, ap, ◌∙◌, arith, inl, inr}
-use Rattle.std.specs.Prelude.{if◌then◌else◌, bytes_eq, nat_lt, is_some}
+use Rattle.std.specs.Prelude.{if◌then◌else◌, bytes_eq, nat_lt}
 use Rattle.std.specs.Option.{option_map}
 use Rattle.std.specs.Map.{update}
 use Rattle.std.proofs.lemmas.List.{drop_more, drop_all}
@@ -77,14 +77,6 @@ module _ (es : List Statement) (at place : ℕ) (p : ℕ) (i : Item) (f : List �
         let found : f w ≡ Some d = ap f (sym (same_word v w q)) ∙ has in
         or_same (f w) d _ found ∙ sym (or_same (f w) d _ found) ∙ h
 
-    -- a label that is known
-    pub after_old : (d : Definition) → f v ≡ Some d → Known es (at + 1) place f
-    after_old d has = record {
-      within = omega arith;
-      fewer = omega (arith, known.fewer);
-      whole = λ w. old_at w (bytes_eq v w) refl d has (label_left w);
-    }
-
     new_at : (g : List ℕ → Option Definition) (w : List ℕ) (b : Bool) → bytes_eq v w ≡ b → f v ≡ None
         → g w ≡ cond b (Some (let d : Definition = record { statement = at; place = place } in d)) (f w)
         → or_else (f w) (if b then Some (let d : Definition = record { statement = at; place = place } in d) else definition_from (at + 1) place (drop (at + 1) es) w) ≡ definition_from 0 0 es w
@@ -102,6 +94,22 @@ module _ (es : List Statement) (at place : ℕ) (p : ℕ) (i : Item) (f : List �
       within = omega arith;
       fewer = omega (arith, known.fewer);
       whole = λ w. new_at g w (bytes_eq v w) refl none (is w) (label_left w);
+    }
+
+    again_at : (g h : List ℕ → Option Definition) (d e : Definition) (w : List ℕ) (b : Bool) → bytes_eq v w ≡ b → f v ≡ Some d
+        → g w ≡ cond b (Some e) (f w) → h w ≡ cond b (Some d) (g w) → h w ≡ f w
+    again_at g h d e w false q has put back = back ∙ put
+    again_at g h d e w true q has put back = back ∙ sym (ap f (sym (same_word v w q)) ∙ has)
+
+    -- a label that is known, whose first definition is put back
+    pub after_again : (g h : List ℕ → Option Definition) (d e : Definition) → f v ≡ Some d
+        → ((w : List ℕ) → g w ≡ update bytes_eq f v (Some e) w) → ((w : List ℕ) → h w ≡ update bytes_eq g v (Some d) w) → Known es (at + 1) place h
+    after_again g h d e has put back = record {
+      within = omega arith;
+      fewer = omega (arith, known.fewer);
+      whole = λ w.
+          ap (λ (o : Option Definition). or_else o (definition_from (at + 1) place (drop (at + 1) es) w)) (again_at g h d e w (bytes_eq v w) refl has (put w) (back w))
+          ∙ old_at w (bytes_eq v w) refl d has (label_left w);
     }
 
 pub at_last : (es : List Statement) (at place : ℕ) (f : List ℕ → Option Definition) → length es ≤ at → Known es at place f → (w : List ℕ) → f w ≡ definition_from 0 0 es w
@@ -212,17 +220,3 @@ pub goes_on : (own : List Statement) (p : ℕ) (v : List ℕ) (after : List Stat
 goes_on own p v after passed size closed count whole =
     let sum : size ≡ passed + program_size after = whole ∙ size_behind own (record { place = p; item = Item.Label v } ∷ after) closed ∙ ap (λ (n : ℕ). n + program_size after) (sym count) in
     ap (nat_lt passed) sum ∙ lt_sum passed (program_size after) ∙ sym (some_left after)
-
--- ---- what a look-up finds
-
-pub absent : (o : Option Definition) → is_some o ≡ false → o ≡ None
-absent None e = refl
-absent (Some d) e = absurd cc
-
-pub record Present (o : Option Definition) : Type 0 where
-  pub value : Definition
-  pub is : o ≡ Some value
-
-pub present : (o : Option Definition) → is_some o ≡ true → Present o
-present None e = absurd cc
-present (Some d) e = record { value = d; is = refl }

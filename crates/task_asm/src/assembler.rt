@@ -117,8 +117,9 @@ fn programs(
     Ok(programs)
 }
 
-/// The programs of a program text, in order. A fault is the text's first: a fault of its tokens, else of the others the
-/// one at the least place, and at one place the one that `AsmFault` has first.
+/// The programs of a program text, in order. A fault is the text's first: a fault of its tokens,
+/// else of the others the one at the least place, and at one place the one that `AsmFault` has
+/// first.
 pub fn assemble(alloc: Global, text: &[u8]) -> Result<Vec<NamedProgram>, AsmFault>
     ensures programs { IfOk result (λ programs. IsProgramText text.now programs.items) }
     ensures fault { IfErr result (λ e. HasFault text.now e) }
@@ -132,8 +133,8 @@ pub fn assemble(alloc: Global, text: &[u8]) -> Result<Vec<NamedProgram>, AsmFaul
     Ok(programs(alloc, statements, targets.as_slice())?)
 }
 
-/// A program text has one list of programs, and then no fault; it has one fault at most. Of want of memory nothing is
-/// said. (Laws about the definitions; the function does nothing.)
+/// A program text has one list of programs, and then no fault; it has one fault at most. Of want of
+/// memory nothing is said. (Laws about the definitions; the function does nothing.)
 pub fn one_meaning()
     ensures programs { (text : List ℕ) (ps qs : List Program) → IsProgramText text ps
         → IsProgramText text qs → ps ≡ qs }

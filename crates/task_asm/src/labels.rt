@@ -7,14 +7,16 @@ use crate::statements::{Item, Statement};
 use std::alloc::{AllocError, Global};
 use std::collections::BTreeMap;
 
-/// Where a label is defined: how many statements and how many instructions of its program stand before it.
+/// Where a label is defined: how many statements and how many instructions of its program stand
+/// before it.
 #[derive(Clone, Copy)]
 pub struct Definition {
     pub statement: usize,
     pub place: usize,
 }
 
-/// The labels of a program, each where it is first defined, and how many instructions the program has.
+/// The labels of a program, each where it is first defined, and how many instructions the program
+/// has.
 #[derive(Drop)]
 pub struct Labels<'a> {
     pub definitions: BTreeMap<&'a str, Definition>,
@@ -50,14 +52,12 @@ fn definitions<'a>(
         let statement = &statements[at];
         match &statement.item {
             Item::Label(word) => {
-                if !definitions.contains_key(*word) {
-                    definitions.insert(
-                        *word,
-                        Definition {
-                            statement: at,
-                            place,
-                        },
-                    )?;
+                let defined = Definition {
+                    statement: at,
+                    place,
+                };
+                if let Some(first) = definitions.insert(*word, defined)? {
+                    definitions.insert(*word, first)?;
                 }
             }
             Item::Instruction(_) => place += 1,

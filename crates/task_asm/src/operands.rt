@@ -44,7 +44,8 @@ use crate::tokens::{Placed, Sign, Token};
 use osek_base::{Name, Register};
 use std::alloc::{AllocError, Global};
 
-/// Why the operands of a line could not be read: they are others than the mnemonic wants, or memory was refused.
+/// Why the operands of a line could not be read: they are others than the mnemonic wants, or memory
+/// was refused.
 #[derive(Drop)]
 pub enum Refusal {
     Operand,

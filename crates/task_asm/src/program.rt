@@ -7,7 +7,8 @@ use osek_base::{Control, Name, Plain, Register, Service};
 use std::alloc::{AllocError, Global};
 use std::marker::Model;
 
-/// One or more events as an operand, of which the union is meant. Contracts see the list of their names.
+/// One or more events as an operand, of which the union is meant. Contracts see the list of their
+/// names.
 #[derive(Drop)]
 pub struct EventNames {
     names: Vec<Name>,
@@ -51,8 +52,8 @@ impl EventNames {
     }
 }
 
-/// A service with a status, its operands by their names, of which that of a resource may be RES_SCHEDULER. None is the
-/// operand INVALID.
+/// A service with a status, its operands by their names, of which that of a resource may be
+/// RES_SCHEDULER. None is the operand INVALID.
 pub type NamedService = Service<Register, Option<Name>, Option<Name>, Option<Name>, EventNames>;
 
 /// An instruction as it stands in a program text, with places for labels.

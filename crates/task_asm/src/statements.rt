@@ -12,7 +12,8 @@ use crate::tokens::{Placed, Sign, Token};
 use std::alloc::{AllocError, Global};
 use std::marker::Model;
 
-/// What a label, an instruction or a directive says. None: its line doesn't go on with just its operands.
+/// What a label, an instruction or a directive says. None: its line doesn't go on with just its
+/// operands.
 #[derive(Drop)]
 pub enum Item<'a> {
     Label(&'a str),

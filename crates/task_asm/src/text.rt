@@ -1,4 +1,5 @@
-//! The texts of instructions, no part of the standards: a mnemonic, then its operands, separated by `, `.
+//! The texts of instructions, no part of the standards: a mnemonic, then its operands, separated by
+//! `, `.
 
 ghost use Rattle.std.specs.Prelude.{◌≡◌, ◌+◌, ◌<◌, ◌≤◌, ◌++◌, ◌∷◌, [], length, decimal};
 ghost use Rattle.osek_base.specs.Names.{name_at};
@@ -26,7 +27,8 @@ use osek_base::{
 /// The text of one operand.
 type OperandText = ArrayString<32>;
 
-/// What an instruction's text is written to: the longest mnemonic and three of the longest operands fit.
+/// What an instruction's text is written to: the longest mnemonic and three of the longest operands
+/// fit.
 type InstrText = ArrayString<128>;
 
 fn short_text(text: &str) -> OperandText
@@ -260,9 +262,9 @@ fn write_control(text: &mut InstrText, control: &Control)
     }
 }
 
-/// Replaces the content of `text` by the instruction's text: its mnemonic, then its operands separated by `, `.
-/// Masks are written as `0x` and eight hexadecimal digits, labels as places. An object without a name is written as
-/// nothing.
+/// Replaces the content of `text` by the instruction's text: its mnemonic, then its operands
+/// separated by `, `. Masks are written as `0x` and eight hexadecimal digits, labels as places. An
+/// object without a name is written as nothing.
 pub fn instr_text(instr: &Instr, names: &Names, text: &mut ArrayString<128>)
     ensures { text.new.bytes ≡ instruction_text names.now instr.now }
 {

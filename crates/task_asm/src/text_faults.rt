@@ -119,7 +119,8 @@ impl<'a> Open<'a> {
         }
     }
 
-    /// The fault of an instruction behind so many: its operands are faulty, it is one too many, or its label is unknown.
+    /// The fault of an instruction behind so many: its operands are faulty, it is one too many, or
+    /// its label is unknown.
     fn instruction_fault(
         &self,
         passed: usize,

@@ -23,8 +23,9 @@ fn ends_with_digit(text: &[u8]) -> bool {
     }
 }
 
-/// Whether no token begins between two parts of a text, and OIL of other kernels may go on so: with a string, a
-/// description, `#include`, a range, a number below 0 or with a fraction, or behind a byte order mark.
+/// Whether no token begins between two parts of a text, and OIL of other kernels may go on so: with
+/// a string, a description, `#include`, a range, a number below 0 or with a fraction, or behind a
+/// byte order mark.
 fn is_foreign(before: &[u8], behind: &[u8]) -> bool {
     match behind {
         [b'.', ..] => ends_with_digit(before),
@@ -33,7 +34,8 @@ fn is_foreign(before: &[u8], behind: &[u8]) -> bool {
     }
 }
 
-/// Writes the hint where no token begins at a place, and OIL of other kernels may go on so. An error is a failed write.
+/// Writes the hint where no token begins at a place, and OIL of other kernels may go on so. An
+/// error is a failed write.
 pub(crate) fn write_hint_at<W: Write>(
     source: Source<'_>,
     place: usize,
@@ -46,7 +48,8 @@ pub(crate) fn write_hint_at<W: Write>(
     Ok(())
 }
 
-/// Writes the name that is nearest to a word, or the hint where none is near. An error is a failed write or want of memory.
+/// Writes the name that is nearest to a word, or the hint where none is near. An error is a failed
+/// write or want of memory.
 pub(crate) fn write_nearest_or_hint<W: Write>(
     alloc: Global,
     source: Source<'_>,

@@ -1,6 +1,6 @@
-//! Explanations of refused texts (OIL files, program texts, arrival lists), no part of the standards: where it is, what is
-//! wrong there, and what would be allowed. Each is written behind the fixed line of the refusal. What the explanations of
-//! whole systems need too is public.
+//! Explanations of refused texts (OIL files, program texts, arrival lists), no part of the
+//! standards: where it is, what is wrong there, and what would be allowed. Each is written behind
+//! the fixed line of the refusal. What the explanations of whole systems need too is public.
 #![tactic(auto)]
 
 mod allowed_values;

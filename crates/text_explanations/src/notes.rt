@@ -8,8 +8,8 @@ use strsim::osa_distance;
 /// How many names are listed at most, where a text may have any number of them.
 const LISTED: usize = 20;
 
-/// The name that is nearest to a word, where one is near: equal but for case, or with at most a third of the word's
-/// letters changed.
+/// The name that is nearest to a word, where one is near: equal but for case, or with at most a
+/// third of the word's letters changed.
 pub(crate) fn nearest<'a>(
     alloc: Global,
     word: &str,
@@ -30,7 +30,8 @@ pub(crate) fn nearest<'a>(
     Ok(found)
 }
 
-/// The numbers of those of many names that are nearest to a word, each behind its distance, as many as are listed.
+/// The numbers of those of many names that are nearest to a word, each behind its distance, as many
+/// as are listed.
 fn nearest_numbers(
     alloc: Global,
     word: &str,
@@ -90,7 +91,8 @@ pub fn write_first_names<W: Write>(title: &str, names: &[&str], out: &mut W) -> 
     out.write_all(b"\n")
 }
 
-/// Writes the name that is nearest to a word, where one is near. An error is a failed write or want of memory.
+/// Writes the name that is nearest to a word, where one is near. An error is a failed write or want
+/// of memory.
 pub(crate) fn write_nearest<W: Write>(
     alloc: Global,
     word: &str,
@@ -103,8 +105,8 @@ pub(crate) fn write_nearest<W: Write>(
     }
 }
 
-/// Writes the names that are allowed, of more than 20 those that are nearest to a word and how many more there are, and the
-/// one that is nearest to it. An error is a failed write or want of memory.
+/// Writes the names that are allowed, of more than 20 those that are nearest to a word and how many
+/// more there are, and the one that is nearest to it. An error is a failed write or want of memory.
 pub fn write_choice<W: Write>(
     alloc: Global,
     word: &str,

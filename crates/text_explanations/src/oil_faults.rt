@@ -8,8 +8,8 @@ use oil_reader::OilFault;
 use std::alloc::Global;
 use std::io::{self, Write};
 
-/// Explains why a text is no OIL file. Want of memory has no explanation. An error is a failed write, or want of memory for
-/// the explanation.
+/// Explains why a text is no OIL file. Want of memory has no explanation. An error is a failed
+/// write, or want of memory for the explanation.
 pub fn explain_oil<W: Write>(
     alloc: Global,
     source: Source<'_>,

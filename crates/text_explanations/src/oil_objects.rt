@@ -89,7 +89,8 @@ fn write_missing<W: Write>(tree: &SyntaxTree<'_>, kind: Kind, out: &mut W) -> io
     write_names("missing", &[kind_word(kind)], out)
 }
 
-/// Explains the end of an object or block that lacks attributes, or of a file that lacks an OS or an APPMODE.
+/// Explains the end of an object or block that lacks attributes, or of a file that lacks an OS or
+/// an APPMODE.
 pub(crate) fn explain_missing<W: Write>(
     alloc: Global,
     source: Source<'_>,

@@ -9,7 +9,8 @@ use oil_reader::{OilFault, read_oil};
 use std::alloc::{AllocError, Global};
 use std::io::{self, Write};
 
-/// What is wrong with a text at a place where no token begins, what is allowed there, and how many bytes are shown.
+/// What is wrong with a text at a place where no token begins, what is allowed there, and how many
+/// bytes are shown.
 struct BadToken {
     what: &'static str,
     allowed: &'static str,
@@ -114,7 +115,8 @@ fn followed(alloc: Global, before: &[u8], token: &str) -> Result<Vec<u8>, AllocE
     Ok(text)
 }
 
-/// Whether a file can go on with a token behind a text: whether the reader doesn't refuse just that token.
+/// Whether a file can go on with a token behind a text: whether the reader doesn't refuse just that
+/// token.
 fn goes_on(alloc: Global, before: &[u8], token: &str) -> Result<bool, AllocError> {
     let text = followed(alloc, before, token)?;
     match read_oil(alloc, &text) {
@@ -160,7 +162,8 @@ fn words_among(alloc: Global, wanted: &[&'static str]) -> Result<Vec<&'static st
     Ok(found)
 }
 
-/// Writes which word of the grammar may have been meant by another, where one is wanted, or that `import` may read it.
+/// Writes which word of the grammar may have been meant by another, where one is wanted, or that
+/// `import` may read it.
 fn write_meant<W: Write>(
     alloc: Global,
     source: Source<'_>,

@@ -171,7 +171,8 @@ fn explain_label<W: Write>(
     write_choice(alloc, label, &labels(alloc, words, word.program)?, out)
 }
 
-/// The place of the first word that has the text and the part of another; of a label only in its program.
+/// The place of the first word that has the text and the part of another; of a label only in its
+/// program.
 fn first_place(words: &[CodeWord<'_>], second: CodeWord<'_>) -> usize {
     let is_label = second.part == Part::Label;
     for word in words {
@@ -206,8 +207,8 @@ fn explain_length<W: Write>(source: Source<'_>, place: usize, out: &mut W) -> io
     source.note(place, &what, "allowed", &[Text("1024 instructions")], out)
 }
 
-/// Explains why a text holds no programs. Want of memory has no explanation. An error is a failed write, or want of memory
-/// for the explanation.
+/// Explains why a text holds no programs. Want of memory has no explanation. An error is a failed
+/// write, or want of memory for the explanation.
 pub fn explain_programs<W: Write>(
     alloc: Global,
     source: Source<'_>,

@@ -75,8 +75,8 @@ fn write_named<W: Write>(
     }
 }
 
-/// Explains a refused line, counted from 1, of an arrival list for the system of an OIL file. An error is a failed write, or
-/// want of memory for the explanation.
+/// Explains a refused line, counted from 1, of an arrival list for the system of an OIL file. An
+/// error is a failed write, or want of memory for the explanation.
 pub fn explain_arrivals<W: Write>(
     alloc: Global,
     oil: Source<'_>,
@@ -100,7 +100,8 @@ pub fn explain_arrivals<W: Write>(
     write_named(alloc, oil, Kind::Isr, irq.word(name), out)
 }
 
-/// Explains a mode that an OIL file doesn't have. An error is a failed write, or want of memory for the explanation.
+/// Explains a mode that an OIL file doesn't have. An error is a failed write, or want of memory for
+/// the explanation.
 pub fn explain_mode<W: Write>(
     alloc: Global,
     oil: Source<'_>,
@@ -111,8 +112,8 @@ pub fn explain_mode<W: Write>(
     write_named(alloc, oil, Kind::AppMode, mode, out)
 }
 
-/// Explains that one of the modes of an OIL file has to be chosen. An error is a failed write, or want of memory for the
-/// explanation.
+/// Explains that one of the modes of an OIL file has to be chosen. An error is a failed write, or
+/// want of memory for the explanation.
 pub fn explain_open_mode<W: Write>(alloc: Global, oil: Source<'_>, out: &mut W) -> io::Result<()> {
     writeln!(
         out,

@@ -3,7 +3,8 @@
 use crate::pieces::Piece;
 use oil_reader::{Attribute, AttributeName, Object, Setting, SyntaxTree, Value, attributes_of};
 
-/// Settings that stand together: those of an object, or those of the block behind the value of one of its attributes.
+/// Settings that stand together: those of an object, or those of the block behind the value of one
+/// of its attributes.
 #[derive(Clone, Copy)]
 pub(crate) struct Scope<'t, 'a> {
     object: &'t Object<'a>,
@@ -145,7 +146,8 @@ impl<'t, 'a> Scope<'t, 'a> {
     }
 }
 
-/// The setting of an object or of one of its blocks whose name or value stands at a place, with where it stands.
+/// The setting of an object or of one of its blocks whose name or value stands at a place, with
+/// where it stands.
 fn setting_of<'t, 'a>(
     object: &'t Object<'a>,
     place: usize,

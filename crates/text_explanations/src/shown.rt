@@ -1,13 +1,13 @@
-//! Bytes as they are shown, one column a character: nothing in them moves what stands below, or reaches the terminal as an
-//! order.
+//! Bytes as they are shown, one column a character: nothing in them moves what stands below, or
+//! reaches the terminal as an order.
 
 use std::io::{self, Write};
 
 /// What is shown for a byte or a character that can't be shown.
 const UNSHOWN: char = '\u{FFFD}';
 
-/// Whether a character isn't seen or turns the direction of what follows: Unicode's default ignorable characters, and the
-/// separators of lines and paragraphs.
+/// Whether a character isn't seen or turns the direction of what follows: Unicode's default
+/// ignorable characters, and the separators of lines and paragraphs.
 fn is_unseen(c: char) -> bool {
     matches!(
         c,

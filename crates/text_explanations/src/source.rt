@@ -56,8 +56,8 @@ impl<'a> Source<'a> {
         line_and_column(self.text, place.min(usize::MAX - 1))
     }
 
-    /// Writes the line of a place, and below it carets under so many bytes from there on, at least one. A long line isn't
-    /// shown.
+    /// Writes the line of a place, and below it carets under so many bytes from there on, at least
+    /// one. A long line isn't shown.
     fn show<W: Write>(self, place: usize, len: usize, out: &mut W) -> io::Result<()> {
         let (head, tail) = self.line(place);
         if head.len() > LONGEST || tail.len() > LONGEST {
@@ -112,7 +112,8 @@ impl<'a> Source<'a> {
         write_pieces(note, out)
     }
 
-    /// Writes what is wrong at the word or number at a place, and a line ` TITLE: NOTE`. An error is a failed write.
+    /// Writes what is wrong at the word or number at a place, and a line ` TITLE: NOTE`. An error
+    /// is a failed write.
     pub fn note<W: Write>(
         self,
         place: usize,
@@ -124,7 +125,8 @@ impl<'a> Source<'a> {
         self.note_bytes(place, self.word(place).len(), what, title, note, out)
     }
 
-    /// What is wrong at the word or number at a place, and a line ` first: NAME:LINE:COLUMN` with another place.
+    /// What is wrong at the word or number at a place, and a line ` first: NAME:LINE:COLUMN` with
+    /// another place.
     pub(crate) fn tell_second<W: Write>(
         self,
         place: usize,

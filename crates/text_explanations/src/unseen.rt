@@ -21,8 +21,8 @@ pub(crate) struct Unseen {
     pub name: &'static str,
 }
 
-/// The first that isn't seen in the line at the front of a text, where there is one: a mark of an encoding, a tab or a carriage
-/// return.
+/// The first that isn't seen in the line at the front of a text, where there is one: a mark of an
+/// encoding, a tab or a carriage return.
 pub(crate) fn first_unseen(text: &[u8]) -> Option<Unseen> {
     if let Some(name) = mark_at(text) {
         return Some(Unseen { place: 0, name });

@@ -9,9 +9,12 @@ use sinks::{Sink, SinkFault, flush};
 /// How many bytes a block has room for.
 pub(crate) const BLOCK_SIZE: usize = 4096;
 
-/// The room that a record needs at most: its line, a number of blockers, the line's end, and the places that are copied with
-/// a short text.
+/// The room that a record needs at most: its line, a number of blockers, the line's end, and the
+/// places that are copied with a short text.
 pub(crate) const RECORD_SIZE: usize = 256;
+
+/// The room that the end of a record's line needs of it: a number of blockers, and the line's end.
+pub(crate) const END_SIZE: usize = 14;
 
 /// Lines that wait to be written.
 pub type Block = sinks::Block<BLOCK_SIZE>;

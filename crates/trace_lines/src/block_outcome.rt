@@ -1,5 +1,5 @@
-//! The outcomes of instructions in a block, no part of the standards. What nearly all lines have, a number of one digit and the
-//! sign before it, is appended as one array.
+//! The outcomes of instructions in a block, no part of the standards. What nearly all lines have, a
+//! number of one digit and the sign before it, is appended as one array.
 
 ghost use Rattle.std.specs.Prelude.{◌≡◌, ◌+◌, ◌≤◌, ◌++◌, ℕ, length, decimal, codes};
 ghost use Rattle.osek_base.specs.BlockingText.{blockers_text};
@@ -102,7 +102,8 @@ pub(crate) fn push_outcome(text: &mut Block, outcome: &Outcome)
     }
 }
 
-/// Appends ` ! ` and a number of blockers to a block, in a call, as few lines have one and the tick that writes them is large.
+/// Appends ` ! ` and a number of blockers to a block, in a call, as few lines have one and the tick
+/// that writes them is large.
 #[inline(never)]
 fn push_block_count(text: &mut Block, number: u32)
     requires { length text.old + 13 ≤ BLOCK_SIZE }

@@ -125,7 +125,8 @@ impl<'s> InstructionTexts<'s> {
         program.at(place)
     }
 
-    /// Appends the line of what a tick executed, without the line's end; the instruction isn't spelled again.
+    /// Appends the line of what a tick executed, without the line's end; the instruction isn't
+    /// spelled again.
     #[inline(always)]
     pub(crate) fn push_executed_line(&self, tick: &TickText, executed: &Executed, text: &mut Block)
         requires placed { StandsIn self.now executed.now }
@@ -134,8 +135,8 @@ impl<'s> InstructionTexts<'s> {
             ≡ text.old ++ line self.now.names tick.now (executed_record self.now executed.now) }
         ensures short { length text.new ≤ length text.old + 238 }
     {
-        // The line of a plain instruction and that of a service don't meet before their end, so that what was executed is
-        // asked once for its kind.
+        // The line of a plain instruction and that of a service don't meet before their end, so
+        // that what was executed is asked once for its kind.
         if let Outcome::Plain(effect) = &executed.outcome {
             tick.push_to(text);
             self.executed_text(executed).push_to(text);
@@ -149,7 +150,8 @@ impl<'s> InstructionTexts<'s> {
         }
     }
 
-    /// Appends the line of a record of that tick, without the line's end; an instruction isn't spelled again.
+    /// Appends the line of a record of that tick, without the line's end; an instruction isn't
+    /// spelled again.
     #[inline(always)]
     pub(crate) fn push_line(&self, tick: &TickText, event: &TraceEvent, text: &mut Block)
         requires listed { IsOfProgram self.now event.now }

@@ -1,9 +1,11 @@
-//! The lines of a trace: their text, the view of a tick's records, and how they reach a sink by way of a block.
+//! The lines of a trace: their text, the view of a tick's records, and how they reach a sink by way
+//! of a block.
 #![tactic(auto)]
 
 mod block;
 mod block_digits;
 mod block_outcome;
+mod blocker_number;
 mod idle_lines;
 mod instruction_texts;
 mod kept_text;
@@ -16,6 +18,7 @@ mod view;
 mod written_records;
 
 pub use block::Block;
+pub use blocker_number::BlockerNumber;
 pub use idle_lines::{IdleWord, write_idle_ticks};
 pub use instruction_texts::InstructionTexts;
 pub use line::{LineText, line_text};

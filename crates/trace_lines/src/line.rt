@@ -25,7 +25,8 @@ use osek_base::{
 };
 use task_asm::instr_text;
 
-/// What a trace line is written to: it has room for whatever names of 32 bytes and numbers of 32 bits come together.
+/// What a trace line is written to: it has room for whatever names of 32 bytes and numbers of 32
+/// bits come together.
 pub type LineText = ArrayString<256>;
 
 /// The text of a number of one digit, which needs no division.
@@ -63,8 +64,8 @@ pub(crate) fn push_number<T: Text>(text: &mut T, number: u32)
     }
 }
 
-/// The digits of a number. It is called, and not written out where it is used, so that the room for them is filled with zeros
-/// in a call alone.
+/// The digits of a number. It is called, and not written out where it is used, so that the room for
+/// them is filled with zeros in a call alone.
 #[inline(never)]
 pub(crate) fn push_digits<T: Text>(text: &mut T, number: u32)
     requires { length (T.bytes text.old) + 10 ≤ T.room }
@@ -260,7 +261,8 @@ pub(crate) fn push_blocker_count<T: Text>(text: &mut T, number: Option<u32>)
     }
 }
 
-/// Appends what stands behind a record where a number of blockers is told: ` ! ` and the number behind an instruction.
+/// Appends what stands behind a record where a number of blockers is told: ` ! ` and the number
+/// behind an instruction.
 #[inline(always)]
 pub(crate) fn push_blockers<T: Text>(text: &mut T, number: Option<u32>, event: &TraceEvent)
     requires { length (T.bytes text.old) + 13 ≤ T.room }

@@ -12,7 +12,8 @@ use osek_base::{Owner, Place, System};
 use std::alloc::{AllocError, Global};
 use std::marker::Model;
 
-/// What the lines of the instruction at a place of a task's or routine's program have between the tick and the outcome.
+/// What the lines of the instruction at a place of a task's or routine's program have between the
+/// tick and the outcome.
 fn text_at(
     alloc: Global,
     system: &System,

@@ -44,7 +44,8 @@ fn spell_tens(tens: u32, spelled: &mut ShortText<16>)
     *spelled = ShortText::of(text.as_str().as_bytes());
 }
 
-/// The digits of ten times a number, behind those of the last tick before: where only two of them differ, these are written.
+/// The digits of ten times a number, behind those of the last tick before: where only two of them
+/// differ, these are written.
 #[inline(never)]
 fn next_tens(tens: u32, text: &mut ShortText<16>)
     requires some { 0 < tens }

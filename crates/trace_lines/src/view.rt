@@ -44,8 +44,9 @@ fn shown(system: &System, p: u8, event: &TraceEvent) -> Option<TraceEvent>
     }
 }
 
-/// The view of a tick's records at a priority: `other` in place of idle and of each instruction of a task below p, and
-/// nothing of what else is of tasks below p or of alarms that act on them. It takes no memory and refuses nothing.
+/// The view of a tick's records at a priority: `other` in place of idle and of each instruction of
+/// a task below p, and nothing of what else is of tasks below p or of alarms that act on them. It
+/// takes no memory and refuses nothing.
 pub fn upper_view(system: &System, p: u8, records: &TickRecord) -> TickRecord
     ensures { result ≡ view_records system.now p records.now }
 {

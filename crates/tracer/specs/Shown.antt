@@ -1,6 +1,6 @@
 -- What of a run is written: all records, all with the number of blockers, or those of the view at a priority. No part of the
 -- standards.
-use Rattle.std.specs.Prelude.{ℕ, List, map, Option, None}
+use Rattle.std.specs.Prelude.{ℕ, ◌≡◌, ◌≤◌, ◌-◌, Bool, true, List, map, Option, None}
 use Rattle.std.specs.List.{flat_map}
 use Rattle.osek_base.specs.declared.arrivals.Arrival.{Arrival}
 use Rattle.osek_base.specs.declared.trace_event.TraceEvent.{TraceEvent}
@@ -10,6 +10,7 @@ use Rattle.osek_base.specs.Trace.{Run}
 use Rattle.osek_base.specs.View.{view_records, view_lines}
 use Rattle.osek_base.specs.BlockingText.{blockers_at}
 use Rattle.blocking_laws.specs.Steps.{record_at}
+use Rattle.kernel.specs.Progress.{Progress}
 use Rattle.tracer.specs.declared.shown.Shown.{Shown}
 use Rattle.trace_lines.specs.Lines.{ended, numbered_line, tick_text}
 
@@ -28,6 +29,14 @@ abbrev pub numbers_shown : Shown → System → ℕ → List Arrival → ℕ →
 numbers_shown Shown.All S mode arrivals t = None
 numbers_shown Shown.Blocking S mode arrivals t = blockers_at S mode arrivals t
 numbers_shown (Shown.View p) S mode arrivals t = None
+
+-- that behind the instruction of the last tick, and where it may be told
+abbrev pub number_of : Shown → Progress → Option ℕ
+number_of shown k = numbers_shown shown k.system k.mode k.arrivals (k.ticks - 1)
+
+pub record MayTell (counted : Bool) (shown : Shown) (k : Progress) : Type 0 where
+  pub blockers : shown ≡ Shown.Blocking → counted ≡ true
+  pub done : 1 ≤ k.ticks
 
 -- what is written of tick t of a run
 abbrev pub tick_text_shown : System → Shown → System → ℕ → List Arrival → ℕ → List ℕ

@@ -18,7 +18,8 @@ use sinks::Sink;
 use std::alloc::Global;
 use upper_only::upper_only;
 
-/// Checks that the upper part of a system at p is separable. A refusal is the first denial, with its subject's name.
+/// Checks that the upper part of a system at p is separable. A refusal is the first denial, with
+/// its subject's name.
 fn check_upper(system: &System, p: u8) -> Result<(), RunFault>
     ensures accepts { OnOk result (Separable system.now p) }
     ensures denies { IfErr result (RefusesPartition system.now p) }
@@ -45,11 +46,13 @@ fn write_alone<S: Sink>(
     write_run(alloc, &part, Shown::View(p), input, out)
 }
 
-/// Runs a system for some ticks, and writes the view at p, 0 to 63: the trace as far as it is of tasks of priority p or more,
-/// of routines, and of alarms that act on such tasks. All is as in `run`, but that the partition at p is checked before the
-/// arrival list is read: where it is denied, the answer is the first denial, and nothing is written.
+/// Runs a system for some ticks, and writes the view at p, 0 to 63: the trace as far as it is of
+/// tasks of priority p or more, of routines, and of alarms that act on such tasks. All is as in
+/// `run`, but that the partition at p is checked before the arrival list is read: where it is
+/// denied, the answer is the first denial, and nothing is written.
 ///
-/// With `alone` it is the upper part of the system that is run, by itself. What is written is the same.
+/// With `alone` it is the upper part of the system that is run, by itself. What is written is the
+/// same.
 pub fn run_upper<S: Sink>(
     alloc: Global,
     input: &TraceInput<'_>,

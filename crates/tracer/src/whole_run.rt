@@ -32,7 +32,8 @@ fn begin<'s, B: Blockers>(
     Ok(Kernel::boot(alloc, system, mode, arrivals)?)
 }
 
-/// Boots a system, by a kernel that counts blockers or not, runs it, and writes what is shown of it.
+/// Boots a system, by a kernel that counts blockers or not, runs it, and writes what is shown of
+/// it.
 fn write_kernel_run<B: Blockers, S: Sink>(
     alloc: Global,
     system: &System,
@@ -50,8 +51,8 @@ fn write_kernel_run<B: Blockers, S: Sink>(
     Ok(())
 }
 
-/// Boots a system in the mode with the arrivals of the list, runs it for so many ticks, and writes what is shown of them.
-/// Blockers are counted only where their numbers are.
+/// Boots a system in the mode with the arrivals of the list, runs it for so many ticks, and writes
+/// what is shown of them. Blockers are counted only where their numbers are.
 pub(crate) fn write_run<S: Sink>(
     alloc: Global,
     system: &System,
@@ -84,9 +85,10 @@ fn write_system<S: Sink>(
     write_run(alloc, &system, shown, input, out)
 }
 
-/// Runs a system for some ticks, and writes its trace. The OIL text is read, then the programs, the system is made of both,
-/// then the arrival list is read and the system is booted in the mode: the first refusal is the answer, and nothing is
-/// written. A write that fails ends the run, nothing is tried again, and what was written is a beginning of the trace.
+/// Runs a system for some ticks, and writes its trace. The OIL text is read, then the programs, the
+/// system is made of both, then the arrival list is read and the system is booted in the mode: the
+/// first refusal is the answer, and nothing is written. A write that fails ends the run, nothing is
+/// tried again, and what was written is a beginning of the trace.
 pub fn run<S: Sink>(alloc: Global, input: &TraceInput<'_>, out: &mut S) -> Result<(), RunFault>
     ensures { Writes S.taken S.has_failed (IsTrace input.now) (IsFirstRefusal input.now) out.old
         out.new result }
@@ -94,8 +96,9 @@ pub fn run<S: Sink>(alloc: Global, input: &TraceInput<'_>, out: &mut S) -> Resul
     write_system(alloc, Shown::All, input, out)
 }
 
-/// As `run`, but each line of an instruction that is its job's first since the job became ready has ` ! ` behind it, and
-/// how many blockers the job had since then: jobs of a lower priority that executed.
+/// As `run`, but each line of an instruction that is its job's first since the job became ready has
+/// ` ! ` behind it, and how many blockers the job had since then: jobs of a lower priority that
+/// executed.
 pub fn run_blocking<S: Sink>(
     alloc: Global,
     input: &TraceInput<'_>,

@@ -22,12 +22,12 @@ use osek_base::{MAX_TICKS, TickRecord};
 use ready_queues::LevelQueues;
 use sinks::{Sink, SinkFault, flush};
 use trace_lines::{
-    Block, IdleWord, InstructionTexts, TickText, upper_view_into, write_from_executed,
-    write_idle_ticks, write_tick, write_tick_parts,
+    Block, BlockerNumber, IdleWord, InstructionTexts, TickText, upper_view_into,
+    write_from_executed, write_idle_ticks, write_tick, write_tick_parts,
 };
 
-/// What the lines of a run are made of besides its records: what is shown of it and the texts of its
-/// instructions, which stay, and the digits of the tick whose lines come next.
+/// What the lines of a run are made of besides its records: what is shown of it and the texts of
+/// its instructions, which stay, and the digits of the tick whose lines come next.
 #[derive(Drop)]
 struct LineTexts<'t, 's> {
     texts: &'t InstructionTexts<'s>,
@@ -69,18 +69,26 @@ fn pass_viewed<B: Blockers, S: Sink>(
     )
 }
 
-/// The number that is written behind the instruction of the last tick.
-#[inline(always)]
-fn number_shown<B: Blockers>(kernel: &Kernel<'_, LevelQueues, B>, shown: Shown) -> Option<u32>
-    requires blockers { shown ≡ Shown.Blocking → B.are_counted ≡ true }
-    requires done { 1 ≤ kernel.now.ticks }
-    ensures { result
-        ≡ numbers_shown shown kernel.now.system kernel.now.mode kernel.now.arrivals
-        (kernel.now.ticks - 1) }
-{
-    match shown {
-        Shown::Blocking => kernel.blockers(),
-        Shown::All | Shown::View(_) => None,
+/// What tells the number that is written behind the instruction of the last tick.
+#[derive(Drop)]
+struct LastNumber<'k, 's, B: Blockers> {
+    kernel: &'k Kernel<'s, LevelQueues, B>,
+    shown: Shown,
+}
+
+impl<'k, 's, B: Blockers> BlockerNumber for LastNumber<'k, 's, B> {
+    ghost use Rattle.tracer.specs.Shown.{MayTell, number_of};
+
+    ghost told = { λ n. number_of n.shown n.kernel.now };
+
+    ghost MayTell = { λ n. MayTell B.are_counted n.shown n.kernel.now };
+
+    #[inline(always)]
+    fn number(&self) -> Option<u32> {
+        match self.shown {
+            Shown::Blocking => self.kernel.blockers(),
+            Shown::All | Shown::View(_) => None,
+        }
     }
 }
 
@@ -100,11 +108,14 @@ fn pass_any<B: Blockers, S: Sink>(
         kernel.new out.old out.new room.old.text room.new.text result }
 {
     let executed = kernel.tick_parts(&mut room.some, &mut room.others);
-    let number = number_shown(kernel, lines.shown);
+    let number = LastNumber {
+        kernel,
+        shown: lines.shown,
+    };
     write_tick_parts(
         lines.texts,
         &lines.digits,
-        number,
+        &number,
         &room.some,
         &executed,
         &room.others,
@@ -113,7 +124,8 @@ fn pass_any<B: Blockers, S: Sink>(
     )
 }
 
-/// Does a tick, and writes all its records by way of the block. Of most ticks that of the instruction is the first.
+/// Does a tick, and writes all its records by way of the block. Of most ticks that of the
+/// instruction is the first.
 #[inline(always)]
 fn pass_whole<B: Blockers, S: Sink>(
     kernel: &mut Kernel<'_, LevelQueues, B>,
@@ -131,11 +143,14 @@ fn pass_whole<B: Blockers, S: Sink>(
     match kernel.tick_steady(&mut room.others) {
         None => pass_any(kernel, lines, room, out),
         Some(executed) => {
-            let number = number_shown(kernel, lines.shown);
+            let number = LastNumber {
+                kernel,
+                shown: lines.shown,
+            };
             write_from_executed(
                 lines.texts,
                 &lines.digits,
-                number,
+                &number,
                 &executed,
                 &room.others,
                 &mut room.text,
@@ -174,7 +189,8 @@ fn idle_word(shown: Shown) -> IdleWord
     }
 }
 
-/// Writes the lines of some ticks in which nothing happens by way of the block. The digits go on to the tick behind them.
+/// Writes the lines of some ticks in which nothing happens by way of the block. The digits go on to
+/// the tick behind them.
 #[inline(never)]
 fn write_idle<S: Sink>(
     lines: &mut LineTexts<'_, '_>,
@@ -193,8 +209,8 @@ fn write_idle<S: Sink>(
     write_idle_ticks(&mut lines.digits, ticks, idle_word(lines.shown), text, out)
 }
 
-/// Does the ticks that follow in which nothing happens, before as many as asked for are done, and writes their lines by way of
-/// the block.
+/// Does the ticks that follow in which nothing happens, before as many as asked for are done, and
+/// writes their lines by way of the block.
 #[inline(always)]
 fn pass_idle_ticks<B: Blockers, S: Sink>(
     kernel: &mut Kernel<'_, LevelQueues, B>,

@@ -5,4 +5,5 @@ pub mod Dumps
 pub mod Kept
 pub mod Lines
 pub mod Runs
+pub mod States
 pub mod Ticks

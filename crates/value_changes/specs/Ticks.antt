@@ -90,8 +90,12 @@ holder_text S r last holder =
 abbrev pub holder_after : Option (Option ℕ) → Option ℕ → Option (Option ℕ)
 holder_after last holder = shown last (written (same_option nat_eq) last holder)
 
+-- an interrupt of a routine is lost
+abbrev pub loses : RoutineSeen → Bool
+loses seen = nat_lt 0 seen.lost
+
 abbrev pub loss_text : ℕ → RoutineSeen → List ℕ
-loss_text i seen = if nat_lt 0 seen.lost then event_line (Variable.Lost i) else []
+loss_text i seen = if loses seen then event_line (Variable.Lost i) else []
 
 abbrev pub expiry_text : ℕ → AlarmSeen → List ℕ
 expiry_text a seen = if seen.has_expired then event_line (Variable.Expiry a) else []

@@ -114,6 +114,21 @@ pub(crate) fn push_wire(variable: Variable, is_high: bool, text: &mut DumpText)
     push_bit_line(variable.number(), if is_high { b'1' } else { b'0' }, text);
 }
 
+/// Appends what stands before the identifier code where a vector has that number.
+#[inline(always)]
+fn push_value(number: u8, text: &mut DumpText)
+    requires { length text.old + 10 ≤ TEXT_SIZE }
+    ensures same { text.new ≡ text.old ++ (codes "b" ++ binary number ++ codes " ") }
+    ensures short { length text.new ≤ length text.old + 10 }
+{
+    if number < 8 {
+        return push_small(number, text);
+    }
+    text.push(b'b');
+    push_digits(number, text);
+    text.push(b' ');
+}
+
 /// The vector of a variable's number has that number, in binary without leading zeros.
 #[inline(never)]
 fn push_number_line(variable: u16, number: u8, text: &mut DumpText)
@@ -124,9 +139,7 @@ fn push_number_line(variable: u16, number: u8, text: &mut DumpText)
         ++ (codes "b" ++ binary number ++ codes " " ++ (code_of variable ++ 10 ∷ [])) }
     ensures short { length text.new ≤ length text.old + 13 }
 {
-    text.push(b'b');
-    push_digits(number, text);
-    text.push(b' ');
+    push_value(number, text);
     end_line(variable, text);
 }
 
@@ -201,6 +214,32 @@ fn push_few_digits(number: u8, text: &mut DumpText)
     } else {
         text.push_array(&[b'1', b'0' + number / 2 % 2, b'0' + number % 2]);
     }
+}
+
+/// What stands before the identifier code where a vector has a number of at most three digits, and
+/// at the end how many bytes that is.
+const SMALL: [[u8; 8]; 8] = [
+    [b'b', b'0', b' ', 0, 0, 0, 0, 3],
+    [b'b', b'1', b' ', 0, 0, 0, 0, 3],
+    [b'b', b'1', b'0', b' ', 0, 0, 0, 4],
+    [b'b', b'1', b'1', b' ', 0, 0, 0, 4],
+    [b'b', b'1', b'0', b'0', b' ', 0, 0, 5],
+    [b'b', b'1', b'0', b'1', b' ', 0, 0, 5],
+    [b'b', b'1', b'1', b'0', b' ', 0, 0, 5],
+    [b'b', b'1', b'1', b'1', b' ', 0, 0, 5],
+];
+
+/// Appends what stands before the identifier code where a vector has a number of at most three
+/// digits.
+#[inline(always)]
+fn push_small(number: u8, text: &mut DumpText)
+    requires few { number < 8 }
+    requires room { length text.old + 10 ≤ TEXT_SIZE }
+    ensures same { text.new ≡ text.old ++ (codes "b" ++ binary number ++ codes " ") }
+    ensures short { length text.new ≤ length text.old + 10 }
+{
+    let front = &SMALL[number as usize];
+    text.push_front(front, front[7] as usize);
 }
 
 /// Appends the digits of a number of at most five digits in binary.

@@ -1,7 +1,8 @@
 //! Value change dumps: variables of the kind event, which fire in a tick and have no value.
 
 ghost use Rattle.std.specs.Prelude.{◌≡◌, ◌+◌, ◌*◌, ◌≤◌, ◌++◌, length};
-ghost use Rattle.value_changes.specs.Ticks.{events_from, expiry_text, loss_text};
+ghost use Rattle.value_changes.specs.Ticks.{events_from, expiry_text, loses, loss_text};
+ghost use Rattle.std.specs.List.{list_any};
 
 use crate::dump_text::{DumpText, TEXT_SIZE, push_event};
 use crate::variable::Variable;
@@ -34,14 +35,31 @@ fn push_expiry(alarm: AlarmId, seen: &AlarmSeen, text: &mut DumpText)
 }
 
 /// Appends the losses of interrupts in the tick.
-#[inline(always)]
-pub(crate) fn push_losses(seen: &ArrayVec<RoutineSeen, MAX_ROUTINES>, text: &mut DumpText)
+#[inline(never)]
+fn push_losses(seen: &ArrayVec<RoutineSeen, MAX_ROUTINES>, text: &mut DumpText)
     requires { length text.old + 4 * MAX_ROUTINES ≤ TEXT_SIZE }
     ensures same { text.new ≡ text.old ++ events_from loss_text 0 seen.now.items }
     ensures short { length text.new ≤ length text.old + 4 * MAX_ROUTINES }
 {
     for number in 0..seen.len() {
         push_loss(IsrId::new(number as u8), &seen[number], text);
+    }
+}
+
+/// Appends the losses of interrupts in the tick, of which it is known whether there is one.
+#[inline(always)]
+pub(crate) fn push_all_losses(
+    seen: &ArrayVec<RoutineSeen, MAX_ROUTINES>,
+    has_lost: bool,
+    text: &mut DumpText,
+)
+    requires lost { has_lost ≡ list_any loses seen.now.items }
+    requires room { length text.old + 4 * MAX_ROUTINES ≤ TEXT_SIZE }
+    ensures same { text.new ≡ text.old ++ events_from loss_text 0 seen.now.items }
+    ensures short { length text.new ≤ length text.old + 4 * MAX_ROUTINES }
+{
+    if has_lost {
+        push_losses(seen, text);
     }
 }
 

@@ -5,8 +5,11 @@ ghost use Rattle.value_changes.specs.Changes.{shown, written};
 
 use std::marker::Model;
 
+/// What is kept where nothing was written: no number of a byte.
+const NOTHING: u16 = 256;
+
 /// The number with which a variable was last written, if it was. Seen as that option. It is kept as
-/// one number more, and 0 where nothing was written, so that one comparison tells whether it changes.
+/// one number, so that one comparison tells whether it changes.
 #[derive(Clone, Copy)]
 pub struct LastByte {
     code: u16,
@@ -30,7 +33,7 @@ impl Default for LastByte {
     fn default() -> Self
         ensures { result ≡ None }
     {
-        LastByte { code: 0 }
+        LastByte { code: NOTHING }
     }
 }
 
@@ -42,7 +45,7 @@ impl LastByte {
         ensures written { result ≡ written nat_eq self.old number }
         ensures last { self.new ≡ shown self.old result }
     {
-        let code = 1 + u16::from(number);
+        let code = u16::from(number);
         if self.code == code {
             return None;
         }

@@ -1,11 +1,16 @@
 //! Value change dumps: a number or no value is written where it changes.
 
-ghost use Rattle.std.specs.Prelude.{◌≡◌, None, nat_eq};
+ghost use Rattle.std.specs.Prelude.{◌≡◌, None, Some, nat_eq};
 ghost use Rattle.value_changes.specs.Changes.{shown, written};
-ghost use Rattle.value_changes.specs.Kept.{code_for};
+ghost use Rattle.value_changes.specs.Kept.{kept};
 ghost use Rattle.value_changes.specs.Ticks.{same_option};
 
 use std::marker::Model;
+
+/// As what no value is kept, and what is kept where nothing was written: no numbers of a byte.
+const NO_VALUE: u16 = 256;
+
+const NOTHING: u16 = 257;
 
 /// The value with which a variable was last written, if it was: a number, or no value. Seen as that
 /// option. It is kept as one number, so that one comparison tells whether the value changes.
@@ -32,18 +37,18 @@ impl Default for LastNumber {
     fn default() -> Self
         ensures { result ≡ None }
     {
-        LastNumber { code: 0 }
+        LastNumber { code: NOTHING }
     }
 }
 
 /// As what a value is kept.
 #[inline(always)]
 fn code_of(value: Option<u8>) -> u16
-    ensures { result ≡ code_for value }
+    ensures { kept result ≡ Some value }
 {
     match value {
-        None => 1,
-        Some(number) => 2 + u16::from(number),
+        None => NO_VALUE,
+        Some(number) => u16::from(number),
     }
 }
 

@@ -1,5 +1,6 @@
 //! Value change dumps: what all variables of a system were last written with.
 
+ghost use Rattle.std.specs.List.{list_any};
 ghost use Rattle.std.specs.Prelude.{◌≡◌, ◌+◌, ◌*◌, ◌<◌, ◌≤◌, [], ◌++◌, length, true, false};
 ghost use Rattle.value_changes.specs.Changes.{shown, written};
 ghost use Rattle.value_changes.specs.Lines.{time_line};
@@ -10,6 +11,7 @@ ghost use Rattle.value_changes.specs.Ticks.{
   executor_text,
   holder_after,
   holder_text,
+  loses,
   resource_at,
   nothing_written,
   routine_after,
@@ -24,10 +26,10 @@ ghost use Rattle.value_changes.specs.Ticks.{
 };
 
 use crate::dump_text::{DumpText, TEXT_SIZE};
-use crate::events::{push_expiries, push_losses};
+use crate::events::{push_all_losses, push_expiries};
 use crate::last_number::LastNumber;
 use crate::last_value::LastValue;
-use crate::names::{push_executor, push_holder};
+use crate::names::{push_executor, push_free, push_held};
 use crate::routine_values::RoutineValues;
 use crate::task_values::TaskValues;
 use arrayvec::ArrayVec;
@@ -75,32 +77,26 @@ fn push_tasks(
     }
 }
 
+/// Appends what changes of each routine. Answers whether an interrupt of one is lost.
 #[inline(always)]
 fn push_routines(
     values: &mut [RoutineValues; MAX_ROUTINES],
     seen: &ArrayVec<RoutineSeen, MAX_ROUTINES>,
     text: &mut DumpText,
-)
+) -> bool
     requires { length text.old + 8 * MAX_ROUTINES ≤ TEXT_SIZE }
+    ensures lost { result ≡ list_any loses seen.now.items }
     ensures same { text.new ≡ text.old ++ changes_from routine_text 0 values.old seen.now.items }
     ensures after { values.new ≡ values_after routine_after values.old seen.now.items }
     ensures short { length text.new ≤ length text.old + 8 * MAX_ROUTINES }
 {
+    let mut has_lost = false;
     for number in 0..seen.len() {
         let routine = IsrId::new(number as u8);
         values[number].push_changes(routine, &seen[number], text);
+        has_lost |= seen[number].lost > 0;
     }
-}
-
-/// The number of the task that holds a resource, if one does.
-#[inline(always)]
-fn number_of(holder: Holder) -> Option<u8>
-    ensures { result ≡ holder }
-{
-    match holder.task() {
-        None => None,
-        Some(task) => Some(task.number()),
-    }
+    has_lost
 }
 
 /// Appends who holds a resource, where that changes.
@@ -117,8 +113,22 @@ fn push_holder_change(
     ensures after { last.new ≡ holder_after last.old holder }
     ensures short { length text.new ≤ length text.old + 37 }
 {
-    if let Some(holder) = last.change_to(number_of(holder)) {
-        push_holder(system.names(), resource_at(system, number), holder, text);
+    match holder.task() {
+        None => {
+            if last.change_to(None).is_some() {
+                push_free(resource_at(system, number), text);
+            }
+        }
+        Some(task) => {
+            if last.change_to(Some(task.number())).is_some() {
+                push_held(
+                    system.names(),
+                    resource_at(system, number),
+                    task.number(),
+                    text,
+                );
+            }
+        }
     }
 }
 
@@ -158,14 +168,15 @@ fn push_executor_change(
     }
 }
 
-/// Appends the events that fire.
+/// Appends the events that fire. It is known whether an interrupt is lost.
 #[inline(always)]
-fn push_events(seen: &Observation, text: &mut DumpText)
-    requires { length text.old + 320 ≤ TEXT_SIZE }
+fn push_events(seen: &Observation, has_lost: bool, text: &mut DumpText)
+    requires lost { has_lost ≡ list_any loses seen.now.routines.items }
+    requires room { length text.old + 320 ≤ TEXT_SIZE }
     ensures same { text.new ≡ text.old ++ events_text seen.now }
     ensures short { length text.new ≤ length text.old + 320 }
 {
-    push_losses(&seen.routines, text);
+    push_all_losses(&seen.routines, has_lost, text);
     push_expiries(&seen.alarms, text);
 }
 
@@ -182,18 +193,21 @@ impl LastValues {
         }
     }
 
-    /// Appends the values that change with what is seen.
+    /// Appends the values that change with what is seen. Answers whether an interrupt is lost.
     #[inline(always)]
-    fn push_values(&mut self, system: &System, seen: &Observation, text: &mut DumpText)
+    fn push_values(&mut self, system: &System, seen: &Observation, text: &mut DumpText) -> bool
         requires { length text.old + VALUES_SIZE + 4 ≤ TEXT_SIZE }
+        ensures lost { result
+            ≡ list_any loses seen.now.routines.items }
         ensures same { text.new ≡ text.old ++ values_text system.now self.old seen.now }
         ensures after { self.new ≡ after_tick self.old seen.now }
         ensures short { length text.new ≤ length text.old + VALUES_SIZE }
     {
         push_executor_change(system, &mut self.executor, seen.executor, text);
         push_tasks(&mut self.tasks, &seen.tasks, text);
-        push_routines(&mut self.routines, &seen.routines, text);
+        let has_lost = push_routines(&mut self.routines, &seen.routines, text);
         push_holders(system, &mut self.holders, &seen.holders, text);
+        has_lost
     }
 
     /// Puts together what is written of a tick behind the first that is written, from the line of
@@ -212,8 +226,8 @@ impl LastValues {
         ensures after { self.new ≡ after_tick self.old seen.now }
     {
         let start = text.len();
-        self.push_values(system, seen, text);
-        push_events(seen, text);
+        let has_lost = self.push_values(system, seen, text);
+        push_events(seen, has_lost, text);
         if text.len() == start {
             text.clear();
         }
@@ -235,8 +249,8 @@ impl LastValues {
         ensures after { self.new ≡ after_tick self.old seen.now }
     {
         text.push_bytes(b"$dumpvars\n");
-        self.push_values(system, seen, text);
+        let has_lost = self.push_values(system, seen, text);
         text.push_bytes(b"$end\n");
-        push_events(seen, text);
+        push_events(seen, has_lost, text);
     }
 }

@@ -2,7 +2,7 @@
 
 ghost use Rattle.std.specs.Prelude.{◌≡◌, ◌+◌, ◌≤◌, ◌++◌, codes, length};
 ghost use Rattle.osek_base.specs.Names.{name_at};
-ghost use Rattle.value_changes.specs.Lines.{executor_name, holder_name, string_line};
+ghost use Rattle.value_changes.specs.Lines.{executor_name, string_line};
 
 use crate::dump_text::{DumpText, TEXT_SIZE, push_string};
 use crate::variable::Variable;
@@ -55,7 +55,7 @@ pub(crate) fn push_executor(names: &Names, executor: &Option<Owner>, text: &mut 
 
 /// A resource is free.
 #[inline(never)]
-fn push_free(resource: ResId, text: &mut DumpText)
+pub(crate) fn push_free(resource: ResId, text: &mut DumpText)
     requires { length text.old + 41 ≤ TEXT_SIZE }
     ensures same { text.new ≡ text.old ++ string_line (Variable.Holder resource) (codes "-") }
     ensures short { length text.new ≤ length text.old + 37 }
@@ -65,7 +65,7 @@ fn push_free(resource: ResId, text: &mut DumpText)
 
 /// A task holds a resource.
 #[inline(never)]
-fn push_held(names: &Names, resource: ResId, task: u8, text: &mut DumpText)
+pub(crate) fn push_held(names: &Names, resource: ResId, task: u8, text: &mut DumpText)
     requires { length text.old + 41 ≤ TEXT_SIZE }
     ensures same { text.new
         ≡ text.old ++ string_line (Variable.Holder resource) (name_at names.now.tasks task) }
@@ -73,18 +73,4 @@ fn push_held(names: &Names, resource: ResId, task: u8, text: &mut DumpText)
 {
     let name = name_at(names.tasks.as_slice(), task);
     push_string(Variable::Holder(resource), TASK, name, text);
-}
-
-/// Appends the name of the task that holds a resource, `-` where the resource is free.
-#[inline(always)]
-pub(crate) fn push_holder(names: &Names, resource: ResId, holder: Option<u8>, text: &mut DumpText)
-    requires { length text.old + 41 ≤ TEXT_SIZE }
-    ensures same { text.new
-        ≡ text.old ++ string_line (Variable.Holder resource) (holder_name names.now holder) }
-    ensures short { length text.new ≤ length text.old + 37 }
-{
-    match holder {
-        None => push_free(resource, text),
-        Some(task) => push_held(names, resource, task, text),
-    }
 }

@@ -4,7 +4,7 @@ ghost use Rattle.std.specs.Prelude.{◌≡◌, ◌+◌, ◌≤◌, ◌++◌, len
 ghost use Rattle.value_changes.specs.Ticks.{no_routine_values, routine_after, routine_text};
 
 use crate::dump_text::{DumpText, TEXT_SIZE, push_wire};
-use crate::last_value::LastValue;
+use crate::last_flag::LastFlag;
 use crate::variable::Variable;
 use observations::RoutineSeen;
 use osek_base::IsrId;
@@ -12,8 +12,8 @@ use osek_base::IsrId;
 /// The values with which the wires of a routine were last written.
 #[derive(Clone, Copy)]
 pub struct RoutineValues {
-    pub pending: LastValue<bool>,
-    pub active: LastValue<bool>,
+    pub pending: LastFlag,
+    pub active: LastFlag,
 }
 
 /// Nothing was written yet.
@@ -22,8 +22,8 @@ impl Default for RoutineValues {
         ensures { result ≡ no_routine_values }
     {
         RoutineValues {
-            pending: LastValue::default(),
-            active: LastValue::default(),
+            pending: LastFlag::default(),
+            active: LastFlag::default(),
         }
     }
 }

@@ -16,7 +16,7 @@ ghost use Rattle.value_changes.specs.Ticks.{
 use crate::dump_text::{DumpText, TEXT_SIZE, push_number, push_vector};
 use crate::last_byte::LastByte;
 use crate::last_number::LastNumber;
-use crate::last_value::LastValue;
+use crate::last_state::LastState;
 use crate::variable::Variable;
 use observations::TaskSeen;
 use osek_base::{TaskId, TaskState};
@@ -24,7 +24,7 @@ use osek_base::{TaskId, TaskState};
 /// The values with which the variables of a task were last written.
 #[derive(Clone, Copy)]
 pub struct TaskValues {
-    pub state: LastValue<TaskState>,
+    pub state: LastState,
     pub priority: LastNumber,
     pub jobs: LastByte,
 }
@@ -35,7 +35,7 @@ impl Default for TaskValues {
         ensures { result ≡ no_task_values }
     {
         TaskValues {
-            state: LastValue::default(),
+            state: LastState::default(),
             priority: LastNumber::default(),
             jobs: LastByte::default(),
         }
@@ -44,7 +44,7 @@ impl Default for TaskValues {
 
 /// Appends the state, where it changes.
 #[inline(always)]
-fn push_state(last: &mut LastValue<TaskState>, task: TaskId, state: TaskState, text: &mut DumpText)
+fn push_state(last: &mut LastState, task: TaskId, state: TaskState, text: &mut DumpText)
     requires { length text.old + 13 ≤ TEXT_SIZE }
     ensures same { text.new ≡ text.old ++ state_text task last.old state }
     ensures after { last.new ≡ shown last.old (written same_state last.old state) }

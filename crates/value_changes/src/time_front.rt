@@ -1,6 +1,6 @@
 //! Value change dumps: the line of a time.
 
-ghost use Rattle.std.specs.Prelude.{◌≡◌, ◌+◌, ◌%◌, ◌<◌, ◌≤◌, length};
+ghost use Rattle.std.specs.Prelude.{◌≡◌, ◌+◌, ◌/◌, ◌%◌, ◌<◌, ◌≤◌, length};
 ghost use Rattle.value_changes.specs.Lines.{time_line};
 
 use crate::dump_text::DumpText;
@@ -16,25 +16,28 @@ const FRONT_SIZE: usize = 16;
 #[derive(Drop)]
 pub(crate) struct TimeFront {
     tens: u32,
+    /// The first of the ten times that have this front.
+    first: u32,
     cells: [u8; FRONT_SIZE],
     len: usize,
 }
 
 impl Model for TimeFront {
-    ghost use Rattle.std.specs.Prelude.{◌≡◌, ◌≤◌, ◌==◌, ◌++◌, ℕ, [], codes, decimal, if◌then◌else◌, length, take};
+    ghost use Rattle.std.specs.Prelude.{◌≡◌, ◌≤◌, ◌*◌, ◌==◌, ◌++◌, ℕ, [], codes, decimal, if◌then◌else◌, length, take};
     ghost use Rattle.value_changes.specs.declared.time_front.TheConstants.{FRONT_SIZE};
 
     ghost Value = { ℕ };
 
     ghost view = { λ t. t.tens };
 
-    ghost invariant = { λ t. (t.len ≤ FRONT_SIZE)
+    ghost invariant = { λ t. (t.len ≤ FRONT_SIZE) × (t.first ≡ 10 * t.tens)
         × (take t.len t.cells ≡ codes "#" ++ (if t.tens == 0 then [] else decimal t.tens)) };
 }
 
 impl TimeFront {
     /// The front of the times that are ten times that and up to nine more.
     pub fn of(tens: u32) -> Self
+        requires { tens ≤ 429496729 }
         ensures { result ≡ tens }
     {
         let mut buffer = Buffer::new();
@@ -47,6 +50,7 @@ impl TimeFront {
         cells[..text.len()].copy_from_slice(text.as_str().as_bytes());
         TimeFront {
             tens,
+            first: 10 * tens,
             cells,
             len: text.len(),
         }
@@ -63,14 +67,15 @@ impl TimeFront {
         let tens = self.tens + 1;
         self.cells[self.len - 1] = b'0' + (tens % 10) as u8;
         self.tens = tens;
+        self.first += 10;
     }
 
-    /// Goes to the times that are ten times that and up to nine more, of whatever times it was.
+    /// Goes to the ten times of which `tick` is one, of whatever times it was.
     #[inline(never)]
-    fn spell(&mut self, tens: u32)
-        requires { tens ≤ 429496729 }
-        ensures { self.new ≡ tens }
+    fn spell(&mut self, tick: u32)
+        ensures { self.new ≡ tick / 10 }
     {
+        let tens = tick / 10;
         if tens > 1 && tens - 1 == self.tens && tens % 10 > 0 {
             self.count_up();
         } else {
@@ -78,14 +83,13 @@ impl TimeFront {
         }
     }
 
-    /// Goes on to the times that are ten times that and up to nine more.
+    /// Goes on to the ten times of which `tick` is one.
     #[inline(always)]
-    fn go_to(&mut self, tens: u32)
-        requires { tens ≤ 429496729 }
-        ensures { self.new ≡ tens }
+    fn go_to(&mut self, tick: u32)
+        ensures { self.new ≡ tick / 10 }
     {
-        if tens != self.tens {
-            self.spell(tens);
+        if u64::from(tick).wrapping_sub(u64::from(self.first)) > 9 {
+            self.spell(tick);
         }
     }
 
@@ -95,9 +99,9 @@ impl TimeFront {
         ensures same { text.new ≡ time_line tick }
         ensures short { length text.new ≤ 18 }
     {
-        self.go_to(tick / 10);
+        self.go_to(tick);
         text.clear();
         text.push_front(&self.cells, self.len);
-        text.push_array(&[b'0' + (tick % 10) as u8, b'\n']);
+        text.push_array(&[b'0' + (tick - self.first) as u8, b'\n']);
     }
 }

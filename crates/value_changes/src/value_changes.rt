@@ -99,7 +99,8 @@ impl<'s> ValueChanges<'s> {
     }
 
     /// Writes what changes in the next tick that is seen, of the first tick that is written all
-    /// values. An error is a failed write, behind a beginning of the tick's text, and ends the dump.
+    /// values. An error is a failed write, behind a beginning of the tick's text, and ends the
+    /// dump.
     #[inline(always)]
     pub fn observe<S: Sink>(&mut self, seen: &Observation, out: &mut S) -> Result<(), SinkFault>
         ensures after { self.new ≡ observed self.old seen.now }

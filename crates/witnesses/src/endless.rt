@@ -137,8 +137,8 @@ fn find_in(
     )
 }
 
-/// As [`find_endless`], by the run by which a search has come to the task's greatest response, where
-/// interrupts go on behind it as is said.
+/// As [`find_endless`], by the run by which a search has come to the task's greatest response,
+/// where interrupts go on behind it as is said.
 fn find_by(
     alloc: Global,
     system: &System,
@@ -181,8 +181,8 @@ fn find_by(
 /// between the two states come again.
 ///
 /// The run that is tried is that by which a search has come to the task's greatest response, and
-/// behind it no interrupt comes, or else each as soon as it may; so it may be that none is found. An
-/// error is want of memory.
+/// behind it no interrupt comes, or else each as soon as it may; so it may be that none is found.
+/// An error is want of memory.
 pub fn find_endless(
     alloc: Global,
     system: &System,
@@ -224,9 +224,9 @@ fn is_endless(
     }
 }
 
-/// The tasks, by number, that can be kept from ending for as many ticks as one likes, where a run is
-/// found as by [`find_endless`], of those whose greatest response is told to reach the cap. An error
-/// is want of memory.
+/// The tasks, by number, that can be kept from ending for as many ticks as one likes, where a run
+/// is found as by [`find_endless`], of those whose greatest response is told to reach the cap. An
+/// error is want of memory.
 pub fn endless_tasks(
     alloc: Global,
     system: &System,

@@ -71,8 +71,8 @@ fn tried(
     }
 }
 
-/// A run in whose last tick the service of a number among those that bounds tell is answered as they
-/// tell it. Its interrupts keep the distances, in ticks by routine, 1 where none is given.
+/// A run in whose last tick the service of a number among those that bounds tell is answered as
+/// they tell it. Its interrupts keep the distances, in ticks by routine, 1 where none is given.
 ///
 /// What a search has come by is tried by running it, so it may be that none is found. An error is
 /// want of memory.

@@ -41,8 +41,8 @@ fn free_ticks(
     Ok(free)
 }
 
-/// Adds interrupts from a tick on and before another, of so many routines that there are. An error is
-/// want of memory.
+/// Adds interrupts from a tick on and before another, of so many routines that there are. An error
+/// is want of memory.
 pub(crate) fn go_on(
     alloc: Global,
     arrivals: &mut Vec<Arrival>,

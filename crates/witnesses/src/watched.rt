@@ -85,9 +85,10 @@ fn alarm_tick(seen: &Observation, number: usize) -> AlarmTick
 }
 
 /// Figures of the task, the routine, the resource and the alarm of one number, as far as such a
-/// thing was seen, the last tick, the most jobs of the task at once, for how long its oldest job was
-/// blocked, the service that the last tick answers other than E_OK, if one, and whether a ShutdownOS
-/// has ended the run. The figures of the task don't count ticks in which a lower task executes.
+/// thing was seen, the last tick, the most jobs of the task at once, for how long its oldest job
+/// was blocked, the service that the last tick answers other than E_OK, if one, and whether a
+/// ShutdownOS has ended the run. The figures of the task don't count ticks in which a lower task
+/// executes.
 #[derive(Drop)]
 pub(crate) struct Watched {
     pub(crate) task: TaskFigures,

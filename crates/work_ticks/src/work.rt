@@ -3,7 +3,8 @@
 ghost use Rattle.std.specs.Prelude.{◌≡◌, ◌<◌};
 ghost use Rattle.work_ticks.specs.Work.{work_ticks};
 
-/// The instructions of a piece of work: a loop of so many rounds, none where that is 0, and behind it so many `NOP`.
+/// The instructions of a piece of work: a loop of so many rounds, none where that is 0, and behind
+/// it so many `NOP`.
 #[derive(Clone, Copy)]
 pub struct Work {
     pub rounds: u32,

@@ -1,4 +1,5 @@
-//! Worked runs: small systems whose runs the definitions compute to the lines that the specification asks for.
+//! Worked runs: small systems whose runs the definitions compute to the lines that the
+//! specification asks for.
 //!
 //! Each function is empty. Its clause is a record of runs, and the prover computes them.
 #![tactic(auto)]
@@ -15,7 +16,8 @@ pub fn tasks()
     ensures { TaskRuns }
 {}
 
-/// Resources, RES_SCHEDULER and internal resources, with the blockers of each job that becomes ready.
+/// Resources, RES_SCHEDULER and internal resources, with the blockers of each job that becomes
+/// ready.
 pub fn resources()
     ensures { ResourceRuns }
 {}

@@ -1,9 +1,10 @@
-use Rattle.std.proofs.Common.{◌∷◌, ◌++◌, ap, sym, subst, ◌∙◌}
+use Rattle.std.proofs.Common.{◌∷◌, ◌++◌, ap, refl, sym, subst, ◌∙◌}
 use Rattle.std.specs.Prelude.{IfSome}
 use Rattle.osek_base.specs.Executed.{StandsIn, idle_or_executed}
 use Rattle.osek_base.specs.System.{System}
 use Rattle.kernel.specs.Progress.{Progress}
 use Rattle.sinks.specs.Sinks.{PutsBehind}
+use Rattle.tracer.specs.Shown.{number_of}
 use Rattle.tracer.proofs.TickLines.{listed, number_of_last, whole_text}
 use Rattle.tracer.proofs.written_ticks.pass_any.Goals as goal
 
@@ -28,9 +29,10 @@ returns g c =
     let k : Progress = c.args.kernel.now in
     let T : System = c.args.lines.now.texts.now in
     let parts = λ (S : System). c.tick_parts-executed.new.before ++ idle_or_executed S c.tick_parts-executed.result ∷ c.tick_parts-executed.new.behind in
+    let number = number_of c.args.lines.now.shown c.tick_parts-executed.new.self in
     let text =
-    whole_text T c.args.lines.now.shown k c.args.lines.now.digits c.number_shown-number.result (parts T) c.requires.all c.requires.ready.counted
-    (number_of_last c.args.lines.now.shown k c.tick_parts-executed.new.self c.number_shown-number.result c.tick_parts-executed.ensures.next c.number_shown-number.ensures)
+    whole_text T c.args.lines.now.shown k c.args.lines.now.digits number (parts T) c.requires.all c.requires.ready.counted
+    (number_of_last c.args.lines.now.shown k c.tick_parts-executed.new.self number c.tick_parts-executed.ensures.next refl)
     (ap parts (sym c.requires.ready.system) ∙ c.tick_parts-executed.ensures.records) in
     record {
       puts =

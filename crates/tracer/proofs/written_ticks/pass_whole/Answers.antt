@@ -1,9 +1,10 @@
-use Rattle.std.proofs.Common.{[], ◌∷◌, sym, ap, subst, ◌∙◌}
+use Rattle.std.proofs.Common.{[], ◌∷◌, refl, sym, ap, subst, ◌∙◌}
 use Rattle.osek_base.specs.Executed.{StandsIn, executed_record}
 use Rattle.osek_base.specs.System.{System}
 use Rattle.kernel.specs.Progress.{Progress}
 use Rattle.sinks.specs.Sinks.{PutsBehind}
 use Rattle.tracer.specs.Ticks.{MayPass, TickPasses}
+use Rattle.tracer.specs.Shown.{number_of}
 use Rattle.tracer.proofs.TickLines.{listed, number_of_last, whole_text}
 use Rattle.tracer.proofs.written_ticks.pass_whole.Goals as goal
 
@@ -35,9 +36,10 @@ returns-in-Some g c =
     let k : Progress = c.args.kernel.now in
     let T : System = c.args.lines.now.texts.now in
     let parts = λ (S : System). executed_record S c.in-Some.executed ∷ c.tick_steady.new.behind in
+    let number = number_of c.args.lines.now.shown c.tick_steady.new.self in
     let text =
-    whole_text T c.args.lines.now.shown k c.args.lines.now.digits c.number_shown-number.result (parts T) c.requires.all c.requires.ready.counted
-    (number_of_last c.args.lines.now.shown k c.tick_steady.new.self c.number_shown-number.result c.in-Some.ensures.ran.next c.number_shown-number.ensures)
+    whole_text T c.args.lines.now.shown k c.args.lines.now.digits number (parts T) c.requires.all c.requires.ready.counted
+    (number_of_last c.args.lines.now.shown k c.tick_steady.new.self number c.in-Some.ensures.ran.next refl)
     (ap parts (sym c.requires.ready.system) ∙ c.in-Some.ensures.ran.records) in
     record {
       puts =

@@ -1,5 +1,8 @@
-use Rattle.std.proofs.Common.{◌<◌, length, arith}
-use Rattle.value_changes.specs.Ticks.{routine_after, routine_text}
+use Rattle.std.proofs.Common.{◌<◌, ◌||◌, List, length, get_or, ap, ap₂, sym, ◌∙◌, arith}
+use Rattle.std.proofs.lemmas.List.Folds.{list_any_more}
+use Rattle.observations.specs.Seen.{unseen_routine}
+use Rattle.observations.specs.declared.routine_seen.RoutineSeen.{RoutineSeen}
+use Rattle.value_changes.specs.Ticks.{loses, routine_after, routine_text}
 use Rattle.value_changes.proofs.EachLemmas.{changes_step, values_step}
 use Rattle.value_changes.proofs.last_values.push_routines.Goals as goal
 
@@ -18,5 +21,9 @@ loop-number-preserved c =
       after =
           values_step routine_after vs c.loop-number.values xs c.deref.result.now i _ _ _ kept seen c.deref.ensures.0
           c.loop-number.invariant.after c.push_changes.ensures.after;
+      lost =
+          ap₂ (λ a b. a || b) c.loop-number.invariant.lost
+          (ap (λ (l : List RoutineSeen). loses (get_or l i unseen_routine)) c.deref-in-loop-number.ensures.0)
+          ∙ sym (list_any_more loses xs i unseen_routine seen);
       short = omega (arith, c.push_changes.ensures.short, c.loop-number.invariant.short);
     }

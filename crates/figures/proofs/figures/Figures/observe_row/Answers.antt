@@ -1,4 +1,4 @@
-use Rattle.std.proofs.Common.{◌≡◌, ◌+◌, ◌-◌, suc, sym, ◌∙◌, arith}
+use Rattle.std.proofs.Common.{◌≡◌, ◌+◌, ◌-◌, suc, sym, arith}
 use Rattle.figures.proofs.AlikeLemmas.{figures_alike}
 use Rattle.figures.proofs.figures.Figures.observe_row.Goals as goal
 
@@ -9,9 +9,8 @@ returns c = λ S before are.
     let count = c.args.count in
     let last = c.args.first + (count - 1) in
     let ends : suc last ≡ c.args.first + count = omega (arith, c.requires.some) in
-    let seen = c.new-scene.ensures.observation in
-    figures_alike S before c.args.observation.now c.args.first count _
-    c.new-scene.result.levels.now
+    figures_alike S before c.args.seen.now c.args.first count _
+    c.as_slice-levels.result.now
     c.as_mut_slice.result.now c.observe_each.new.figures
     c.as_mut_slice-2.result.now c.observe_each-2.new.figures
     c.as_mut_slice-3.result.now c.observe_each-3.new.figures
@@ -20,14 +19,14 @@ returns c = λ S before are.
     c.added-self-inside.ensures ends c.requires.some
     (rw c.is_idle.ensures at c.add_where.ensures)
     (record {
-      lent_levels = c.new-scene.ensures.levels ∙ c.as_slice.ensures.value;
+      lent_levels = c.as_slice-levels.ensures.value;
       lent_tasks = c.as_mut_slice.ensures.value;
       lent_routines = c.as_mut_slice-2.ensures.value;
       lent_resources = c.as_mut_slice-3.ensures.value;
       lent_alarms = c.as_mut_slice-4.ensures.value;
-      task_rows = rw seen at c.observe_each.ensures;
-      routine_rows = rw seen at c.observe_each-2.ensures;
-      resource_rows = rw seen at c.observe_each-3.ensures;
-      alarm_rows = rw seen at c.observe_each-4.ensures;
+      task_rows = c.observe_each.ensures;
+      routine_rows = c.observe_each-2.ensures;
+      resource_rows = c.observe_each-3.ensures;
+      alarm_rows = c.observe_each-4.ensures;
     })
     (rw old at are)

@@ -1,4 +1,4 @@
-use Rattle.std.proofs.Common.{ℕ, ◌+◌, ◌-◌, ◌^◌, ◌<◌, ◌≤◌, suc, ◌≡◌, true, List, map, sym, ◌∙◌, subst, arith}
+use Rattle.std.proofs.Common.{◌+◌, ◌-◌, ◌^◌, ◌<◌, ◌≡◌, map, sym, ◌∙◌, subst, arith}
 use Rattle.figures.specs.Counting.{resource_figures_of}
 use Rattle.observations.specs.Seen.{numbered}
 use Rattle.figures.specs.FigureSums.{holder_tick}

@@ -5,7 +5,7 @@ use Rattle.observations.specs.Seen.{numbered}
 use Rattle.observations.specs.declared.task_seen.TaskSeen.{TaskSeen}
 use Rattle.figures.specs.FigureSums.{lower_executes, task_tick}
 use Rattle.figures.specs.ResponseSums.{standing_jobs}
-use Rattle.figures.specs.Quiet.{gets_nothing, is_untold, rests}
+use Rattle.figures.specs.Quiet.{gets_nothing, rests}
 use Rattle.figures.specs.Calm.{stayed, went_on}
 use Rattle.figures.specs.declared.task_figures.TaskFigures.{TaskFigures}
 use Rattle.figures.proofs.CalmLemmas.{calm, stayed_is, task_on, task_start, task_go, task_stays, stays_on}

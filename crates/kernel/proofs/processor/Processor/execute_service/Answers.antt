@@ -10,7 +10,9 @@ use Rattle.machine.specs.Packed.{instr_of, service_of}
 use Rattle.machine.specs.Windows.{word}
 use Rattle.services.specs.Calls.{context_in}
 use Rattle.services.specs.Objects.{kept_in}
+use Rattle.services.proofs.BoundLemmas.{activation_few}
 use Rattle.services.proofs.CallerLemmas.{answered_still, context_still}
+use Rattle.kernel.specs.Processor.{HasFewJobs, system_of}
 use Rattle.kernel.proofs.Execution.{executing}
 use Rattle.kernel.proofs.ExecutionLemmas.{service_goes, service_told}
 use Rattle.kernel.proofs.KindLemmas.{service_is}
@@ -51,8 +53,8 @@ answer-requires-clause-placed g c = λ there.
     (sym (context_still k.core r.new.self e.owner r.ensures.caller there))
     (service_stays k.core.system e.owner e.cpu f.known f.proper (service_of (instr_of next.packed)) _ _ (f.instruction ∙ is) f.placed))
 
-pub returns : goal.returns
-returns g c =
+pub returns-clause-does : goal.returns-clause-does
+returns-clause-does g c =
     let k = c.self.inside in
     let next = c.args.next.now in
     let f = fetched c.args.self.now k.system.now k.core k.windows k.code next c.self.view_is c.self.invariant c.requires.comes.next in
@@ -75,3 +77,8 @@ returns g c =
           ∙ ap (λ T. error_record T (Source.Owner e.owner) (Instr.Service call) c.in-Some.status) (sym c.self.invariant.system)));
       few = omega (arith, c.record_refusal.ensures.few, none);
     }
+
+pub returns-clause-few : goal.returns-clause-few
+returns-clause-few g c =
+    let k = c.self.inside in
+    subst HasFewJobs (sym c.self.invariant.system ∙ ap system_of c.self.view_is) (activation_few k.system.now c.self.invariant.proper)

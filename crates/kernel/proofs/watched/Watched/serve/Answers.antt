@@ -26,7 +26,7 @@ pub stand-after-requires : goal.stand-after-requires
 stand-after-requires g c =
     let p = c.self.inside.processor in
     let next = c.args.next.now in
-    subst (λ S. IfSome c.acting_task-named.result (λ t. t < length S.tasks)) (sym c.execute_service-status.ensures.does.system)
+    subst (λ S. IfSome c.acting_task-named.result (λ t. t < length S.tasks)) (sym c.execute_service-status.ensures.does.does.system)
     (named_there p next c.service-service.result c.acting_task-named.result
     (subst (λ (x : Watched). IsNext x.processor next) (sym c.self.view_is) c.requires.may.next)
     (service_is (instr_of next.packed) c.requires.call.plain c.requires.call.control ∙ ap Instr.Service (sym c.service-service.ensures))
@@ -63,7 +63,7 @@ returns g c =
     (record {
       does = served counted c.args.tick (watched_of k.processor k.blocking) r.new.self c.executed_since.new.self next c.service-service.result c.acting_task-named.result
           c.stand-before.result c.stand-after.result [] events (subst (λ (x : Watched). IsNext x.processor next) (sym c.self.view_is) c.requires.may.next) is
-          c.acting_task-named.ensures c.stand-before.ensures.value c.stand-after.ensures.value r.ensures.does c.executed_since.ensures.stamps
+          c.acting_task-named.ensures c.stand-before.ensures.value c.stand-after.ensures.value r.ensures.does.does c.executed_since.ensures.stamps
           c.executed_since.ensures.told;
-      few = r.ensures.few;
+      few = r.ensures.does.few;
     })

@@ -4,7 +4,7 @@ use Rattle.osek_base.specs.System.{System}
 use Rattle.kernel.proofs.Filled.{goes_on}
 use Rattle.seen_ticks.specs.Observed.{is_pending, routine_seen}
 use Rattle.observed_runs.specs.Keeping.{last_tick}
-use Rattle.observed_runs.proofs.Replacing.{next_is, none_replaced, one_replaced}
+use Rattle.kernel.proofs.Replacing.{next_is, none_replaced, one_replaced}
 use Rattle.seen_ticks.proofs.SeenSteps.{read_at, seen_count}
 use Rattle.observed_runs.proofs.told_run.ToldRun.see_routines.Goals as goal
 

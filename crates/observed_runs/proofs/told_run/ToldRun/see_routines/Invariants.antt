@@ -2,7 +2,7 @@ use Rattle.std.proofs.Common.{◌≡◌, length, map, take}
 use Rattle.osek_base.specs.Lists.{below}
 use Rattle.observed_runs.specs.Keeping.{last_tick}
 use Rattle.seen_ticks.specs.Observed.{is_pending, routine_seen}
-use Rattle.observed_runs.proofs.Replacing.{IsReplaced}
+use Rattle.kernel.proofs.Replacing.{IsReplaced}
 use Rattle.observed_runs.proofs.told_run.ToldRun.see_routines.Given as goal
 
 -- what is seen of those gone over, and which of them are pending now

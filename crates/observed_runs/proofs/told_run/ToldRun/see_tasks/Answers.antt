@@ -6,7 +6,7 @@ use Rattle.observed_runs.specs.Keeping.{last_tick}
 use Rattle.seen_ticks.specs.Observed.{jobs_before, task_seen}
 use Rattle.seen_ticks.specs.declared.task_at.TaskAt.{TaskAt}
 use Rattle.seen_ticks.specs.Told.{task_at}
-use Rattle.observed_runs.proofs.Replacing.{next_is, none_replaced, one_replaced}
+use Rattle.kernel.proofs.Replacing.{next_is, none_replaced, one_replaced}
 use Rattle.seen_ticks.proofs.SeenSteps.{read_at, seen_count}
 use Rattle.observed_runs.proofs.told_run.ToldRun.see_tasks.Goals as goal
 

@@ -3,7 +3,7 @@ use Rattle.osek_base.specs.Lists.{below}
 use Rattle.observed_runs.specs.Keeping.{last_tick}
 use Rattle.seen_ticks.specs.Observed.{jobs_before, task_seen}
 use Rattle.seen_ticks.specs.Told.{task_at}
-use Rattle.observed_runs.proofs.Replacing.{IsReplaced}
+use Rattle.kernel.proofs.Replacing.{IsReplaced}
 use Rattle.observed_runs.proofs.told_run.ToldRun.see_tasks.Given as goal
 
 -- what is seen of those gone over, how many jobs they have now, and what they are

@@ -16,8 +16,8 @@ bounds-stand-number g c =
     inside (task_at r.system (last_tick r).after) (length r.system.tasks) c.as_slice-stand.result.now c.args.at.now.tasks.items
     c.loop-number.number c.loop-number.number c.as_slice-stand.ensures.value c.requires.each refl (omega (arith, low, all))
 
-pub task_left-requires-clause-at : goal.task_left-requires-clause-at
-task_left-requires-clause-at g c =
+pub see_left-requires-clause-at : goal.see_left-requires-clause-at
+see_left-requires-clause-at g c =
     let r = c.args.self.now in
     let all : c.task_count-count.result ≡ length r.system.tasks =
     c.task_count-count.ensures.value ∙ ap (λ (S : System). length S.tasks) c.system.ensures in
@@ -32,4 +32,4 @@ loop-number-preserved g c =
     goes_on (task_seen r.system (last_tick r)) c.loop-number.number c.loop-number.places (length r.system.tasks) c.task_count-count.result c.new-task.result
     c.loop-number.invariant c.loop-number-test.true
     (c.task_count-count.ensures.value ∙ ap (λ (S : System). length S.tasks) c.system.ensures)
-    c.new-task.ensures c.task_left.result c.task_left.ensures
+    c.new-task.ensures c.see_left.new.seen c.see_left.ensures

@@ -1,0 +1,25 @@
+-- OSEK/VDX OS: resource management. Who holds each resource, by what is kept of a state.
+use Rattle.std.specs.Prelude.{ℕ, ◌==◌, if◌then◌else◌, List, [], ◌∷◌, ◌++◌, map, drop, Option, length}
+use Rattle.std.specs.List.{find}
+use Rattle.osek_base.specs.declared.ids.ResId.{ResId}
+use Rattle.osek_base.specs.Lists.{below}
+use Rattle.osek_base.specs.System.{System}
+use Rattle.kept_state.specs.Kept.{Kept, Slot}
+use Rattle.kept_state.specs.KeptService.{holds_in}
+use Rattle.kept_state.specs.Seen.{holder_in}
+use Rattle.services.specs.Objects.{by_task}
+
+-- the resource of a place: first those that are declared, of which there are so many, and behind them RES_SCHEDULER
+abbrev pub resource_at : ℕ → ℕ → ResId
+resource_at declared k = if k == declared then ResId.Scheduler else ResId.Declared k
+
+-- of the tasks from one on the first whose oldest job holds the resource of a place
+abbrev pub holder_from : List Slot → ℕ → ℕ → ℕ → Option ℕ
+holder_from slots declared t k =
+    find (λ u. holds_in (resource_at declared k) (by_task slots u)) (drop t (below (length slots)))
+
+-- who holds each declared resource, and behind them RES_SCHEDULER, where the system has it
+abbrev pub holders_in : System → Kept → List (Option ℕ)
+holders_in S o =
+    map (λ r. holder_in S o (ResId.Declared r)) (below (length S.resources))
+    ++ (if S.use_res_scheduler then holder_in S o ResId.Scheduler ∷ [] else [])

@@ -1,7 +1,0 @@
-use Rattle.sinks.proofs.SinkLemmas.{begins_longer, stops}
-use Rattle.trace_lines.proofs.written_records.write_executed.Goals as goal
-
-pub returns-in_err-make_room : goal.returns-in_err-make_room
-returns-in_err-make_room g c =
-    stops g.S.Sink.taken g.S.Sink.has_failed _ _ _ c.args.out.now _ c.from_residual.result c.from_residual.ensures.1
-    (begins_longer _ _ _ _ c.in_err-make_room.ensures.puts.beginning) c.in_err-make_room.ensures.puts.failed

@@ -1,0 +1,12 @@
+use Rattle.std.proofs.Common.{◌++◌, ◌∷◌, subst}
+use Rattle.osek_base.specs.declared.trace_event.TraceEvent.{TraceEvent}
+use Rattle.trace_lines.specs.Lines.{tick_text}
+use Rattle.sinks.specs.Sinks.{PutsBehind}
+use Rattle.trace_lines.proofs.written_records.write_idle_asked.Goals as goal
+
+pub returns : goal.returns
+returns g c =
+    subst
+    (λ n. PutsBehind g.S.Sink.taken g.S.Sink.has_failed c.args.out.now c.write_idle_parts.new.out c.args.text.now c.write_idle_parts.new.text
+    (tick_text c.args.texts.now.names c.args.tick.now n (c.args.before.now ++ TraceEvent.Idle ∷ c.args.behind.now)) c.write_idle_parts.result)
+    c.number-number.ensures c.write_idle_parts.ensures
