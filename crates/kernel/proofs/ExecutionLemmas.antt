@@ -113,7 +113,7 @@ plain_goes S e p old new o after x effect effect_is x_is words after_is =
 
 pub service_goes : (S : System) (e : Execution) (call : ServiceCall) (w : Words) (o served after : Objects) (x : Context)
     (status : Status) (results : Results) → Executes (kept_in o) e.owner e.cpu
-    → Some status ≡ Some (served_in S (kept_in o) (at_values e.cpu call)).status
+    → status ≡ (served_in S (kept_in o) (at_values e.cpu call)).status
     → results ≡ (served_in S (kept_in o) (at_values e.cpu call)).results
     → kept_in served ≡ (served_in S (kept_in o) (at_values e.cpu call)).state
     → x ≡ answered status results e.cpu
@@ -125,10 +125,7 @@ service_goes S e call w o served after x status results who status_is results_is
     let by : service_in S (caller_in (kept_in o)) (kept_in o) (at_values e.cpu call) ≡ service_in S d (kept_in o) (at_values e.cpu call) =
     ap (λ c. service_in S c (kept_in o) (at_values e.cpu call)) (caller_is (kept_in o) e.owner e.cpu who) in
     let all : r ≡ reply_with w (service_in S d (kept_in o) (at_values e.cpu call)) = service_words S w d (kept_in o) (at_values e.cpu call) in
-    let same_status : status ≡ r.status =
-    (let one : Some status ≡ Some (service_in S (caller_in (kept_in o)) (kept_in o) (at_values e.cpu call)).status = status_is in
-    let two : status ≡ (service_in S (caller_in (kept_in o)) (kept_in o) (at_values e.cpu call)).status = cc in
-    two ∙ ap (λ (v : KeptReply). v.status) by ∙ sym (ap (λ (v : KeptReply). v.status) all)) in
+    let same_status : status ≡ r.status = status_is ∙ ap (λ (v : KeptReply). v.status) by ∙ sym (ap (λ (v : KeptReply). v.status) all) in
     let same_results : results ≡ r.results = results_is ∙ ap (λ (v : KeptReply). v.results) by ∙ sym (ap (λ (v : KeptReply). v.results) all) in
     let same_state : kept_of w served ≡ r.state =
     ap (with_words w) (state_is ∙ ap (λ (v : KeptReply). v.state) by) ∙ sym (ap (λ (v : KeptReply). v.state) all) in
@@ -140,7 +137,7 @@ service_goes S e call w o served after x status results who status_is results_is
 -- what it records: its answer, and an error where it was refused
 pub service_told : (S : System) (e : Execution) (call : ServiceCall) (w : Words) (o : Objects) (status : Status) (results : Results)
     → Executes (kept_in o) e.owner e.cpu
-    → Some status ≡ Some (served_in S (kept_in o) (at_values e.cpu call)).status
+    → status ≡ (served_in S (kept_in o) (at_values e.cpu call)).status
     → results ≡ (served_in S (kept_in o) (at_values e.cpu call)).results
     → (behind : List TraceEvent) → behind ≡ error_record S (Source.Owner e.owner) (Instr.Service call) status
     → TraceEvent.Executed e.owner e.cpu.place (Instr.Service call) (Outcome.Answer status results) ∷ behind
@@ -151,9 +148,7 @@ service_told S e call w o status results who status_is results_is behind more =
     let by : service_in S (caller_in (kept_in o)) (kept_in o) (at_values e.cpu call) ≡ service_in S d (kept_in o) (at_values e.cpu call) =
     ap (λ c. service_in S c (kept_in o) (at_values e.cpu call)) (caller_is (kept_in o) e.owner e.cpu who) in
     let with : r ≡ reply_with w (service_in S d (kept_in o) (at_values e.cpu call)) = service_words S w d (kept_in o) (at_values e.cpu call) in
-    let some : Some status ≡ Some (service_in S (caller_in (kept_in o)) (kept_in o) (at_values e.cpu call)).status = status_is in
-    let two : status ≡ (service_in S (caller_in (kept_in o)) (kept_in o) (at_values e.cpu call)).status = cc in
-    let same_status : status ≡ r.status = two ∙ ap (λ (v : KeptReply). v.status) by ∙ sym (ap (λ (v : KeptReply). v.status) with) in
+    let same_status : status ≡ r.status = status_is ∙ ap (λ (v : KeptReply). v.status) by ∙ sym (ap (λ (v : KeptReply). v.status) with) in
     let same_results : results ≡ r.results = results_is ∙ ap (λ (v : KeptReply). v.results) by ∙ sym (ap (λ (v : KeptReply). v.results) with) in
     ap (λ v. TraceEvent.Executed e.owner e.cpu.place (Instr.Service call) (Outcome.Answer status results) ∷ v) more
     ∙ ap₂ (λ (a : Status) (b : Results). TraceEvent.Executed e.owner e.cpu.place (Instr.Service call) (Outcome.Answer a b)

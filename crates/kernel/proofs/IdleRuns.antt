@@ -208,7 +208,8 @@ kernel_idles counted S mode arrivals list lent earlier cursor coming tick most f
         left =
             subst (AreLeft arrivals cursor) (sym next)
             (left_behind arrivals cursor (next_tick m) most free n v.left left few);
-        ahead = v.ahead;
+        first = λ none. absurd (omega (arith, next, some, none));
+        ahead = λ later. v.ahead (idles.not_first some);
         last = λ begun.
             ap (arriving arrivals) last_is ∙ none (n - 1) (omega (arith, some)) ∙ sym (none_between lent cursor);
         forward = omega arith;

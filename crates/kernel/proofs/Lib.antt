@@ -31,6 +31,7 @@ pub mod SteadyLemmas
 pub mod SteadyRuns
 pub mod WorkLemmas
 pub mod WorkRuns
+pub mod GoingLemmas
 pub mod BootStamps
 pub mod BootLemmas
 pub mod LawLemmas

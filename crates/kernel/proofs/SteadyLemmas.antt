@@ -3,43 +3,38 @@ use Rattle.std.proofs.Common.{◌≡◌, ℕ, suc, ◌+◌, ◌-◌, ◌<◌, �
 use Rattle.std.specs.Prelude.{Option, Some, None, ◌==◌, IfSome, is_some}
 use Rattle.osek_base.specs.declared.executed.Executed.{Executed}
 use Rattle.osek_base.specs.declared.ids.Owner.{Owner}
-use Rattle.osek_base.specs.declared.limits.TheConstants.{MAX_TICKS}
-use Rattle.osek_base.specs.declared.arrivals.Arrival.{Arrival}
+use Rattle.osek_base.specs.declared.limits.TheConstants.{MAX_ALARMS, MAX_TICKS}
 use Rattle.osek_base.specs.declared.trace_event.TraceEvent.{TraceEvent}
 use Rattle.osek_base.specs.Executed.{StandsIn, idle_or_executed}
 use Rattle.osek_base.specs.Alarm.{due_alarms}
 use Rattle.osek_base.specs.Ceiling.{top_priority}
-use Rattle.osek_base.specs.Proper.{IsProper}
 use Rattle.osek_base.specs.System.{System}
 use Rattle.osek_base.specs.Tick.{routine_choice}
-use Rattle.osek_base.specs.Trace.{run}
 use Rattle.run_laws.proofs.Formed.{IsPlaced}
-use Rattle.run_laws.proofs.FormedTick.{run_form}
-use Rattle.run_laws.proofs.RankedTick.{IsRunState, run_ordered}
 use Rattle.ready_queues.specs.QueueMoves.{highest}
-use Rattle.kept_state.specs.Kept.{Kept, Slot, kept}
+use Rattle.kept_state.specs.Kept.{Kept, Slot}
 use Rattle.kept_state.specs.KeptService.{ByTask, bare, caller_by, caller_in}
 use Rattle.kept_state.specs.KeptTick.{and_then_in, arrival_phase_in, before_execution_in, routine_started_in, silent_in, start_phase_in, advanced_in}
 use Rattle.kept_state.specs.Moves.{KeptRecorded, chosen, contender, contender_of, dynamic_in, may_dispatch_in, rescheduled}
-use Rattle.kept_state.specs.Standing.{Fits, IsRunnerPlaced}
-use Rattle.kept_state.proofs.Fitting.{fits_where_standing}
 use Rattle.kept_state.proofs.Quiet.{alarm_phase_silent}
 use Rattle.blocking_laws.specs.Restamping.{StampLists, alarm_phase_restamped, alarms_restamped, before_restamped, preempted_by, reschedule_restamped}
-use Rattle.services.specs.Calls.{calling_task}
+use Rattle.services.specs.Calls.{calling_task, context_in}
 use Rattle.services.specs.Objects.{Objects, kept_in}
 use Rattle.services.specs.Quiet.{HasPassed as PassesByObjects}
 use Rattle.services.specs.Steady.{IsSteady}
 use Rattle.kernel.specs.declared.acted.Acted.{Acted}
 use Rattle.kernel.specs.Machine.{IsMachine, Machine, MayTick, Ticks, between, next_tick, picture as picture_in}
 use Rattle.kernel.specs.Processor.{MayFetch, Processor, at_tick, picture, system_of}
-use Rattle.kernel.specs.Steady.{BeginsSteady, PassesSteady}
+use Rattle.kernel.specs.Idle.{HasPassed}
+use Rattle.kernel.specs.Steady.{BeginsSteady, ExecutesNext}
 use Rattle.kernel.specs.Stamping.{number_for, number_told}
 use Rattle.kernel.specs.Told.{acted_in}
 use Rattle.kernel.specs.Working.{HasTickedSteady}
-use Rattle.kernel.specs.Watches.{Begins, Finishes, HasBegun, MayBegin, Watched, Watches, early, watched_at}
+use Rattle.kernel.specs.Watches.{Begins, Blocking, Finishes, MayBegin, MayStart, Starts, Watched, Watches, early, watched_at}
 use Rattle.kernel.proofs.DoesLemmas.{does_nothing, nothing_by_objects, processor_of}
 use Rattle.kernel.proofs.IdleLemmas.{none_acted, unacted}
-use Rattle.kernel.proofs.TickLemmas.{has_begun, may_start, ticked}
+use Rattle.kernel.proofs.TickLemmas.{may_start, ticked}
+use Rattle.kernel.proofs.WatchLemmas.{watched_of}
 
 -- ---- a reschedule neither reads nor changes the clock
 
@@ -79,6 +74,10 @@ module _ (S : System) (n : ℕ) where
     dispatched = rescheduled_at o ∙ ap (recorded_at n) steady.dispatched;
   }
 
+-- the task calls
+pub calls : (S : System) (o : Kept) (t : ℕ) → IsSteady S o t → caller_in o ≡ ByTask t
+calls S o t steady = λ i. caller_by (is_some (steady.no_routine i)) (steady.runs i) (steady.stands i)
+
 -- the words of windows aside
 pub steady_of_objects : (m : Processor) (o : Objects) (words : List ℕ) (t : ℕ) → processor_of o words ≡ m
     → IsSteady o.system (kept_in o) t → IsSteady (system_of m) (picture m) t
@@ -94,14 +93,57 @@ steady_of_objects m o words t is steady =
       dispatched = nothing_by_objects (processor_of o words) o words refl steady.dispatched;
     })
 
-pub steady_by_objects : (m : Processor) (o n : Objects) (words : List ℕ) (t : ℕ) → processor_of o words ≡ m
-    → IsSteady o.system (kept_in o) t → PassesByObjects 1 o n → PassesSteady m (processor_of n words) t
-steady_by_objects m o n words t is steady passed =
-    subst (λ x. PassesSteady x (processor_of n words) t) is
-    (record {
-      steady = steady_of_objects (processor_of o words) o words t refl steady;
-      passed = record { none = λ k low. passed.none k low; after = ap (λ x. processor_of x words) passed.after };
-    })
+-- with its place
+pub executes_by_objects : (w : Watched) (o : Objects) (words : List ℕ) (t : ℕ) → processor_of o words ≡ w.processor
+    → IsSteady o.system (kept_in o) t → t < length o.system.tasks
+    → IsPlaced o.system (Owner.Task t) (context_in (kept_in o) (Owner.Task t)) → ExecutesNext w t
+executes_by_objects w o words t is steady known placed =
+    let so : IsSteady (system_of w.processor) (picture w.processor) t = steady_of_objects w.processor o words t is steady in
+    record {
+      steady = so;
+      known = subst (λ (x : Processor). t < length (system_of x).tasks) is known;
+      fetch = record {
+        executes = (calls (system_of w.processor) (picture w.processor) t so, refl);
+        placed =
+            subst (λ (x : Processor). IsPlaced (system_of x) (Owner.Task t) (context_in (picture x) (Owner.Task t))) is placed;
+      };
+    }
+
+-- the next tick begins
+executes_at : (w : Watched) (n t : ℕ) → ExecutesNext w t → ExecutesNext (watched_at w n) t
+executes_at w n t e = record {
+  steady = steady_at (system_of w.processor) n (picture w.processor) t e.steady;
+  known = e.known;
+  fetch = record { executes = e.fetch.executes; placed = e.fetch.placed };
+}
+
+pub begins_by_objects : (w : Watched) (o n : Objects) (words : List ℕ) (b : Blocking) (t : ℕ) → watched_of (processor_of o words) b ≡ w
+    → ExecutesNext w t → PassesByObjects 1 o n → BeginsSteady w (watched_of (processor_of n words) b) t
+begins_by_objects w o n words b t is e passed =
+    let new : Watched = watched_of (processor_of n words) b in
+    let here = ap (λ (x : Watched). x.processor) is in
+    let passes : HasPassed 1 w.processor new.processor =
+    subst (λ x. HasPassed 1 x new.processor) here
+    (record { none = λ k low. passed.none k low; after = ap (λ x. processor_of x words) passed.after }) in
+    record {
+      passes = record { steady = e.steady; passed = passes };
+      same = ap (λ (x : Watched). x.blocking) is;
+      next =
+          subst (λ x. ExecutesNext x t)
+          (λ i. record { processor = sym passes.after i; blocking = ap (λ (x : Watched). x.blocking) (sym is) i })
+          (executes_at w (w.processor.objects.tick + 1) t e);
+    }
+
+-- it may begin, and what it executes may be fetched
+pub may_begin : (w : Watched) (t n : ℕ) → ExecutesNext w t → n < MAX_TICKS → MayBegin w.processor (Some t) n
+may_begin w t n e low = record {
+  executes = record { value = sym (ap calling_task (calls (system_of w.processor) (picture w.processor) t e.steady)); known = e.known };
+  early = low;
+}
+
+pub may_fetch : (counted : Bool) (n : ℕ) (st bg : Watched) (t : ℕ) → ExecutesNext st t → Begins counted n st bg
+    → MayFetch bg.processor (Owner.Task t)
+may_fetch counted n st bg t e two = subst (λ x. MayFetch x (Owner.Task t)) (sym two.processor) e.fetch
 
 -- ---- what comes before the instruction
 
@@ -131,9 +173,6 @@ module _ (S : System) (o : Kept) (t : ℕ) (steady : IsSteady S o t) where
       go true = ap (λ c. routine_started_in c o) steady.none_pending
       go false = refl
 
-  pub calls : caller_in o ≡ ByTask t
-  calls = λ i. caller_by (is_some (steady.no_routine i)) (steady.runs i) (steady.stands i)
-
   module _ (size : length o.alarms ≡ length S.alarms) (none : due_alarms S (bare o) ≡ []) where
     pub before_silent : before_execution_in S [] o ≡ silent_in o
     before_silent =
@@ -151,26 +190,9 @@ module _ (S : System) (o : Kept) (t : ℕ) (steady : IsSteady S o t) where
         ∙ unpreempted S u o (alarm_phase_restamped S u o xs) steady.dispatched
         ∙ ap (λ due. alarms_restamped S u due (advanced_in S o) xs) none
 
-fits_in_run : (S : System) (proper : IsProper S) (mode : ℕ) (arrivals : List Arrival) (n : ℕ) (o : Kept)
-    → o ≡ kept S (run S mode arrivals n).state → Fits S o
-fits_in_run S proper mode arrivals n o same =
-    let good : IsRunState S (run S mode arrivals n).state = run_ordered S proper mode arrivals n in
-    subst (Fits S) (sym same)
-    (fits_where_standing S (run S mode arrivals n).state
-    (record { proper = proper; single = good.single; ranked = good.ordered.ranked; form = run_form S proper mode arrivals n }))
+-- ---- a tick
 
--- the task stands at a place of its program
-pub placed_in_run : (S : System) (proper : IsProper S) (mode : ℕ) (arrivals : List Arrival) (n : ℕ) (o : Kept) (t : ℕ)
-    → o ≡ kept S (run S mode arrivals n).state → IsSteady S o t → IsPlaced S (Owner.Task t) (o.slots t).context
-placed_in_run S proper mode arrivals n o t same steady =
-    let fits : Fits S o = fits_in_run S proper mode arrivals n o same in
-    let there : IsRunnerPlaced S o t = subst (λ r. IfSome r (IsRunnerPlaced S o)) steady.runs (fits.runner steady.stands) in
-    there.placed
-
--- ---- a machine's tick
-
-module _ (counted : Bool) (n : ℕ) (w : Watched) (opening : List TraceEvent) (acted : Acted)
-    (h : IsMachine counted w.processor.objects.tick (between w n opening acted)) (begun : 1 ≤ n) (low : n < MAX_TICKS)
+module _ (counted : Bool) (n : ℕ) (w : Watched) (opening : List TraceEvent) (may : MayStart counted n w opening) (begun : 1 ≤ n)
     (st : Watched) (t : ℕ) (begins : BeginsSteady w st t) where
   abbrev S : System
   S = system_of w.processor
@@ -179,10 +201,10 @@ module _ (counted : Bool) (n : ℕ) (w : Watched) (opening : List TraceEvent) (a
   o = picture (at_tick w.processor n)
 
   pub size : length o.alarms ≡ length S.alarms
-  size = (may_start counted w n opening acted h low opening refl).before.alarms
+  size = may.before.alarms
 
   clock_is : n ≡ w.processor.objects.tick + 1
-  clock_is = let clock : w.processor.objects.tick ≡ n - 1 = h.before in omega (arith, clock, begun)
+  clock_is = let clock : w.processor.objects.tick ≡ n - 1 = may.before.clock in omega (arith, clock, begun)
 
   steady : IsSteady S o t
   steady = steady_at S n (picture w.processor) t begins.passes.steady
@@ -212,34 +234,11 @@ module _ (counted : Bool) (n : ℕ) (w : Watched) (opening : List TraceEvent) (a
         told = refl;
       })
 
-  -- the task is to execute
-  pub may_begin : MayBegin st.processor (Some t) n
-  may_begin =
-      subst (λ (x : Watched). MayBegin x.processor (Some t) n) (sym after)
-      (record {
-        executes = record {
-          value = sym (ap calling_task (calls S o t steady));
-          known =
-              subst (λ r. IfSome r (λ (v : ℕ). v < length S.tasks)) steady.runs
-              (fits_in_run S h.of_run.proper h.of_run.mode h.of_run.arrivals n o h.of_run.come.at.same).running;
-        };
-        early = low;
-      })
-
-  -- and the task executes next
-  pub may_fetch : (bg : Watched) → Begins counted n st bg → MayFetch bg.processor (Owner.Task t)
-  may_fetch bg two =
-      subst (λ x. MayFetch x (Owner.Task t)) (sym (two.processor ∙ ap (λ (x : Watched). x.processor) after))
-      (record {
-        executes = (calls S o t steady, refl);
-        placed = placed_in_run S h.of_run.proper h.of_run.mode h.of_run.arrivals n o t h.of_run.come.at.same steady;
-      })
-
   no_alarm_acts : none_acted ≡ acted_in S o
   no_alarm_acts = unacted S o none_due
 
-  pub has_begun_steady : (bg : Watched) → Begins counted n st bg → o.over ≡ false → HasBegun counted bg
-  has_begun_steady bg two on = has_begun counted w n opening acted h low [] st bg [] [] on begins_tick two
+  pub starts_steady : Starts counted (MAX_ALARMS + 2) (early []) n w st [] [] none_acted
+  starts_steady = record { does = begins_tick; acted = no_alarm_acts; few = omega arith }
 
   -- the number that is told behind it is that of the task that executes
   pub number_told_so : (bg la : Watched) (e : Executed) (behind : List TraceEvent) → Begins counted n st bg
@@ -265,10 +264,11 @@ steady_ticked counted n w st bg la opening behind acted now t e m is h begun may
     let S : System = system_of w.processor in
     let low : n < MAX_TICKS = subst (λ (x : Machine). next_tick x < MAX_TICKS) (sym is) may.limit in
     let on : (picture (at_tick w.processor n)).over ≡ false = subst (λ (x : Machine). (picture_in x).over ≡ false) (sym is) may.on in
-    let one = begins_tick counted n w opening acted h begun low st t begins in
+    let starts = may_start counted w n opening acted h low opening refl in
+    let one = begins_tick counted n w opening starts begun st t begins in
     let none : opening ≡ [] = h.none_later begun in
     let acted_is : now ≡ acted_in S (picture (at_tick w.processor n)) =
-    now_is ∙ no_alarm_acts counted n w opening acted h begun low st t begins in
+    now_is ∙ no_alarm_acts counted n w opening starts begun st t begins in
     let all = ticked counted [] n w st bg r.between la opening opening [] [] r.first behind acted now
     (idle_or_executed (system_of bg.processor) (Some e)) h low on tt (sym none) none acted_is
     (record { one = one; two = two; three = r.executes.does; four = r.reschedules }) in
@@ -289,11 +289,11 @@ steady_ticked counted n w st bg la opening behind acted now t e m is h begun may
         };
         begun = begun;
         unwritten = none;
-        size = size counted n w opening acted h begun low st t begins;
-        none_due = none_due counted n w opening acted h begun low st t begins;
-        before = silent_before counted n w opening acted h begun low st t begins;
+        size = size counted n w opening starts begun st t begins;
+        none_due = none_due counted n w opening starts begun st t begins;
+        before = silent_before counted n w opening starts begun st t begins;
         task = t;
-        calls = called counted n w opening acted h begun low st t begins;
-        number = number_told_so counted n w opening acted h begun low st t begins bg la e behind two r;
+        calls = called counted n w opening starts begun st t begins;
+        number = number_told_so counted n w opening starts begun st t begins bg la e behind two r;
       };
     })

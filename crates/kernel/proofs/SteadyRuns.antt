@@ -87,7 +87,7 @@ module _ (counted : Bool) (S : System) (mode : ℕ) (arrivals : List Arrival) (l
   kernel_ticks not_now new e behind steady =
       let done : HasTicked counted [] m new [] (Some e) behind = steady.ticked in
       let next = done.ticks.next in
-      let here : HaveArrived arrivals (next_tick m) cursor cursor = v.ahead (next_tick m) not_now v.left in
+      let here : HaveArrived arrivals (next_tick m) cursor cursor = v.ahead steady.begun (next_tick m) not_now v.left in
       let none : arriving arrivals (next_tick m) ≡ [] =
       here.these ∙ none_between (map (λ (a : Arrival). a.routine) arrivals) cursor in
       let last_is : next_tick new - 1 ≡ next_tick m = omega (arith, next) in
@@ -97,7 +97,8 @@ module _ (counted : Bool) (S : System) (mode : ℕ) (arrivals : List Arrival) (l
           known = v.known;
           routines = v.routines;
           left = subst (AreLeft arrivals cursor) (sym next) here.left;
-          ahead = v.ahead;
+          first = λ none. absurd (omega (arith, next, none));
+          ahead = λ later. v.ahead steady.begun;
           last = λ begun. ap (arriving arrivals) last_is ∙ none ∙ sym (none_between lent cursor);
           forward = omega arith;
           come =

@@ -214,7 +214,7 @@ pub kernel_works : (counted : Bool) (S : System) (mode : ℕ) (arrivals : List A
 kernel_works counted S mode arrivals lent earlier cursor coming old m new e behind is v follows not_now works did =
     let ticked = kernel_ticks counted S mode arrivals lent earlier cursor coming old m is v follows not_now new e behind did in
     let on : (run S mode arrivals (next_tick m)).state.over ≡ false = (going S mode arrivals (next_tick m) (ap is_over is ∙ follows)).on in
-    let here : HaveArrived arrivals (next_tick m) cursor cursor = v.ahead (next_tick m) not_now v.left in
+    let here : HaveArrived arrivals (next_tick m) cursor cursor = v.ahead did.begun (next_tick m) not_now v.left in
     let free : arriving arrivals (next_tick m) ≡ [] =
     here.these ∙ none_between (map (λ (a : Arrival). a.routine) arrivals) cursor in
     record {

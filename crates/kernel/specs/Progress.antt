@@ -64,6 +64,13 @@ abbrev pub IsNextArrival : List Arrival → ℕ → ℕ → Type 0
 IsNextArrival arrivals cursor next =
     (tick : ℕ) → (next ≡ tick → ⊥) → AreLeft arrivals cursor tick → HaveArrived arrivals tick cursor cursor
 
+-- the routines whose interrupts arrive in a tick, and the arrivals left behind it; where the next one isn't in that tick, all stay
+pub record TakesArrived (arrivals : List Arrival) (tick first next new_first new_next : ℕ) (these : List ℕ) : Type 0 where
+  pub lent : these ≡ arriving arrivals tick
+  pub arrive : HaveArrived arrivals tick first new_first
+  pub ahead : IsNextArrival arrivals new_first new_next
+  pub others_stay : (next ≡ tick → ⊥) → (new_first ≡ first) × (new_next ≡ next)
+
 -- in none of so many ticks from one on, at most some, does an interrupt arrive; those left stand in order behind them
 pub record AreFree (arrivals : List Arrival) (cursor tick most n : ℕ) : Type 0 where
   pub few : n ≤ most

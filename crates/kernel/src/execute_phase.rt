@@ -3,6 +3,7 @@
 
 ghost use Rattle.std.specs.Prelude.{◌≡◌, ◌<◌, ◌+◌, ◌∷◌, ◌++◌, [], true, false, length};
 ghost use Rattle.osek_base.specs.declared.trace_event.Outcome.{Outcome};
+ghost use Rattle.osek_base.specs.declared.trace_event.Results.{Results};
 ghost use Rattle.osek_base.specs.declared.trace_event.TraceEvent.{TraceEvent};
 ghost use Rattle.osek_base.specs.declared.instr.Instr.{Instr};
 ghost use Rattle.osek_base.specs.declared.trace_event.Source.{Source};
@@ -70,7 +71,7 @@ impl<'s, Q: ReadyQueues> Processor<'s, Q> {
     }
 
     /// A service with a status, which goes to r0, with its results behind it. It answers the
-    /// status, and leaves the results, which most services don't have, in place of earlier ones.
+    /// status, and leaves the results of those that have some.
     #[inline(never)]
     pub fn execute_service(
         &mut self,
@@ -80,18 +81,15 @@ impl<'s, Q: ReadyQueues> Processor<'s, Q> {
     ) -> Status
         requires comes { ComesTo self.old next.now behind.old }
         requires call { IsCall (instr_of next.now.packed) }
+        requires none { results.old ≡ Results.Nothing }
         ensures does { DoesWithin 2 execute_phase_in self.old self.new []
             (TraceEvent.Executed next.now.owner next.now.place (instr_of next.now.packed)
             (Outcome.Answer result results.new) ∷ behind.new) }
         ensures few { HasFewJobs (system_of self.old) }
     {
-        let answer = self.core.serve(next.owner, next.packed);
-        let Some(status) = answer.status else {
-            unreachable!()
-        };
-        self.core.answer(next.owner, status, answer.results);
+        let status = self.core.serve(next.owner, next.packed, results);
+        self.core.answer(next.owner, status, results);
         record_refusal(self.system, next, status, behind);
-        *results = answer.results;
         status
     }
 }

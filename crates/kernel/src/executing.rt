@@ -44,6 +44,21 @@ impl<'s, Q: ReadyQueues, B: Blockers> Watched<'s, Q, B> {
         }
     }
 
+    /// As `late_phases`, in a call of its own, which leaves what is executed: a local for it would
+    /// be filled with zeros in each tick.
+    #[inline(never)]
+    pub fn late_apart(
+        &mut self,
+        tick: u32,
+        behind: &mut TickRecord,
+        executed: &mut Option<Executed>,
+    )
+        requires { IsReady B.are_counted self.old behind.old }
+        ensures { Finishes B.are_counted tick self.old self.new executed.new behind.new }
+    {
+        *executed = self.late_phases(tick, behind);
+    }
+
     /// As `finish`, in a call of its own.
     #[inline(never)]
     fn finish_apart(&mut self, who: Owner, tick: u32, behind: &mut TickRecord) -> Executed

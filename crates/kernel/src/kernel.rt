@@ -7,7 +7,8 @@ ghost use Rattle.osek_base.specs.Names.{number_of};
 ghost use Rattle.kept_state.specs.Kept.{kept};
 ghost use Rattle.kernel.specs.Stamping.{IsNumber};
 ghost use Rattle.kernel.specs.Machine.{HasCome};
-ghost use Rattle.kernel.specs.Progress.{AreFree, AreKnown, AreLeft, Boots, HasIdled, HasRun, HasRunApart, HasRunSteadily, HaveArrived, IsNextArrival, is_over, run_of};
+ghost use Rattle.kernel.specs.Begun.{HasGoneOn};
+ghost use Rattle.kernel.specs.Progress.{AreFree, AreKnown, AreLeft, Boots, HasIdled, HasRun, HasRunApart, HasRunSteadily, HaveArrived, IsNextArrival, TakesArrived, is_over, run_of};
 ghost use Rattle.blocking_laws.specs.Steps.{step_at};
 ghost use Rattle.seen_ticks.specs.Told.{task_at};
 ghost use Rattle.osek_base.specs.Lists.{below};
@@ -16,6 +17,7 @@ use crate::at_instruction::AtInstruction;
 use crate::blockers::{Blockers, Counted};
 use crate::boot::BootFault;
 use crate::looker::{Looker, Unseen};
+use crate::ticked::Ticked;
 use crate::ticking::Machine;
 use osek_base::{
     Arrival, Arrivals, Executed, IsrId, MAX_RECORDS, MAX_TICKS, ModeId, System, TickRecord,
@@ -38,7 +40,7 @@ pub struct Kernel<'s, Q: ReadyQueues, B: Blockers = Counted> {
     /// How many had arrived before the last tick.
     pub(crate) earlier: usize,
     pub(crate) arrived: usize,
-    /// The tick of the next arrival, or the greatest number where none is left.
+    /// 0 before the first tick, then the tick of the next arrival, or the greatest number.
     pub(crate) next: u32,
     pub(crate) machine: Machine<'s, Q, B>,
 }
@@ -89,7 +91,6 @@ impl<'s, Q: ReadyQueues, B: Blockers> Kernel<'s, Q, B> {
         };
         let routines = routines_of(alloc, arrivals.list())?;
         let machine = Machine::boot(alloc, system, mode)?;
-        let next = next_arrival(arrivals.list(), 0);
         Ok(Kernel {
             system,
             mode,
@@ -97,7 +98,7 @@ impl<'s, Q: ReadyQueues, B: Blockers> Kernel<'s, Q, B> {
             routines,
             earlier: 0,
             arrived: 0,
-            next,
+            next: 0,
             machine,
         })
     }
@@ -221,10 +222,9 @@ impl<'s, Q: ReadyQueues, B: Blockers> Kernel<'s, Q, B> {
 
     /// Does one tick, where no interrupt arrives in it and it is known that nothing comes before
     /// the instruction of the running task: no alarm is due, no routine is pending, and a
-    /// reschedule would change nothing. Most ticks of a busy system are such. Answers what it
-    /// executed; `behind` becomes the records behind that of the instruction, and none stand before
-    /// it. None is where that isn't known: then nothing changed, and a caller does the usual tick,
-    /// [`tick_parts`](Kernel::tick_parts).
+    /// reschedule would change nothing. Answers what it executed; `behind` becomes the records
+    /// behind that of the instruction, and none stand before it. None is where that isn't known:
+    /// then nothing changed, and a caller does the usual tick, [`tick_parts`](Kernel::tick_parts).
     #[inline(always)]
     pub fn tick_steady(&mut self, behind: &mut TickRecord) -> Option<Executed>
         requires { is_over self.old ≡ false }
@@ -237,6 +237,47 @@ impl<'s, Q: ReadyQueues, B: Blockers> Kernel<'s, Q, B> {
         let executed = self.machine.tick_steady(behind)?;
         self.earlier = self.arrived;
         Some(executed)
+    }
+
+    /// Does one tick, if no ShutdownOS ended the run. What it executed is the answer where its
+    /// record is the tick's first, and else left in `executed`, with the records before it in
+    /// `before`. `behind` has to be empty, and becomes the records behind it.
+    #[inline(always)]
+    pub fn go_on(
+        &mut self,
+        before: &mut TickRecord,
+        behind: &mut TickRecord,
+        executed: &mut Option<Executed>,
+    ) -> Ticked
+        requires ticks { self.old.ticks < MAX_TICKS }
+        requires empty { behind.old ≡ [] }
+        ensures { HasGoneOn self.old self.new before.new behind.new executed.new result }
+    {
+        let tick = self.machine.next_tick();
+        let none_comes = self.next != tick;
+        if !none_comes && self.is_shut_down() {
+            return Ticked::Over;
+        }
+        let earlier = self.arrived;
+        let arrived = take_arrived(
+            self.arrivals.list(),
+            &self.routines,
+            tick,
+            &mut self.arrived,
+            &mut self.next,
+        );
+        let machine = &mut self.machine;
+        match machine.go_on(none_comes, arrived, before, behind, executed) {
+            Ticked::Over => Ticked::Over,
+            Ticked::Any => {
+                self.earlier = earlier;
+                Ticked::Any
+            }
+            Ticked::First(first) => {
+                self.earlier = earlier;
+                Ticked::First(first)
+            }
+        }
     }
 
     /// As [`tick_parts`](Kernel::tick_parts), and leaves what the tasks are when the instruction is
@@ -307,6 +348,31 @@ fn next_arrival(list: &[Arrival], arrived: usize) -> u32
     } else {
         u32::MAX
     }
+}
+
+/// The routines of the arrivals of a tick: none, where that of the next arrival is another. How many
+/// have arrived, and the tick of the next arrival, become those behind it.
+#[inline(always)]
+fn take_arrived<'k>(
+    list: &[Arrival],
+    routines: &'k [IsrId],
+    tick: u32,
+    arrived: &mut usize,
+    next: &mut u32,
+) -> &'k [IsrId]
+    requires left { AreLeft list.now arrived.old tick }
+    requires next { (next.old ≡ tick → ⊥) → IsNextArrival list.now arrived.old next.old }
+    requires routines { routines.now ≡ map (λ a. a.routine) list.now }
+    ensures { TakesArrived list.now tick arrived.old next.old arrived.new next.new result.now }
+{
+    if *next != tick {
+        return &[];
+    }
+    let first = *arrived;
+    let end = arrived_by(list, first, tick);
+    *arrived = end;
+    *next = next_arrival(list, end);
+    &routines[first..end]
 }
 
 /// How many of the ticks from one on, at most some, come before the next arrival, where so many

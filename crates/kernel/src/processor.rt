@@ -5,11 +5,10 @@ ghost use Rattle.std.specs.Prelude.{◌≤◌, ◌+◌, ◌<◌, length};
 ghost use Rattle.std.specs.List.{All};
 ghost use Rattle.osek_base.specs.Tick.{flagged};
 ghost use Rattle.kept_state.specs.KeptTick.{arrival_phase_in, start_phase_in};
-ghost use Rattle.kept_state.specs.Moves.{rescheduled};
 ghost use Rattle.kept_state.specs.Quiet.{IsQuiet};
 ghost use Rattle.kernel.specs.Idle.{HasPassed};
 ghost use Rattle.kernel.specs.Processor.{picture, system_of};
-ghost use Rattle.kernel.specs.Does.{Becomes, DoesWithin, Reschedules};
+ghost use Rattle.kernel.specs.Does.{Becomes, Reschedules};
 
 use machine::{Code, Windows};
 use osek_base::{IsrId, MAX_RECORDS, System, TaskId, TickRecord};
@@ -51,22 +50,12 @@ impl<'s, Q: ReadyQueues> Processor<'s, Q> {
 
     /// The task that is to run becomes the running one. Answers the task that ran, if its job stood
     /// and didn't wait.
-    #[inline(never)]
+    #[inline(always)]
     pub fn reschedule(&mut self, records: &mut TickRecord) -> Option<TaskId>
         requires { length records.old + 2 ≤ MAX_RECORDS }
         ensures { Reschedules self.old self.new records.old records.new result }
     {
         self.core.reschedule(records)
-    }
-
-    /// As `reschedule`, for who doesn't ask which task ran.
-    #[inline(never)]
-    pub fn reschedule_alone(&mut self, records: &mut TickRecord)
-        requires { length records.old + 2 ≤ MAX_RECORDS }
-        ensures { DoesWithin (length records.old + 2) rescheduled self.old self.new records.old
-            records.new }
-    {
-        self.core.reschedule(records);
     }
 
     /// A pending routine starts.

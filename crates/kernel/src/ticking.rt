@@ -1,12 +1,12 @@
 //! OSEK/VDX OS: system start-up; application modes. A booted system that does tick by tick, each
 //! with the interrupts that arrive in it.
 
-ghost use Rattle.std.specs.Prelude.{◌≡◌, ◌<◌, ◌≤◌, ◌+◌, [], IfOk, MatchOption, Some, map, slice_index, length};
+ghost use Rattle.std.specs.Prelude.{◌≡◌, ◌<◌, ◌≤◌, ◌+◌, [], IfOk, MatchOption, Some, true, map, slice_index, length};
 ghost use Rattle.osek_base.specs.Lists.{below};
 ghost use Rattle.osek_base.specs.State.{shared_window};
 ghost use Rattle.kept_state.specs.KeptTick.{before_execution_in};
 ghost use Rattle.ready_queues.specs.LevelLists.{level_lists, by_level};
-ghost use Rattle.kernel.specs.Does.{PutsFirst};
+ghost use Rattle.kernel.specs.Begun.{GoesOnBy, MayGoOn, NoneComes};
 ghost use Rattle.kernel.specs.Idle.{StaysIdle};
 ghost use Rattle.kernel.specs.Stamping.{IsNumber, number_told};
 ghost use Rattle.kernel.specs.Machine.{HasTicked, IsBooted, IsCore, IsNextTick, IsSharedWord, MayTick, ShowsObjects, next_tick, picture, system_of};
@@ -15,11 +15,13 @@ ghost use Rattle.seen_ticks.specs.Told.{task_at_in};
 
 use crate::acted::Acted;
 use crate::at_instruction::AtInstruction;
+use crate::begun::{Begun, put_first};
 use crate::blockers::{Blockers, Counted};
 use crate::blocking::Blocking;
 use crate::kernel::push_all;
 use crate::looker::{Looker, Unseen};
 use crate::processor::Processor;
+use crate::ticked::Ticked;
 use crate::watched::Watched;
 use alarms::DueList;
 use osek_base::{
@@ -29,7 +31,6 @@ use ready_queues::ReadyQueues;
 use services::{CopyQueues, Core, Objects};
 use std::alloc::{AllocError, Global};
 use std::marker::Model;
-use std::mem;
 
 /// A booted system after some ticks, over ready queues of any kind: which interrupts arrive in a
 /// tick is told when it is done. Contracts see what is kept of its state, which is that of a state
@@ -240,6 +241,50 @@ impl<'s, Q: ReadyQueues, B: Blockers> Machine<'s, Q, B> {
         Some(self.watched.finish(Owner::Task(task), self.ticks, behind))
     }
 
+    /// Does one tick in which the interrupts of some routines arrive, if the run isn't over.
+    /// `none_comes` may be set where none arrives and the tick isn't the first. What it executed is
+    /// the answer where it comes first, and else it is left in `executed`, with what stands before
+    /// it in `before`. `behind` has to be empty, and becomes what stands behind it.
+    #[inline(always)]
+    pub(crate) fn go_on(
+        &mut self,
+        none_comes: bool,
+        arrived: &[IsrId],
+        before: &mut TickRecord,
+        behind: &mut TickRecord,
+        executed: &mut Option<Executed>,
+    ) -> Ticked
+        requires may { MayGoOn arrived.now self.old behind.old }
+        requires none { none_comes ≡ true → NoneComes (next_tick self.old) arrived.now }
+        ensures { GoesOnBy B.are_counted arrived.now self.old self.new before.new behind.new
+            executed.new result }
+    {
+        let begun = self.watched.begin_tick(
+            none_comes,
+            self.ticks,
+            arrived,
+            &mut self.acted,
+            &mut self.opening,
+            before,
+        );
+        match begun {
+            Begun::Over => Ticked::Over,
+            Begun::Any => {
+                let watched = &self.watched;
+                let task = watched.processor.executing_task();
+                self.watched.begin(task, self.ticks);
+                self.ticks += 1;
+                self.watched.late_apart(self.ticks, behind, executed);
+                Ticked::Any
+            }
+            Begun::First(task) => {
+                self.watched.begin(Some(task), self.ticks);
+                self.ticks += 1;
+                Ticked::First(self.watched.finish(Owner::Task(task), self.ticks, behind))
+            }
+        }
+    }
+
     /// As `tick`, with a look at the system when the instruction is executed.
     #[inline(always)]
     pub(crate) fn tick_with<L: Looker>(
@@ -280,17 +325,5 @@ impl<'s, Q: CopyQueues, B: Blockers> Machine<'s, Q, B> {
         self.opening.clear();
         push_all(&mut self.opening, &other.opening);
         self.acted.copy_from(&other.acted);
-    }
-}
-
-/// Puts in the records that stand before a tick's own: those of boot in tick 0, else none.
-#[inline(always)]
-fn put_first(opening: &mut TickRecord, tick: u32, records: &mut TickRecord)
-    requires { 1 ≤ tick → opening.old ≡ [] }
-    ensures { PutsFirst opening.old opening.new records.new }
-{
-    records.clear();
-    if tick == 0 {
-        mem::swap(records, opening);
     }
 }

@@ -1,8 +1,9 @@
 //! OSEK/VDX OS: alarms; interrupt processing; task management, scheduling policy. The phases of a
 //! tick round its instruction, in which the stamps follow that tell since when jobs are ready.
 
-ghost use Rattle.std.specs.Prelude.{◌≡◌, ◌<◌, ◌≤◌, ◌+◌, MatchOption, true, length};
+ghost use Rattle.std.specs.Prelude.{◌≡◌, ◌<◌, ◌≤◌, ◌+◌, IfSome, MatchOption, true, length};
 ghost use Rattle.std.specs.List.{All};
+ghost use Rattle.kernel.specs.Begun.{IsFirst};
 ghost use Rattle.kernel.specs.Does.{Adds};
 ghost use Rattle.kernel.specs.Idle.{Passes};
 ghost use Rattle.kernel.specs.Processor.{picture, system_of};
@@ -40,23 +41,31 @@ impl<'s, Q: ReadyQueues, B: Blockers> Model for Watched<'s, Q, B> {
 impl<'s, Q: ReadyQueues, B: Blockers> Watched<'s, Q, B> {
     /// The first four phases of a tick: alarms act, interrupts arrive, the task that is to run
     /// becomes the running one, and a routine starts. `acted` becomes the alarms that were due.
-    #[inline(always)]
+    /// Answers the task that executes next, where nothing is recorded and it is known that nothing
+    /// else comes before its instruction.
+    #[inline(never)]
     pub fn early_phases(
         &mut self,
         tick: u32,
         arrived: &[IsrId],
         acted: &mut Acted,
         before: &mut TickRecord,
-    )
+    ) -> Option<TaskId>
         requires may { MayStart B.are_counted tick self.old before.old }
         requires known { All (λ i. i < length (system_of self.old.processor).routines) arrived.now }
-        ensures { Starts B.are_counted (MAX_ALARMS + 2) (early arrived.now) tick self.old self.new
-            before.old before.new acted.new }
+        ensures starts { Starts B.are_counted (MAX_ALARMS + 2) (early arrived.now) tick self.old
+            self.new before.old before.new acted.new }
+        ensures first { IfSome result (IsFirst self.new before.new) }
     {
         self.alarm_phase(tick, acted, before);
         self.processor.arrival_phase(arrived);
         self.reschedule(tick, before);
         self.processor.start_phase();
+        if before.len() == 0 {
+            self.steady_task()
+        } else {
+            None
+        }
     }
 
     /// The first four phases of a tick in which no interrupt arrives, where it is known that they
@@ -66,7 +75,7 @@ impl<'s, Q: ReadyQueues, B: Blockers> Watched<'s, Q, B> {
     pub fn begin_steady(&mut self) -> Option<TaskId>
         ensures { MatchOption result (self.new ≡ self.old) (BeginsSteady self.old self.new) }
     {
-        let task = self.processor.core.steady_task()?;
+        let task = self.steady_task()?;
         if !self.processor.core.begin_quiet() {
             return None;
         }
@@ -124,7 +133,7 @@ impl<'s, Q: ReadyQueues, B: Blockers> Watched<'s, Q, B> {
     }
 
     /// An alarm acts, and the stamps follow. Answers the status of its action.
-    #[inline(never)]
+    #[inline(always)]
     pub fn alarm_acts(&mut self, alarm: AlarmId, tick: u32, records: &mut TickRecord) -> Status
         requires { MayActNow B.are_counted alarm self.old records.old }
         ensures { AlarmActs B.are_counted alarm tick self.old self.new records.old records.new
@@ -178,14 +187,30 @@ impl<'s, Q: ReadyQueues, B: Blockers> Watched<'s, Q, B> {
             self.new records.old records.new }
     {
         if !self.processor.is_dispatched() {
-            if B::are_counted() {
-                let runner = self.processor.reschedule(records);
-                self.blocking
-                    .preempted(runner, &self.processor.running(), tick);
-            } else {
-                self.processor.reschedule_alone(records);
-            }
+            self.reschedule_now(tick, records);
         }
+    }
+
+    /// As `reschedule`, also where it is known to change nothing.
+    #[inline(always)]
+    fn reschedule_now(&mut self, tick: u32, records: &mut TickRecord)
+        requires { length records.old + 2 ≤ MAX_RECORDS }
+        ensures { WatchesWithin B.are_counted (length records.old + 2) rescheduling tick self.old
+            self.new records.old records.new }
+    {
+        let runner = self.processor.reschedule(records);
+        self.blocking
+            .preempted(runner, &self.processor.running(), tick);
+    }
+
+    /// As `reschedule_now`, in a call of its own.
+    #[inline(never)]
+    fn reschedule_apart(&mut self, tick: u32, records: &mut TickRecord)
+        requires { length records.old + 2 ≤ MAX_RECORDS }
+        ensures { WatchesWithin B.are_counted (length records.old + 2) rescheduling tick self.old
+            self.new records.old records.new }
+    {
+        self.reschedule_now(tick, records);
     }
 
     /// The task that is to run becomes the running one, which is left out after ShutdownOS.
@@ -196,7 +221,7 @@ impl<'s, Q: ReadyQueues, B: Blockers> Watched<'s, Q, B> {
             records.old records.new }
     {
         if !self.processor.is_dispatched() && !self.processor.is_over() {
-            self.reschedule(tick, records);
+            self.reschedule_apart(tick, records);
         }
     }
 }

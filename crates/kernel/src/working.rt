@@ -4,8 +4,8 @@
 ghost use Rattle.std.specs.Prelude.{◌≡◌, ◌+◌, ◌≤◌, true, false, IfSome, MatchOption};
 ghost use Rattle.kernel.specs.Progress.{is_over};
 ghost use Rattle.osek_base.specs.declared.ids.Owner.{Owner};
-ghost use Rattle.services.specs.Steady.{IsSteady};
-ghost use Rattle.kernel.specs.Processor.{MayFetch, picture, system_of};
+ghost use Rattle.kernel.specs.Processor.{MayFetch};
+ghost use Rattle.kernel.specs.Steady.{ExecutesNext};
 ghost use Rattle.kernel.specs.Working.{HasWorked, IsWorking, WorksNext, WorksOnce};
 
 use crate::blockers::Blockers;
@@ -19,9 +19,8 @@ impl<'s, Q: ReadyQueues, B: Blockers> Watched<'s, Q, B> {
     /// The task that executes in a tick in which no alarm is due and no interrupt arrives, where it
     /// is known that nothing else comes before its instruction.
     #[inline(always)]
-    fn steady_task(&self) -> Option<TaskId>
-        ensures { IfSome result
-            (IsSteady (system_of self.now.processor) (picture self.now.processor)) }
+    pub fn steady_task(&self) -> Option<TaskId>
+        ensures { IfSome result (ExecutesNext self.now) }
     {
         self.processor.core.steady_task()
     }

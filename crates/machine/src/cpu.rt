@@ -95,12 +95,12 @@ impl Cpu {
 
     /// Takes what a service answers: the status into r0, the results into r1 to r3. Goes on to the next instruction.
     #[inline(always)]
-    pub fn answer(&mut self, status: Status, results: Results)
+    pub fn answer(&mut self, status: Status, results: &Results)
         requires { self.old.place + 1 < MAX_INSTRUCTIONS }
-        ensures { self.new ≡ answered status results self.old }
+        ensures { self.new ≡ answered status results.now self.old }
     {
         self.set(Register::new(0), u32::from(status.number()));
-        match results {
+        match *results {
             Results::Nothing => {}
             Results::One(a) => self.set(Register::new(1), a),
             Results::Three(a, b, c) => {

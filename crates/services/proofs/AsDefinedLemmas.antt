@@ -73,7 +73,7 @@ module _ (o n : Objects) (system : n.system ≡ o.system) where
   served_as_defined call answer known may answers = λ s stands.
       let reply = service_reply s call stands may known in
       record {
-        answered = answers.status ∙ ap (λ (r : KeptReply). Some r.status) (sym reply);
+        answered = answers.status ∙ ap (λ (r : KeptReply). r.status) (sym reply);
         given = answers.results ∙ ap (λ (r : KeptReply). r.results) (sym reply);
         stands = stands_for_served o n system s call stands known may answers.kept;
       }

@@ -1,5 +1,5 @@
 -- Bounds of a proper system, and of what fits one.
-use Rattle.std.proofs.Common.{◌≡◌, ℕ, zero, suc, ◌-◌, ◌<◌, ◌≤◌, inl, inr, Bool, true, false, not, ◌&&◌, cond, List, [], ◌∷◌, map, length, refl, ◌∙◌, ap, arith}
+use Rattle.std.proofs.Common.{◌≡◌, ℕ, zero, suc, ◌-◌, ◌<◌, ◌≤◌, inl, inr, Bool, true, false, not, ◌&&◌, cond, List, [], ◌∷◌, map, length, refl, sym, ◌∙◌, ap, arith}
 use Rattle.std.specs.Prelude.{Option, Some, None, IfSome, is_some, ◌==◌}
 use Rattle.std.specs.List.{AllByRecursion}
 use Rattle.std.proofs.lemmas.Bool.{cases_lt, leb-true}
@@ -11,9 +11,11 @@ use Rattle.osek_base.specs.Ceiling.{top_priority}
 use Rattle.osek_base.specs.Proper.{IsProper, are_falling}
 use Rattle.osek_base.proofs.PlaceLemmas.{and_split}
 use Rattle.run_laws.proofs.Known.{proper_at}
-use Rattle.ready_queues.specs.Queues.{total}
+use Rattle.ready_queues.specs.Queues.{total, with_level}
 use Rattle.kept_state.specs.Kept.{Kept, unbegun}
-use Rattle.ready_queues.specs.QueueMoves.{highest, put_oldest, first}
+use Rattle.ready_queues.specs.QueueMoves.{highest, put_oldest, first, rest, without_first_at_level}
+use Rattle.ready_queues.proofs.MoveLemmas.{with_level-changed_at}
+use Rattle.ready_queues.proofs.Writes.{total_below-with_level}
 use Rattle.kept_state.specs.Moves.{contender, contender_of}
 use Rattle.kept_state.specs.KeptService.{KeptCaller, ByTask, ByRoutine, ByNobody, caller_in, caller_by, is_own_in, is_full_in, caller_ended_in}
 use Rattle.kept_state.specs.Standing.{Fits, room_for}
@@ -148,3 +150,41 @@ highest_of S o l fits h =
 -- a lower level got a task
 pub put_below : (q : ℕ → List ℕ) (own task level : ℕ) → own < level → put_oldest q own task level ≡ q level
 put_below q own task level less = let e : (own == level) ≡ false = grind arith in rw e refl
+
+rest_fewer : (ts : List ℕ) → length (rest ts) ≤ length ts
+rest_fewer [] = omega arith
+rest_fewer (t ∷ ts) = omega arith
+
+-- where the first task of a level is taken, there are no more in all
+pub take_frees : (q : ℕ → List ℕ) (level : ℕ) → level < LEVELS → total (without_first_at_level q level) ≤ total q
+take_frees q level low =
+    let same : total (with_level level (rest (q level)) q) ≡ total (without_first_at_level q level) =
+    ap total (with_level-changed_at level (rest (q level)) q) in
+    let more = total_below-with_level LEVELS level (rest (q level)) q low in
+    let fewer = rest_fewer (q level) in
+    omega (arith, same, more, fewer)
+
+-- a task that goes to the front of a lower level is put there before or behind that
+pub put_behind_take : (q : ℕ → List ℕ) (own task level : ℕ) → own < level
+    → put_oldest (without_first_at_level q level) own task ≡ without_first_at_level (put_oldest q own task) level
+put_behind_take q own task level less = λ i m. at m i
+  where
+    apart : (level == own) ≡ false
+    apart = grind arith
+
+    other : (own == level) ≡ false
+    other = grind arith
+
+    not_both : (m : ℕ) → (own == m) ≡ true → (level == m) ≡ true → ⊥
+    not_both m a b = grind arith
+
+    either : (a b : Bool) (x y z : List ℕ) → (a ≡ true → b ≡ true → ⊥) → cond a x (cond b y z) ≡ cond b y (cond a x z)
+    either true true x y z none = absurd (none refl refl)
+    either true false x y z none = refl
+    either false b x y z none = refl
+
+    at : (m : ℕ) → put_oldest (without_first_at_level q level) own task m ≡ without_first_at_level (put_oldest q own task) level m
+    at m =
+        ap (λ b. cond (own == m) (task ∷ cond b (rest (q level)) (q own)) (cond (level == m) (rest (q level)) (q m))) apart
+        ∙ either (own == m) (level == m) (task ∷ q own) (rest (q level)) (q m) (not_both m)
+        ∙ ap (λ b. cond (level == m) (rest (cond b (task ∷ q own) (q level))) (cond (own == m) (task ∷ q own) (q m))) (sym other)

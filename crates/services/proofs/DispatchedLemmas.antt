@@ -130,11 +130,11 @@ still_dispatched o n f system new same known = ap₂ is_dispatched_in system new
 
 -- a refused service changes nothing
 refused_in : (S : System) (d : KeptCaller) (o : Kept) (call : ServiceCall) (refusal : Option Status)
-    → is_refusal (Some (answer refusal)) ≡ true → changed_in S d o call refusal ≡ o
+    → is_refusal (answer refusal) ≡ true → changed_in S d o call refusal ≡ o
 refused_in S d o call None h = absurd (grind arith)
 refused_in S d o call (Some refusal) h = refl
 
-pub refused_service : (S : System) (o : Kept) (call : ServiceCall) → is_refusal (Some (served_in S o call).status) ≡ true
+pub refused_service : (S : System) (o : Kept) (call : ServiceCall) → is_refusal ((served_in S o call).status) ≡ true
     → (served_in S o call).state ≡ o
 unfolding service_in
 refused_service S o call h =

@@ -1,9 +1,10 @@
 -- After a reschedule with no routine active and interrupts on, the running task is the one that is to run.
-use Rattle.std.proofs.Common.{◌≡◌, ℕ, suc, inr, Bool, true, false, cond, not, ◌&&◌, ◌||◌, nat_le, List, [], refl, sym, ◌∙◌, ap, ap₂, arith}
+use Rattle.std.proofs.Common.{◌≡◌, ℕ, suc, inr, Bool, true, false, cond, not, ◌&&◌, ◌||◌, nat_le, nat_lt, List, [], refl, sym, ◌∙◌, ap, ap₂, arith}
 use Rattle.std.specs.Prelude.{Option, Some, None, is_some}
 use Rattle.osek_base.specs.System.{System}
 use Rattle.osek_base.specs.Ceiling.{internal_ceiling, top_priority}
 use Rattle.osek_base.specs.State.{State}
+use Rattle.osek_base.proofs.PlaceLemmas.{and_split}
 use Rattle.osek_base.specs.Reschedule.{reschedule}
 use Rattle.run_laws.proofs.Foremost.{self_equal}
 use Rattle.run_laws.proofs.RankedMoves.{IsAfterReschedule, reschedule_ordered}
@@ -125,3 +126,31 @@ core_rescheduled o n false settled system core new known = go core.stands
     go : Stands o → is_dispatched_in n.system (kept_in n) ≡ true
     go (s, stands) =
         ap₂ is_dispatched_in system new ∙ objects_dispatched o.system (kept_in o) s stands.standing stands.same known
+
+-- ---- a reschedule starts and ends no routine
+
+none_of : {X : Type 0} (a : Option X) → not (is_some a) ≡ true → a ≡ None
+none_of None h = refl
+none_of (Some x) h = absurd (grind arith)
+
+chosen_active : (S : System) (running level : Option ℕ) (o : Kept) → (chosen S running level o).state.active ≡ o.active
+chosen_active S None None o = refl
+chosen_active S None (Some l) o = refl
+chosen_active S (Some t) None o = refl
+chosen_active S (Some t) (Some l) o = go (nat_le l (dynamic_in S t (o.slots t)))
+  where
+    go : (b : Bool) → (cond b (stays S t o) (dispatched S l (put_oldest o.queues (dynamic_in S t (o.slots t)) t) o)).state.active ≡ o.active
+    go true = refl
+    go false = refl
+
+-- so none is active behind one that could dispatch
+pub no_routine_behind : (S : System) (o : Kept) → may_dispatch_in o ≡ true → (rescheduled S o).state.active ≡ None
+unfolding rescheduled
+no_routine_behind S o may =
+    go (may_dispatch_in o) may
+    ∙ none_of o.active (and_split (not (is_some o.active)) (not (o.disabled || nat_lt 0 o.suspended_all || nat_lt 0 o.suspended_os)) may).0
+  where
+    go : (b : Bool) → b ≡ true
+        → (cond b (chosen S (contender o) (highest (suc (top_priority S)) o.queues) o) (record { events = []; state = o })).state.active ≡ o.active
+    go true h = chosen_active S (contender o) (highest (suc (top_priority S)) o.queues) o
+    go false h = absurd (grind arith)

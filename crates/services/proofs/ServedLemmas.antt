@@ -1,5 +1,5 @@
 -- A service that calls for no reschedule leaves the running task the one that is to run, and a system settled.
-use Rattle.std.proofs.Common.{◌≡◌, ◌≤◌, ◌⊎◌, inl, inr, ◌||◌, ℕ, suc, max, Bool, true, false, cond, not, ◌&&◌, List, [], ◌∷◌, ◌++◌, map, refl, sym, ◌∙◌, ap, ap₂, subst, arith}
+use Rattle.std.proofs.Common.{◌≡◌, ◌≤◌, ◌⊎◌, inl, inr, ◌||◌, ℕ, suc, Bool, true, false, cond, not, ◌&&◌, List, [], ◌∷◌, ◌++◌, map, refl, sym, ◌∙◌, ap, ap₂, subst, arith}
 use Rattle.std.specs.Prelude.{◌==◌, Option, Some, None, is_some, slice_index, bit_or}
 use Rattle.std.proofs.lemmas.List.{map-append}
 use Rattle.osek_base.specs.declared.ids.ResId.{ResId}
@@ -11,7 +11,7 @@ use Rattle.osek_base.specs.Lists.{greatest}
 use Rattle.osek_base.specs.Service.{first_refusal, is_met}
 use Rattle.osek_base.specs.State.{interrupts_off}
 use Rattle.osek_base.specs.System.{System, priority_of}
-use Rattle.osek_base.specs.Ceiling.{ceiling, internal_ceiling, top_priority}
+use Rattle.osek_base.specs.Ceiling.{ceiling, top_priority}
 use Rattle.osek_base.specs.Tick.{at_values}
 use Rattle.osek_base.proofs.PlaceLemmas.{and_split}
 use Rattle.run_laws.proofs.Foremost.{equal}

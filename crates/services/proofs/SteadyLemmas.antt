@@ -1,5 +1,5 @@
 -- Where a task executes next, and nothing else comes before its instruction.
-use Rattle.std.proofs.Common.{◌≡◌, ℕ, suc, Bool, true, false, cond, not, ◌&&◌, refl, sym, ◌∙◌, ap, subst}
+use Rattle.std.proofs.Common.{◌≡◌, ℕ, suc, ◌<◌, Bool, true, false, cond, not, ◌&&◌, length, refl, sym, ◌∙◌, ap, subst}
 use Rattle.std.specs.Option.{option_map}
 use Rattle.std.specs.Prelude.{Option, Some, None, IfSome}
 use Rattle.std.proofs.lemmas.Bool.{not-true}
@@ -7,8 +7,11 @@ use Rattle.osek_base.specs.System.{System}
 use Rattle.osek_base.specs.Ceiling.{top_priority}
 use Rattle.osek_base.proofs.PlaceLemmas.{and_split}
 use Rattle.osek_base.specs.Instruction.{Context}
+use Rattle.osek_base.specs.declared.ids.Owner.{Owner}
 use Rattle.osek_base.specs.Tick.{moved, routine_choice}
+use Rattle.run_laws.proofs.Formed.{IsPlaced}
 use Rattle.kept_state.specs.Kept.{Kept}
+use Rattle.kept_state.specs.Standing.{Fits, IsRunnerPlaced}
 use Rattle.kept_state.specs.Moves.{may_dispatch_in, slot_changed}
 use Rattle.kept_state.specs.KeptService.{KeptCaller, ByTask, ByRoutine, ByNobody, bare, slot_moved}
 use Rattle.kept_state.specs.KeptTick.{routine_started_in, start_phase_in, with_context_in}
@@ -38,6 +41,16 @@ module _ (S : System) (o : Kept) (known : is_dispatched_in S o ≡ true) (settle
     known = known;
     dispatched = rescheduled_again S o known;
   }
+
+-- the running task is one of the system, and stands at a place of its program
+pub runner_known : (S : System) (o : Kept) (t : ℕ) → Fits S o → o.running ≡ Some t → t < length S.tasks
+runner_known S o t fits runs = subst (λ r. IfSome r (λ (v : ℕ). v < length S.tasks)) runs fits.running
+
+pub runner_placed : (S : System) (o : Kept) (t : ℕ) → Fits S o → o.running ≡ Some t → o.gone ≡ false
+    → IsPlaced S (Owner.Task t) (o.slots t).context
+runner_placed S o t fits runs stands =
+    let there : IsRunnerPlaced S o t = subst (λ r. IfSome r (IsRunnerPlaced S o)) runs (fits.runner stands) in
+    there.placed
 
 -- ---- steps that leave a system settled
 

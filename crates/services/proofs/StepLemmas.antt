@@ -16,7 +16,7 @@ use Rattle.services.specs.Steps.{Acts, Replies}
 
 -- with a status alone
 abbrev pub plain : Status → Answer
-plain s = record { status = Some s; results = Results.Nothing }
+plain s = record { status = s; results = Results.Nothing }
 
 none_told : (S : System) (o : Kept) (call : ServiceCall) (refusal : Option Status) → results_in S o call ≡ Results.Nothing
     → results_told_in S o call refusal ≡ Results.Nothing
@@ -33,7 +33,7 @@ replied : (call : ServiceCall) (o n : Objects) (s : Status) (a : Answer) → Act
     → (unasked o call).results ≡ Results.Nothing → Replies call o n a
 replied call o n s a acts is none = record {
   system = acts.system;
-  status = ap (λ (x : Answer). x.status) is ∙ ap (λ x. Some x) (acts.status (caller_in (kept_in o)));
+  status = ap (λ (x : Answer). x.status) is ∙ acts.status (caller_in (kept_in o));
   results = ap (λ (x : Answer). x.results) is ∙ sym none;
   kept = acts.kept (caller_in (kept_in o));
 }

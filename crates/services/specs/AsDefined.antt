@@ -1,6 +1,6 @@
 -- OSEK/VDX OS: specification of operating system services. Services that do what the definitions say, from every state that
 -- the objects stand for.
-use Rattle.std.specs.Prelude.{ℕ, ◌≡◌, Some}
+use Rattle.std.specs.Prelude.{ℕ, ◌≡◌}
 use Rattle.osek_base.specs.Types.{ServiceCall}
 use Rattle.osek_base.specs.declared.instr.Control.{Control}
 use Rattle.osek_base.specs.declared.status.Status.{Status}
@@ -17,7 +17,7 @@ use Rattle.services.specs.Objects.{Objects, StandsFor, kept_in}
 
 -- in that state, it is answered so, and the objects stand for the state after it
 pub record ServesFrom (s : State) (o n : Objects) (call : ServiceCall) (answer : Answer) : Type 0 where
-  pub answered : answer.status ≡ Some (service o.system (executor s) s call).status
+  pub answered : answer.status ≡ (service o.system (executor s) s call).status
   pub given : answer.results ≡ (service o.system (executor s) s call).results
   pub stands : StandsFor n (service o.system (executor s) s call).state
 
@@ -28,7 +28,7 @@ ServesAsDefined o n call answer = (s : State) → StandsFor o s → ServesFrom s
 pub record IsServed (call : ServiceCall) (old new : Objects) (answer : Answer) : Type 0 where
   pub system : new.system ≡ old.system
   pub caller : IsSameCaller old new
-  pub status : answer.status ≡ Some (served_in old.system (kept_in old) call).status
+  pub status : answer.status ≡ (served_in old.system (kept_in old) call).status
   pub results : answer.results ≡ (served_in old.system (kept_in old) call).results
   pub kept : kept_in new ≡ (served_in old.system (kept_in old) call).state
   pub defined : ServesAsDefined old new call answer

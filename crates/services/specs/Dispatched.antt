@@ -36,10 +36,9 @@ abbrev pub is_dispatched_in : System → Kept → Bool
 is_dispatched_in S o = is_dispatched_by S o.running o.gone o.slots (highest (suc (top_priority S)) o.queues)
 
 -- whether a service is refused, so that it changes nothing
-abbrev pub is_refusal : Option Status → Bool
-is_refusal None = false
-is_refusal (Some Status.Ok) = false
-is_refusal (Some refusal) = true
+abbrev pub is_refusal : Status → Bool
+is_refusal Status.Ok = false
+is_refusal refusal = true
 
 -- whether a task is ready above the static priority of the running one; whether any is, where none runs
 abbrev pub is_outranked_by : System → Option ℕ → Option ℕ → Bool

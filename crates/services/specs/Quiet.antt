@@ -1,5 +1,5 @@
 -- OSEK/VDX OS: task management, alarms. Where nothing happens until an alarm is due, and the ticks that pass at once.
-use Rattle.std.specs.Prelude.{ℕ, ◌+◌, ◌≡◌, ◌<◌, ◌≤◌, Bool, true, false, IsTrue, IsFalse, List, [], Some, None, is_some}
+use Rattle.std.specs.Prelude.{ℕ, ◌+◌, ◌≡◌, ◌<◌, ◌≤◌, Bool, true, false, IsTrue, IsFalse, List, [], None, is_some}
 use Rattle.osek_base.specs.System.{System}
 use Rattle.osek_base.specs.Alarm.{due_alarms}
 use Rattle.osek_base.specs.Tick.{routine_choice}

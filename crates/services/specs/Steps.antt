@@ -1,7 +1,8 @@
 -- OSEK/VDX OS: system services. What a step of a service does to the objects of a running system.
-use Rattle.std.specs.Prelude.{ℕ, ◌≡◌, ◌≤◌, ◌+◌, List, ◌++◌, Some, length}
+use Rattle.std.specs.Prelude.{ℕ, ◌≡◌, ◌≤◌, ◌+◌, List, ◌++◌, length}
 use Rattle.osek_base.specs.Types.{ServiceCall}
 use Rattle.osek_base.specs.declared.status.Status.{Status}
+use Rattle.osek_base.specs.declared.trace_event.Results.{Results}
 use Rattle.osek_base.specs.declared.trace_event.TraceEvent.{TraceEvent}
 use Rattle.osek_base.specs.System.{System}
 use Rattle.osek_base.specs.Alarm.{alarms_advanced, due_alarms}
@@ -54,20 +55,24 @@ pub record Serves (call : ServiceCall) (old new : Objects) (answered : Status) :
 -- with its results
 pub record Replies (call : ServiceCall) (old new : Objects) (answer : Answer) : Type 0 where
   pub system : new.system ≡ old.system
-  pub status : answer.status ≡ Some (unasked old call).status
+  pub status : answer.status ≡ (unasked old call).status
   pub results : answer.results ≡ (unasked old call).results
   pub kept : kept_in new ≡ (unasked old call).state
 
 -- and refused while interrupts are off
 pub record Answers (call : ServiceCall) (old new : Objects) (answer : Answer) : Type 0 where
   pub system : new.system ≡ old.system
-  pub status : answer.status ≡ Some (served_in old.system (kept_in old) call).status
+  pub status : answer.status ≡ (served_in old.system (kept_in old) call).status
   pub results : answer.results ≡ (served_in old.system (kept_in old) call).results
   pub kept : kept_in new ≡ (served_in old.system (kept_in old) call).state
 
+-- a status with results
+abbrev pub answer_of : Status → Results → Answer
+answer_of s r = record { status = s; results = r }
+
 -- what a service that changes nothing answers, interrupts being off aside
 pub record Tells (call : ServiceCall) (o : Objects) (answer : Answer) : Type 0 where
-  pub status : answer.status ≡ Some (unasked o call).status
+  pub status : answer.status ≡ (unasked o call).status
   pub results : answer.results ≡ (unasked o call).results
 
 -- a service that nobody need call, as an alarm's action

@@ -61,7 +61,7 @@ impl<'s, Q: ReadyQueues> Objects<'s, Q> {
     #[inline(always)]
     pub fn get_alarm_base(&self, alarm: AlarmId) -> Answer
         requires { alarm < length self.now.system.alarms }
-        ensures status { result.status ≡ Some Status.Ok }
+        ensures status { result.status ≡ Status.Ok }
         ensures results { result.results
             ≡ Results.Three (counter_of self.now.system alarm).max_allowed_value
             (counter_of self.now.system alarm).ticks_per_base

@@ -98,13 +98,13 @@ impl<'s, Q: ReadyQueues> Objects<'s, Q> {
     /// Who called takes what a service answers, and goes on to the next instruction, where it is
     /// still there.
     #[inline(always)]
-    pub fn answer(&mut self, owner: Owner, status: Status, results: Results)
+    pub fn answer(&mut self, owner: Owner, status: Status, results: &Results)
         requires who { MayGoOn self.old owner }
         requires room { IsThere self.old owner
             → (context_in (kept_in self.old) owner).place + 1 < MAX_INSTRUCTIONS }
         ensures { Becomes
             (λ _S o. with_context_in (caller_as owner)
-            (answered status results (context_in o owner)) o) self.old self.new }
+            (answered status results.now (context_in o owner)) o) self.old self.new }
     {
         if self.is_there(&owner) {
             self.context_mut(&owner).answer(status, results);

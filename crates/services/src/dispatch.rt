@@ -4,7 +4,7 @@ ghost use Rattle.std.specs.Prelude.{◌≡◌, ◌<◌, ◌≤◌, ◌+◌, Some
 ghost use Rattle.osek_base.specs.System.{activation_of, priority_of};
 ghost use Rattle.osek_base.specs.Ceiling.{top_priority};
 ghost use Rattle.ready_queues.specs.Queues.{total};
-ghost use Rattle.ready_queues.specs.QueueMoves.{put_oldest, highest, changed_at};
+ghost use Rattle.ready_queues.specs.QueueMoves.{put_oldest, highest, changed_at, first, without_first_at_level};
 ghost use Rattle.kept_state.specs.Moves.{activated_in, released_in, contender, dynamic_in, may_dispatch_in, slot_entered, nobody, stays, dispatched, rescheduled, left_in, entered_in};
 ghost use Rattle.kept_state.specs.Standing.{room_for};
 ghost use Rattle.ready_queues.specs.LevelLists.{by_level};
@@ -171,20 +171,28 @@ impl<'s, Q: ReadyQueues> Objects<'s, Q> {
         ensures { Does (λ S o. dispatched S level (put_oldest o.queues own task) o) self.old
             self.new record_of_tick.old record_of_tick.new }
     {
-        self.put_back(own, task);
-        self.dispatch(level, record_of_tick);
+        record_left(self.system, &self.running, record_of_tick);
+        let next = self.change_places(task, own, level);
+        record_entered(self.system, next, record_of_tick);
+        self.enter(next);
     }
 
-    /// A preempted task goes before all others of its level.
+    /// A task goes before all others of its level, and the first of a higher level leaves its
+    /// queue. It is taken first, while it is known to be on top.
     #[inline(always)]
-    fn put_back(&mut self, level: u8, task: TaskId)
-        requires level { level ≤ top_priority self.old.system }
-        requires room { total (by_level self.old.queues) < room_for self.old.system }
+    fn change_places(&mut self, task: TaskId, own: u8, level: u8) -> TaskId
+        requires own { own < level }
+        requires free { total (by_level self.old.queues) < room_for self.old.system }
+        requires highest { IsHighest self.old.system (by_level self.old.queues) level }
+        ensures next { result ≡ first (by_level self.old.queues level) }
+        ensures known { result < length self.old.system.tasks }
         ensures others { self.new ≡ record self.old { queues = self.new.queues } }
         ensures queues { by_level self.new.queues
-            ≡ put_oldest (by_level self.old.queues) level task }
+            ≡ without_first_at_level (put_oldest (by_level self.old.queues) own task) level }
     {
-        self.ready.put_oldest(level, task);
+        let next = self.ready.take_first(level);
+        self.ready.put_oldest(own, task);
+        next
     }
 
     /// With no routine active and interrupts on, the task that is to run becomes the running one: the first of the highest

@@ -1,6 +1,6 @@
 //! OSEK/VDX OS: interrupt processing. Pending and active routines, and the services that turn interrupts off and on.
 
-ghost use Rattle.std.specs.Prelude.{◌≡◌, ◌<◌, ◌+◌, ◌^◌, IfSome, Some, true, slice_set, length};
+ghost use Rattle.std.specs.Prelude.{◌≡◌, ◌<◌, ◌+◌, ◌^◌, IfSome, Some, None, true, slice_set, length};
 ghost use Rattle.std.specs.Borrow.{sem};
 ghost use Rattle.osek_base.specs.State.{interrupts_off};
 ghost use Rattle.osek_base.specs.Tick.{routine_choice};
@@ -139,6 +139,15 @@ impl<'s, Q: ReadyQueues> Objects<'s, Q> {
         ensures known { IfSome result (λ i. i < length self.now.system.routines) }
     {
         self.pending.foremost(self.system)
+    }
+
+    /// Whether it is known that no routine is pending.
+    #[inline(always)]
+    pub(crate) fn is_none_pending(&self) -> bool
+        ensures { result ≡ true
+            → routine_choice self.now.system (bare (kept_in self.now)) ≡ None }
+    {
+        self.pending.is_unset()
     }
 
     /// A routine is active with registers and place 0, and its flag is cleared.

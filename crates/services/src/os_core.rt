@@ -15,11 +15,10 @@ ghost use Rattle.services.specs.Calls.{call_of, IsExecuting, IsKnown, IsService,
 ghost use Rattle.services.specs.Dispatched.{is_refusal, is_runner_outranked, may_dispatch};
 ghost use Rattle.machine.specs.Packed.{instr_of, service_of};
 ghost use Rattle.services.specs.Objects.{AreFit, StandsFor, kept_in};
-ghost use Rattle.services.specs.Quiet.{IsSettled};
 ghost use Rattle.services.specs.PlainSteps.{ExecutesPlain, IsPlainAt, plain_context};
-ghost use Rattle.services.specs.Steps.{Advances, Becomes, Does};
+ghost use Rattle.services.specs.Steps.{Advances, Becomes, Does, answer_of};
+ghost use Rattle.osek_base.specs.declared.trace_event.Results.{Results};
 
-use crate::calls::Answer;
 use crate::objects::Objects;
 use alarms::DueList;
 use machine::{Cpu, PackedInstr, Windows};
@@ -77,22 +76,33 @@ fn may_dispatch<Q: ReadyQueues>(objects: &Objects<'_, Q>, service: &Service<Regi
     }
 }
 
+/// Whether a service is refused.
+#[inline(always)]
+fn is_refusal(status: Status) -> bool
+    ensures { result ≡ is_refusal status }
+{
+    match status {
+        Status::Ok => false,
+        _ => true,
+    }
+}
+
 /// Whether what is known of who is to run still holds behind a service: a refused one changed nothing.
 #[inline(always)]
 fn stays_known<Q: ReadyQueues>(
     objects: &Objects<'_, Q>,
-    answer: &Answer,
+    status: Status,
     packed: PackedInstr,
 ) -> bool
     requires fit { AreFit objects.now }
     requires call { IsService packed }
     ensures { result
-        ≡ (is_refusal answer.now.status
+        ≡ (is_refusal status
         || not
         (may_dispatch (is_runner_outranked objects.now.system (kept_in objects.now))
         (service_of (instr_of packed)))) }
 {
-    answer.is_refusal() || !may_dispatch(objects, &packed.service())
+    is_refusal(status) || !may_dispatch(objects, &packed.service())
 }
 
 /// What is known is kept where it still holds.
@@ -113,15 +123,6 @@ fn becomes_known(known: &mut bool, could: bool)
     if could {
         *known = true;
     }
-}
-
-/// Whether a system is known to be settled, where it is known that a reschedule changes nothing.
-#[inline(always)]
-fn becomes_settled<Q: ReadyQueues>(objects: &Objects<'_, Q>, is_dispatched: bool) -> bool
-    ensures settled { result ≡ true → IsSettled objects.now.system (kept_in objects.now) }
-    ensures both { result ≡ true → is_dispatched ≡ true }
-{
-    is_dispatched && objects.is_settled()
 }
 
 impl<'s, Q: ReadyQueues> Core<'s, Q> {
@@ -211,20 +212,22 @@ impl<'s, Q: ReadyQueues> Core<'s, Q> {
     }
 
     /// A service of a program with a status, by who executes, with the values of its registers. While interrupts are off, it
-    /// is answered 32, and nothing changes.
+    /// is answered 32, and nothing changes. Answers the status, and leaves the results of a service that has some.
     #[inline(always)]
-    pub fn serve(&mut self, owner: Owner, packed: PackedInstr) -> Answer
+    pub fn serve(&mut self, owner: Owner, packed: PackedInstr, results: &mut Results) -> Status
         requires who { IsExecuting (kept_in self.old) owner }
         requires call { IsService packed }
         requires known { IsKnown self.old.system (call_of packed owner self.old) }
         requires serves { MayServe self.old.system (kept_in self.old) }
-        ensures { IsServed (call_of packed owner self.old) self.old self.new result }
+        requires none { results.old ≡ Results.Nothing }
+        ensures { IsServed (call_of packed owner self.old) self.old self.new
+            (answer_of result results.new) }
     {
-        let answer = self.objects.serve_program(owner, packed);
-        let stays = stays_known(&self.objects, &answer, packed);
+        let status = self.objects.serve_program(owner, packed, results);
+        let stays = stays_known(&self.objects, status, packed);
         keep_where(&mut self.is_dispatched, stays);
         keep_where(&mut self.is_settled, stays);
-        answer
+        status
     }
 
     /// Whether a reschedule is known to change nothing: none of the steps since the last one calls for another.
@@ -249,7 +252,7 @@ impl<'s, Q: ReadyQueues> Core<'s, Q> {
         let runner = self.objects.contender();
         let could = self.objects.reschedule(&runner, record_of_tick);
         becomes_known(&mut self.is_dispatched, could);
-        self.is_settled = becomes_settled(&self.objects, self.is_dispatched);
+        self.is_settled = could && self.objects.is_settled();
         runner
     }
 
@@ -330,16 +333,16 @@ impl<'s, Q: ReadyQueues> Core<'s, Q> {
 
     /// Who called takes what a service answers, and goes on to the next instruction, where it is still there.
     #[inline(always)]
-    pub fn answer(&mut self, owner: Owner, status: Status, results: Results)
+    pub fn answer(&mut self, owner: Owner, status: Status, results: &Results)
         requires who { MayGoOn self.old owner }
         requires room { IsThere self.old owner
             → (context_in (kept_in self.old) owner).place + 1 < MAX_INSTRUCTIONS }
         requires placed { IsThere self.old owner
             → IsPlaced self.old.system owner
-            (answered status results (context_in (kept_in self.old) owner)) }
+            (answered status results.now (context_in (kept_in self.old) owner)) }
         ensures { Becomes
             (λ _S o. with_context_in (caller_as owner)
-            (answered status results (context_in o owner)) o) self.old self.new }
+            (answered status results.now (context_in o owner)) o) self.old self.new }
     {
         self.objects.answer(owner, status, results);
     }

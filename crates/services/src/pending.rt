@@ -2,7 +2,7 @@
 
 ghost use Rattle.std.specs.Prelude.{◌≡◌, ◌<◌, IfOk, false, true, replicate, slice_index_or, slice_set, length};
 ghost use Rattle.std.specs.List.{list_any};
-ghost use Rattle.services.specs.Pending.{IsForemost};
+ghost use Rattle.services.specs.Pending.{AreUnset, IsForemost};
 
 use osek_base::{IsrId, System};
 use std::alloc::{AllocError, Global};
@@ -72,6 +72,14 @@ impl Pending {
         ensures { result ≡ slice_index_or self.now routine false }
     {
         self.flags[routine.number() as usize]
+    }
+
+    /// Whether it is known that no routine is pending.
+    #[inline(always)]
+    pub fn is_unset(&self) -> bool
+        ensures { result ≡ true → AreUnset self.now }
+    {
+        !self.some
     }
 
     /// Among the pending routines the first declared with the greatest priority.

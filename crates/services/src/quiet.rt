@@ -1,7 +1,10 @@
 //! OSEK/VDX OS: task management, alarms. Ticks in which nothing happens.
 
-ghost use Rattle.std.specs.Prelude.{◌≡◌, ◌<◌, ◌+◌, true, is_some, Some, IfSome};
+ghost use Rattle.std.specs.Prelude.{◌≡◌, ◌<◌, ◌+◌, true, is_some, Some, None, IfSome, length};
+ghost use Rattle.osek_base.specs.declared.ids.Owner.{Owner};
+ghost use Rattle.run_laws.proofs.Formed.{IsPlaced};
 ghost use Rattle.kept_state.specs.Quiet.{IsQuiet};
+ghost use Rattle.services.specs.Calls.{context_in};
 ghost use Rattle.services.specs.Objects.{kept_in};
 ghost use Rattle.services.specs.Quiet.{BeginsQuiet, IsIdle, IsSettled, PassesUpTo};
 ghost use Rattle.services.specs.Steady.{IsSteady};
@@ -20,18 +23,19 @@ impl<'s, Q: ReadyQueues> Objects<'s, Q> {
         if self.running.is_some() || self.active.is_some() || self.over {
             return false;
         }
-        self.pending_routine().is_none()
+        self.is_none_pending()
     }
 
-    /// Whether no ShutdownOS ended the run, a task runs, and no routine is active or pending.
+    /// Whether no ShutdownOS ended the run, a task runs, and no routine is pending, where none is active.
     #[inline(always)]
     pub fn is_settled(&self) -> bool
+        requires { self.now.active ≡ None }
         ensures { result ≡ true → IsSettled self.now.system (kept_in self.now) }
     {
-        if self.running.is_none() || self.active.is_some() || self.over {
+        if self.running.is_none() || self.over {
             return false;
         }
-        self.pending_routine().is_none()
+        self.is_none_pending()
     }
 
     /// The running task, where one runs.
@@ -76,10 +80,13 @@ impl<'s, Q: ReadyQueues> Core<'s, Q> {
     }
 
     /// The task that executes in a tick in which no alarm is due and no interrupt arrives, where it is known that nothing else
-    /// comes before its instruction.
+    /// comes before its instruction. It stands at a place of its program.
     #[inline(always)]
     pub fn steady_task(&self) -> Option<TaskId>
-        ensures { IfSome result (IsSteady self.now.system (kept_in self.now)) }
+        ensures steady { IfSome result (IsSteady self.now.system (kept_in self.now)) }
+        ensures known { IfSome result (λ t. t < length self.now.system.tasks) }
+        ensures placed { IfSome result (λ t. IsPlaced self.now.system (Owner.Task t)
+            (context_in (kept_in self.now) (Owner.Task t))) }
     {
         if self.is_settled {
             Some(self.objects.runner())

@@ -187,6 +187,9 @@ impl Slot {
         requires { task < length system.now.tasks }
         ensures { result ≡ dynamic_in system.now task self.now }
     {
+        if !self.taken && self.held.holds_none() {
+            return system.priority_of(task);
+        }
         self.held.dynamic(system, task, self.taken)
     }
 

@@ -6,3 +6,4 @@ pub mod WritesLemmas
 pub mod AloneLemmas
 pub mod IdleTickLemmas
 pub mod TickLines
+pub mod PassLemmas

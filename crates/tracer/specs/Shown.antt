@@ -1,6 +1,6 @@
 -- What of a run is written: all records, all with the number of blockers, or those of the view at a priority. No part of the
 -- standards.
-use Rattle.std.specs.Prelude.{ℕ, ◌≡◌, ◌≤◌, ◌-◌, Bool, true, List, map, Option, None}
+use Rattle.std.specs.Prelude.{ℕ, ◌≡◌, ◌-◌, Bool, true, false, List, map, Option, None}
 use Rattle.std.specs.List.{flat_map}
 use Rattle.osek_base.specs.declared.arrivals.Arrival.{Arrival}
 use Rattle.osek_base.specs.declared.trace_event.TraceEvent.{TraceEvent}
@@ -30,13 +30,26 @@ numbers_shown Shown.All S mode arrivals t = None
 numbers_shown Shown.Blocking S mode arrivals t = blockers_at S mode arrivals t
 numbers_shown (Shown.View p) S mode arrivals t = None
 
--- that behind the instruction of the last tick, and where it may be told
-abbrev pub number_of : Shown → Progress → Option ℕ
-number_of shown k = numbers_shown shown k.system k.mode k.arrivals (k.ticks - 1)
+-- that behind the instruction of the last tick, by a kernel that counts blockers or not
+abbrev pub number_by : Bool → Progress → Option ℕ
+number_by true k = blockers_at k.system k.mode k.arrivals (k.ticks - 1)
+number_by false k = None
 
-pub record MayTell (counted : Bool) (shown : Shown) (k : Progress) : Type 0 where
-  pub blockers : shown ≡ Shown.Blocking → counted ≡ true
-  pub done : 1 ≤ k.ticks
+-- whether numbers of blockers are written, and whether a view is
+abbrev pub is_blocking : Shown → Bool
+is_blocking Shown.All = false
+is_blocking Shown.Blocking = true
+is_blocking (Shown.View p) = false
+
+abbrev pub is_view : Shown → Bool
+is_view Shown.All = false
+is_view Shown.Blocking = false
+is_view (Shown.View p) = true
+
+-- what types say of it is so: blockers are counted where their numbers are written and nowhere else, and views are where they are
+pub record MayShow (are_counted are_views : Bool) (shown : Shown) : Type 0 where
+  pub blockers : are_counted ≡ is_blocking shown
+  pub views : are_views ≡ is_view shown
 
 -- what is written of tick t of a run
 abbrev pub tick_text_shown : System → Shown → System → ℕ → List Arrival → ℕ → List ℕ

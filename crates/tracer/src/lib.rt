@@ -1,6 +1,7 @@
 //! Whole runs: what of them is written to a sink, and the first refusal.
 #![tactic(auto)]
 
+mod parts;
 mod run_fault;
 mod shown;
 mod system_texts;

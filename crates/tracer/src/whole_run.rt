@@ -1,10 +1,12 @@
 //! Whole runs, no part of the standards: from the three texts to the trace.
 
-ghost use Rattle.std.specs.Prelude.{◌≡◌, true, IfOk, IfErr};
+ghost use Rattle.std.specs.Prelude.{IfOk, IfErr};
 ghost use Rattle.tracer.specs.declared.shown.Shown.{Shown};
+ghost use Rattle.tracer.specs.Shown.{MayShow};
 ghost use Rattle.tracer.specs.Writing.{Writes};
 ghost use Rattle.tracer.specs.WholeRuns.{IsBegun, IsShown, IsShownOf, IsTrace, IsBlockingTrace, RefusesStart, IsFirstRefusal};
 
+use crate::parts::{Parts, Views, Whole};
 use crate::run_fault::RunFault;
 use crate::shown::Shown;
 use crate::system_texts::read_system;
@@ -34,20 +36,20 @@ fn begin<'s, B: Blockers>(
 
 /// Boots a system, by a kernel that counts blockers or not, runs it, and writes what is shown of
 /// it.
-fn write_kernel_run<B: Blockers, S: Sink>(
+fn write_kernel_run<B: Blockers, V: Parts, S: Sink>(
     alloc: Global,
     system: &System,
     shown: Shown,
     input: &TraceInput<'_>,
     out: &mut S,
 ) -> Result<(), RunFault>
-    requires blockers { shown ≡ Shown.Blocking → B.are_counted ≡ true }
+    requires { MayShow B.are_counted V.are_views shown }
     ensures { Writes S.taken S.has_failed (IsShown system.now shown input.now)
         (RefusesStart system.now input.now.irqs input.now.mode) out.old out.new result }
 {
     let mut kernel: Kernel<'_, LevelQueues, B> = begin(alloc, system, input.irqs(), input.mode())?;
     let texts = InstructionTexts::new(alloc, system)?;
-    write_ticks(&mut kernel, &texts, shown, input.ticks(), out)?;
+    write_ticks::<B, V, S>(&mut kernel, &texts, shown, input.ticks(), out)?;
     Ok(())
 }
 
@@ -64,9 +66,10 @@ pub(crate) fn write_run<S: Sink>(
         (RefusesStart system.now input.now.irqs input.now.mode) out.old out.new result }
 {
     match shown {
-        Shown::Blocking => write_kernel_run::<Counted, S>(alloc, system, shown, input, out),
-        Shown::All | Shown::View(_) => {
-            write_kernel_run::<NotCounted, S>(alloc, system, shown, input, out)
+        Shown::All => write_kernel_run::<NotCounted, Whole, S>(alloc, system, shown, input, out),
+        Shown::Blocking => write_kernel_run::<Counted, Whole, S>(alloc, system, shown, input, out),
+        Shown::View(_) => {
+            write_kernel_run::<NotCounted, Views, S>(alloc, system, shown, input, out)
         }
     }
 }

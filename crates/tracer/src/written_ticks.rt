@@ -1,24 +1,29 @@
 //! The ticks of a run that are written, no part of the standards.
 
-ghost use Rattle.std.specs.Prelude.{◌≡◌, ◌+◌, ◌≤◌, ◌-◌, List, OnOk, true};
-ghost use Rattle.osek_base.specs.declared.trace_event.TraceEvent.{TraceEvent};
+ghost use Rattle.std.specs.Prelude.{◌≡◌, ◌+◌, ◌≤◌, ◌-◌, [], ◌∷◌, ◌++◌, IfOk, IfSome, OnOk, false, true};
+ghost use Rattle.std.specs.List.{AllByRecursion};
+ghost use Rattle.osek_base.specs.Executed.{StandsIn, idle_or_executed};
 ghost use Rattle.osek_base.specs.Trace.{run};
+ghost use Rattle.kernel.specs.Progress.{run_of};
+ghost use Rattle.trace_lines.specs.Lines.{event_of, same_ticks_text, tick_text};
+ghost use Rattle.trace_lines.specs.Programs.{IsOfProgram};
+ghost use Rattle.sinks.specs.Sinks.{Puts, PutsBehind};
 ghost use Rattle.tracer.specs.declared.shown.Shown.{Shown};
-ghost use Rattle.tracer.specs.Shown.{numbers_shown, records_shown, text_shown};
+ghost use Rattle.tracer.specs.Shown.{MayShow, is_view, number_by, numbers_shown, text_shown};
 ghost use Rattle.tracer.specs.Ticks.{
   IdlePasses,
   MayPass,
   MayPassIdle,
+  PassesIfOn,
   SameLines,
   TickPasses,
   idle_word,
 };
-ghost use Rattle.trace_lines.specs.Lines.{event_of, same_ticks_text};
-ghost use Rattle.sinks.specs.Sinks.{Puts, PutsBehind};
 
+use crate::parts::Parts;
 use crate::shown::Shown;
-use kernel::{Blockers, Kernel};
-use osek_base::{MAX_TICKS, TickRecord};
+use kernel::{Blockers, Kernel, Ticked};
+use osek_base::{Executed, MAX_TICKS, TickRecord};
 use ready_queues::LevelQueues;
 use sinks::{Sink, SinkFault, flush};
 use trace_lines::{
@@ -35,15 +40,47 @@ struct LineTexts<'t, 's> {
     shown: Shown,
 }
 
-/// Room for the records of a tick, in two parts, and for the lines that wait to be written.
+/// Room for what a tick did, in parts, and for the lines that wait to be written. Between ticks
+/// there is nothing in `behind`.
 #[derive(Drop)]
 struct Room {
-    some: TickRecord,
-    others: TickRecord,
+    before: TickRecord,
+    behind: TickRecord,
+    executed: Option<Executed>,
     text: Block,
 }
 
 /// Does a tick, and writes its records that are in the view at a priority by way of the block.
+#[inline(always)]
+fn write_viewed<B: Blockers, S: Sink>(
+    kernel: &mut Kernel<'_, LevelQueues, B>,
+    lines: &LineTexts<'_, '_>,
+    p: u8,
+    room: &mut Room,
+    out: &mut S,
+) -> Result<(), SinkFault>
+    requires ready { MayPass lines.now.texts.now (Shown.View p) B.are_counted lines.now.digits
+        kernel.old }
+    requires on { (run_of kernel.old).state.over ≡ false }
+    ensures passes { TickPasses S.taken S.has_failed lines.now.texts.now (Shown.View p) kernel.old
+        kernel.new out.old out.new room.old.text room.new.text result }
+    ensures empty { OnOk result (room.new.behind ≡ []) }
+{
+    kernel.tick_into(&mut room.before, &mut room.behind);
+    upper_view_into(lines.texts.system(), p, &room.before, &mut room.behind);
+    write_tick(
+        lines.texts,
+        &lines.digits,
+        None,
+        &room.behind,
+        &mut room.text,
+        out,
+    )?;
+    room.behind.clear();
+    Ok(())
+}
+
+/// As `write_viewed`, if the run isn't over. Answers whether a tick was done.
 #[inline(never)]
 fn pass_viewed<B: Blockers, S: Sink>(
     kernel: &mut Kernel<'_, LevelQueues, B>,
@@ -51,132 +88,129 @@ fn pass_viewed<B: Blockers, S: Sink>(
     p: u8,
     room: &mut Room,
     out: &mut S,
-) -> Result<(), SinkFault>
-    requires { MayPass lines.now.texts.now (Shown.View p) B.are_counted lines.now.digits
-        kernel.old }
-    ensures { TickPasses S.taken S.has_failed lines.now.texts.now (Shown.View p) kernel.old
+) -> Result<bool, SinkFault>
+    requires { MayPass lines.now.texts.now (Shown.View p) B.are_counted lines.now.digits kernel.old }
+    ensures passes { PassesIfOn S.taken S.has_failed lines.now.texts.now (Shown.View p) kernel.old
         kernel.new out.old out.new room.old.text room.new.text result }
+    ensures empty { IfOk result (λ done. done ≡ true → room.new.behind ≡ []) }
 {
-    kernel.tick_into(&mut room.some, &mut room.others);
-    upper_view_into(lines.texts.system(), p, &room.some, &mut room.others);
-    write_tick(
-        lines.texts,
-        &lines.digits,
-        None,
-        &room.others,
-        &mut room.text,
-        out,
-    )
+    if kernel.is_shut_down() {
+        return Ok(false);
+    }
+    write_viewed(kernel, lines, p, room, out)?;
+    Ok(true)
 }
 
 /// What tells the number that is written behind the instruction of the last tick.
 #[derive(Drop)]
 struct LastNumber<'k, 's, B: Blockers> {
     kernel: &'k Kernel<'s, LevelQueues, B>,
-    shown: Shown,
 }
 
 impl<'k, 's, B: Blockers> BlockerNumber for LastNumber<'k, 's, B> {
-    ghost use Rattle.tracer.specs.Shown.{MayTell, number_of};
+    ghost use Rattle.tracer.specs.Shown.{number_by};
 
-    ghost told = { λ n. number_of n.shown n.kernel.now };
+    ghost told = { λ n. number_by B.are_counted n.kernel.now };
 
-    ghost MayTell = { λ n. MayTell B.are_counted n.shown n.kernel.now };
+    ghost MayTell = { λ n. 1 ≤ n.kernel.now.ticks };
 
     #[inline(always)]
     fn number(&self) -> Option<u32> {
-        match self.shown {
-            Shown::Blocking => self.kernel.blockers(),
-            Shown::All | Shown::View(_) => None,
-        }
+        self.kernel.blockers()
     }
 }
 
-/// Does a tick of any kind, and writes all its records by way of the block.
+/// Writes all records of the last tick, which lie in the room, by way of the block.
 #[inline(never)]
-fn pass_any<B: Blockers, S: Sink>(
-    kernel: &mut Kernel<'_, LevelQueues, B>,
+fn write_any<B: Blockers, S: Sink>(
+    kernel: &Kernel<'_, LevelQueues, B>,
     lines: &LineTexts<'_, '_>,
     room: &mut Room,
     out: &mut S,
 ) -> Result<(), SinkFault>
-    requires ready { MayPass lines.now.texts.now lines.now.shown B.are_counted lines.now.digits
-        kernel.old }
-    requires all { (told : List TraceEvent)
-        → records_shown lines.now.texts.now lines.now.shown told ≡ told }
-    ensures { TickPasses S.taken S.has_failed lines.now.texts.now lines.now.shown kernel.old
-        kernel.new out.old out.new room.old.text room.new.text result }
+    requires done { 1 ≤ kernel.now.ticks }
+    requires before { AllByRecursion (IsOfProgram lines.now.texts.now) room.old.before }
+    requires placed { IfSome room.old.executed (StandsIn lines.now.texts.now) }
+    requires behind { AllByRecursion (IsOfProgram lines.now.texts.now) room.old.behind }
+    ensures { PutsBehind S.taken S.has_failed out.old out.new room.old.text room.new.text
+        (tick_text lines.now.texts.now.names lines.now.digits (number_by B.are_counted kernel.now)
+        (room.old.before ++ idle_or_executed lines.now.texts.now room.old.executed
+        ∷ room.old.behind)) result }
 {
-    let executed = kernel.tick_parts(&mut room.some, &mut room.others);
-    let number = LastNumber {
-        kernel,
-        shown: lines.shown,
-    };
+    let number = LastNumber { kernel };
     write_tick_parts(
         lines.texts,
         &lines.digits,
         &number,
-        &room.some,
-        &executed,
-        &room.others,
+        &room.before,
+        &room.executed,
+        &room.behind,
         &mut room.text,
         out,
     )
 }
 
-/// Does a tick, and writes all its records by way of the block. Of most ticks that of the
-/// instruction is the first.
+/// Does a tick, if the run isn't over, and writes all its records by way of the block. Of most
+/// ticks that of the instruction is the first. Answers whether a tick was done.
+/// It has the type of parts as its own, so that each loop over ticks has one, which is written out.
 #[inline(always)]
-fn pass_whole<B: Blockers, S: Sink>(
+fn pass_whole<B: Blockers, V: Parts, S: Sink>(
     kernel: &mut Kernel<'_, LevelQueues, B>,
     lines: &LineTexts<'_, '_>,
     room: &mut Room,
     out: &mut S,
-) -> Result<(), SinkFault>
+) -> Result<bool, SinkFault>
     requires ready { MayPass lines.now.texts.now lines.now.shown B.are_counted lines.now.digits
         kernel.old }
-    requires all { (told : List TraceEvent)
-        → records_shown lines.now.texts.now lines.now.shown told ≡ told }
-    ensures { TickPasses S.taken S.has_failed lines.now.texts.now lines.now.shown kernel.old
+    requires whole { is_view lines.now.shown ≡ false }
+    requires empty { room.old.behind ≡ [] }
+    ensures passes { PassesIfOn S.taken S.has_failed lines.now.texts.now lines.now.shown kernel.old
         kernel.new out.old out.new room.old.text room.new.text result }
+    ensures empty { IfOk result (λ done. done ≡ true → room.new.behind ≡ []) }
 {
-    match kernel.tick_steady(&mut room.others) {
-        None => pass_any(kernel, lines, room, out),
-        Some(executed) => {
-            let number = LastNumber {
-                kernel,
-                shown: lines.shown,
-            };
+    match kernel.go_on(&mut room.before, &mut room.behind, &mut room.executed) {
+        Ticked::Over => return Ok(false),
+        Ticked::Any => write_any(kernel, lines, room, out)?,
+        Ticked::First(executed) => {
+            let number = LastNumber { kernel };
             write_from_executed(
                 lines.texts,
                 &lines.digits,
                 &number,
                 &executed,
-                &room.others,
+                &room.behind,
                 &mut room.text,
                 out,
-            )
+            )?
         }
     }
+    room.behind.clear();
+    Ok(true)
 }
 
-/// Does a tick, and writes what is shown of it by way of the block.
+/// Does a tick, if the run isn't over, and writes what is shown of it by way of the block. Answers
+/// whether a tick was done.
 #[inline(always)]
-fn pass_tick<B: Blockers, S: Sink>(
+fn pass_tick<B: Blockers, V: Parts, S: Sink>(
     kernel: &mut Kernel<'_, LevelQueues, B>,
     lines: &LineTexts<'_, '_>,
     room: &mut Room,
     out: &mut S,
-) -> Result<(), SinkFault>
-    requires { MayPass lines.now.texts.now lines.now.shown B.are_counted lines.now.digits
+) -> Result<bool, SinkFault>
+    requires ready { MayPass lines.now.texts.now lines.now.shown B.are_counted lines.now.digits
         kernel.old }
-    ensures { TickPasses S.taken S.has_failed lines.now.texts.now lines.now.shown kernel.old
+    requires views { V.are_views ≡ is_view lines.now.shown }
+    requires empty { room.old.behind ≡ [] }
+    ensures passes { PassesIfOn S.taken S.has_failed lines.now.texts.now lines.now.shown kernel.old
         kernel.new out.old out.new room.old.text room.new.text result }
+    ensures empty { IfOk result (λ done. done ≡ true → room.new.behind ≡ []) }
 {
-    match lines.shown {
-        Shown::View(p) => pass_viewed(kernel, lines, p, room, out),
-        Shown::All | Shown::Blocking => pass_whole(kernel, lines, room, out),
+    if V::are_views()
+        && let Shown::View(p) = lines.shown
+    {
+        return pass_viewed(kernel, lines, p, room, out);
     }
+    pass_whole::<B, V, S>(kernel, lines, room, out)
 }
 
 /// What the line of a tick says in which nothing happens.
@@ -235,7 +269,7 @@ fn pass_idle_ticks<B: Blockers, S: Sink>(
 }
 
 /// Writes the ticks of a run that has just begun, as many as asked for, or up to a shutdown.
-pub(crate) fn write_ticks<B: Blockers, S: Sink>(
+pub(crate) fn write_ticks<B: Blockers, V: Parts, S: Sink>(
     kernel: &mut Kernel<'_, LevelQueues, B>,
     texts: &InstructionTexts<'_>,
     shown: Shown,
@@ -243,7 +277,7 @@ pub(crate) fn write_ticks<B: Blockers, S: Sink>(
     out: &mut S,
 ) -> Result<(), SinkFault>
     requires system { kernel.old.system ≡ texts.now }
-    requires blockers { shown ≡ Shown.Blocking → B.are_counted ≡ true }
+    requires types { MayShow B.are_counted V.are_views shown }
     requires begun { kernel.old.ticks ≡ 0 }
     requires ticks { ticks ≤ MAX_TICKS }
     ensures { Puts S.taken S.has_failed out.old out.new
@@ -257,15 +291,15 @@ pub(crate) fn write_ticks<B: Blockers, S: Sink>(
         shown,
     };
     let mut room = Room {
-        some: TickRecord::new(),
-        others: TickRecord::new(),
+        before: TickRecord::new(),
+        behind: TickRecord::new(),
+        executed: None,
         text: Block::new(),
     };
     'ticks: while kernel.ticks() < ticks {
-        if kernel.is_shut_down() {
+        if !pass_tick::<B, V, S>(kernel, &lines, &mut room, out)? {
             break;
         }
-        pass_tick(kernel, &lines, &mut room, out)?;
         lines.digits.advance();
         pass_idle_ticks(kernel, &mut lines, ticks, &mut room.text, out)?;
     }

@@ -1,39 +1,35 @@
-use Rattle.std.proofs.Common.{ap, sym, subst, ◌∙◌, None, refl}
-use Rattle.std.specs.List.{AllByRecursion}
-use Rattle.osek_base.specs.System.{System}
-use Rattle.osek_base.specs.View.{view_records}
+use Rattle.std.proofs.Common.{Ok, true, true≢false, refl, sym, ◌∙◌}
 use Rattle.kernel.specs.Progress.{Progress}
-use Rattle.trace_lines.specs.Lines.{tick_text}
-use Rattle.trace_lines.specs.Programs.{IsOfProgram}
-use Rattle.sinks.specs.Sinks.{PutsBehind}
 use Rattle.tracer.specs.declared.shown.Shown.{Shown}
-use Rattle.tracer.proofs.ProgramRecords.{shown_of_program}
-use Rattle.tracer.proofs.RunTextLemmas.{same_tick_text}
+use Rattle.tracer.proofs.PassLemmas.{stopped}
 use Rattle.tracer.proofs.written_ticks.pass_viewed.Goals as goal
 
-pub write_tick-requires : goal.write_tick-requires
-write_tick-requires g c =
+pub returns-then-is_shut_down-clause-passes : goal.returns-then-is_shut_down-clause-passes
+returns-then-is_shut_down-clause-passes g c =
+    record { over = sym c.is_shut_down.ensures ∙ c.if-is_shut_down.true; same = refl; sink = refl; block = refl }
+
+pub returns-then-is_shut_down-clause-empty : goal.returns-then-is_shut_down-clause-empty
+returns-then-is_shut_down-clause-empty g c = λ none. absurd (true≢false (sym none))
+
+pub write_viewed-requires-clause-on : goal.write_viewed-requires-clause-on
+write_viewed-requires-clause-on g c = sym c.is_shut_down.ensures ∙ c.if-is_shut_down.false
+
+pub returns-in_err-write_viewed-clause-passes : goal.returns-in_err-write_viewed-clause-passes
+returns-in_err-write_viewed-clause-passes g c =
     let k : Progress = c.args.kernel.now in
-    let V = c.system.result.now in
+    let p = c.in_err-write_viewed.ensures.passes in
+    stopped g.S.Sink.taken g.S.Sink.has_failed c.args.lines.now.texts.now (Shown.View c.args.p) k c.write_viewed.new.kernel c.args.out.now
+    c.write_viewed.new.out c.args.room.now.text c.write_viewed.new.room.text _ c.from_residual.result c.from_residual.ensures.1
+    p.on p.next p.puts.beginning p.puts.failed
+
+pub returns-clause-passes : goal.returns-clause-passes
+returns-clause-passes g c =
+    let p = c.in_ok-write_viewed.ensures.passes in
     record {
-      listed =
-          subst (λ (S : System). AllByRecursion (IsOfProgram S) c.upper_view_into.new.view) c.requires.system
-          (subst (AllByRecursion (IsOfProgram k.system)) (sym (c.upper_view_into.ensures ∙ ap (view_records V c.args.p) c.tick_into.ensures.records))
-          (shown_of_program k.system V (Shown.View c.args.p) k.mode k.arrivals k.ticks));
+      on = p.on;
+      puts = record { written = p.puts.written; beginning = tt; still = p.puts.still; failed = tt };
+      next = p.next;
     }
 
-pub returns : goal.returns
-returns g c =
-    let k : Progress = c.args.kernel.now in
-    let T : System = c.args.lines.now.texts.now in
-    let told =
-    c.upper_view_into.ensures ∙ ap (λ (V : System). view_records V c.args.p c.tick_into.new.record_of_tick) c.system.ensures
-    ∙ ap (view_records T c.args.p) c.tick_into.ensures.records in
-    let text = ap (λ n. tick_text T.names n None c.upper_view_into.new.view) c.requires.counted ∙ same_tick_text T.names T.names k.ticks None None _ _ refl refl told in
-    record {
-      puts =
-          subst
-          (λ t. PutsBehind g.S.Sink.taken g.S.Sink.has_failed c.args.out.now c.write_tick.new.out c.args.room.now.text c.write_tick.new.text t c.write_tick.result)
-          text c.write_tick.ensures;
-      next = c.tick_into.ensures.next;
-    }
+pub returns-clause-empty : goal.returns-clause-empty
+returns-clause-empty g c = λ _. c.in_ok-write_viewed.ensures.empty

@@ -13,6 +13,7 @@ invariant-ticks g l =
       within : l.kernel.ticks ≤ l.ticks;
       counted : l.lines.digits ≡ l.kernel.ticks;
       kept : SameLines l.texts l.lines.texts.now l.initial.lines.shown l.lines.shown;
+      empty : l.room.behind ≡ [];
       still : g.S.Sink.has_failed l.out ≡ g.S.Sink.has_failed l.initial.out;
     }
 

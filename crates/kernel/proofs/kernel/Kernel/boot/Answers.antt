@@ -1,9 +1,9 @@
-use Rattle.std.proofs.Common.{◌≡◌, sym, ◌∙◌, ap, arith, subst, map, List}
+use Rattle.std.proofs.Common.{◌≡◌, refl, sym, ◌∙◌, ap, arith, subst, map, List}
 use Rattle.osek_base.specs.declared.arrivals.Arrival.{Arrival}
 use Rattle.osek_base.specs.ArrivalList.{is_arrival_list}
 use Rattle.osek_base.specs.System.{System}
 use Rattle.kernel.specs.Machine.{HasCome, next_tick}
-use Rattle.kernel.specs.Progress.{AreLeft, IsNextArrival}
+use Rattle.kernel.specs.Progress.{AreLeft}
 use Rattle.kernel.proofs.ArrivalLemmas.{all_left}
 use Rattle.kernel.proofs.kernel.Kernel.boot.Goals as goal
 
@@ -18,7 +18,8 @@ invariant_of-result g c =
       left =
           subst (λ n. AreLeft c.args.arrivals 0 n) (sym b.first)
           (all_left c.args.arrivals (sym (ap is_arrival_list c.arrivals.view_is) ∙ c.arrivals.invariant));
-      ahead = subst (λ (xs : List Arrival). IsNextArrival xs 0 c.next_arrival-next.result) c.list-2.ensures.value c.next_arrival-next.ensures;
+      first = λ none. refl;
+      ahead = λ later. let none : next_tick m ≡ 0 = b.first in absurd (omega (arith, later, none));
       last = λ later. let none : next_tick m ≡ 0 = b.first in absurd (omega (arith, later, none));
       forward = omega arith;
       come = subst (λ (T : System). HasCome g.B.Blockers.are_counted T c.in-Some.mode c.args.arrivals (next_tick m) m) b.system (b.begins c.args.arrivals);

@@ -8,8 +8,9 @@ use Rattle.osek_base.specs.Trace.{arriving}
 use Rattle.blocking_laws.specs.Steps.{step_at}
 use Rattle.kept_state.specs.Kept.{Kept, kept}
 use Rattle.kernel.specs.Machine.{next_tick, system_of}
-use Rattle.kernel.specs.Progress.{HasRunApart, Progress, is_over}
+use Rattle.kernel.specs.Progress.{HasRunApart, HaveArrived, IsNextArrival, Progress, is_over}
 use Rattle.kernel.proofs.ArrivalLemmas.{arriving_known}
+use Rattle.kernel.proofs.GoingLemmas.{kernel_keeps}
 use Rattle.kernel.proofs.LawLemmas.{lawful}
 use Rattle.kernel.proofs.RunLemmas.{going}
 use Rattle.kernel.proofs.TickLemmas.{executing_told, record_told}
@@ -33,6 +34,24 @@ tick_with-requires g c =
           (subst (λ (T : System). All (λ i. i < length T.routines) (arriving k.arrivals c.next_tick-tick.result)) (sym v.come.at.system)
           (arriving_known (length k.system.now.routines) k.arrivals c.next_tick-tick.result v.known));
     }
+
+pub invariant_of-self : goal.invariant_of-self
+invariant_of-self g c =
+    let k = c.self.inside in
+    let r = c.tick_with in
+    let end = c.arrived_by-end.result in
+    let coming = c.next_arrival-self-inside.result in
+    let lent : arriving k.arrivals (next_tick k.machine) ≡ slice_range c.as_slice.result.now k.arrived c.arrived_by-end.result =
+    ap (arriving k.arrivals) (sym c.next_tick-tick.ensures.value)
+    ∙ ap (λ (xs : List Arrival). arriving xs c.next_tick-tick.result) (sym c.list.ensures.value) ∙ c.arrived_by-end.ensures.these
+    ∙ ap (λ (xs : List Arrival). slice_range (map (λ (a : Arrival). a.routine) xs) k.arrived c.arrived_by-end.result) c.list.ensures.value
+    ∙ ap (λ (xs : List ℕ). slice_range xs k.arrived c.arrived_by-end.result) (sym c.self.invariant.routines ∙ sym c.as_slice.ensures.value) in
+    kernel_keeps g.B.Blockers.are_counted k.system.now k.mode k.arrivals k.routines.items k.earlier k.arrived k.next
+    c.args.self.now k.machine c.self.view_is c.self.invariant end coming (slice_range c.as_slice.result.now k.arrived end) lent
+    (subst (λ t. HaveArrived k.arrivals t k.arrived end) c.next_tick-tick.ensures.value
+    (subst (λ xs. HaveArrived xs c.next_tick-tick.result k.arrived end) c.list.ensures.value c.arrived_by-end.ensures))
+    (subst (λ xs. IsNextArrival xs end coming) c.list-2.ensures.value c.next_arrival-self-inside.ensures)
+    r.new.self r.new.before r.new.behind r.result r.ensures.done
 
 pub returns-clause-done : goal.returns-clause-done
 returns-clause-done g c =

@@ -1,31 +1,31 @@
-use Rattle.std.proofs.Common.{◌≡◌, ◌<◌, ◌≤◌, false, sym, subst, arith}
+use Rattle.std.proofs.Common.{◌≡◌, ◌<◌, ◌≤◌, false, [], refl, sym, subst, arith}
 use Rattle.osek_base.specs.declared.limits.TheConstants.{MAX_TICKS}
 use Rattle.kernel.specs.Machine.{Machine, next_tick, picture}
-use Rattle.kernel.proofs.SteadyLemmas.{has_begun_steady, may_begin, may_fetch, steady_ticked}
+use Rattle.kernel.proofs.SteadyLemmas.{begins_tick, may_begin, may_fetch, steady_ticked}
+use Rattle.kernel.proofs.TickLemmas.{has_begun, may_start}
 use Rattle.kernel.proofs.ticking.Machine.tick_steady.Goals as goal
 
 pub begin-requires : goal.begin-requires
 begin-requires g c =
-    let k = c.self.inside in
-    may_begin g.B.Blockers.are_counted k.ticks k.watched k.opening k.acted c.self.invariant (omega (arith, c.if-self-eq0.false))
-    (subst (λ (x : Machine). next_tick x < MAX_TICKS) (sym c.self.view_is) c.requires.limit) c.begin_steady.new.self
-    c.in_ok-task.task c.in_ok-task.ensures
+    may_begin c.begin_steady.new.self c.in_ok-task.task c.self.inside.ticks c.in_ok-task.ensures.next
+    (subst (λ (x : Machine). next_tick x < MAX_TICKS) (sym c.self.view_is) c.requires.limit)
 
 pub finish-requires : goal.finish-requires
 finish-requires g c =
     let k = c.self.inside in
     let counted = g.B.Blockers.are_counted in
+    let t = c.in_ok-task.task in
+    let st = c.begin_steady.new.self in
     let begun : 1 ≤ k.ticks = omega (arith, c.if-self-eq0.false) in
     let low : k.ticks < MAX_TICKS = subst (λ (x : Machine). next_tick x < MAX_TICKS) (sym c.self.view_is) c.requires.limit in
+    let may = may_start counted k.watched k.ticks k.opening k.acted c.self.invariant low k.opening refl in
     record {
-      fetch =
-          may_fetch counted k.ticks k.watched k.opening k.acted c.self.invariant begun low c.begin_steady.new.self
-          c.in_ok-task.task c.in_ok-task.ensures c.begin.new.self c.begin.ensures;
+      fetch = may_fetch counted k.ticks st c.begin.new.self t c.in_ok-task.ensures.next c.begin.ensures;
       ready = record {
         begun =
-            has_begun_steady counted k.ticks k.watched k.opening k.acted c.self.invariant begun low c.begin_steady.new.self
-            c.in_ok-task.task c.in_ok-task.ensures c.begin.new.self c.begin.ensures
-            (subst (λ (x : Machine). (picture x).over ≡ false) (sym c.self.view_is) c.requires.on);
+            has_begun counted k.watched k.ticks k.opening k.acted c.self.invariant low [] st c.begin.new.self [] []
+            (subst (λ (x : Machine). (picture x).over ≡ false) (sym c.self.view_is) c.requires.on)
+            (begins_tick counted k.ticks k.watched k.opening may begun st t c.in_ok-task.ensures) c.begin.ensures;
         none = c.clear-2.ensures;
       };
     }

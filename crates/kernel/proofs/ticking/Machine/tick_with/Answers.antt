@@ -30,7 +30,7 @@ late_phases-requires g c =
       begun =
           has_begun g.B.Blockers.are_counted k.watched k.ticks k.opening k.acted c.self.invariant (subst Follows (sym c.self.view_is) c.requires.limit)
           c.args.arrived.now c.early_phases.new.self c.begin.new.self c.put_first.new.records c.early_phases.new.before
-          (subst IsOn (sym c.self.view_is) c.requires.on) c.early_phases.ensures.does c.begin.ensures;
+          (subst IsOn (sym c.self.view_is) c.requires.on) c.early_phases.ensures.starts.does c.begin.ensures;
       none = c.clear.ensures;
     }
 
@@ -45,8 +45,8 @@ invariant_of-self g c =
     (subst IsOn (sym c.self.view_is) c.requires.on)
     (recursion_from_All (λ i. i < length (system_in k.watched.processor).routines) c.args.arrived.now
     (subst (λ (x : Machine). All (λ i. i < length (system_of x).routines) c.args.arrived.now) (sym c.self.view_is) c.requires.known))
-    c.put_first.ensures.value c.put_first.ensures.after c.early_phases.ensures.acted
-    (record { one = c.early_phases.ensures.does; two = c.begin.ensures; three = r.executes.does; four = r.reschedules })).keeps
+    c.put_first.ensures.value c.put_first.ensures.after c.early_phases.ensures.starts.acted
+    (record { one = c.early_phases.ensures.starts.does; two = c.begin.ensures; three = r.executes.does; four = r.reschedules })).keeps
 
 pub returns-clause-done : goal.returns-clause-done
 returns-clause-done g c =
@@ -60,10 +60,10 @@ returns-clause-done g c =
     (subst IsOn (sym c.self.view_is) c.requires.on)
     (recursion_from_All (λ i. i < length (system_in k.watched.processor).routines) c.args.arrived.now
     (subst (λ (x : Machine). All (λ i. i < length (system_of x).routines) c.args.arrived.now) (sym c.self.view_is) c.requires.known))
-    c.put_first.ensures.value c.put_first.ensures.after c.early_phases.ensures.acted
-    (record { one = c.early_phases.ensures.does; two = c.begin.ensures; three = r.executes.does; four = r.reschedules }) in
+    c.put_first.ensures.value c.put_first.ensures.after c.early_phases.ensures.starts.acted
+    (record { one = c.early_phases.ensures.starts.does; two = c.begin.ensures; three = r.executes.does; four = r.reschedules }) in
     let system : system_in c.begin.new.self.processor ≡ system_in k.watched.processor =
-    ap system_in c.begin.ensures.processor ∙ c.early_phases.ensures.does.does.system in
+    ap system_in c.begin.ensures.processor ∙ c.early_phases.ensures.starts.does.does.system in
     let new = between f.new.self (k.ticks + 1) c.put_first.new.opening c.early_phases.new.acted in
     let behind = f.new.behind in
     subst (λ (x : Machine). HasTicked counted c.args.arrived.now x new c.early_phases.new.before f.result behind) c.self.view_is
@@ -75,6 +75,6 @@ returns-clause-done g c =
       was_of_run = c.self.invariant.of_run;
       of_run = all.keeps.of_run;
       there = subst (λ T. IfSome f.result (StandsIn T)) system r.executes.there;
-      few = omega (arith, c.early_phases.ensures.few, r.few);
-      acted = c.early_phases.ensures.acted;
+      few = omega (arith, c.early_phases.ensures.starts.few, r.few);
+      acted = c.early_phases.ensures.starts.acted;
     })

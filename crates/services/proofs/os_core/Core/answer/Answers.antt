@@ -17,12 +17,12 @@ pub invariant_of-self : goal.invariant_of-self
 invariant_of-self g c =
     let o : Objects = c.self.inside.objects in
     let who = c.args.owner in
-    let x = answered c.args.status c.args.results (context_in (kept_in o) who) in
+    let x = answered c.args.status c.args.results.now (context_in (kept_in o) who) in
     record {
       stands =
           stands_gone_on_there o c.answer.new.self c.answer.ensures.system who x c.self.invariant.stands
           (subst (λ (k : Objects). MayGoOn k who) (sym c.self.view_is) c.requires.who)
-          (subst (λ (k : Objects). IsThere k who → IsPlaced k.system who (answered c.args.status c.args.results (context_in (kept_in k) who))) (sym c.self.view_is) c.requires.placed)
+          (subst (λ (k : Objects). IsThere k who → IsPlaced k.system who (answered c.args.status c.args.results.now (context_in (kept_in k) who))) (sym c.self.view_is) c.requires.placed)
           c.answer.ensures.kept;
       dispatched = λ known.
           still_dispatched o c.answer.new.self (with_context_in (caller_as who) x) c.answer.ensures.system c.answer.ensures.kept

@@ -1,4 +1,4 @@
-use Rattle.std.proofs.Common.{◌≡◌, ◌+◌, Bool, true, false, sym, subst, refl, inl, inr}
+use Rattle.std.proofs.Common.{◌≡◌, true, sym, subst, inl, inr}
 use Rattle.std.proofs.lemmas.Bool.{cases_Bool}
 use Rattle.services.specs.Dispatched.{IsCore, is_dispatched_in}
 use Rattle.services.specs.Objects.{Objects, kept_in}
