@@ -40,7 +40,7 @@ use Rattle.observed_runs.specs.Keeping.{AreStanding, HasGoneSteadily, IsBefore, 
 use Rattle.observed_runs.specs.Resting.{IsRest, resting_alarm, resting_routine}
 use Rattle.observed_runs.proofs.Resting.{alarms_rest, routines_rest}
 use Rattle.seen_ticks.specs.declared.task_at.TaskAt.{TaskAt}
-use Rattle.seen_ticks.specs.Observed.{IsObserved, IsSeen, Ticked, activates, active_routine, alarm_seen, answered, ending, executed_in, failure_by, failure_of, holders_seen, instruction, is_accepted, is_by, is_end, is_limit, is_number, is_waiting, jobs_before, one_if, owner_of, refusing, routine_seen, state_seen, status_of, task_of, task_seen, tick_at}
+use Rattle.seen_ticks.specs.Observed.{IsObserved, IsSeen, Ticked, activates, active_routine, alarm_seen, answered, ending, executed_in, failure_by, failure_of, holders_seen, instruction, is_accepted, is_by, is_end, is_limit, is_number, is_waiting, jobs_before, moved, moves, one_if, owner_of, refusing, routine_seen, state_seen, status_of, task_of, task_seen, tick_at}
 use Rattle.observed_runs.specs.Passing.{HasStayed, LeavesAll, PassesAlike, StaysAlike, task_left}
 use Rattle.seen_ticks.proofs.Staying.{holding}
 use Rattle.observed_runs.proofs.Seeing.{one_on}
@@ -251,11 +251,11 @@ module _ (counted : Bool) (S : System) (proper : IsProper S) (mode : ℕ) (arriv
   -- ---- what is told of it, by the state behind it
 
   pub alike_told : (now : State) → now ≡ after → (x : Execution) (ahead behind_it : List TraceEvent) (last : Option Executed)
-      → x.executed ≡ last → x.ending ≡ None → x.refusing ≡ None
+      → x.executed ≡ last → x.ending ≡ None → x.refusing ≡ None → x.moved ≡ false
       → IfSome last (StandsIn S) → ahead ≡ [] → behind_it ≡ []
       → record_at S mode arrivals n ≡ idle_or_executed S last ∷ []
       → IsTold S mode arrivals n now x ahead behind_it
-  alike_told now behind x ahead behind_it last executed ends refuses there none_ahead none_behind recorded =
+  alike_told now behind x ahead behind_it last executed ends refuses moves_none there none_ahead none_behind recorded =
       let last_is : executed_in (record_at S mode arrivals n) ≡ last = ap executed_in recorded ∙ executed_again S last in
       let few_ahead = ap (λ (v : List TraceEvent). length v) none_ahead in
       let few_behind = ap (λ (v : List TraceEvent). length v) none_behind in
@@ -265,6 +265,7 @@ module _ (counted : Bool) (S : System) (proper : IsProper S) (mode : ℕ) (arriv
           executed = executed ∙ sym last_is;
           ending = ends ∙ sym (ap (ending S) executed_is ∙ stays.ends);
           refusing = refuses ∙ sym (ap (refusing S) executed_is ∙ stays.refuses);
+          moved = moves_none ∙ sym (ap (moved S) executed_is ∙ stays.moves);
         };
         records = record {
           recorded =
@@ -299,6 +300,7 @@ idle_stays counted most n old new idled = record {
         failure = refl;
         ends = refl;
         refuses = refl;
+        moves = refl;
         before = ap at_rest leaves.before;
         at = ap at_rest leaves.at;
         behind = ap at_rest leaves.behind;
@@ -340,6 +342,7 @@ work_stays counted most n old new last worked = record {
         failure = ap (λ x. failure_by e (status_of x)) plain;
         ends = ap (λ x. cond (is_accepted x && is_end (instruction old.system e)) (task_of e.owner) None) plain;
         refuses = ap (λ x. cond (is_limit x) (activates (instruction old.system e)) None) plain;
+        moves = ap (λ x. is_accepted x && moves (instruction old.system e)) plain;
         before = leaves.before;
         at = leaves.at;
         behind = leaves.behind;
@@ -350,11 +353,12 @@ work_stays counted most n old new last worked = record {
 
 -- ---- a kernel that passes such ticks
 
--- what is noted behind a run's last tick, in which that was executed, and which ended and refused nothing
+-- what is noted behind a run's last tick, in which that was executed, and which ended, refused and moved nothing
 pub record IsNoted (r : Progress) (last : Option Executed) (e : Execution) (ahead behind : List TraceEvent) : Type 0 where
   pub executed : e.executed ≡ last
   pub ending : e.ending ≡ None
   pub refusing : e.refusing ≡ None
+  pub moved : e.moved ≡ false
   pub there : IfSome last (StandsIn r.system)
   pub none_ahead : ahead ≡ []
   pub none_behind : behind ≡ []
@@ -396,7 +400,7 @@ module _ (counted : Bool) (most n : ℕ) (k new : Progress) (last : Option Execu
       (alike_told counted k.system proper k.mode k.arrivals (k.ticks + (n - 1)) kept_then stayed.who (not_first_at (n - 1))
       (stayed.going (n - 1) last_low) (stayed.stays (n - 1) last_low)
       (run_of new).state (state_is ∙ state_behind)
-      e ahead behind last is.executed is.ending is.refusing is.there is.none_ahead is.none_behind (stayed.recorded some))
+      e ahead behind last is.executed is.ending is.refusing is.moved is.there is.none_ahead is.none_behind (stayed.recorded some))
 
   -- ---- what is known before the tick that comes next, is known behind them, too
   abbrev behind_all : State
@@ -485,6 +489,14 @@ module _ (counted : Bool) (most n : ℕ) (k new : Progress) (last : Option Execu
       (ap (holders_seen k.system) state_is
       ∙ holders_kept k.system (step_at k.system k.mode k.arrivals (k.ticks + (n - 1))).after kept_then stays.behind
       ∙ sym (holders_kept k.system (step_at k.system k.mode k.arrivals (k.ticks + (n - 1))).executing kept_then stays.at))
+
+  -- who holds what before them holds it behind them
+  pub stayed_held : holders_seen k.system (run_of k).state ≡ holders_seen new.system (run_of new).state
+  stayed_held =
+      holders_kept k.system (run_of k).state kept_then refl
+      ∙ sym (holders_kept k.system behind_all kept_then (stayed.stays (n - 1) last_low).behind)
+      ∙ ap (holders_seen k.system) (sym new_state)
+      ∙ ap (λ (r : Progress). holders_seen r.system (run_of new).state) (sym stayed.next)
 
   -- before each of them the run goes on
   goes_on : k.ticks + most ≤ 1000000 → (i : ℕ) → i < n → is_over (record k { ticks = k.ticks + i }) ≡ false

@@ -8,7 +8,10 @@ use Rattle.osek_base.specs.Trace.{Run, arriving}
 use Rattle.blocking_laws.proofs.StepLemmas.{run_more}
 use Rattle.kernel.proofs.RunLemmas.{going}
 use Rattle.kernel.specs.Progress.{Progress, is_over, run_of}
-use Rattle.seen_ticks.specs.Observed.{tick_at}
+use Rattle.osek_base.specs.Proper.{IsProper}
+use Rattle.observed_runs.specs.Keeping.{last_tick}
+use Rattle.seen_ticks.specs.Observed.{holders_seen, moved, tick_at}
+use Rattle.seen_ticks.proofs.Holding.{holders_left}
 use Rattle.std.specs.Prelude.{◌==◌}
 use Rattle.std.specs.List.{filter}
 
@@ -26,6 +29,16 @@ pub state_more : (k new : Progress) → new ≡ record k { ticks = k.ticks + 1 }
 state_more k new next on =
     ap (λ (r : Progress). (run_of r).state) next
     ∙ ap (λ (r : Run). r.state) (run_more k.system k.mode k.arrivals k.ticks (going k.system k.mode k.arrivals k.ticks on).on)
+
+-- where no resource is got or released, who holds what at the instruction holds it behind the tick
+pub held_on : (k new : Progress) → new ≡ record k { ticks = k.ticks + 1 } → is_over k ≡ false → IsProper k.system
+    → moved new.system (last_tick new).executed ≡ false
+    → holders_seen new.system (last_tick new).at ≡ holders_seen new.system (run_of new).state
+held_on k new next on proper =
+    one_on k new
+    (λ S mode arrivals n. moved S (tick_at S mode arrivals n).executed ≡ false
+    → holders_seen S (tick_at S mode arrivals n).at ≡ holders_seen S (run_of new).state) next
+    (λ none. holders_left k.system proper k.mode k.arrivals k.ticks none ∙ ap (holders_seen k.system) (sym (state_more k new next on)))
 
 fewer : {X : Type 0} (test : X → Bool) (xs : List X) → length (filter test xs) ≤ length xs
 fewer test [] = omega arith

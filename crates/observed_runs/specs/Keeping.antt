@@ -17,7 +17,7 @@ use Rattle.observed_runs.specs.declared.before.Before.{Before}
 use Rattle.observed_runs.specs.Resting.{AreAtRest, IsRest}
 use Rattle.seen_ticks.specs.Told.{task_at}
 use Rattle.seen_ticks.specs.declared.execution.Execution.{Execution}
-use Rattle.seen_ticks.specs.Observed.{IsObserved, Ticked, active_routine, ending, holders_seen, is_pending, jobs_before, refusing, tick_at}
+use Rattle.seen_ticks.specs.Observed.{IsObserved, Ticked, active_routine, ending, holders_seen, is_pending, jobs_before, moved, refusing, tick_at}
 
 -- the tick of a run that was done last
 abbrev pub last_tick : Progress → Ticked
@@ -44,6 +44,7 @@ pub record IsExecution (S : System) (k : Ticked) (e : Execution) : Type 0 where
   pub executed : e.executed ≡ k.executed
   pub ending : e.ending ≡ ending S k.executed
   pub refusing : e.refusing ≡ refusing S k.executed
+  pub moved : e.moved ≡ moved S k.executed
 
 -- of tick n of a run, the state behind it, what it executed, and its records
 pub record IsTold (S : System) (mode : ℕ) (arrivals : List Arrival) (n : ℕ) (now : State) (e : Execution) (ahead behind_it : List TraceEvent) : Type 0 where

@@ -18,7 +18,7 @@ use Rattle.kernel.specs.Working.{at_rest}
 use Rattle.observed_runs.specs.Resting.{IsRest}
 use Rattle.seen_ticks.specs.declared.task_at.TaskAt.{TaskAt}
 use Rattle.seen_ticks.specs.Told.{due_in, task_at}
-use Rattle.seen_ticks.specs.Observed.{IsObserved, Ticked, answered, ending, failure_of, is_by, is_waiting, owner_of, refusing, state_seen, task_seen}
+use Rattle.seen_ticks.specs.Observed.{IsObserved, Ticked, answered, ending, failure_of, is_by, is_waiting, moved, owner_of, refusing, state_seen, task_seen}
 
 -- in a tick of a run nothing comes to a task, routine, resource or alarm: no interrupt arrives, no alarm is due, no number of
 -- blockers is told where they are counted, who executes, if anybody does, is no routine, is answered nothing and neither ends a
@@ -35,6 +35,7 @@ pub record StaysAlike (counted : Bool) (S : System) (mode : ℕ) (arrivals : Lis
   pub failure : failure_of executed ≡ None
   pub ends : ending S executed ≡ None
   pub refuses : refusing S executed ≡ None
+  pub moves : moved S executed ≡ false
   pub before : at_rest (kept S (run S mode arrivals t).state) ≡ at_rest o
   pub at : at_rest (kept S (step_at S mode arrivals t).executing) ≡ at_rest o
   pub behind : at_rest (kept S (step_at S mode arrivals t).after) ≡ at_rest o

@@ -92,14 +92,14 @@ impl<'s, B: Blockers> ObservedRun<'s, B> {
         if self.told.advance_steady() {
             self.told
                 .see_steady(self.rests, &mut self.at, &mut self.before, &mut self.seen);
-            self.is_held = false;
+            self.is_held = !self.told.is_any_moved();
             self.rests = true;
             return true;
         }
         self.told.advance(&mut self.at);
         self.told
             .see(&mut self.at, &mut self.before, &mut self.seen);
-        self.is_held = false;
+        self.is_held = !self.told.is_any_moved();
         self.rests = false;
         true
     }
@@ -133,7 +133,8 @@ impl<'s, B: Blockers> ObservedRun<'s, B> {
         if passed == 0 {
             return 0;
         }
-        self.told.see_holders(&mut self.seen.holders);
+        self.told
+            .see_holders_once(self.is_held, &mut self.seen.holders);
         self.told.see_alike(self.rests, &self.at, &mut self.seen);
         self.rests = true;
         self.is_held = true;

@@ -15,6 +15,7 @@ ghost use Rattle.seen_ticks.specs.Observed.{
   is_by,
   is_number,
   is_pending,
+  moved,
   refusing,
   times,
 };
@@ -79,6 +80,15 @@ impl<'s, B: Blockers> ToldRun<'s, B> {
         ensures { result ≡ is_some (ending self.now.system (last_tick self.now).executed) }
     {
         self.execution.ending.is_some()
+    }
+
+    /// Whether a resource was got or released.
+    #[inline(always)]
+    pub(crate) fn is_any_moved(&self) -> bool
+        requires { 1 ≤ self.now.ticks }
+        ensures { result ≡ moved self.now.system (last_tick self.now).executed }
+    {
+        self.execution.moved
     }
 
     /// Whether the instruction was an activation of a task that was refused.

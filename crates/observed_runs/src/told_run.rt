@@ -113,7 +113,7 @@ impl<'s, B: Blockers> ToldRun<'s, B> {
             (below (length self.new.system.tasks)) }
     {
         let executed = self.kernel.tick_seen(&mut self.ahead, &mut self.behind, at);
-        self.execution = Execution::of(self.system, executed);
+        replace(&mut self.execution, Execution::of(self.system, executed));
     }
 
     /// Does one tick, where it is known that nothing comes before the instruction of the running
@@ -127,7 +127,10 @@ impl<'s, B: Blockers> ToldRun<'s, B> {
         let Some(executed) = self.kernel.tick_steady(&mut self.behind) else {
             return false;
         };
-        self.execution = Execution::of(self.system, Some(executed));
+        replace(
+            &mut self.execution,
+            Execution::of(self.system, Some(executed)),
+        );
         self.ahead.clear();
         true
     }
@@ -164,6 +167,7 @@ impl<'s, B: Blockers> ToldRun<'s, B> {
         let _proper = self.system.task_count();
         self.execution.ending = None;
         self.execution.refusing = None;
+        self.execution.moved = false;
         self.ahead.clear();
         self.behind.clear();
         worked
@@ -230,6 +234,17 @@ impl<'s, B: Blockers> ToldRun<'s, B> {
         records.push(event_of(self.system, &self.execution.executed));
         push_all(records, &self.behind);
     }
+}
+
+/// It becomes another, part by part: all at once, the room between its parts is copied too.
+#[inline(always)]
+fn replace(execution: &mut Execution, other: Execution)
+    ensures { execution.new ≡ other }
+{
+    execution.executed = other.executed;
+    execution.ending = other.ending;
+    execution.refusing = other.refusing;
+    execution.moved = other.moved;
 }
 
 /// The record of what a tick executed.

@@ -82,10 +82,10 @@ pending_stays S mode arrivals n =
 abbrev pub HoldSame : Kept → Kept → Type 0
 HoldSame o e = (t : ℕ) → (e.slots t).held ≡ (o.slots t).held
 
-then_same : (o e f : Kept) → HoldSame o e → HoldSame e f → HoldSame o f
+pub then_same : (o e f : Kept) → HoldSame o e → HoldSame e f → HoldSame o f
 then_same o e f one two t = two t ∙ one t
 
-changed_same : (slots : ℕ → Slot) (t : ℕ) (a : Slot) → a.held ≡ (slots t).held
+pub changed_same : (slots : ℕ → Slot) (t : ℕ) (a : Slot) → a.held ≡ (slots t).held
     → (u : ℕ) → (changed_at slots t a u).held ≡ (slots u).held
 changed_same slots t a same u = go (t == u) refl
   where
@@ -102,7 +102,7 @@ module _ (S : System) (o : Kept) where
       go None = changed_same o.slots t (one_more (o.slots t)) refl
       go (Some refusal) = λ u. refl
 
-  set_same : (t m : ℕ) (b : Bool) → HoldSame o (cond b (released_in S t (with_mask t m o)) (with_mask t m o))
+  pub set_same : (t m : ℕ) (b : Bool) → HoldSame o (cond b (released_in S t (with_mask t m o)) (with_mask t m o))
   set_same t m true = changed_same o.slots t (slot_woken (o.slots t)) refl
   set_same t m false = λ u. refl
 
@@ -136,7 +136,7 @@ module _ (S : System) (o : Kept) where
       go true = stays_same t
       go false = dispatched_same l (put_oldest o.queues (dynamic_in S t (o.slots t)) t)
 
-  rescheduled_same : HoldSame o (rescheduled S o).state
+  pub rescheduled_same : HoldSame o (rescheduled S o).state
   unfolding rescheduled
   rescheduled_same = go (may_dispatch_in o)
     where

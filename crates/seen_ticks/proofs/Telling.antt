@@ -219,13 +219,33 @@ one_in (TraceEvent.Executed who place what outcome ∷ rest) e h = ap head h
 one_in (TraceEvent.Idle ∷ rest) e h = none_in rest (ap tail h) ∙ ap head h
 one_in (_ ∷ rest) e h = one_in rest e h
 
-itself : (S : System) (e : Option Executed) → told (idle_or_executed S e ∷ []) ≡ e ∷ []
-itself S None = refl
-itself S (Some e) = refl
-
 nothing : (xs : List (Option Executed)) → length xs ≡ 0 → xs ≡ []
 nothing [] h = refl
 nothing (x ∷ xs) h = absurd (omega (arith, h))
+
+single : (xs : List (Option Executed)) → length xs ≡ 1 → xs ≡ head xs ∷ []
+single [] h = absurd (omega (arith, h))
+single (x ∷ xs) h = ap (λ (v : List (Option Executed)). x ∷ v) (nothing xs (omega (arith, h)))
+
+-- a tick's records tell what its fifth phase executes
+pub record_executed : (S : System) (mode : ℕ) (arrivals : List Arrival) (n : ℕ)
+    → executed_in (record_at S mode arrivals n)
+    ≡ executed_in (execute_phase S (before_execution S (arriving arrivals (run S mode arrivals n).state.tick) (run S mode arrivals n).state).state).events
+record_executed S mode arrivals n =
+    let r : Run = run S mode arrivals n in
+    let arrived : List ℕ = arriving arrivals r.state.tick in
+    let during : List TraceEvent = (execute_phase S (before_execution S arrived r.state).state).events in
+    let one : told during ≡ head (told during) ∷ [] =
+    single (told during) (execute_one S (before_execution S arrived r.state).state) in
+    let all : told (record_at S mode arrivals n) ≡ head (told during) ∷ [] =
+    told_append r.unwritten (tick S arrived r.state).events
+    ∙ ap (λ (v : List (Option Executed)). v ++ told (tick S arrived r.state).events) (unwritten_none S mode arrivals n)
+    ∙ tick_told S arrived r.state ∙ ap (λ (v : List (Option Executed)). v ++ []) one in
+    one_in (record_at S mode arrivals n) (head (told during)) all ∙ sym (one_in during (head (told during)) one)
+
+itself : (S : System) (e : Option Executed) → told (idle_or_executed S e ∷ []) ≡ e ∷ []
+itself S None = refl
+itself S (Some e) = refl
 
 module _ (S : System) (before behind : List TraceEvent) (e : Option Executed) where
   parts : told (before ++ idle_or_executed S e ∷ behind) ≡ told before ++ e ∷ told behind

@@ -97,6 +97,12 @@ abbrev pub is_accepted : Outcome → Bool
 is_accepted (Outcome.Answer Status.Ok found) = true
 is_accepted _ = false
 
+-- whether an instruction gets or releases a resource
+abbrev pub moves : Instr → Bool
+moves (Instr.Service (Service.GetResource r)) = true
+moves (Instr.Service (Service.ReleaseResource r)) = true
+moves _ = false
+
 -- whether the answer is E_OS_LIMIT
 abbrev pub is_limit : Outcome → Bool
 is_limit (Outcome.Answer Status.Limit found) = true
@@ -115,6 +121,11 @@ ending S (Some e) = if is_accepted e.outcome && is_end (instruction S e) then ta
 abbrev pub refusing : System → Option Executed → Option ℕ
 refusing S None = None
 refusing S (Some e) = if is_limit e.outcome then activates (instruction S e) else None
+
+-- whether a resource is got or released
+abbrev pub moved : System → Option Executed → Bool
+moved S None = false
+moved S (Some e) = is_accepted e.outcome && moves (instruction S e)
 
 -- ---- what a tick is seen by
 

@@ -16,6 +16,8 @@ ghost use Rattle.seen_ticks.specs.Observed.{
   is_by,
   is_end,
   is_limit,
+  moved,
+  moves,
   owner_of,
   refusing,
   status_of,
@@ -34,6 +36,8 @@ pub struct Execution {
     pub ending: Option<TaskId>,
     /// The task of which an activation is refused.
     pub refusing: Option<TaskId>,
+    /// Whether a resource is got or released.
+    pub moved: bool,
 }
 
 impl Execution {
@@ -43,25 +47,30 @@ impl Execution {
             executed: None,
             ending: None,
             refusing: None,
+            moved: false,
         }
     }
 
     /// What the system's instruction at its place is to tasks.
+    #[inline(always)]
     pub fn of(system: &System, executed: Option<Executed>) -> Self
         requires { IfSome executed (StandsIn system.now) }
         ensures executed { result.executed ≡ executed }
         ensures ending { result.ending ≡ ending system.now executed }
         ensures refusing { result.refusing ≡ refusing system.now executed }
+        ensures moved { result.moved ≡ moved system.now executed }
     {
         Execution {
             executed,
             ending: ending(system, &executed),
             refusing: refusing(system, &executed),
+            moved: moved(system, &executed),
         }
     }
 }
 
 /// The instruction that was executed.
+#[inline(always)]
 fn instruction(system: &System, executed: &Executed) -> Instr
     requires { StandsIn system.now executed.now }
     ensures { result ≡ instruction system.now executed.now }
@@ -70,6 +79,7 @@ fn instruction(system: &System, executed: &Executed) -> Instr
 }
 
 /// Whether an instruction ends the job that executes it.
+#[inline(always)]
 fn is_end(instr: &Instr) -> bool
     ensures { result ≡ is_end instr.now }
 {
@@ -80,6 +90,7 @@ fn is_end(instr: &Instr) -> bool
 }
 
 /// The task that an instruction activates.
+#[inline(always)]
 fn activates(instr: &Instr) -> Option<TaskId>
     ensures { result ≡ activates instr.now }
 {
@@ -91,18 +102,34 @@ fn activates(instr: &Instr) -> Option<TaskId>
     }
 }
 
+/// Whether an instruction gets or releases a resource.
+#[inline(always)]
+fn moves(instr: &Instr) -> bool
+    ensures { result ≡ moves instr.now }
+{
+    match instr {
+        Instr::Service(Service::GetResource(_)) | Instr::Service(Service::ReleaseResource(_)) => {
+            true
+        }
+        _ => false,
+    }
+}
+
+#[inline(always)]
 fn is_accepted(outcome: &Outcome) -> bool
     ensures { result ≡ is_accepted outcome.now }
 {
     matches!(outcome, Outcome::Answer(Status::Ok, _))
 }
 
+#[inline(always)]
 fn is_limit(outcome: &Outcome) -> bool
     ensures { result ≡ is_limit outcome.now }
 {
     matches!(outcome, Outcome::Answer(Status::Limit, _))
 }
 
+#[inline(always)]
 fn task_of(owner: &Owner) -> Option<TaskId>
     ensures { result ≡ task_of owner.now }
 {
@@ -113,6 +140,7 @@ fn task_of(owner: &Owner) -> Option<TaskId>
 }
 
 /// The task of which a job ends by what was executed.
+#[inline(always)]
 fn ending(system: &System, executed: &Option<Executed>) -> Option<TaskId>
     requires { IfSome executed.now (StandsIn system.now) }
     ensures { result ≡ ending system.now executed.now }
@@ -127,6 +155,7 @@ fn ending(system: &System, executed: &Option<Executed>) -> Option<TaskId>
 }
 
 /// The task of which an activation was refused with E_OS_LIMIT.
+#[inline(always)]
 fn refusing(system: &System, executed: &Option<Executed>) -> Option<TaskId>
     requires { IfSome executed.now (StandsIn system.now) }
     ensures { result ≡ refusing system.now executed.now }
@@ -138,7 +167,20 @@ fn refusing(system: &System, executed: &Option<Executed>) -> Option<TaskId>
     }
 }
 
+/// Whether a resource is got or released.
+#[inline(always)]
+fn moved(system: &System, executed: &Option<Executed>) -> bool
+    requires { IfSome executed.now (StandsIn system.now) }
+    ensures { result ≡ moved system.now executed.now }
+{
+    match executed {
+        None => false,
+        Some(it) => is_accepted(&it.outcome) && moves(&instruction(system, it)),
+    }
+}
+
 /// Whose the instruction is.
+#[inline(always)]
 pub fn executor(executed: &Option<Executed>) -> Option<Owner>
     ensures { result ≡ option_map owner_of executed.now }
 {
@@ -148,6 +190,7 @@ pub fn executor(executed: &Option<Executed>) -> Option<Owner>
     }
 }
 
+#[inline(always)]
 fn status_of(outcome: &Outcome) -> Option<Status>
     ensures { result ≡ status_of outcome.now }
 {
@@ -158,6 +201,7 @@ fn status_of(outcome: &Outcome) -> Option<Status>
 }
 
 /// What the instruction is answered, if it is a service with a status.
+#[inline(always)]
 pub fn answered(executed: &Option<Executed>) -> Option<Status>
     ensures { result ≡ answered executed.now }
 {
@@ -168,6 +212,7 @@ pub fn answered(executed: &Option<Executed>) -> Option<Status>
 }
 
 /// An instruction that is answered so, if that is other than E_OK.
+#[inline(always)]
 fn failure_by(executed: &Executed, answered: Option<Status>) -> Option<Failure>
     ensures { result ≡ failure_by executed.now answered }
 {
@@ -182,6 +227,7 @@ fn failure_by(executed: &Executed, answered: Option<Status>) -> Option<Failure>
 }
 
 /// The instruction, if it is a service that is answered other than E_OK.
+#[inline(always)]
 pub fn failure(executed: &Option<Executed>) -> Option<Failure>
     ensures { result ≡ failure_of executed.now }
 {

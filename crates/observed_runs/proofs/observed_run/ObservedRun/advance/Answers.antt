@@ -1,4 +1,5 @@
-use Rattle.std.proofs.Common.{◌≡◌, true, false, sym, ◌∙◌, subst}
+use Rattle.std.proofs.Common.{◌≡◌, ◌+◌, Bool, true, false, refl, sym, ◌∙◌, ap, subst}
+use Rattle.std.specs.Prelude.{not}
 use Rattle.std.proofs.lemmas.Bool.{true≢false}
 use Rattle.kernel.specs.Progress.{Progress, run_of}
 use Rattle.kernel.proofs.RunLemmas.{going}
@@ -6,9 +7,13 @@ use Rattle.seen_ticks.specs.Observed.{holders_seen, tick_at}
 use Rattle.observed_runs.specs.Keeping.{HasGoneSteadily, IsBefore, coming}
 use Rattle.observed_runs.proofs.Alike.{steady_standing}
 use Rattle.observed_runs.proofs.Resting.{rested}
-use Rattle.observed_runs.proofs.Seeing.{one_on, state_more}
+use Rattle.observed_runs.proofs.Seeing.{held_on, one_on, state_more}
 use Rattle.seen_ticks.proofs.Staying.{holders_stay}
 use Rattle.observed_runs.proofs.observed_run.ObservedRun.advance.Goals as goal
+
+none_moved : (is_any is : Bool) → is_any ≡ is → not is_any ≡ true → is ≡ false
+none_moved is_any true same h = absurd (true≢false (sym h ∙ ap not same))
+none_moved is_any false same h = refl
 
 pub see_steady-requires-clause-holders : goal.see_steady-requires-clause-holders
 see_steady-requires-clause-holders g c =
@@ -38,7 +43,9 @@ invariant_of-self g c =
       known = c.see_steady.ensures.next;
       standing = λ begun. c.see_steady.ensures.each;
       observed = λ begun. c.see_steady.ensures.seen;
-      held = λ h. absurd (true≢false (sym h));
+      held = λ h.
+          c.see_steady.ensures.seen.seen.holders
+          ∙ held_on k new gone.next (sym c.if-is_over.ensures) c.see_holders_once.ensures.proper (none_moved _ _ c.is_any_moved.ensures h);
       resting = λ _. rested new c.see_steady.new.seen gone.rest c.see_steady.ensures.seen.seen behind;
     }
 
@@ -59,3 +66,21 @@ see-requires-clause-known g c =
     one_on m c.advance.new.self (λ S mode arrivals n. IsBefore S (tick_at S mode arrivals n) before) c.advance.ensures.next
     (subst (λ (r : Progress). IsBefore r.system (coming r) before) (sym (c.if-advance_steady.ensures.same (λ i. false)))
     c.self.invariant.known)
+
+pub invariant_of-self-2 : goal.invariant_of-self-2
+invariant_of-self-2 g c =
+    let k : Progress = c.self.inside.told in
+    let m : Progress = c.advance_steady.new.self in
+    let new : Progress = c.advance.new.self in
+    let same : m ≡ k = c.if-advance_steady.ensures.same (λ i. false) in
+    let next : new ≡ record k { ticks = k.ticks + 1 } =
+    c.advance.ensures.next ∙ ap (λ (r : Progress). record r { ticks = r.ticks + 1 }) same in
+    record {
+      known = c.see.ensures.next;
+      standing = λ begun. c.see.ensures.each;
+      observed = λ begun. c.see.ensures.seen;
+      held = λ h.
+          c.see.ensures.seen.seen.holders
+          ∙ held_on k new next (sym c.if-is_over.ensures) c.see_holders_once.ensures.proper (none_moved _ _ c.is_any_moved-2.ensures h);
+      resting = λ h. absurd (true≢false (sym h));
+    }

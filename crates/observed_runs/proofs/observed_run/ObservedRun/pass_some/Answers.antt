@@ -8,14 +8,21 @@ use Rattle.observed_runs.specs.Resting.{AreAtRest}
 use Rattle.observed_runs.proofs.Resting.{rested}
 use Rattle.kernel.proofs.RunLemmas.{going}
 use Rattle.observed_runs.specs.Passing.{PassesAlike}
-use Rattle.observed_runs.proofs.Alike.{passes_alike, stayed_after, stayed_all, stayed_holders, stayed_known, stayed_pending, stayed_standing}
+use Rattle.observed_runs.proofs.Alike.{passes_alike, stayed_after, stayed_all, stayed_held, stayed_holders, stayed_known, stayed_pending, stayed_standing}
 use Rattle.observed_runs.proofs.observed_run.ObservedRun.pass_some.Goals as goal
+
+pub see_holders_once-requires : goal.see_holders_once-requires
+see_holders_once-requires g c held =
+    let p = c.pass_alike-passed in
+    let some : 0 < p.result = omega (arith, c.if-passed-eq0.false) in
+    c.self.invariant.held held
+    ∙ stayed_held g.B.Blockers.are_counted c.min.result p.result c.self.inside.told p.new.self p.ensures.last p.ensures.stayed some
 
 pub see_alike-requires-clause-holders : goal.see_alike-requires-clause-holders
 see_alike-requires-clause-holders g c =
     let p = c.pass_alike-passed in
     let some : 0 < p.result = omega (arith, c.if-passed-eq0.false) in
-    c.see_holders.ensures.holders
+    c.see_holders_once.ensures.holders
     ∙ stayed_holders g.B.Blockers.are_counted c.min.result p.result c.self.inside.told p.new.self p.ensures.last p.ensures.stayed some
 
 pub see_alike-requires-clause-each : goal.see_alike-requires-clause-each
@@ -25,7 +32,7 @@ see_alike-requires-clause-each g c =
     let r : Progress = p.new.self in
     let k : Progress = c.self.inside.told in
     let counted = g.B.Blockers.are_counted in
-    stayed_standing counted c.min.result p.result k r p.ensures.last p.ensures.stayed some c.see_holders.ensures.proper c.self.inside.at
+    stayed_standing counted c.min.result p.result k r p.ensures.last p.ensures.stayed some c.see_holders_once.ensures.proper c.self.inside.at
     (c.self.invariant.standing (p.ensures.stayed.not_first some))
     ∙ ap (λ (s : State). map (task_at r.system s) (below (length r.system.tasks)))
     (stayed_after counted c.min.result p.result k r p.ensures.last p.ensures.stayed some)
@@ -50,7 +57,7 @@ see_alike-requires-clause-leaves g c =
     let p = c.pass_alike-passed in
     let some : 0 < p.result = omega (arith, c.if-passed-eq0.false) in
     stayed_all g.B.Blockers.are_counted c.min.result p.result c.self.inside.told p.new.self p.ensures.last p.ensures.stayed some
-    c.see_holders.ensures.proper
+    c.see_holders_once.ensures.proper
 
 pub invariant_of-self-2 : goal.invariant_of-self-2
 invariant_of-self-2 g c =
@@ -62,12 +69,12 @@ invariant_of-self-2 g c =
           c.self.inside.before c.self.invariant.known;
       standing = λ later.
           stayed_standing g.B.Blockers.are_counted c.min.result p.result c.self.inside.told p.new.self p.ensures.last p.ensures.stayed some
-          c.see_holders.ensures.proper c.self.inside.at (c.self.invariant.standing (p.ensures.stayed.not_first some));
+          c.see_holders_once.ensures.proper c.self.inside.at (c.self.invariant.standing (p.ensures.stayed.not_first some));
       observed = λ later. c.see_alike.ensures;
       resting = λ _.
           rested p.new.self c.see_alike.new.seen
           (stayed_all g.B.Blockers.are_counted c.min.result p.result c.self.inside.told p.new.self p.ensures.last p.ensures.stayed some
-          c.see_holders.ensures.proper).rest c.see_alike.ensures.seen
+          c.see_holders_once.ensures.proper).rest c.see_alike.ensures.seen
           (stayed_after g.B.Blockers.are_counted c.min.result p.result c.self.inside.told p.new.self p.ensures.last p.ensures.stayed some);
       held = λ _.
           c.see_alike.ensures.seen.holders
@@ -86,4 +93,4 @@ returns g c =
     let room : k.ticks + c.min.result ≤ 1000000 = grind (arith, c.min.ensures, c.ticks-left.ensures, limit) in
     subst (λ (r : Progress). PassesAlike counted c.args.most r p.new.self p.result) c.self.view_is
     (passes_alike counted c.min.result p.result c.self.inside.told p.new.self p.ensures.last p.ensures.stayed some c.args.most less
-    room c.see_holders.ensures.proper)
+    room c.see_holders_once.ensures.proper)

@@ -1,4 +1,4 @@
-use Rattle.std.proofs.Common.{◌≡◌, false, ◌≤◌, ◌++◌, ◌∷◌, length, map, sym, ◌∙◌, ap, subst}
+use Rattle.std.proofs.Common.{◌≡◌, false, ◌≤◌, ◌-◌, ◌++◌, ◌∷◌, length, map, sym, ◌∙◌, ap, subst}
 use Rattle.std.specs.Prelude.{IfSome}
 use Rattle.osek_base.specs.declared.limits.TheConstants.{MAX_ARRIVALS}
 use Rattle.osek_base.specs.Executed.{StandsIn, idle_or_executed}
@@ -6,7 +6,7 @@ use Rattle.osek_base.specs.Lists.{below}
 use Rattle.kernel.specs.Progress.{Progress, is_over, run_of}
 use Rattle.observed_runs.specs.Keeping.{IsTold}
 use Rattle.seen_ticks.specs.Told.{task_at}
-use Rattle.seen_ticks.specs.Observed.{ending, refusing, tick_at}
+use Rattle.seen_ticks.specs.Observed.{ending, moved, refusing, tick_at}
 use Rattle.observed_runs.proofs.Seeing.{one_on, state_more}
 use Rattle.seen_ticks.proofs.Telling.{executed_told}
 use Rattle.observed_runs.proofs.told_run.ToldRun.advance.Goals as goal
@@ -16,7 +16,7 @@ invariant_of-self g c =
     let k : Progress = c.self.inside.kernel in
     let t = c.tick_seen-executed in
     let new : Progress = t.new.self in
-    let e = c.of-self-inside in
+    let e = c.of in
     let v = c.self.invariant in
     let here = sym v.system in
     let told = executed_told k.system t.new.before t.new.behind t.result k.mode k.arrivals k.ticks t.ensures.done.records in
@@ -24,7 +24,10 @@ invariant_of-self g c =
       system = ap (λ (r : Progress). r.system) t.ensures.done.next ∙ v.system;
       few = subst (λ (r : Progress). length r.arrivals ≤ MAX_ARRIVALS) (sym t.ensures.done.next) v.few;
       told = λ later.
-          one_on k new
+          subst
+          (λ x. IsTold new.system new.mode new.arrivals (new.ticks - 1) (run_of new).state x t.new.before t.new.behind)
+          (sym c.replace.ensures)
+          (one_on k new
           (λ S mode arrivals n. IsTold S mode arrivals n (run_of new).state e.result t.new.before t.new.behind)
           t.ensures.done.next
           (record {
@@ -33,6 +36,7 @@ invariant_of-self g c =
               executed = e.ensures.executed ∙ told;
               ending = e.ensures.ending ∙ ap (λ S. ending S t.result) here ∙ ap (ending k.system) told;
               refusing = e.ensures.refusing ∙ ap (λ S. refusing S t.result) here ∙ ap (refusing k.system) told;
+              moved = e.ensures.moved ∙ ap (λ S. moved S t.result) here ∙ ap (moved k.system) told;
             };
             records = record {
               recorded =
@@ -41,7 +45,7 @@ invariant_of-self g c =
               there = subst (λ v. IfSome v (StandsIn k.system)) (sym e.ensures.executed) t.ensures.done.there;
               few = t.ensures.done.few;
             };
-          });
+          }));
     }
 
 pub returns-clause-seen : goal.returns-clause-seen

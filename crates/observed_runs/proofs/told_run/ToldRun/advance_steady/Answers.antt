@@ -1,11 +1,11 @@
-use Rattle.std.proofs.Common.{◌≡◌, false, ◌≤◌, ◌++◌, ◌∷◌, List, [], length, sym, ◌∙◌, ap, ap₂, subst, arith}
+use Rattle.std.proofs.Common.{◌≡◌, false, ◌≤◌, ◌-◌, ◌++◌, ◌∷◌, List, [], length, sym, ◌∙◌, ap, ap₂, subst, arith}
 use Rattle.std.specs.Prelude.{IfSome, Some}
 use Rattle.osek_base.specs.declared.trace_event.TraceEvent.{TraceEvent}
 use Rattle.osek_base.specs.declared.limits.TheConstants.{MAX_ARRIVALS}
 use Rattle.osek_base.specs.Executed.{StandsIn, idle_or_executed}
 use Rattle.kernel.specs.Progress.{Progress, is_over, run_of}
 use Rattle.observed_runs.specs.Keeping.{HasGoneSteadily, IsTelling, IsTold}
-use Rattle.seen_ticks.specs.Observed.{ending, refusing}
+use Rattle.seen_ticks.specs.Observed.{ending, moved, refusing}
 use Rattle.observed_runs.proofs.Resting.{rests_steadily}
 use Rattle.observed_runs.proofs.Seeing.{one_on, state_more}
 use Rattle.seen_ticks.proofs.Telling.{executed_told}
@@ -24,7 +24,7 @@ invariant_of-self-2 g c =
     let new : Progress = t.new.self in
     let steady = c.in-Some.ensures in
     let ran = steady.ran in
-    let e = c.of-self-inside in
+    let e = c.of in
     let v = c.self.invariant in
     let here = sym v.system in
     let what = Some c.in-Some.executed in
@@ -33,7 +33,10 @@ invariant_of-self-2 g c =
       system = ap (λ (r : Progress). r.system) ran.next ∙ v.system;
       few = subst (λ (r : Progress). length r.arrivals ≤ MAX_ARRIVALS) (sym ran.next) v.few;
       told = λ later.
-          one_on k new
+          subst
+          (λ x. IsTold new.system new.mode new.arrivals (new.ticks - 1) (run_of new).state x c.clear.new.self t.new.behind)
+          (sym c.replace.ensures)
+          (one_on k new
           (λ S mode arrivals n. IsTold S mode arrivals n (run_of new).state e.result c.clear.new.self t.new.behind)
           ran.next
           (record {
@@ -42,6 +45,7 @@ invariant_of-self-2 g c =
               executed = e.ensures.executed ∙ told;
               ending = e.ensures.ending ∙ ap (λ S. ending S what) here ∙ ap (ending k.system) told;
               refusing = e.ensures.refusing ∙ ap (λ S. refusing S what) here ∙ ap (refusing k.system) told;
+              moved = e.ensures.moved ∙ ap (λ S. moved S what) here ∙ ap (moved k.system) told;
             };
             records = record {
               recorded =
@@ -53,7 +57,7 @@ invariant_of-self-2 g c =
                   let few = ran.few in
                   omega (arith, none, few);
             };
-          });
+          }));
     }
 
 pub returns-clause-gone : goal.returns-clause-gone

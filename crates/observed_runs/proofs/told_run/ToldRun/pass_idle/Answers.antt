@@ -27,6 +27,7 @@ invariant_of-self-2 g c =
             executed = e.ensures.executed;
             ending = e.ensures.ending;
             refusing = e.ensures.refusing;
+            moved = e.ensures.moved;
             there = tt;
             none_ahead = c.clear.ensures;
             none_behind = c.clear-2.ensures;

@@ -28,6 +28,7 @@ invariant_of-self-2 g c =
             executed = refl;
             ending = refl;
             refusing = refl;
+            moved = refl;
             there = subst (λ (S : System). IfSome p.new.last (StandsIn S)) (sym (ap (λ (r : Progress). r.system) w.next)) (w.there some);
             none_ahead = c.clear.ensures;
             none_behind = c.clear-2.ensures;
