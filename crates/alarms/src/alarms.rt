@@ -198,6 +198,14 @@ impl Alarms {
         self.ahead
     }
 
+    /// Whether it is known already that no alarm is due in the next tick.
+    #[inline(always)]
+    pub fn is_quiet(&self) -> bool
+        ensures { result ≡ true → AreQuietFor 1 self.now }
+    {
+        self.ahead < self.quiet
+    }
+
     /// The next tick begins, where it is known already that no alarm is due in it. Answers whether it is; else nothing changes.
     #[inline(always)]
     pub fn pass_quiet(&mut self) -> bool

@@ -52,6 +52,12 @@ first_of w records None none h = h
 first_of w [] (Some t) none h = record { none = refl; executes = h }
 first_of w (e ∷ records) (Some t) none h = absurd (omega (arith, none))
 
+-- it executes next
+pub executes_first : (w : Watched) (records : List TraceEvent) (r : Option ℕ) → IfSome r (IsFirst w records)
+    → IfSome r (ExecutesNext w)
+executes_first w records None h = h
+executes_first w records (Some t) h = h.executes
+
 -- ---- a machine's tick
 
 module _ (counted : Bool) (arrived : List ℕ) (n : ℕ) (w st bg : Watched) (opening opened before : List TraceEvent) (acted acts : Acted)
@@ -105,6 +111,13 @@ module _ (counted : Bool) (arrived : List ℕ) (n : ℕ) (w st bg : Watched) (op
       }
 
 -- ---- and a kernel with it
+
+-- of the kernel's list, and its next tick
+pub taken : (arrivals list : List Arrival) (n tick first next end coming : ℕ) (these : List ℕ) → list ≡ arrivals → tick ≡ n
+    → TakesArrived list tick first next end coming these → TakesArrived arrivals n first next end coming these
+taken arrivals list n tick first next end coming these list_is tick_is takes =
+    subst (λ t. TakesArrived arrivals t first next end coming these) tick_is
+    (subst (λ xs. TakesArrived xs tick first next end coming these) list_is takes)
 
 module _ (counted : Bool) (S : System) (mode : ℕ) (arrivals : List Arrival) (lent : List ℕ) (earlier cursor coming : ℕ)
     (old : Progress) (m : Machine) (is : progress S mode arrivals m ≡ old)

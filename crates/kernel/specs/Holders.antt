@@ -1,5 +1,5 @@
 -- OSEK/VDX OS: resource management. Who holds each resource, by what is kept of a state.
-use Rattle.std.specs.Prelude.{ℕ, ◌==◌, if◌then◌else◌, List, [], ◌∷◌, ◌++◌, map, drop, Option, length}
+use Rattle.std.specs.Prelude.{ℕ, ◌==◌, if◌then◌else◌, List, [], ◌∷◌, ◌++◌, map, drop, nat_lt, Option, Some, length, slice_set}
 use Rattle.std.specs.List.{find}
 use Rattle.osek_base.specs.declared.ids.ResId.{ResId}
 use Rattle.osek_base.specs.Lists.{below}
@@ -17,6 +17,17 @@ resource_at declared k = if k == declared then ResId.Scheduler else ResId.Declar
 abbrev pub holder_from : List Slot → ℕ → ℕ → ℕ → Option ℕ
 holder_from slots declared t k =
     find (λ u. holds_in (resource_at declared k) (by_task slots u)) (drop t (below (length slots)))
+
+-- where a task holds a resource, that's what the place of the resource says, if there is one
+abbrev pub noted : ℕ → ℕ → ResId → List (Option ℕ) → List (Option ℕ)
+noted declared t (ResId.Declared r) places = if nat_lt r declared then slice_set places r (Some t) else places
+noted declared t ResId.Scheduler places =
+    if nat_lt declared (length places) then slice_set places declared (Some t) else places
+
+-- where it holds some, one after another
+abbrev pub all_noted : ℕ → ℕ → List ResId → List (Option ℕ) → List (Option ℕ)
+all_noted declared t [] places = places
+all_noted declared t (r ∷ rs) places = all_noted declared t rs (noted declared t r places)
 
 -- who holds each declared resource, and behind them RES_SCHEDULER, where the system has it
 abbrev pub holders_in : System → Kept → List (Option ℕ)

@@ -1,10 +1,16 @@
 //! OSEK/VDX OS: system services; the modelled processor. The last two phases of a tick: one
 //! instruction of who executes, and a reschedule.
 
-ghost use Rattle.std.specs.Prelude.{◌≡◌, ◌<◌, ◌∷◌, [], Some, false, true};
+ghost use Rattle.std.specs.Prelude.{◌≡◌, ◌<◌, ◌∷◌, [], IfSome, Some, false, length, true};
+ghost use Rattle.osek_base.specs.declared.ids.Owner.{Owner};
 ghost use Rattle.osek_base.specs.declared.trace_event.TraceEvent.{TraceEvent};
+ghost use Rattle.kept_state.specs.KeptService.{caller_in};
+ghost use Rattle.services.specs.Calls.{calling_task};
 ghost use Rattle.machine.specs.Packed.{instr_of, is_plain, service_of};
 ghost use Rattle.kernel.specs.Controls.{needs_look};
+ghost use Rattle.kernel.specs.Processor.{MayFetch, picture, system_of};
+ghost use Rattle.kernel.specs.Stamping.{IsTask};
+ghost use Rattle.kernel.specs.Steady.{ExecutesNext};
 ghost use Rattle.kernel.specs.Watches.{Begins, Finishes, IsReady, MayBegin, MayCall, MayFinish, MayRun, WatchesWithin, executing};
 
 use crate::blockers::Blockers;
@@ -22,6 +28,19 @@ impl<'s, Q: ReadyQueues, B: Blockers> Watched<'s, Q, B> {
         ensures { Begins B.are_counted tick self.old self.new }
     {
         self.blocking.begin(&self.processor, task, tick);
+    }
+
+    /// The task that executes next, if one does, where it may be known.
+    #[inline(always)]
+    pub fn executing_task(&self, first: &Option<TaskId>) -> Option<TaskId>
+        requires { IfSome first.now (ExecutesNext self.now) }
+        ensures { IsTask (length (system_of self.now.processor).tasks)
+            (calling_task (caller_in (picture self.now.processor))) result }
+    {
+        match first {
+            None => self.processor.executing_task(),
+            Some(task) => Some(*task),
+        }
     }
 
     /// The last two phases: who executes, the active routine or else the running task, executes one
@@ -42,6 +61,27 @@ impl<'s, Q: ReadyQueues, B: Blockers> Watched<'s, Q, B> {
                 Owner::Routine(_) => self.finish_apart(who, tick, behind),
             }),
         }
+    }
+
+    /// As `late_phases`, where it may be known which task executes. Only where it isn't, a call is
+    /// made.
+    #[inline(always)]
+    pub fn late_phases_of(
+        &mut self,
+        first: Option<TaskId>,
+        tick: u32,
+        behind: &mut TickRecord,
+    ) -> Option<Executed>
+        requires ready { IsReady B.are_counted self.old behind.old }
+        requires first { IfSome first (λ t. MayFetch self.old.processor (Owner.Task t)) }
+        ensures { Finishes B.are_counted tick self.old self.new result behind.new }
+    {
+        if let Some(task) = first {
+            return Some(self.finish(Owner::Task(task), tick, behind));
+        }
+        let mut executed = None;
+        self.late_apart(tick, behind, &mut executed);
+        executed
     }
 
     /// As `late_phases`, in a call of its own, which leaves what is executed: a local for it would

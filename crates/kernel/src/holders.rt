@@ -1,16 +1,15 @@
 //! OSEK/VDX OS: resource management. Who holds each resource.
 
-ghost use Rattle.std.specs.Prelude.{if◌then◌else◌, ◌≡◌, ◌<◌, ◌≤◌, ◌+◌, None, not, map, length};
-ghost use Rattle.std.specs.List.{list_any};
-ghost use Rattle.osek_base.specs.Lists.{below, is_empty};
+ghost use Rattle.std.specs.Prelude.{if◌then◌else◌, ◌≡◌, ◌≤◌, ◌+◌, None, map, length};
+ghost use Rattle.osek_base.specs.Lists.{below};
 ghost use Rattle.osek_base.specs.declared.limits.TheConstants.{MAX_RESOURCES, MAX_TASKS};
 ghost use Rattle.services.specs.Objects.{kept_in};
-ghost use Rattle.kernel.specs.Holders.{holder_from, holders_in, resource_at};
+ghost use Rattle.kernel.specs.Holders.{all_noted, holder_from, holders_in, noted};
 
 use crate::places::give_places;
 use arrayvec::ArrayVec;
 use observations::{Holder, MAX_HELD};
-use osek_base::{ResId, ResourceNumber, System, TaskId};
+use osek_base::{ResId, System, TaskId};
 use ready_queues::ReadyQueues;
 use services::{Objects, Slot};
 
@@ -21,21 +20,6 @@ fn slots_of<'o, Q: ReadyQueues>(objects: &'o Objects<'_, Q>) -> &'o [Slot]
     ensures count { length result.now ≡ length objects.now.system.tasks }
 {
     objects.slots.as_slice()
-}
-
-/// The resource of a place: first those that are declared, of which there are so many, and behind
-/// them RES_SCHEDULER.
-#[inline(always)]
-fn resource_at(declared: usize, place: usize) -> ResId
-    requires few { declared ≤ MAX_RESOURCES }
-    requires within { place ≤ declared }
-    ensures { result ≡ resource_at declared place }
-{
-    if place == declared {
-        ResId::Scheduler
-    } else {
-        ResId::Declared(ResourceNumber::new(place as u8))
-    }
 }
 
 /// Nobody holds any resource. Nothing is written where nobody did.
@@ -50,47 +34,53 @@ fn free_all(places: &mut [Holder])
     }
 }
 
-/// Whether the oldest job of any task holds a resource.
+/// A task holds a resource: the place of the resource says so, whoever held it before. One that
+/// has no place is left out.
 #[inline(always)]
-fn is_any_held(slots: &[Slot]) -> bool
-    ensures { result ≡ list_any (λ a. not (is_empty a.held)) slots.now }
+fn note(resource: &ResId, task: TaskId, declared: usize, places: &mut [Holder])
+    requires { declared ≤ length places.old }
+    ensures { places.new ≡ noted declared task resource.now places.old }
 {
-    slots.iter().any(|slot| !slot.holds_none())
-}
-
-/// The resources that the oldest job of a task holds have it as their holder, where the tasks
-/// behind it are gone over.
-#[inline(always)]
-fn see_held(slots: &[Slot], task: TaskId, declared: usize, places: &mut [Holder])
-    requires task { task < length slots.now }
-    requires few { declared ≤ MAX_RESOURCES }
-    requires within { length places.old ≤ declared + 1 }
-    requires behind { places.old
-        ≡ map (holder_from slots.now declared (task + 1)) (below (length places.old)) }
-    ensures { places.new
-        ≡ map (holder_from slots.now declared task) (below (length places.old)) }
-{
-    let slot = &slots[task.number() as usize];
-    for number in 0..places.len() {
-        if slot.holds(&resource_at(declared, number)) {
-            places[number] = Holder::new(Some(task));
+    match resource {
+        ResId::Declared(number) => {
+            let place = number.number() as usize;
+            if place < declared {
+                places[place] = Holder::new(Some(task));
+            }
+        }
+        ResId::Scheduler => {
+            if declared < places.len() {
+                places[declared] = Holder::new(Some(task));
+            }
         }
     }
 }
 
-/// Each resource has the first task whose oldest job holds it as its holder, where none has any
-/// yet.
+/// A task holds some resources, whoever held them before.
 #[inline(never)]
+fn note_all(held: &[ResId], task: TaskId, declared: usize, places: &mut [Holder])
+    requires { declared ≤ length places.old }
+    ensures { places.new ≡ all_noted declared task held.now places.old }
+{
+    for resource in held {
+        note(resource, task, declared, places);
+    }
+}
+
+/// Each resource has the first task whose oldest job holds it as its holder, where none has any
+/// yet. Tasks are gone over from the last to the first, so the first is noted last.
+#[inline(always)]
 fn see_all_held(slots: &[Slot], declared: usize, places: &mut [Holder])
     requires tasks { length slots.now ≤ MAX_TASKS }
-    requires few { declared ≤ MAX_RESOURCES }
-    requires within { length places.old ≤ declared + 1 }
+    requires least { declared ≤ length places.old }
+    requires most { length places.old ≤ declared + 1 }
     requires free { places.old ≡ map (λ _. None) (below (length places.old)) }
     ensures { places.new ≡ map (holder_from slots.now declared 0) (below (length places.old)) }
 {
     for number in (0..slots.len()).rev() {
-        if !slots[number].holds_none() {
-            see_held(slots, TaskId::new(number as u8), declared, places);
+        let slot = &slots[number];
+        if !slot.holds_none() {
+            note_all(slot.held(), TaskId::new(number as u8), declared, places);
         }
     }
 }
@@ -99,14 +89,12 @@ fn see_all_held(slots: &[Slot], declared: usize, places: &mut [Holder])
 #[inline(always)]
 fn see_all(slots: &[Slot], declared: usize, places: &mut [Holder])
     requires tasks { length slots.now ≤ MAX_TASKS }
-    requires few { declared ≤ MAX_RESOURCES }
-    requires within { length places.old ≤ declared + 1 }
+    requires least { declared ≤ length places.old }
+    requires most { length places.old ≤ declared + 1 }
     ensures { places.new ≡ map (holder_from slots.now declared 0) (below (length places.old)) }
 {
     free_all(places);
-    if is_any_held(slots) {
-        see_all_held(slots, declared, places);
-    }
+    see_all_held(slots, declared, places);
 }
 
 /// How many resources can be held.
@@ -115,7 +103,8 @@ fn place_count(system: &System) -> usize
     ensures value { result
         ≡ length system.now.resources + (if system.now.use_res_scheduler then 1 else 0) }
     ensures few { result ≤ MAX_RESOURCES + 1 }
-    ensures within { result ≤ length system.now.resources + 1 }
+    ensures least { length system.now.resources ≤ result }
+    ensures most { result ≤ length system.now.resources + 1 }
 {
     let declared = system.resource_count();
     if system.has_res_scheduler() {

@@ -315,11 +315,14 @@ impl<'s, Q: ReadyQueues, B: Blockers> Kernel<'s, Q, B> {
             (step_at self.old.system self.old.mode self.old.arrivals self.old.ticks).executing) }
     {
         let tick = self.machine.next_tick();
-        let end = arrived_by(self.arrivals.list(), self.arrived, tick);
-        let arrived = &self.routines.as_slice()[self.arrived..end];
         self.earlier = self.arrived;
-        self.arrived = end;
-        self.next = next_arrival(self.arrivals.list(), end);
+        let arrived = take_arrived(
+            self.arrivals.list(),
+            &self.routines,
+            tick,
+            &mut self.arrived,
+            &mut self.next,
+        );
         self.machine.tick_with(arrived, looker, before, behind)
     }
 }

@@ -302,14 +302,15 @@ impl<'s, Q: ReadyQueues, B: Blockers> Machine<'s, Q, B> {
     {
         put_first(&mut self.opening, self.ticks, before);
         behind.clear();
-        self.watched
+        let first = self
+            .watched
             .early_phases(self.ticks, arrived, &mut self.acted, before);
         let watched = &self.watched;
         looker.look(&watched.processor);
-        let task = watched.processor.executing_task();
+        let task = watched.executing_task(&first);
         self.watched.begin(task, self.ticks);
         self.ticks += 1;
-        self.watched.late_phases(self.ticks, behind)
+        self.watched.late_phases_of(first, self.ticks, behind)
     }
 }
 

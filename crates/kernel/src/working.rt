@@ -71,11 +71,12 @@ impl<'s, Q: ReadyQueues, B: Blockers> Kernel<'s, Q, B> {
     }
 
     /// Whether it is known that the running task executes a plain instruction in the next tick, and
-    /// nothing else happens, if no alarm is due. Where it isn't, [`pass_plain`](Kernel::pass_plain)
-    /// does no tick.
+    /// nothing else happens. Where it isn't, [`pass_plain`](Kernel::pass_plain) does no tick.
     #[inline(always)]
     pub fn works_on(&self) -> bool {
-        self.next != self.machine.next_tick() && self.machine.is_working()
+        self.next != self.machine.next_tick()
+            && self.machine.is_working()
+            && self.machine.objects().alarms.is_quiet()
     }
 
     /// The ticks that follow, at most some, are done as long as it is known that the running task

@@ -37,7 +37,9 @@ use Rattle.observed_runs.specs.declared.before.Before.{Before}
 use Rattle.seen_ticks.specs.declared.execution.Execution.{Execution}
 use Rattle.kernel.specs.declared.at_instruction.AtInstruction.{AtInstruction}
 use Rattle.observed_runs.specs.Keeping.{AreStanding, HasGoneSteadily, IsBefore, IsTold, coming, last_tick}
+use Rattle.observed_runs.specs.Passing.{IsUnanswered}
 use Rattle.observed_runs.specs.Resting.{IsRest, resting_alarm, resting_routine}
+use Rattle.observed_runs.specs.Tasks.{MakesNone}
 use Rattle.observed_runs.proofs.Resting.{alarms_rest, routines_rest}
 use Rattle.seen_ticks.specs.declared.task_at.TaskAt.{TaskAt}
 use Rattle.seen_ticks.specs.Observed.{IsObserved, IsSeen, Ticked, activates, active_routine, alarm_seen, answered, ending, executed_in, failure_by, failure_of, holders_seen, instruction, is_accepted, is_by, is_end, is_limit, is_number, is_waiting, jobs_before, moved, moves, one_if, owner_of, refusing, routine_seen, state_seen, status_of, task_of, task_seen, tick_at}
@@ -48,13 +50,13 @@ use Rattle.observed_runs.proofs.Seeing.{one_on}
 -- ---- a task, between two ticks and at the instruction of one
 
 module _ (S : System) (proper : IsProper S) (mode : ℕ) (arrivals : List Arrival) (n : ℕ) where
-  task_between : (t : ℕ) → task_at_in S (kept S (run S mode arrivals n).state) t ≡ task_at S (run S mode arrivals n).state t
+  pub task_between : (t : ℕ) → task_at_in S (kept S (run S mode arrivals n).state) t ≡ task_at S (run S mode arrivals n).state t
   task_between =
       let s : State = (run S mode arrivals n).state in
       let good : IsRunState S s = run_ordered S proper mode arrivals n in
       task_is S s (settled_of S s good.single good.ordered.ranked) (known_of S s (run_form S proper mode arrivals n))
 
-  task_executing : Going S mode arrivals n → (t : ℕ)
+  pub task_executing : Going S mode arrivals n → (t : ℕ)
       → task_at_in S (kept S (step_at S mode arrivals n).executing) t ≡ task_at S (step_at S mode arrivals n).executing t
   task_executing going t =
       let s : State = (run S mode arrivals n).state in
@@ -260,6 +262,7 @@ module _ (counted : Bool) (S : System) (proper : IsProper S) (mode : ℕ) (arriv
       let few_ahead = ap (λ (v : List TraceEvent). length v) none_ahead in
       let few_behind = ap (λ (v : List TraceEvent). length v) none_behind in
       record {
+        on = going;
         behind = behind;
         done = record {
           executed = executed ∙ sym last_is;
@@ -490,6 +493,20 @@ module _ (counted : Bool) (most n : ℕ) (k new : Progress) (last : Option Execu
       ∙ holders_kept k.system (step_at k.system k.mode k.arrivals (k.ticks + (n - 1))).after kept_then stays.behind
       ∙ sym (holders_kept k.system (step_at k.system k.mode k.arrivals (k.ticks + (n - 1))).executing kept_then stays.at))
 
+  -- the last of them is answered nothing
+  pub stayed_unanswered : IsUnanswered new
+  stayed_unanswered =
+      let stays = stayed.stays (n - 1) last_low in
+      let told = ap executed_in stays.recorded ∙ executed_again k.system stays.executed in
+      record {
+        answer =
+            last_on k new n (λ S mode arrivals m. answered (tick_at S mode arrivals m).executed ≡ None) stayed.next some
+            (ap answered told ∙ stays.answer);
+        failure =
+            last_on k new n (λ S mode arrivals m. failure_of (tick_at S mode arrivals m).executed ≡ None) stayed.next some
+            (ap failure_of told ∙ stays.failure);
+      }
+
   -- who holds what before them holds it behind them
   pub stayed_held : holders_seen k.system (run_of k).state ≡ holders_seen new.system (run_of new).state
   stayed_held =
@@ -551,6 +568,18 @@ steady_standing k new proper on gone at stood =
     ∙ task_executing S proper k.mode k.arrivals k.ticks on t in
     one_on k new (λ T mode arrivals n. at.tasks.items ≡ map (task_at T (tick_at T mode arrivals n).at) (below (length T.tasks)))
     gone.next (stood ∙ ap (λ (f : ℕ → TaskAt). map f (below (length S.tasks))) (fun_ext each))
+
+-- and as many jobs as each had
+pub steady_jobs : (k new : Progress) → HasGoneSteadily k new → MakesNone new.system (last_tick new)
+steady_jobs k new gone =
+    let s : State = (run_of k).state in
+    let e : State = (step_at k.system k.mode k.arrivals k.ticks).executing in
+    let begun = gone.not_first in
+    let later : (k.ticks == 0) ≡ false = grind (arith, begun) in
+    one_on k new (λ S mode arrivals n. MakesNone S (tick_at S mode arrivals n)) gone.next
+    (λ t.
+    ap (λ b. jobs_before b s t) later ∙ sym (counted_jobs (jobs_of t s.jobs))
+    ∙ sym (ap (λ (x : Kept). (x.slots t).count) gone.at) ∙ counted_jobs (jobs_of t e.jobs))
 
 -- and so are the pending routines
 pub steady_pending : (k new : Progress) → HasGoneSteadily k new → (run_of k).state.pending ≡ (last_tick new).at.pending

@@ -18,7 +18,8 @@ use Rattle.seen_ticks.specs.Observed.{Ticked, activations_by, ending, instructio
 use Rattle.seen_ticks.specs.Told.{task_at}
 use Rattle.observed_runs.proofs.Refusals.{none_refused, same_number}
 use Rattle.observed_runs.specs.Passing.{LeavesAll, task_left}
-use Rattle.observed_runs.specs.Tasks.{other_seen, own_seen}
+use Rattle.observed_runs.specs.Resting.{IsRest}
+use Rattle.observed_runs.specs.Tasks.{LeavesTasks, MakesNone, other_seen, own_seen, standing_seen}
 
 abbrev without_job : TaskAt
 without_job = record { state = TaskState.Suspended; priority = None; jobs = 0 }
@@ -95,6 +96,47 @@ module _ (S : System) (k : Ticked) (t : ℕ) (at behind : TaskAt) (before refuse
         ended = ends i;
         waits = (sym (ap (λ b. b && is_waiting (task_state k.after t)) other)) i;
       }
+
+-- and of one that is behind the tick what it was at it
+pub standing_is : (S : System) (k : Ticked) (t : ℕ) (at : TaskAt) (before refused : ℕ) (executes : Bool) → at ≡ task_at S k.at t
+    → before ≡ jobs_before k.first k.before t
+    → refused ≡ one_if (is_number t (refusing S k.executed)) + activations_by S t k.refused
+    → executes ≡ is_by (Owner.Task t) k.executed → LeavesTasks S k → standing_seen executes at before refused ≡ task_seen S k t
+standing_is S k t at before refused executes at_is before_is refused_is own leaves =
+    let behind : at ≡ task_at S k.after t = at_is ∙ leaves.each t in
+    let ends : false ≡ is_number t (ending S k.executed) = sym (ap (is_number t) leaves.ends) in
+    let plus : at.jobs ≡ at.jobs + 0 = omega arith in
+    λ i. record {
+      state = state_seen (own i) (at_is i).state;
+      priority = (at_is i).priority;
+      jobs = (at_is i).jobs;
+      made = (ap (λ n. n - before) plus ∙ (λ j. (behind j).jobs + one_if (ends j) - before_is j)) i;
+      refused = refused_is i;
+      ended = ends i;
+      waits = own i && is_waiting (behind i).state;
+    }
+
+-- nothing comes to anything in a tick that leaves tasks, where no job is made before its instruction
+pub leaves_all : (S : System) (k : Ticked) → LeavesTasks S k → IsRest k → MakesNone S k → LeavesAll S k
+leaves_all S k leaves rest none_made = record {
+  each = λ t.
+      let ends : is_number t (ending S k.executed) ≡ false = ap (is_number t) leaves.ends in
+      let no_end : one_if (is_number t (ending S k.executed)) ≡ 0 = ap one_if ends in
+      let had = none_made t in
+      let stands : (task_at S k.at t).jobs ≡ (task_at S k.after t).jobs = ap (λ (x : TaskAt). x.jobs) (leaves.each t) in
+      let made : length (jobs_of t k.after.jobs) + one_if (is_number t (ending S k.executed)) - jobs_before k.first k.before t ≡ 0 =
+      omega (arith, no_end, had, stands) in
+      λ i. record {
+        state = state_seen (is_by (Owner.Task t) k.executed) (leaves.each t i).state;
+        priority = (leaves.each t i).priority;
+        jobs = (leaves.each t i).jobs;
+        made = made i;
+        refused = sym (none_refused S k t leaves.refuses rest.none_refused) i;
+        ended = ends i;
+        waits = is_by (Owner.Task t) k.executed && is_waiting (task_state k.after t);
+      };
+  rest = rest;
+}
 
 module _ (S : System) (k : Ticked) (t : ℕ) (other : is_by (Owner.Task t) k.executed ≡ false) where
   module _ (at : (task_at S k.at t).state ≡ TaskState.Suspended) (behind : (task_at S k.after t).state ≡ TaskState.Suspended)

@@ -5,3 +5,4 @@ pub mod Alike
 pub mod Resting
 pub mod Seeing
 pub mod Jobless
+pub mod Standing

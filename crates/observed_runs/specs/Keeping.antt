@@ -1,5 +1,5 @@
 -- What an observed run keeps, no part of the standards.
-use Rattle.std.specs.Prelude.{ℕ, ◌≡◌, ◌<◌, ◌≤◌, ◌+◌, ◌-◌, ◌∷◌, ◌++◌, Bool, true, List, Option, IfSome, map, length}
+use Rattle.std.specs.Prelude.{ℕ, ◌≡◌, ◌<◌, ◌≤◌, ◌+◌, ◌-◌, ◌∷◌, ◌++◌, Bool, true, false, List, Option, IfSome, map, length}
 use Rattle.osek_base.specs.declared.arrivals.Arrival.{Arrival}
 use Rattle.osek_base.specs.declared.trace_event.TraceEvent.{TraceEvent}
 use Rattle.osek_base.specs.declared.executed.Executed.{Executed}
@@ -8,6 +8,7 @@ use Rattle.osek_base.specs.Executed.{StandsIn, idle_or_executed}
 use Rattle.osek_base.specs.Lists.{below}
 use Rattle.osek_base.specs.State.{State}
 use Rattle.osek_base.specs.System.{System}
+use Rattle.osek_base.specs.Trace.{run}
 use Rattle.observations.specs.declared.observation.Observation.{Observation}
 use Rattle.blocking_laws.specs.Steps.{record_at, step_at}
 use Rattle.kept_state.specs.Kept.{kept}
@@ -46,8 +47,9 @@ pub record IsExecution (S : System) (k : Ticked) (e : Execution) : Type 0 where
   pub refusing : e.refusing ≡ refusing S k.executed
   pub moved : e.moved ≡ moved S k.executed
 
--- of tick n of a run, the state behind it, what it executed, and its records
+-- of tick n of a run, before which the run goes on, the state behind it, what it executed, and its records
 pub record IsTold (S : System) (mode : ℕ) (arrivals : List Arrival) (n : ℕ) (now : State) (e : Execution) (ahead behind_it : List TraceEvent) : Type 0 where
+  pub on : (run S mode arrivals n).state.over ≡ false
   pub behind : now ≡ (tick_at S mode arrivals n).after
   pub done : IsExecution S (tick_at S mode arrivals n) e
   pub records : AreRecords S e.executed ahead behind_it (record_at S mode arrivals n)

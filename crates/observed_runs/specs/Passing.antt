@@ -15,6 +15,7 @@ use Rattle.blocking_laws.specs.Steps.{record_at, step_at}
 use Rattle.kept_state.specs.Kept.{Kept, kept}
 use Rattle.kernel.specs.Progress.{Progress, is_over, run_of}
 use Rattle.kernel.specs.Working.{at_rest}
+use Rattle.observed_runs.specs.Keeping.{last_tick}
 use Rattle.observed_runs.specs.Resting.{IsRest}
 use Rattle.seen_ticks.specs.declared.task_at.TaskAt.{TaskAt}
 use Rattle.seen_ticks.specs.Told.{due_in, task_at}
@@ -93,3 +94,8 @@ task_left executes at =
 pub record LeavesAll (S : System) (k : Ticked) : Type 0 where
   pub each : (t : ℕ) → task_seen S k t ≡ task_left (is_by (Owner.Task t) k.executed) (task_at S k.after t)
   pub rest : IsRest k
+
+-- the tick that was done last is answered nothing
+pub record IsUnanswered (r : Progress) : Type 0 where
+  pub answer : answered (last_tick r).executed ≡ None
+  pub failure : failure_of (last_tick r).executed ≡ None

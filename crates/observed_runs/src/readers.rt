@@ -1,11 +1,12 @@
 //! OSEK/VDX OS: task management; interrupt processing; alarms. What a run tells of the tick that
 //! was done last.
 
-ghost use Rattle.std.specs.Prelude.{◌≡◌, ◌<◌, ◌≤◌, ◌-◌, [], false, None, is_some, length};
+ghost use Rattle.std.specs.Prelude.{◌≡◌, ◌<◌, ◌≤◌, ◌-◌, [], true, false, None, is_some, length};
 ghost use Rattle.std.specs.List.{AllByRecursion};
 ghost use Rattle.osek_base.specs.System.{alarm};
 ghost use Rattle.kernel.specs.Progress.{run_of};
 ghost use Rattle.observed_runs.specs.Keeping.{last_tick};
+ghost use Rattle.observed_runs.specs.Tasks.{LeavesTasks, is_plain};
 ghost use Rattle.seen_ticks.specs.Told.{task_at};
 ghost use Rattle.seen_ticks.specs.Observed.{
   activations_by,
@@ -24,8 +25,8 @@ use crate::told_run::ToldRun;
 use alarms::DueList;
 use kernel::{Blockers, Kernel};
 use osek_base::{
-    Action, AlarmId, Executed, IsrId, MAX_ACTIVATION, MAX_ALARMS, MAX_ARRIVALS, Owner, System,
-    TaskId,
+    Action, AlarmId, Executed, IsrId, MAX_ACTIVATION, MAX_ALARMS, MAX_ARRIVALS, Outcome, Owner,
+    System, TaskId,
 };
 use ready_queues::LevelQueues;
 use seen_ticks::{TaskAt, activations_by, is_among, is_by, is_task, times};
@@ -45,6 +46,17 @@ fn task_of_few<B: Blockers>(
     // allowed.
     let _proper = system.task_count();
     kernel.task_at(task)
+}
+
+/// Whether an instruction was a plain one.
+#[inline(always)]
+fn is_plain(executed: &Option<Executed>) -> bool
+    ensures { result ≡ is_plain executed.now }
+{
+    match executed {
+        Some(executed) => matches!(executed.outcome, Outcome::Plain(_)),
+        None => false,
+    }
 }
 
 impl<'s, B: Blockers> ToldRun<'s, B> {
@@ -72,6 +84,16 @@ impl<'s, B: Blockers> ToldRun<'s, B> {
         ensures { result ≡ is_by who (last_tick self.now).executed }
     {
         is_by(who, &self.executed())
+    }
+
+    /// Whether the instruction was a plain one. It left each task what it was.
+    #[inline(always)]
+    pub(crate) fn leaves_tasks(&self) -> bool
+        requires { 1 ≤ self.now.ticks }
+        ensures { result ≡ true → LeavesTasks self.now.system (last_tick self.now) }
+    {
+        let _proper = self.system.task_count();
+        is_plain(&self.execution.executed)
     }
 
     /// Whether a job ended.

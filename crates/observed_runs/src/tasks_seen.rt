@@ -7,7 +7,7 @@ ghost use Rattle.osek_base.specs.declared.status.TaskState.{TaskState};
 ghost use Rattle.osek_base.specs.Lists.{below};
 ghost use Rattle.observed_runs.specs.Keeping.{last_tick};
 ghost use Rattle.observed_runs.specs.Passing.{LeavesAll};
-ghost use Rattle.observed_runs.specs.Tasks.{other_seen, own_seen};
+ghost use Rattle.observed_runs.specs.Tasks.{LeavesTasks, other_seen, own_seen, standing_seen};
 ghost use Rattle.seen_ticks.specs.Told.{task_at};
 ghost use Rattle.seen_ticks.specs.Observed.{
   activations_by,
@@ -79,6 +79,20 @@ fn see_other(seen: &mut TaskSeen, at: &TaskAt, jobs: u8, before: u8)
     seen.waits = false;
 }
 
+/// As [`see_own`] or [`see_other`], of a task that is behind the tick what it was at the
+/// instruction, where no job ended.
+#[inline(always)]
+fn see_standing(seen: &mut TaskSeen, at: &TaskAt, is_own: bool, before: u8)
+    ensures { seen.new ≡ standing_seen is_own at.now before seen.old.refused }
+{
+    seen.state = state_seen(is_own, at.state);
+    seen.priority = at.priority;
+    seen.jobs = at.jobs;
+    seen.made = at.jobs.saturating_sub(before);
+    seen.ended = false;
+    seen.waits = is_own && is_waiting(at.state);
+}
+
 impl<'s, B: Blockers> ToldRun<'s, B> {
     /// How many activations of a task were refused, where any was.
     #[inline(always)]
@@ -116,8 +130,8 @@ impl<'s, B: Blockers> ToldRun<'s, B> {
 
     /// Leaves what is seen of a task in the tick that was done last, by what it was at the tick's
     /// instruction, how many jobs it had before the tick, the task of which the instruction was,
-    /// and whether any activation may have been refused. What it is now and how many jobs it has is
-    /// left, too.
+    /// whether any activation may have been refused, and whether it is known that the instruction
+    /// left each task what it was. What it is now and how many jobs it has is left, too.
     #[inline(always)]
     #[tactic(auto, using(crate::proofs::Jobless::stays_without, crate::proofs::Jobless::none_behind))]
     fn see_task(
@@ -127,6 +141,7 @@ impl<'s, B: Blockers> ToldRun<'s, B> {
         jobs: &mut u8,
         by: &Option<TaskId>,
         is_any_refused: bool,
+        stand: bool,
         seen: &mut TaskSeen,
     )
         requires ticked { 1 ≤ self.now.ticks }
@@ -139,6 +154,7 @@ impl<'s, B: Blockers> ToldRun<'s, B> {
         requires instruction { is_any_refused ≡ false
             → refusing self.now.system (last_tick self.now).executed ≡ None }
         requires alarms { is_any_refused ≡ false → (last_tick self.now).refused ≡ [] }
+        requires stand { stand ≡ true → LeavesTasks self.now.system (last_tick self.now) }
         ensures seen { seen.new ≡ task_seen self.now.system (last_tick self.now) task }
         ensures at { at.new ≡ task_at self.now.system (last_tick self.now).after task }
         ensures jobs { jobs.new ≡ jobs_before false (last_tick self.now).after task }
@@ -148,8 +164,14 @@ impl<'s, B: Blockers> ToldRun<'s, B> {
             *seen = TaskSeen::default();
             return;
         }
-        let behind = self.task_behind(task);
         let refused = self.refused(task, is_any_refused);
+        if stand {
+            see_standing(seen, at, is_own, *jobs);
+            seen.refused = refused;
+            *jobs = at.jobs;
+            return;
+        }
+        let behind = self.task_behind(task);
         if is_own {
             see_own(seen, at, &behind, *jobs, self.is_any_ended());
         } else {
@@ -161,14 +183,15 @@ impl<'s, B: Blockers> ToldRun<'s, B> {
     }
 
     /// Leaves what is seen of the tasks in the tick that was done last, by what they were at its
-    /// instruction, and how many jobs each had before the tick. What each is now and how many jobs
-    /// it has is left, too.
+    /// instruction, how many jobs each had before the tick, and whether it is known that the
+    /// instruction left each what it was. What each is now and how many jobs it has is left, too.
     #[tactic(auto, using(kernel::proofs::Filled::one_more, kernel::proofs::Filled::all_of))]
     #[inline(always)]
     pub(crate) fn see_tasks(
         &self,
         at: &mut AtInstruction,
         jobs: &mut ArrayVec<u8, MAX_TASKS>,
+        stand: bool,
         tasks: &mut ArrayVec<TaskSeen, MAX_TASKS>,
     )
         requires ticked { 1 ≤ self.now.ticks }
@@ -178,6 +201,7 @@ impl<'s, B: Blockers> ToldRun<'s, B> {
         requires jobs { jobs.old.items
             ≡ map (jobs_before (last_tick self.now).first (last_tick self.now).before)
             (below (length self.now.system.tasks)) }
+        requires stand { stand ≡ true → LeavesTasks self.now.system (last_tick self.now) }
         ensures tasks { tasks.new.items
             ≡ map (task_seen self.now.system (last_tick self.now))
             (below (length self.now.system.tasks)) }
@@ -200,7 +224,7 @@ impl<'s, B: Blockers> ToldRun<'s, B> {
             let at = &mut stood[number];
             let before = &mut had[number];
             let place = &mut places[number];
-            self.see_task(task, at, before, &by, is_any_refused, place);
+            self.see_task(task, at, before, &by, is_any_refused, stand, place);
         }
     }
 

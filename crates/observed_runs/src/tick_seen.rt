@@ -6,8 +6,9 @@ ghost use Rattle.osek_base.specs.BlockingText.{blockers_at};
 ghost use Rattle.osek_base.specs.Lists.{below};
 ghost use Rattle.kernel.specs.Stamping.{IsNumber};
 ghost use Rattle.observed_runs.specs.Keeping.{AreStanding, IsBefore, coming, last_tick};
-ghost use Rattle.observed_runs.specs.Passing.{LeavesAll};
+ghost use Rattle.observed_runs.specs.Passing.{IsUnanswered, LeavesAll};
 ghost use Rattle.observed_runs.specs.Resting.{AreAtRest, IsRest};
+ghost use Rattle.observed_runs.specs.Tasks.{MakesNone};
 ghost use Rattle.seen_ticks.specs.Told.{task_at};
 ghost use Rattle.seen_ticks.specs.Observed.{
   IsObserved,
@@ -51,6 +52,29 @@ impl<'s, B: Blockers> ToldRun<'s, B> {
         seen.blockers = self.kernel.blockers();
     }
 
+    /// As [`see_executed`](ToldRun::see_executed) of a tick that is answered nothing.
+    #[inline(always)]
+    fn see_unanswered(&self, seen: &mut Observation)
+        requires ticked { 1 ≤ self.now.ticks }
+        requires none { IsUnanswered self.now }
+        ensures routines { seen.new.routines ≡ seen.old.routines }
+        ensures holders { seen.new.holders ≡ seen.old.holders }
+        ensures alarms { seen.new.alarms ≡ seen.old.alarms }
+        ensures number { seen.new.tick ≡ self.now.ticks - 1 }
+        ensures executor { seen.new.executor ≡ option_map owner_of (last_tick self.now).executed }
+        ensures answered { seen.new.answered ≡ answered (last_tick self.now).executed }
+        ensures failure { seen.new.failure ≡ failure_of (last_tick self.now).executed }
+        ensures blockers { IsNumber B.are_counted
+            (blockers_at self.now.system self.now.mode self.now.arrivals (self.now.ticks - 1))
+            seen.new.blockers }
+    {
+        seen.tick = self.ticks() - 1;
+        seen.executor = executor(&self.executed());
+        seen.answered = None;
+        seen.failure = None;
+        seen.blockers = self.kernel.blockers();
+    }
+
     /// Leaves what is seen of the tick that was done last, by what the tasks were at its
     /// instruction, and by what was known before it. Its holders stand already. What the tasks are
     /// behind it and what is known before the next tick is left, too.
@@ -69,14 +93,17 @@ impl<'s, B: Blockers> ToldRun<'s, B> {
         ensures each { AreStanding self.now at.new }
     {
         self.see_executed(seen);
-        self.see_tasks(at, &mut before.jobs, &mut seen.tasks);
+        let stand = self.leaves_tasks();
+        self.see_tasks(at, &mut before.jobs, stand, &mut seen.tasks);
         self.see_routines(&before.active, &mut before.pending, &mut seen.routines);
         self.see_alarms(&mut seen.alarms);
         before.active = self.kernel.active_routine();
     }
 
-    /// As [`see`](ToldRun::see) of a tick in which nothing comes to a routine or an alarm, where it
-    /// is known whether what is seen of these stands already.
+    /// As [`see`](ToldRun::see) of a tick in which nothing comes to a routine or an alarm, and
+    /// before whose instruction no job is made, where it is known whether what is seen of routines
+    /// and alarms stands already. Where blockers are counted it may be one of a plain instruction,
+    /// in which nothing comes to any task; where they aren't, such ticks pass at once.
     #[inline(always)]
     pub(crate) fn see_steady(
         &self,
@@ -91,6 +118,7 @@ impl<'s, B: Blockers> ToldRun<'s, B> {
             ≡ map (task_at self.now.system (last_tick self.now).at)
             (below (length self.now.system.tasks)) }
         requires known { IsBefore self.now.system (last_tick self.now) before.old }
+        requires none_made { MakesNone self.now.system (last_tick self.now) }
         requires holders { seen.old.holders.items
             ≡ holders_seen self.now.system (last_tick self.now).at }
         requires resting { rests ≡ true
@@ -100,15 +128,19 @@ impl<'s, B: Blockers> ToldRun<'s, B> {
         ensures next { IsBefore self.now.system (coming self.now) before.new }
         ensures each { AreStanding self.now at.new }
     {
-        self.see_executed(seen);
-        self.see_tasks(at, &mut before.jobs, &mut seen.tasks);
-        self.see_rest(rests, &mut seen.routines, &mut seen.alarms);
         before.active = self.kernel.active_routine();
+        if B::are_counted() && self.leaves_tasks() {
+            self.see_alike(rests, at, seen);
+            return;
+        }
+        self.see_executed(seen);
+        self.see_tasks(at, &mut before.jobs, false, &mut seen.tasks);
+        self.see_rest(rests, &mut seen.routines, &mut seen.alarms);
     }
 
-    /// Leaves what is seen of the tick that was done last, in which nothing comes to anything, by
-    /// what the tasks are behind it, where it is known whether what is seen of routines and alarms
-    /// stands already. Its holders do.
+    /// Leaves what is seen of the tick that was done last, in which nothing comes to anything, and
+    /// that is answered nothing, by what the tasks are behind it, where it is known whether what is
+    /// seen of routines and alarms stands already. Its holders do.
     #[inline(always)]
     pub(crate) fn see_alike(&self, rests: bool, at: &AtInstruction, seen: &mut Observation)
         requires ticked { 1 ≤ self.now.ticks }
@@ -116,6 +148,7 @@ impl<'s, B: Blockers> ToldRun<'s, B> {
             ≡ map (task_at self.now.system (last_tick self.now).after)
             (below (length self.now.system.tasks)) }
         requires leaves { LeavesAll self.now.system (last_tick self.now) }
+        requires none { IsUnanswered self.now }
         requires holders { seen.old.holders.items
             ≡ holders_seen self.now.system (last_tick self.now).at }
         requires resting { rests ≡ true
@@ -123,7 +156,7 @@ impl<'s, B: Blockers> ToldRun<'s, B> {
         ensures { IsObserved B.are_counted self.now.system self.now.mode self.now.arrivals
             (self.now.ticks - 1) seen.new }
     {
-        self.see_executed(seen);
+        self.see_unanswered(seen);
         self.see_tasks_left(at, &mut seen.tasks);
         self.see_rest(rests, &mut seen.routines, &mut seen.alarms);
     }

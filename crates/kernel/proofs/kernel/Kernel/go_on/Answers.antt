@@ -1,18 +1,9 @@
-use Rattle.std.proofs.Common.{◌≡◌, ℕ, List, inl, inr, subst}
-use Rattle.osek_base.specs.declared.arrivals.Arrival.{Arrival}
+use Rattle.std.proofs.Common.{inl, inr, subst}
 use Rattle.kernel.specs.Begun.{HasGoneOn}
 use Rattle.kernel.specs.Machine.{next_tick}
-use Rattle.kernel.specs.Progress.{TakesArrived}
 use Rattle.kernel.proofs.IdleRuns.{progress}
-use Rattle.kernel.proofs.GoingLemmas.{has_gone_on, kernel_goes, may_go_on}
+use Rattle.kernel.proofs.GoingLemmas.{has_gone_on, kernel_goes, may_go_on, taken}
 use Rattle.kernel.proofs.kernel.Kernel.go_on.Goals as goal
-
--- of the kernel's list, and its next tick
-taken : (arrivals list : List Arrival) (n tick first next end coming : ℕ) (these : List ℕ) → list ≡ arrivals → tick ≡ n
-    → TakesArrived list tick first next end coming these → TakesArrived arrivals n first next end coming these
-taken arrivals list n tick first next end coming these list_is tick_is takes =
-    subst (λ t. TakesArrived arrivals t first next end coming these) tick_is
-    (subst (λ xs. TakesArrived xs tick first next end coming these) list_is takes)
 
 pub go_on-requires-clause-may : goal.go_on-requires-clause-may
 go_on-requires-clause-may g c =

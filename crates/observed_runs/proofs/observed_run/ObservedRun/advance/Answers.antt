@@ -5,7 +5,7 @@ use Rattle.kernel.specs.Progress.{Progress, run_of}
 use Rattle.kernel.proofs.RunLemmas.{going}
 use Rattle.seen_ticks.specs.Observed.{holders_seen, tick_at}
 use Rattle.observed_runs.specs.Keeping.{HasGoneSteadily, IsBefore, coming}
-use Rattle.observed_runs.proofs.Alike.{steady_standing}
+use Rattle.observed_runs.proofs.Alike.{steady_jobs, steady_standing}
 use Rattle.observed_runs.proofs.Resting.{rested}
 use Rattle.observed_runs.proofs.Seeing.{held_on, one_on, state_more}
 use Rattle.seen_ticks.proofs.Staying.{holders_stay}
@@ -30,6 +30,10 @@ see_steady-requires-clause-each g c =
     let gone : HasGoneSteadily k new = c.if-advance_steady.ensures.gone (λ i. true) in
     let on = (going k.system k.mode k.arrivals k.ticks (sym c.if-is_over.ensures)).on in
     steady_standing k new c.see_holders_once.ensures.proper on gone c.self.inside.at (c.self.invariant.standing gone.not_first)
+
+pub see_steady-requires-clause-none_made : goal.see_steady-requires-clause-none_made
+see_steady-requires-clause-none_made g c =
+    steady_jobs c.self.inside.told c.advance_steady.new.self (c.if-advance_steady.ensures.gone (λ i. true))
 
 pub invariant_of-self : goal.invariant_of-self
 invariant_of-self g c =

@@ -8,7 +8,7 @@ use Rattle.observed_runs.specs.Resting.{AreAtRest}
 use Rattle.observed_runs.proofs.Resting.{rested}
 use Rattle.kernel.proofs.RunLemmas.{going}
 use Rattle.observed_runs.specs.Passing.{PassesAlike}
-use Rattle.observed_runs.proofs.Alike.{passes_alike, stayed_after, stayed_all, stayed_held, stayed_holders, stayed_known, stayed_pending, stayed_standing}
+use Rattle.observed_runs.proofs.Alike.{passes_alike, stayed_after, stayed_all, stayed_held, stayed_holders, stayed_known, stayed_pending, stayed_standing, stayed_unanswered}
 use Rattle.observed_runs.proofs.observed_run.ObservedRun.pass_some.Goals as goal
 
 pub see_holders_once-requires : goal.see_holders_once-requires
@@ -58,6 +58,12 @@ see_alike-requires-clause-leaves g c =
     let some : 0 < p.result = omega (arith, c.if-passed-eq0.false) in
     stayed_all g.B.Blockers.are_counted c.min.result p.result c.self.inside.told p.new.self p.ensures.last p.ensures.stayed some
     c.see_holders_once.ensures.proper
+
+pub see_alike-requires-clause-none : goal.see_alike-requires-clause-none
+see_alike-requires-clause-none g c =
+    let p = c.pass_alike-passed in
+    let some : 0 < p.result = omega (arith, c.if-passed-eq0.false) in
+    stayed_unanswered g.B.Blockers.are_counted c.min.result p.result c.self.inside.told p.new.self p.ensures.last p.ensures.stayed some
 
 pub invariant_of-self-2 : goal.invariant_of-self-2
 invariant_of-self-2 g c =

@@ -4,6 +4,7 @@ use Rattle.osek_base.specs.declared.limits.TheConstants.{MAX_ARRIVALS}
 use Rattle.osek_base.specs.Executed.{StandsIn, idle_or_executed}
 use Rattle.osek_base.specs.Lists.{below}
 use Rattle.kernel.specs.Progress.{Progress, is_over, run_of}
+use Rattle.kernel.proofs.RunLemmas.{going}
 use Rattle.observed_runs.specs.Keeping.{IsTold}
 use Rattle.seen_ticks.specs.Told.{task_at}
 use Rattle.seen_ticks.specs.Observed.{ending, moved, refusing, tick_at}
@@ -31,6 +32,9 @@ invariant_of-self g c =
           (λ S mode arrivals n. IsTold S mode arrivals n (run_of new).state e.result t.new.before t.new.behind)
           t.ensures.done.next
           (record {
+            on =
+                (going k.system k.mode k.arrivals k.ticks
+                (subst (λ (r : Progress). is_over r ≡ false) (sym c.self.view_is) c.requires)).on;
             behind = state_more k new t.ensures.done.next (subst (λ (r : Progress). is_over r ≡ false) (sym c.self.view_is) c.requires);
             done = record {
               executed = e.ensures.executed ∙ told;

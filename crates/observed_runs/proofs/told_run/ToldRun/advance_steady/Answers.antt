@@ -4,6 +4,7 @@ use Rattle.osek_base.specs.declared.trace_event.TraceEvent.{TraceEvent}
 use Rattle.osek_base.specs.declared.limits.TheConstants.{MAX_ARRIVALS}
 use Rattle.osek_base.specs.Executed.{StandsIn, idle_or_executed}
 use Rattle.kernel.specs.Progress.{Progress, is_over, run_of}
+use Rattle.kernel.proofs.RunLemmas.{going}
 use Rattle.observed_runs.specs.Keeping.{HasGoneSteadily, IsTelling, IsTold}
 use Rattle.seen_ticks.specs.Observed.{ending, moved, refusing}
 use Rattle.observed_runs.proofs.Resting.{rests_steadily}
@@ -40,6 +41,9 @@ invariant_of-self-2 g c =
           (λ S mode arrivals n. IsTold S mode arrivals n (run_of new).state e.result c.clear.new.self t.new.behind)
           ran.next
           (record {
+            on =
+                (going k.system k.mode k.arrivals k.ticks
+                (subst (λ (r : Progress). is_over r ≡ false) (sym c.self.view_is) c.requires)).on;
             behind = state_more k new ran.next (subst (λ (r : Progress). is_over r ≡ false) (sym c.self.view_is) c.requires);
             done = record {
               executed = e.ensures.executed ∙ told;
