@@ -8,13 +8,27 @@ ghost use Rattle.osek_base.specs.declared.ids.Owner.{Owner};
 ghost use Rattle.osek_base.specs.declared.instr.Instr.{Instr};
 ghost use Rattle.osek_base.specs.declared.trace_event.Outcome.{Outcome};
 ghost use Rattle.osek_base.specs.declared.trace_event.TraceEvent.{TraceEvent};
+ghost use Rattle.trace_lines.specs.Lines.{ended};
 ghost use Rattle.osek_base.specs.Tick.{status_number};
 
-use crate::block::{BLOCK_SIZE, Block};
+use crate::block::{BLOCK_SIZE, Block, END_SIZE};
 use crate::block_digits::{push_block_digits, push_block_number};
 use crate::line::push_results;
 use crate::text::Text;
 use osek_base::{Effect, Outcome, Results, Status};
+
+/// Appends ` = ` and the number of a status of two digits or more to a block, in a call, as it is
+/// rare.
+#[inline(never)]
+fn push_long_status(text: &mut Block, number: u32)
+    requires room { length text.old + 13 ≤ BLOCK_SIZE }
+    requires more { 10 ≤ number }
+    ensures same { text.new ≡ text.old ++ codes " = " ++ decimal number }
+    ensures short { length text.new ≤ length text.old + 13 }
+{
+    text.push_str(" = ");
+    push_block_digits(text, number);
+}
 
 /// Appends ` = ` and the number of a status to a block.
 #[inline(always)]
@@ -27,9 +41,20 @@ fn push_status(text: &mut Block, status: Status)
     if number < 10 {
         text.push_array(&[b' ', b'=', b' ', b'0' + number]);
     } else {
-        text.push_str(" = ");
-        push_block_digits(text, number as u32);
+        push_long_status(text, number as u32);
     }
+}
+
+/// Appends ` -> ` and a value of two digits or more to a block.
+#[inline(never)]
+fn push_long_value(text: &mut Block, value: u32)
+    requires room { length text.old + 14 ≤ BLOCK_SIZE }
+    requires more { 10 ≤ value }
+    ensures same { text.new ≡ text.old ++ codes " -> " ++ decimal value }
+    ensures short { length text.new ≤ length text.old + 14 }
+{
+    text.push_str(" -> ");
+    push_block_digits(text, value);
 }
 
 /// Appends ` -> ` and a value to a block.
@@ -42,8 +67,34 @@ fn push_value(text: &mut Block, value: u32)
     if value < 10 {
         text.push_array(&[b' ', b'-', b'>', b' ', b'0' + value as u8]);
     } else {
-        text.push_str(" -> ");
-        push_block_digits(text, value);
+        push_long_value(text, value);
+    }
+}
+
+/// Appends ` -> ` with an index of two digits or more to a block.
+#[inline(never)]
+fn push_long_index(text: &mut Block, index: u32)
+    requires room { length text.old + 17 ≤ BLOCK_SIZE }
+    requires more { 10 ≤ index }
+    ensures same { text.new ≡ text.old ++ codes " -> [" ++ decimal index ++ codes "] " }
+    ensures short { length text.new ≤ length text.old + 17 }
+{
+    text.push_str(" -> [");
+    push_block_digits(text, index);
+    text.push_str("] ");
+}
+
+/// Appends ` -> ` with the index of a word that was stored to a block.
+#[inline(always)]
+fn push_index(text: &mut Block, index: u32)
+    requires { length text.old + 48 ≤ BLOCK_SIZE }
+    ensures same { text.new ≡ text.old ++ codes " -> [" ++ decimal index ++ codes "] " }
+    ensures short { length text.new ≤ length text.old + 17 }
+{
+    if index < 10 {
+        text.push_array(&[b' ', b'-', b'>', b' ', b'[', b'0' + index as u8, b']', b' ']);
+    } else {
+        push_long_index(text, index);
     }
 }
 
@@ -55,9 +106,7 @@ fn push_stored(text: &mut Block, index: u32, value: u32)
         ≡ text.old ++ codes " -> [" ++ decimal index ++ codes "] " ++ decimal value }
     ensures short { length text.new ≤ length text.old + 48 }
 {
-    text.push_str(" -> [");
-    push_block_number(text, index);
-    text.push_str("] ");
+    push_index(text, index);
     push_block_number(text, value);
 }
 
@@ -102,32 +151,42 @@ pub(crate) fn push_outcome(text: &mut Block, outcome: &Outcome)
     }
 }
 
-/// Appends ` ! ` and a number of blockers to a block, in a call, as few lines have one and the tick
-/// that writes them is large.
+/// Appends ` ! ` with a number of blockers of two digits or more, and the line's end, to a block, in
+/// a call, as it is rare.
 #[inline(never)]
+fn push_many_blockers(text: &mut Block, number: u32)
+    requires room { length text.old + END_SIZE ≤ BLOCK_SIZE }
+    requires more { 10 ≤ number }
+    ensures { text.new ≡ text.old ++ ended (codes " ! " ++ decimal number) }
+{
+    text.push_str(" ! ");
+    push_block_digits(text, number);
+    text.push_str("\n");
+}
+
+/// Appends ` ! ` with a number of blockers, and the line's end, to a block.
+#[inline(always)]
 fn push_block_count(text: &mut Block, number: u32)
-    requires { length text.old + 13 ≤ BLOCK_SIZE }
-    ensures same { text.new ≡ text.old ++ codes " ! " ++ decimal number }
-    ensures short { length text.new ≤ length text.old + 13 }
+    requires { length text.old + END_SIZE ≤ BLOCK_SIZE }
+    ensures { text.new ≡ text.old ++ ended (codes " ! " ++ decimal number) }
 {
     if number < 10 {
-        text.push_array(&[b' ', b'!', b' ', b'0' + number as u8]);
+        text.push_array(&[b' ', b'!', b' ', b'0' + number as u8, b'\n']);
     } else {
-        text.push_str(" ! ");
-        push_block_digits(text, number);
+        push_many_blockers(text, number);
     }
 }
 
-/// Appends ` ! ` and a number of blockers to a block, where one is told.
+/// Appends the end of a line to a block: ` ! ` with a number of blockers, where one is told, and LF.
 #[inline(always)]
-pub(crate) fn push_block_blockers(text: &mut Block, number: Option<u32>)
-    requires { length text.old + 13 ≤ BLOCK_SIZE }
-    ensures same { (who : Owner) (place : ℕ) (what : Instr) (outcome : Outcome)
+pub(crate) fn push_block_end(text: &mut Block, number: Option<u32>)
+    requires { length text.old + END_SIZE ≤ BLOCK_SIZE }
+    ensures { (who : Owner) (place : ℕ) (what : Instr) (outcome : Outcome)
         → text.new
-        ≡ text.old ++ blockers_text number (TraceEvent.Executed who place what outcome) }
-    ensures short { length text.new ≤ length text.old + 13 }
+        ≡ text.old ++ ended (blockers_text number (TraceEvent.Executed who place what outcome)) }
 {
-    if let Some(number) = number {
-        push_block_count(text, number);
+    match number {
+        None => text.push_array(&[b'\n']),
+        Some(number) => push_block_count(text, number),
     }
 }

@@ -14,7 +14,7 @@ ghost use Rattle.trace_lines.specs.Programs.{IsOfProgram};
 ghost use Rattle.sinks.specs.Sinks.{PutsBehind};
 
 use crate::block::{BLOCK_SIZE, Block, END_SIZE, RECORD_SIZE, make_room};
-use crate::block_outcome::push_block_blockers;
+use crate::block_outcome::push_block_end;
 use crate::blocker_number::BlockerNumber;
 use crate::instruction_texts::InstructionTexts;
 use crate::line::push_blockers;
@@ -100,9 +100,10 @@ pub fn write_tick<S: Sink>(
     write_records(texts, tick, number, records.entries(), text, out)
 }
 
-/// Writes the lines of the records of a tick before that of its instruction.
-#[inline(always)]
-fn write_before<N: BlockerNumber, S: Sink>(
+/// Writes the lines of some records of a tick by way of the block, where the number of blockers has
+/// to be asked for.
+#[inline(never)]
+fn write_asked<N: BlockerNumber, S: Sink>(
     texts: &InstructionTexts<'_>,
     tick: &TickText,
     number: &N,
@@ -117,6 +118,28 @@ fn write_before<N: BlockerNumber, S: Sink>(
 {
     let number = number.number();
     write_tick(texts, tick, number, records, text, out)
+}
+
+/// Writes the lines of the records of a tick before or behind that of its instruction. Most ticks
+/// have none, and for them the number of blockers isn't kept.
+#[inline(always)]
+fn write_beside<N: BlockerNumber, S: Sink>(
+    texts: &InstructionTexts<'_>,
+    tick: &TickText,
+    number: &N,
+    records: &TickRecord,
+    text: &mut Block,
+    out: &mut S,
+) -> Result<(), SinkFault>
+    requires number { N.MayTell number.now }
+    requires listed { AllByRecursion (IsOfProgram texts.now) records.now }
+    ensures { PutsBehind S.taken S.has_failed out.old out.new text.old text.new
+        (tick_text texts.now.names tick.now (N.told number.now) records.now) result }
+{
+    if records.len() == 0 {
+        return Ok(());
+    }
+    write_asked(texts, tick, number, records, text, out)
 }
 
 /// Writes the line of what a tick executed, but for its end, by way of the block.
@@ -161,26 +184,40 @@ fn write_executed_front<S: Sink>(
 }
 
 /// Ends the line of an instruction that was executed, with the number of blockers where there is
-/// one, and writes the records behind it by way of the block.
+/// one.
 #[inline(always)]
-fn write_executed_end<S: Sink>(
+fn push_end<N: BlockerNumber>(number: &N, text: &mut Block)
+    requires number { N.MayTell number.now }
+    requires room { length text.old + END_SIZE ≤ BLOCK_SIZE }
+    ensures { (who : Owner) (place : ℕ) (what : Instr) (outcome : Outcome)
+        → text.new
+        ≡ text.old
+        ++ ended (blockers_text (N.told number.now) (TraceEvent.Executed who place what outcome)) }
+{
+    let told = number.number();
+    push_block_end(text, told);
+}
+
+/// As [`push_end`], and writes the records behind it by way of the block.
+#[inline(always)]
+fn write_executed_end<N: BlockerNumber, S: Sink>(
     texts: &InstructionTexts<'_>,
     tick: &TickText,
-    number: Option<u32>,
+    number: &N,
     behind: &TickRecord,
     text: &mut Block,
     out: &mut S,
 ) -> Result<(), SinkFault>
+    requires number { N.MayTell number.now }
     requires room { length text.old + END_SIZE ≤ BLOCK_SIZE }
     requires behind { AllByRecursion (IsOfProgram texts.now) behind.now }
     ensures { (who : Owner) (place : ℕ) (what : Instr) (outcome : Outcome)
         → PutsBehind S.taken S.has_failed out.old out.new text.old text.new
-        (ended (blockers_text number (TraceEvent.Executed who place what outcome))
-        ++ tick_text texts.now.names tick.now number behind.now) result }
+        (ended (blockers_text (N.told number.now) (TraceEvent.Executed who place what outcome))
+        ++ tick_text texts.now.names tick.now (N.told number.now) behind.now) result }
 {
-    push_block_blockers(text, number);
-    text.push_str("\n");
-    write_tick(texts, tick, number, behind, text, out)
+    push_end(number, text);
+    write_beside(texts, tick, number, behind, text, out)
 }
 
 /// Writes the lines of a tick of which that of what it executed is the first by way of the block.
@@ -203,7 +240,6 @@ pub fn write_from_executed<N: BlockerNumber, S: Sink>(
         (executed_record texts.now executed.now ∷ behind.now)) result }
 {
     write_executed_front(texts, tick, executed, text, out)?;
-    let number = number.number();
     write_executed_end(texts, tick, number, behind, text, out)
 }
 
@@ -227,7 +263,7 @@ fn write_executed_parts<N: BlockerNumber, S: Sink>(
         (tick_text texts.now.names tick.now (N.told number.now)
         (before.now ++ executed_record texts.now executed.now ∷ behind.now)) result }
 {
-    write_before(texts, tick, number, before, text, out)?;
+    write_beside(texts, tick, number, before, text, out)?;
     write_from_executed(texts, tick, number, executed, behind, text, out)
 }
 

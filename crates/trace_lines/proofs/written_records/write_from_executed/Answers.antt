@@ -1,9 +1,6 @@
-use Rattle.std.proofs.Common.{◌∷◌, subst}
 use Rattle.osek_base.specs.Executed.{executed_record}
 use Rattle.osek_base.specs.System.{instruction_at}
-use Rattle.sinks.specs.Sinks.{PutsBehind}
 use Rattle.sinks.proofs.SinkLemmas.{goes_on, stops}
-use Rattle.trace_lines.specs.Lines.{tick_text}
 use Rattle.trace_lines.proofs.TickTexts.{end_stopped, ended_line, front_stopped}
 use Rattle.trace_lines.proofs.written_records.write_from_executed.Goals as goal
 
@@ -20,12 +17,9 @@ returns g c =
     let S = c.args.texts.now in
     let executed = c.args.executed.now in
     let own = executed_record S executed in
-    subst
-    (λ n. PutsBehind g.S.Sink.taken g.S.Sink.has_failed c.args.out.now c.write_executed_end.new.out c.args.text.now c.write_executed_end.new.text
-    (tick_text S.names c.args.tick.now n (own ∷ c.args.behind.now)) c.write_executed_end.result)
-    c.number-number.ensures
-    (goes_on g.S.Sink.taken g.S.Sink.has_failed _ _ _ _ c.args.out.now _ _ c.write_executed_end.result
+    let told = g.N.BlockerNumber.told c.args.number.now in
+    goes_on g.S.Sink.taken g.S.Sink.has_failed _ _ _ _ c.args.out.now _ _ c.write_executed_end.result
     c.in_ok-write_executed_front.ensures.puts.still
-    (ended_line S.names c.args.tick.now c.number-number.result own c.args.behind.now _ _ _ _ _ _ c.in_ok-write_executed_front.ensures.puts.written)
-    (end_stopped S.names c.args.tick.now c.number-number.result own c.args.behind.now _ _ _ _ _ c.in_ok-write_executed_front.ensures.puts.written)
-    (c.write_executed_end.ensures executed.owner executed.place (instruction_at S executed.owner executed.place) executed.outcome))
+    (ended_line S.names c.args.tick.now told own c.args.behind.now _ _ _ _ _ _ c.in_ok-write_executed_front.ensures.puts.written)
+    (end_stopped S.names c.args.tick.now told own c.args.behind.now _ _ _ _ _ c.in_ok-write_executed_front.ensures.puts.written)
+    (c.write_executed_end.ensures executed.owner executed.place (instruction_at S executed.owner executed.place) executed.outcome)

@@ -1,7 +1,7 @@
 use Rattle.std.proofs.Common.{subst}
 use Rattle.trace_lines.specs.Lines.{tick_text}
 use Rattle.sinks.specs.Sinks.{PutsBehind}
-use Rattle.trace_lines.proofs.written_records.write_before.Goals as goal
+use Rattle.trace_lines.proofs.written_records.write_asked.Goals as goal
 
 pub returns : goal.returns
 returns g c =
