@@ -128,8 +128,7 @@ impl<'s, Q: ReadyQueues, B: Blockers> Kernel<'s, Q, B> {
         self.machine.is_shut_down()
     }
 
-    /// Whether the run is over: after a ShutdownOS, or when [`MAX_TICKS`](osek_base::MAX_TICKS) are
-    /// done.
+    /// Whether the run is over: a ShutdownOS came, or [`MAX_TICKS`](osek_base::MAX_TICKS) are done.
     #[inline(always)]
     pub fn is_over(&self) -> bool
         ensures { result ≡ is_over self.now }
@@ -340,8 +339,7 @@ fn arrived_by(list: &[Arrival], arrived: usize, tick: u32) -> usize
     next
 }
 
-/// The tick of the next arrival, where so many have arrived; the greatest number where none is
-/// left.
+/// The tick of the next arrival, where so many have arrived; the greatest number if none is left.
 #[inline(always)]
 fn next_arrival(list: &[Arrival], arrived: usize) -> u32
     ensures { IsNextArrival list.now arrived result }
