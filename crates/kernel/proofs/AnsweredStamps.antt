@@ -19,7 +19,7 @@ use Rattle.osek_base.specs.State.{interrupts_off}
 use Rattle.osek_base.specs.Tick.{action_call, answered, at_values}
 use Rattle.run_laws.proofs.Lists.{clash}
 use Rattle.run_laws.proofs.Foremost.{equal, self_equal}
-use Rattle.machine.specs.Packed.{instr_of}
+use Rattle.machine.specs.Packed.{instr_of, needs_look}
 use Rattle.kept_state.specs.Kept.{Kept}
 use Rattle.kept_state.specs.KeptService.{KeptCaller, KeptReply, ByTask, ByRoutine, ByNobody, bare, by_routine_in, caller_by, caller_in, changed_in, holds_any_in, is_full_in, service_in, slot_moved, unasked_in}
 use Rattle.kept_state.specs.KeptTick.{alarm_acts_in, execute_phase_in, executed_in, with_context_in}
@@ -30,7 +30,6 @@ use Rattle.blocking_laws.specs.Restamping.{StampLists, acting_task, alarm_restam
 use Rattle.blocking_laws.proofs.RestampedLemmas.{restamped_more}
 use Rattle.kernel.specs.declared.next.Next.{Next}
 use Rattle.kernel.specs.Answered.{Activates, IsStamped, MayAddIf, MayChange, MayChangeIf, job_added_if, job_changed, job_changed_if, job_ended}
-use Rattle.kernel.specs.Controls.{needs_look}
 use Rattle.kernel.specs.Does.{Does}
 use Rattle.kernel.specs.Processor.{HasFewJobs, IsNext, Processor, picture, system_of}
 use Rattle.kernel.specs.Stamping.{AreCounted, acts_on, executed_restamped}

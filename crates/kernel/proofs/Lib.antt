@@ -23,6 +23,7 @@ pub mod KeepingLemmas
 pub mod SeenLemmas
 pub mod ToldLemmas
 pub mod PastLemmas
+pub mod OrderLemmas
 pub mod TickLemmas
 pub mod QuietLemmas
 pub mod IdleLemmas

@@ -1,5 +1,5 @@
 -- A system within a tick whose jobs' stamps are followed, and what a step does to both. No part of the standards.
-use Rattle.std.specs.Prelude.{ℕ, ◌≡◌, ◌<◌, ◌≤◌, ◌+◌, ◌∷◌, Bool, true, false, List, [], Option, None, IfSome, length, replicate}
+use Rattle.std.specs.Prelude.{ℕ, ◌≡◌, ◌<◌, ◌≤◌, ◌+◌, ◌∷◌, Bool, true, false, List, [], Option, None, IfSome, length, replicate, slice_index_or}
 use Rattle.osek_base.specs.declared.executed.Executed.{Executed}
 use Rattle.osek_base.specs.declared.ids.Owner.{Owner}
 use Rattle.osek_base.specs.declared.limits.TheConstants.{MAX_ALARMS, MAX_RECORDS, MAX_TASK_PRIORITY, MAX_TICKS}
@@ -73,10 +73,15 @@ pub record MayBegin (p : Processor) (task : Option ℕ) (tick : ℕ) : Type 0 wh
   pub executes : IsTask (length (system_of p).tasks) (calling_task (caller_in (picture p))) task
   pub early : tick < MAX_TICKS
 
+-- who executed last did so before that tick
+abbrev pub IsLater : ℕ → Told → Type 0
+IsLater tick told = slice_index_or told.last told.level 0 ≤ tick
+
 -- and the stamp of its job may be spent, where blockers are counted
 pub record MaySpend (p : Processor) (task : Option ℕ) (tick : ℕ) (b : Blocking) : Type 0 where
   pub may : MayBegin p task tick
   pub followed : IsFollowed true p b
+  pub later : IsLater tick b.told
 
 -- where blockers are counted, the stamp of the job that executes is spent, and tells how many it had; what is known of the
 -- level stays known

@@ -2,16 +2,15 @@
 //! blockers. No part of the standards.
 
 ghost use Rattle.std.specs.Prelude.{◌≡◌, ◌<◌, true, IfSome, length};
-ghost use Rattle.blocking_laws.specs.Restamping.{preempted_by};
-ghost use Rattle.machine.specs.Packed.{instr_of, service_of};
-ghost use Rattle.kernel.specs.Controls.{IsCall};
+ghost use Rattle.blocking_laws.specs.Restamping.{named_by, preempted_by};
+ghost use Rattle.machine.specs.Packed.{if_service, instr_of, makes_job, service_of};
+ghost use Rattle.kernel.specs.Controls.{IsCall, changes_job};
 ghost use Rattle.kernel.specs.Idle.{rested};
-ghost use Rattle.kernel.specs.Answered.{IsStamped, MayAdd, MayAddIf, MayChange, MayChangeIf, job_added, job_added_if, job_changed, job_changed_if, job_ended};
+ghost use Rattle.kernel.specs.Answered.{IsStamped, MayAdd, MayAddIf, MayChangeIf, job_added, job_added_if, job_changed_if, job_ended};
 ghost use Rattle.kernel.specs.Stamping.{IsNumber, MayFollow, MayLook, restamped_between, number_told, stood_between};
 ghost use Rattle.kernel.specs.Watches.{Follows, IsFresh, MaySpend, Spends};
 
 use crate::blockers::Blockers;
-use crate::execute_phase::changes_job;
 use crate::processor::Processor;
 use crate::stamping::{Look, Stand, is_that, without_ended};
 use machine::PackedInstr;
@@ -171,37 +170,46 @@ impl<B: Blockers> Blocking<B> {
         }
     }
 
-    /// Behind a service that was answered E_OK: it may have made or ended a job.
+    /// Behind ActivateTask, where it was answered E_OK.
     #[inline(never)]
-    fn job_changed(&mut self, owner: Owner, packed: PackedInstr, tick: u32)
-        requires call { IsCall (instr_of packed) }
-        requires room { MayChange owner (service_of (instr_of packed)) self.old.stamps }
-        ensures { Follows true (job_changed tick owner (service_of (instr_of packed))) self.old
-            self.new }
+    fn job_made(&mut self, packed: PackedInstr, tick: u32)
+        requires made { if_service makes_job (instr_of packed) ≡ true }
+        requires room { MayAdd (named_by (instr_of packed)) self.old.stamps }
+        ensures { Follows true (job_added tick (named_by (instr_of packed))) self.old self.new }
     {
-        match &packed.service() {
-            Service::ActivateTask(task) => self.job_added(task, tick),
-            Service::TerminateTask => self.job_ended(&owner),
-            _ => {}
+        if let Service::ActivateTask(task) = &packed.service() {
+            self.job_added(task, tick);
         }
     }
 
-    /// Behind a service of which its status tells what it does to jobs.
+    /// Behind a service of which its status tells what it does to jobs. `is_told` says whether it
+    /// makes or ends one where it is answered E_OK.
     #[inline(always)]
-    pub fn answered(&mut self, status: Status, owner: Owner, packed: PackedInstr, tick: u32)
+    pub fn answered(
+        &mut self,
+        is_told: bool,
+        status: Status,
+        owner: Owner,
+        packed: PackedInstr,
+        tick: u32,
+    )
         requires call { IsCall (instr_of packed) }
+        requires told { B.are_counted ≡ true → is_told ≡ changes_job (service_of (instr_of packed)) }
         requires room { B.are_counted ≡ true
             → MayChangeIf status owner (service_of (instr_of packed)) self.old.stamps }
         ensures { Follows B.are_counted
             (job_changed_if status tick owner (service_of (instr_of packed))) self.old self.new }
     {
-        if !B::are_counted() {
+        if !B::are_counted() || !is_told {
             return;
         }
-        if let Status::Ok = status
-            && changes_job(packed)
-        {
-            self.job_changed(owner, packed, tick);
+        let Status::Ok = status else {
+            return;
+        };
+        if packed.ends_job() {
+            self.job_ended(&owner);
+        } else {
+            self.job_made(packed, tick);
         }
     }
 

@@ -8,12 +8,12 @@ ghost use Rattle.osek_base.specs.declared.trace_event.TraceEvent.{TraceEvent};
 ghost use Rattle.osek_base.specs.declared.instr.Instr.{Instr};
 ghost use Rattle.osek_base.specs.declared.trace_event.Source.{Source};
 ghost use Rattle.osek_base.specs.Tick.{error_record, shutdown_record};
-ghost use Rattle.machine.specs.Packed.{instr_of, is_control, is_plain, service_of};
+ghost use Rattle.machine.specs.Packed.{if_service, instr_of, is_control, is_plain, service_of};
 ghost use Rattle.kept_state.specs.KeptTick.{execute_phase_in};
 ghost use Rattle.blocking_laws.specs.Restamping.{named_by};
 ghost use Rattle.kernel.specs.Processor.{ComesTo, HasFewJobs, IsNext, MayFetch, system_of};
 ghost use Rattle.kernel.specs.Does.{Adds, Does, DoesWithin};
-ghost use Rattle.kernel.specs.Controls.{IsCall, changes_job, control_context, ends_routine, needs_look};
+ghost use Rattle.kernel.specs.Controls.{IsCall, changes_job, control_context, ends_routine};
 
 use crate::next::Next;
 use crate::processor::Processor;
@@ -112,29 +112,12 @@ fn record_refusal(system: &System, next: &Next, status: Status, behind: &mut Tic
     }
 }
 
-/// Whether a task has to be looked at before and behind the service of an instruction, since it may
-/// release a job, or end one and make another. It has no hint to write it out: what unpacks a
-/// service counts as large where it is written out, though little of it is left here.
-pub fn needs_look(packed: PackedInstr) -> bool
-    requires { IsCall (instr_of packed) }
-    ensures { result ≡ needs_look (service_of (instr_of packed)) }
-{
-    match packed.service() {
-        Service::ChainTask(_) | Service::SetEvent(..) => true,
-        _ => false,
-    }
-}
-
-/// Whether the service of an instruction makes or ends one job where it is answered E_OK. It has no
-/// hint either.
+/// Whether an instruction is a service that makes or ends one job where it is answered E_OK.
+#[inline(always)]
 pub fn changes_job(packed: PackedInstr) -> bool
-    requires { IsCall (instr_of packed) }
-    ensures { result ≡ changes_job (service_of (instr_of packed)) }
+    ensures { result ≡ if_service changes_job (instr_of packed) }
 {
-    match packed.service() {
-        Service::ActivateTask(_) | Service::TerminateTask => true,
-        _ => false,
-    }
+    packed.makes_job() || packed.ends_job()
 }
 
 /// The task on which a service acts.

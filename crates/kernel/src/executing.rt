@@ -6,15 +6,15 @@ ghost use Rattle.osek_base.specs.declared.ids.Owner.{Owner};
 ghost use Rattle.osek_base.specs.declared.trace_event.TraceEvent.{TraceEvent};
 ghost use Rattle.kept_state.specs.KeptService.{caller_in};
 ghost use Rattle.services.specs.Calls.{calling_task};
-ghost use Rattle.machine.specs.Packed.{instr_of, is_plain, service_of};
-ghost use Rattle.kernel.specs.Controls.{needs_look};
+ghost use Rattle.machine.specs.Packed.{instr_of, is_plain, needs_look, service_of};
+ghost use Rattle.kernel.specs.Controls.{changes_job};
 ghost use Rattle.kernel.specs.Processor.{MayFetch, picture, system_of};
 ghost use Rattle.kernel.specs.Stamping.{IsTask};
 ghost use Rattle.kernel.specs.Steady.{ExecutesNext};
-ghost use Rattle.kernel.specs.Watches.{Begins, Finishes, IsReady, MayBegin, MayCall, MayFinish, MayRun, WatchesWithin, executing};
+ghost use Rattle.kernel.specs.Watches.{Begins, Finishes, IsLater, IsReady, MayBegin, MayCall, MayFinish, MayRun, WatchesWithin, executing};
 
 use crate::blockers::Blockers;
-use crate::execute_phase::{acting_task, needs_look};
+use crate::execute_phase::{acting_task, changes_job};
 use crate::next::Next;
 use crate::watched::Watched;
 use osek_base::{Executed, Outcome, Owner, Results, TaskId, TickRecord};
@@ -24,7 +24,8 @@ impl<'s, Q: ReadyQueues, B: Blockers> Watched<'s, Q, B> {
     /// Where a task is to execute, the stamp of its job is taken and its level noted.
     #[inline(always)]
     pub fn begin(&mut self, task: Option<TaskId>, tick: u32)
-        requires { MayBegin self.old.processor task tick }
+        requires may { MayBegin self.old.processor task tick }
+        requires later { B.are_counted ≡ true → IsLater tick self.old.blocking.told }
         ensures { Begins B.are_counted tick self.old self.new }
     {
         self.blocking.begin(&self.processor, task, tick);
@@ -157,22 +158,32 @@ impl<'s, Q: ReadyQueues, B: Blockers> Watched<'s, Q, B> {
         ensures { WatchesWithin B.are_counted 2 executing tick self.old self.new []
             (TraceEvent.Executed next.owner next.place (instr_of next.packed) result ∷ behind.new) }
     {
-        if next.packed.is_control() {
+        let is_told = B::are_counted() && changes_job(next.packed);
+        if !is_told && next.packed.is_control() {
             self.processor.execute_control(&next, behind);
             Outcome::Control
-        } else if B::are_counted() && needs_look(next.packed) {
+        } else if !is_told && B::are_counted() && next.packed.needs_look() {
             self.serve(&next, tick, behind)
         } else {
-            self.serve_unlooked(&next, tick, behind)
+            self.serve_unlooked(&next, is_told, tick, behind)
         }
     }
 
-    /// A service of which its status tells what it does to jobs.
+    /// A service of which its status tells what it does to jobs. `is_told` says whether it makes or
+    /// ends one where it is answered E_OK, if blockers are counted.
     #[inline(always)]
-    fn serve_unlooked(&mut self, next: &Next, tick: u32, behind: &mut TickRecord) -> Outcome
+    fn serve_unlooked(
+        &mut self,
+        next: &Next,
+        is_told: bool,
+        tick: u32,
+        behind: &mut TickRecord,
+    ) -> Outcome
         requires may { MayCall B.are_counted self.old next.now behind.old }
-        requires told { B.are_counted ≡ true
+        requires unlooked { B.are_counted ≡ true
             → needs_look (service_of (instr_of next.now.packed)) ≡ false }
+        requires told { B.are_counted ≡ true
+            → is_told ≡ changes_job (service_of (instr_of next.now.packed)) }
         ensures { WatchesWithin B.are_counted 2 executing tick self.old self.new []
             (TraceEvent.Executed next.now.owner next.now.place (instr_of next.now.packed) result
             ∷ behind.new) }
@@ -180,7 +191,7 @@ impl<'s, Q: ReadyQueues, B: Blockers> Watched<'s, Q, B> {
         let mut results = Results::Nothing;
         let status = self.processor.execute_service(next, &mut results, behind);
         self.blocking
-            .answered(status, next.owner, next.packed, tick);
+            .answered(is_told, status, next.owner, next.packed, tick);
         Outcome::Answer(status, results)
     }
 

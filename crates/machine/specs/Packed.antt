@@ -32,3 +32,24 @@ service_of _ = Service.TerminateTask
 abbrev pub control_of : Instr → Control ℕ
 control_of (Instr.Control c) = c
 control_of _ = Control.ReturnFromInterrupt
+
+-- whether it is a service with a status of which that is so
+abbrev pub if_service : (ServiceCall → Bool) → Instr → Bool
+if_service test (Instr.Service s) = test s
+if_service test _ = false
+
+-- a service that makes a job where it is answered E_OK
+abbrev pub makes_job : ServiceCall → Bool
+makes_job (Service.ActivateTask t) = true
+makes_job _ = false
+
+-- that ends one
+abbrev pub ends_job : ServiceCall → Bool
+ends_job Service.TerminateTask = true
+ends_job _ = false
+
+-- that may release one, or end one and make another
+abbrev pub needs_look : ServiceCall → Bool
+needs_look (Service.ChainTask t) = true
+needs_look (Service.SetEvent t m) = true
+needs_look _ = false

@@ -2,7 +2,7 @@
 
 ghost use Rattle.std.specs.Prelude.{◌≡◌, true, false};
 ghost use Rattle.machine.specs.Packing.{fields_in, instr_at};
-ghost use Rattle.machine.specs.Packed.{control_of, instr_of, is_control, is_plain, plain_of, service_of};
+ghost use Rattle.machine.specs.Packed.{control_of, ends_job, if_service, instr_of, is_control, is_plain, makes_job, needs_look, plain_of, service_of};
 
 use crate::fields::Fields;
 use crate::unpacking::{control_at, plain_at, service_at};
@@ -62,6 +62,35 @@ impl PackedInstr {
         ensures { result ≡ service_of (instr_of self) }
     {
         service_at(&Fields::in_word(self.word))
+    }
+
+    /// Whether it is a service that makes a job where it is answered E_OK: ActivateTask.
+    #[tactic(auto, unfolding(crate::specs::Packed::instr_of))]
+    #[inline(always)]
+    pub fn makes_job(self) -> bool
+        ensures { result ≡ if_service makes_job (instr_of self) }
+    {
+        Fields::in_word(self.word).operation == 15
+    }
+
+    /// Whether it is one that ends a job where it is answered E_OK: TerminateTask.
+    #[tactic(auto, unfolding(crate::specs::Packed::instr_of))]
+    #[inline(always)]
+    pub fn ends_job(self) -> bool
+        ensures { result ≡ if_service ends_job (instr_of self) }
+    {
+        Fields::in_word(self.word).operation == 16
+    }
+
+    /// Whether it is one that may release a job, or end one and make another: ChainTask or
+    /// SetEvent.
+    #[tactic(auto, unfolding(crate::specs::Packed::instr_of))]
+    #[inline(always)]
+    pub fn needs_look(self) -> bool
+        ensures { result ≡ if_service needs_look (instr_of self) }
+    {
+        let operation = Fields::in_word(self.word).operation;
+        operation == 17 || operation == 23
     }
 
     /// The service without a status that it is.

@@ -1,6 +1,16 @@
 -- Since which tick each job of a task is ready, where it hasn't executed since. No part of the standards.
-use Rattle.std.specs.Prelude.{ℕ, ◌≡◌, List, [], ◌∷◌, Option, Some, None, IfSome, nat_lt, if◌then◌else◌, slice_index_or, slice_set}
+use Rattle.std.specs.Prelude.{ℕ, ◌≡◌, Bool, true, false, List, [], ◌∷◌, Option, Some, None, IfSome, nat_lt, if◌then◌else◌, slice_index_or, slice_set}
 use Rattle.osek_base.specs.declared.limits.TheConstants.{MAX_TASKS}
+
+-- the stamps of a task's jobs: where it has one, that of the oldest, and those of the later ones
+abbrev pub listed : Bool → Option ℕ → List (Option ℕ) → List (Option ℕ)
+listed false oldest later = []
+listed true oldest later = oldest ∷ later
+
+-- where it has none, there is nothing else
+pub record IsTask (has_job : Bool) (oldest : Option ℕ) (later : List (Option ℕ)) : Type 0 where
+  pub no_stamp : has_job ≡ false → oldest ≡ None
+  pub no_later : has_job ≡ false → later ≡ []
 
 -- the oldest job gets a stamp where it has none
 abbrev pub stamp_oldest : ℕ → List (Option ℕ) → List (Option ℕ)

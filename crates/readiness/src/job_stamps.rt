@@ -81,6 +81,7 @@ impl JobStamps {
     }
 
     /// A job of a task more, ready from a tick on: it is the newest.
+    #[inline(always)]
     pub fn add(&mut self, task: TaskId, tick: u32)
         requires task { task < length self.old.lists }
         requires room { length (slice_index_or self.old.lists task []) < MAX_ACTIVATION }
@@ -91,6 +92,7 @@ impl JobStamps {
     }
 
     /// The oldest job of a task ends, if there is one.
+    #[inline(always)]
     pub fn end(&mut self, task: TaskId)
         requires { task < length self.old.lists }
         ensures { self.new ≡ changed task without_oldest None self.old }
@@ -100,6 +102,7 @@ impl JobStamps {
     }
 
     /// The oldest job of a task is ready from a tick on, where it has no stamp.
+    #[inline(always)]
     pub fn stamp(&mut self, task: TaskId, tick: u32)
         requires { task < length self.old.lists }
         ensures { self.new ≡ changed task (stamp_oldest tick) None self.old }

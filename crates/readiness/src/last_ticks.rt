@@ -2,10 +2,9 @@
 
 ghost use Rattle.std.specs.Prelude.{◌≡◌, ◌<◌, ◌≤◌, ◌+◌, nat_lt, replicate, slice_set, take, length};
 ghost use Rattle.std.specs.List.{list_any};
-ghost use Rattle.readiness.specs.Last.{noted};
+ghost use Rattle.readiness.specs.Last.{latest, noted};
 
 use osek_base::{MAX_TASK_PRIORITY, MAX_TICKS};
-use std::cmp;
 use std::marker::Model;
 
 const LEVELS: usize = MAX_TASK_PRIORITY as usize + 1;
@@ -15,10 +14,8 @@ const LEVELS: usize = MAX_TASK_PRIORITY as usize + 1;
 #[derive(Drop)]
 pub struct LastTicks {
     after: [u32; LEVELS],
-    /// The level of the job that executed last.
+    /// The level of the job that executed last: no number is greater than its own.
     level: u8,
-    /// No number of another level is greater.
-    others: u32,
     /// No number of a lower level is greater.
     lower: u32,
 }
@@ -30,7 +27,7 @@ impl Model for LastTicks {
 
     ghost view = { λ l. record { after = l.after; level = l.level } };
 
-    ghost invariant = { λ l. AreBounds l.after l.level l.others l.lower };
+    ghost invariant = { λ l. AreBounds l.after l.level l.lower };
 }
 
 impl LastTicks {
@@ -41,7 +38,6 @@ impl LastTicks {
         LastTicks {
             after: [0; LEVELS],
             level: 0,
-            others: 0,
             lower: 0,
         }
     }
@@ -52,31 +48,30 @@ impl LastTicks {
     {
         self.after.copy_from_slice(&other.after);
         self.level = other.level;
-        self.others = other.others;
         self.lower = other.lower;
     }
 
-    /// A job of a level executes in a tick.
+    /// A job of a level executes in a tick, later than any before. So the level that is left has
+    /// the greatest number.
     #[inline(always)]
     pub fn note(&mut self, level: u8, tick: u32)
         requires level { level ≤ MAX_TASK_PRIORITY }
         requires tick { tick < MAX_TICKS }
+        requires order { latest self.old ≤ tick }
         ensures { self.new ≡ noted level tick self.old }
     {
-        if level != self.level {
-            self.others = cmp::max(self.others, self.after[self.level as usize]);
-            if self.level < level {
-                self.lower = self.others;
-            }
-            self.level = level;
+        if self.level < level {
+            self.lower = self.after[self.level as usize];
         }
+        self.level = level;
         self.after[level as usize] = tick + 1;
     }
 
     /// A job of the level that executed last does so in a tick.
     #[inline(always)]
     pub fn note_again(&mut self, tick: u32)
-        requires { tick < MAX_TICKS }
+        requires tick { tick < MAX_TICKS }
+        requires order { latest self.old ≤ tick }
         ensures { self.new ≡ noted self.old.level tick self.old }
     {
         self.after[self.level as usize] = tick + 1;

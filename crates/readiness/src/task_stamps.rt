@@ -1,27 +1,34 @@
 //! Since which tick each job of a task is ready.
 
-ghost use Rattle.std.specs.Prelude.{◌≡◌, ◌<◌, [], ◌∷◌, ◌++◌, Some, length, is_none};
+ghost use Rattle.std.specs.Prelude.{◌≡◌, ◌<◌, ◌≤◌, [], ◌∷◌, ◌++◌, Some, length, is_none};
 ghost use Rattle.readiness.specs.Stamps.{stamp_oldest, stamp_of_oldest, spent_oldest, without_oldest};
 
 use arrayvec::ArrayVec;
 use osek_base::MAX_ACTIVATION;
 use std::marker::Model;
 
-const MOST_JOBS: usize = MAX_ACTIVATION as usize;
+const MOST_LATER: usize = MAX_ACTIVATION as usize - 1;
 
 /// The stamps of a task's jobs, oldest first: of each the first tick whose instruction comes behind
-/// the moment at which the job became ready, while it hasn't executed since.
+/// the moment at which the job became ready, while it hasn't executed since. That of the oldest job
+/// has its own place, so that it is taken without a look at how many jobs there are.
 #[derive(Drop)]
 pub struct TaskStamps {
-    stamps: ArrayVec<Option<u32>, MOST_JOBS>,
+    has_job: bool,
+    /// None where there is no job, too.
+    oldest: Option<u32>,
+    later: ArrayVec<Option<u32>, MOST_LATER>,
 }
 
 impl Model for TaskStamps {
     ghost use Rattle.std.specs.Prelude.{ℕ, List, Option};
+    ghost use Rattle.readiness.specs.Stamps.{IsTask, listed};
 
     ghost Value = { List (Option ℕ) };
 
-    ghost view = { λ s. s.stamps.items };
+    ghost view = { λ s. listed s.has_job s.oldest s.later.items };
+
+    ghost invariant = { λ s. IsTask s.has_job s.oldest s.later.items };
 }
 
 impl Default for TaskStamps {
@@ -36,7 +43,9 @@ impl TaskStamps {
         ensures { result ≡ [] }
     {
         TaskStamps {
-            stamps: ArrayVec::new(),
+            has_job: false,
+            oldest: None,
+            later: ArrayVec::new(),
         }
     }
 
@@ -53,36 +62,58 @@ impl TaskStamps {
     pub fn copy_from(&mut self, other: &TaskStamps)
         ensures { self.new ≡ other.now }
     {
-        self.stamps.clear();
-        match self.stamps.try_extend_from_slice(other.stamps.as_slice()) {
+        self.has_job = other.has_job;
+        self.oldest = other.oldest;
+        self.later.clear();
+        match self.later.try_extend_from_slice(other.later.as_slice()) {
             Ok(()) => {}
             Err(_) => unreachable!(),
         }
     }
 
     /// A job more, ready from a tick on: it is the newest.
+    #[inline(always)]
     pub fn add(&mut self, tick: u32)
         requires { length self.old < MAX_ACTIVATION }
         ensures { self.new ≡ self.old ++ Some tick ∷ [] }
     {
-        self.stamps.push(Some(tick));
-    }
-
-    /// The oldest job ends, if there is one.
-    pub fn end(&mut self)
-        ensures { self.new ≡ without_oldest self.old }
-    {
-        if !self.stamps.is_empty() {
-            self.stamps.remove(0);
+        if self.has_job {
+            self.later.push(Some(tick));
+        } else {
+            self.has_job = true;
+            self.oldest = Some(tick);
         }
     }
 
+    /// The oldest job ends, if there is one.
+    #[inline(always)]
+    pub fn end(&mut self)
+        ensures { self.new ≡ without_oldest self.old }
+    {
+        if self.later.is_empty() {
+            self.has_job = false;
+            self.oldest = None;
+        } else {
+            self.end_of_several();
+        }
+    }
+
+    /// The oldest of several jobs ends.
+    #[inline(never)]
+    fn end_of_several(&mut self)
+        requires { 2 ≤ length self.old }
+        ensures { self.new ≡ without_oldest self.old }
+    {
+        self.oldest = self.later.remove(0);
+    }
+
     /// The oldest job, if there is one, is ready from a tick on, where it has no stamp.
+    #[inline(always)]
     pub fn stamp(&mut self, tick: u32)
         ensures { self.new ≡ stamp_oldest tick self.old }
     {
-        if !self.stamps.is_empty() && self.stamps[0].is_none() {
-            self.stamps[0] = Some(tick);
+        if self.has_job && self.oldest.is_none() {
+            self.oldest = Some(tick);
         }
     }
 
@@ -91,10 +122,7 @@ impl TaskStamps {
     pub fn is_spent(&self) -> bool
         ensures { result ≡ is_none (stamp_of_oldest self.now) }
     {
-        match self.stamps.as_slice().first() {
-            None => true,
-            Some(stamp) => stamp.is_none(),
-        }
+        self.oldest.is_none()
     }
 
     /// The oldest job executes: its stamp is taken.
@@ -103,11 +131,8 @@ impl TaskStamps {
         ensures stamp { result ≡ stamp_of_oldest self.old }
         ensures after { self.new ≡ spent_oldest self.old }
     {
-        if self.stamps.is_empty() {
-            return None;
-        }
-        let stamp = self.stamps[0];
-        self.stamps[0] = None;
+        let stamp = self.oldest;
+        self.oldest = None;
         stamp
     }
 }

@@ -171,7 +171,8 @@ fn push_block_count(text: &mut Block, number: u32)
     ensures { text.new ≡ text.old ++ ended (codes " ! " ++ decimal number) }
 {
     if number < 10 {
-        text.push_array(&[b' ', b'!', b' ', b'0' + number as u8, b'\n']);
+        text.push_array(&[b' ', b'!', b' ', b'0' + number as u8]);
+        text.push_array(&[b'\n']);
     } else {
         push_many_blockers(text, number);
     }

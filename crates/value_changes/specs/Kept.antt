@@ -1,6 +1,7 @@
 -- Value change dumps: what a variable was last written with, a number or no value, kept as one number. The numbers of a byte
 -- stand for themselves, the next ones for no value and for that nothing was written yet.
 use Rattle.std.specs.Prelude.{ℕ, zero, suc, ◌+◌, ◌-◌, ◌≡◌, ◌≤◌, Bool, true, false, cond, nat_lt, Option, Some, None}
+use Rattle.osek_base.specs.declared.ids.Owner.{Owner}
 use Rattle.std.proofs.Common.{refl, ap, ◌∙◌, arith, le-ltb, ltb-false}
 
 abbrev kept_behind : ℕ → Option (Option ℕ)
@@ -58,3 +59,34 @@ byte_again_in code false is =
 
 pub byte_again : (code : ℕ) → byte_code (kept_byte code) ≡ code
 byte_again code = byte_again_in code (nat_lt code 256) refl
+
+-- who executes: the numbers of a byte stand for tasks, the next ones for nobody and for that nothing was written yet, and
+-- those behind them for routines
+abbrev executor_behind : ℕ → Option (Option Owner)
+executor_behind zero = Some None
+executor_behind (suc zero) = None
+executor_behind (suc (suc n)) = Some (Some (Owner.Routine n))
+
+abbrev pub kept_executor : ℕ → Option (Option Owner)
+kept_executor code = cond (nat_lt code 256) (Some (Some (Owner.Task code))) (executor_behind (code - 256))
+
+abbrev pub executor_code : Option (Option Owner) → ℕ
+executor_code None = 257
+executor_code (Some None) = 256
+executor_code (Some (Some (Owner.Task t))) = t
+executor_code (Some (Some (Owner.Routine i))) = i + 258
+
+executor_behind_again : (d : ℕ) → executor_code (executor_behind d) ≡ d + 256
+executor_behind_again zero = refl
+executor_behind_again (suc zero) = refl
+executor_behind_again (suc (suc n)) = omega arith
+
+executor_again_in : (code : ℕ) (low : Bool) → nat_lt code 256 ≡ low
+    → executor_code (cond low (Some (Some (Owner.Task code))) (executor_behind (code - 256))) ≡ code
+executor_again_in code true is = refl
+executor_again_in code false is =
+    let high : 256 ≤ code = ltb-false code 256 is in
+    executor_behind_again (code - 256) ∙ (omega (arith, high))
+
+pub executor_again : (code : ℕ) → executor_code (kept_executor code) ≡ code
+executor_again code = executor_again_in code (nat_lt code 256) refl

@@ -27,8 +27,8 @@ ghost use Rattle.value_changes.specs.Ticks.{
 
 use crate::dump_text::{DumpText, TEXT_SIZE};
 use crate::events::{push_all_losses, push_expiries};
+use crate::last_executor::LastExecutor;
 use crate::last_number::LastNumber;
-use crate::last_value::LastValue;
 use crate::names::{push_executor, push_free, push_held};
 use crate::routine_values::RoutineValues;
 use crate::task_values::TaskValues;
@@ -43,7 +43,7 @@ const VALUES_SIZE: usize = 3886;
 /// its task, routine or resource.
 #[derive(Drop)]
 pub struct LastValues {
-    pub executor: LastValue<Option<Owner>>,
+    pub executor: LastExecutor,
     pub tasks: [TaskValues; MAX_TASKS],
     pub routines: [RoutineValues; MAX_ROUTINES],
     pub holders: [LastNumber; MAX_HELD],
@@ -154,7 +154,7 @@ fn push_holders(
 #[inline(always)]
 fn push_executor_change(
     system: &System,
-    last: &mut LastValue<Option<Owner>>,
+    last: &mut LastExecutor,
     executor: Option<Owner>,
     text: &mut DumpText,
 )
@@ -163,7 +163,7 @@ fn push_executor_change(
     ensures after { last.new ≡ shown last.old (written (same_option same_owner) last.old executor) }
     ensures short { length text.new ≤ length text.old + 41 }
 {
-    if let Some(executor) = last.change_to(executor) {
+    if let Some(executor) = last.change_to(&executor) {
         push_executor(system.names(), &executor, text);
     }
 }
@@ -186,7 +186,7 @@ impl LastValues {
         ensures { result ≡ nothing_written }
     {
         LastValues {
-            executor: LastValue::default(),
+            executor: LastExecutor::default(),
             tasks: [TaskValues::default(); MAX_TASKS],
             routines: [RoutineValues::default(); MAX_ROUTINES],
             holders: [LastNumber::default(); MAX_HELD],

@@ -3,6 +3,7 @@ use Rattle.std.specs.Prelude.{Some}
 use Rattle.osek_base.specs.declared.limits.TheConstants.{MAX_TICKS}
 use Rattle.kernel.specs.Machine.{Machine, next_tick}
 use Rattle.kernel.proofs.GoingLemmas.{is_done, is_ready}
+use Rattle.kernel.proofs.OrderLemmas.{comes_later}
 use Rattle.kernel.proofs.SteadyLemmas.{may_fetch}
 use Rattle.kernel.proofs.TickLemmas.{may_start}
 use Rattle.kernel.proofs.ticking.Machine.go_on.Goals as goal
@@ -12,6 +13,18 @@ begin_tick-begun-requires-clause-may g c =
     let k = c.self.inside in
     may_start g.B.Blockers.are_counted k.watched k.ticks k.opening k.acted c.self.invariant
     (subst (λ (x : Machine). next_tick x < MAX_TICKS) (sym c.self.view_is) c.requires.may.limit) k.opening refl
+
+pub begin-requires-clause-later : goal.begin-requires-clause-later
+begin-requires-clause-later g c =
+    let k = c.self.inside in
+    comes_later g.B.Blockers.are_counted _ k.watched k.ticks k.opening k.acted c.self.invariant
+    c.begin_tick-begun.new.self.blocking.told c.in-Any.ensures.starts.does.told
+
+pub begin-requires-in-First-clause-later : goal.begin-requires-in-First-clause-later
+begin-requires-in-First-clause-later g c =
+    let k = c.self.inside in
+    comes_later g.B.Blockers.are_counted _ k.watched k.ticks k.opening k.acted c.self.invariant
+    c.begin_tick-begun.new.self.blocking.told c.in-First.ensures.0.starts.does.told
 
 pub late_apart-requires : goal.late_apart-requires
 late_apart-requires g c =

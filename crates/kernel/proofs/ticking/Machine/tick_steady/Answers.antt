@@ -1,14 +1,21 @@
-use Rattle.std.proofs.Common.{◌≡◌, ◌<◌, ◌≤◌, false, [], refl, sym, subst, arith}
+use Rattle.std.proofs.Common.{◌≡◌, ◌<◌, ◌≤◌, false, [], refl, sym, ap, subst, arith}
 use Rattle.osek_base.specs.declared.limits.TheConstants.{MAX_TICKS}
 use Rattle.kernel.specs.Machine.{Machine, next_tick, picture}
+use Rattle.kernel.proofs.OrderLemmas.{comes_later}
 use Rattle.kernel.proofs.SteadyLemmas.{begins_tick, may_begin, may_fetch, steady_ticked}
 use Rattle.kernel.proofs.TickLemmas.{has_begun, may_start}
 use Rattle.kernel.proofs.ticking.Machine.tick_steady.Goals as goal
 
-pub begin-requires : goal.begin-requires
-begin-requires g c =
+pub begin-requires-clause-may : goal.begin-requires-clause-may
+begin-requires-clause-may g c =
     may_begin c.begin_steady.new.self c.in_ok-task.task c.self.inside.ticks c.in_ok-task.ensures.next
     (subst (λ (x : Machine). next_tick x < MAX_TICKS) (sym c.self.view_is) c.requires.limit)
+
+pub begin-requires-clause-later : goal.begin-requires-clause-later
+begin-requires-clause-later g c =
+    let k = c.self.inside in
+    comes_later g.B.Blockers.are_counted _ k.watched k.ticks k.opening k.acted c.self.invariant
+    c.begin_steady.new.self.blocking.told (ap (λ b. b.told) c.in_ok-task.ensures.same)
 
 pub finish-requires : goal.finish-requires
 finish-requires g c =

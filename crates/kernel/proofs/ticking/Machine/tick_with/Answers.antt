@@ -7,6 +7,7 @@ use Rattle.osek_base.specs.Executed.{StandsIn, idle_or_executed}
 use Rattle.kernel.specs.Machine.{HasTicked, Machine, Ticks, between, next_tick, picture, system_of}
 use Rattle.kernel.specs.Processor.{system_of as system_in}
 use Rattle.kernel.proofs.GoingLemmas.{executes_first}
+use Rattle.kernel.proofs.OrderLemmas.{comes_later}
 use Rattle.kernel.proofs.TickLemmas.{has_begun, may_start, ticked}
 use Rattle.kernel.proofs.ticking.Machine.tick_with.Goals as goal
 
@@ -28,6 +29,12 @@ pub executing_task-task-requires : goal.executing_task-task-requires
 executing_task-task-requires g c =
     let e = c.early_phases-first in
     executes_first e.new.self e.new.before e.result e.ensures.first
+
+pub begin-requires-clause-later : goal.begin-requires-clause-later
+begin-requires-clause-later g c =
+    let k = c.self.inside in
+    comes_later g.B.Blockers.are_counted _ k.watched k.ticks k.opening k.acted c.self.invariant
+    c.early_phases-first.new.self.blocking.told c.early_phases-first.ensures.starts.does.told
 
 pub late_phases_of-requires-clause-ready : goal.late_phases_of-requires-clause-ready
 late_phases_of-requires-clause-ready g c =

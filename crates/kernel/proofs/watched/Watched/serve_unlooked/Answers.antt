@@ -38,7 +38,7 @@ returns g c =
     (record {
       does =
           answered_watched counted c.args.tick (watched_of k.processor k.blocking) r.new.self c.answered.new.self next call r.result [] events comes is
-          c.requires.told begun.each
+          c.requires.unlooked begun.each
           (status_is k.processor r.new.self next comes call is _ r.result r.new.results r.new.behind r.ensures.does.does)
           r.ensures.does.does c.answered.ensures.stamps c.answered.ensures.told;
       few = r.ensures.does.few;

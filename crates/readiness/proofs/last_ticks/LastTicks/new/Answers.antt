@@ -4,6 +4,7 @@ use Rattle.readiness.proofs.last_ticks.LastTicks.new.Goals as goal
 
 pub invariant_of-result : goal.invariant_of-result
 invariant_of-result c = record {
-  others = record { low = omega arith; each = λ l other. zeros 64 l };
+  low = omega arith;
+  greatest = λ l. zeros 64 l;
   below = λ l inside. zeros 64 l;
 }
