@@ -194,7 +194,8 @@ impl<B: Blockers> Blocking<B> {
         tick: u32,
     )
         requires call { IsCall (instr_of packed) }
-        requires told { B.are_counted ≡ true → is_told ≡ changes_job (service_of (instr_of packed)) }
+        requires told { B.are_counted ≡ true
+            → is_told ≡ changes_job (service_of (instr_of packed)) }
         requires room { B.are_counted ≡ true
             → MayChangeIf status owner (service_of (instr_of packed)) self.old.stamps }
         ensures { Follows B.are_counted

@@ -236,9 +236,10 @@ impl<'s, Q: ReadyQueues, B: Blockers> Machine<'s, Q, B> {
         let task = self.watched.begin_steady()?;
         self.acted.clear();
         behind.clear();
-        self.watched.begin(Some(task), self.ticks);
-        self.ticks += 1;
-        Some(self.watched.finish(Owner::Task(task), self.ticks, behind))
+        let tick = self.ticks;
+        self.watched.begin(Some(task), tick);
+        self.ticks = tick + 1;
+        Some(self.watched.finish(Owner::Task(task), tick + 1, behind))
     }
 
     /// Does one tick in which the interrupts of some routines arrive, if the run isn't over.
@@ -259,9 +260,10 @@ impl<'s, Q: ReadyQueues, B: Blockers> Machine<'s, Q, B> {
         ensures { GoesOnBy B.are_counted arrived.now self.old self.new before.new behind.new
             executed.new result }
     {
+        let tick = self.ticks;
         let begun = self.watched.begin_tick(
             none_comes,
-            self.ticks,
+            tick,
             arrived,
             &mut self.acted,
             &mut self.opening,
@@ -272,15 +274,15 @@ impl<'s, Q: ReadyQueues, B: Blockers> Machine<'s, Q, B> {
             Begun::Any => {
                 let watched = &self.watched;
                 let task = watched.processor.executing_task();
-                self.watched.begin(task, self.ticks);
-                self.ticks += 1;
-                self.watched.late_apart(self.ticks, behind, executed);
+                self.watched.begin(task, tick);
+                self.ticks = tick + 1;
+                self.watched.late_apart(tick + 1, behind, executed);
                 Ticked::Any
             }
             Begun::First(task) => {
-                self.watched.begin(Some(task), self.ticks);
-                self.ticks += 1;
-                Ticked::First(self.watched.finish(Owner::Task(task), self.ticks, behind))
+                self.watched.begin(Some(task), tick);
+                self.ticks = tick + 1;
+                Ticked::First(self.watched.finish(Owner::Task(task), tick + 1, behind))
             }
         }
     }

@@ -164,15 +164,15 @@ fn push_many_blockers(text: &mut Block, number: u32)
     text.push_str("\n");
 }
 
-/// Appends ` ! ` with a number of blockers, and the line's end, to a block.
+/// Appends ` ! ` with a number of blockers, and the line's end, to a block. Eight bytes are copied,
+/// of which five count, so that a digit is one store.
 #[inline(always)]
 fn push_block_count(text: &mut Block, number: u32)
     requires { length text.old + END_SIZE ≤ BLOCK_SIZE }
     ensures { text.new ≡ text.old ++ ended (codes " ! " ++ decimal number) }
 {
     if number < 10 {
-        text.push_array(&[b' ', b'!', b' ', b'0' + number as u8]);
-        text.push_array(&[b'\n']);
+        text.push_front(&[b' ', b'!', b' ', b'0' + number as u8, b'\n', 0, 0, 0], 5);
     } else {
         push_many_blockers(text, number);
     }

@@ -1,4 +1,4 @@
-use Rattle.std.proofs.Common.{[], ◌∷◌, ◌++◌, append_assoc, ap, sym, ◌∙◌}
+use Rattle.std.proofs.Common.{ap, sym, ◌∙◌, ◌++◌}
 use Rattle.std.specs.Prelude.{codes}
 use Rattle.std.proofs.lemmas.Fmt.{decimal_digit}
 use Rattle.trace_lines.specs.Lines.{ended}
@@ -6,7 +6,5 @@ use Rattle.trace_lines.proofs.block_outcome.push_block_count.Goals as goal
 
 pub returns-then-number-lt10 : goal.returns-then-number-lt10
 returns-then-number-lt10 c =
-    c.push_array-then-number-lt10.ensures.same
-    ∙ ap (λ old. old ++ 10 ∷ []) c.push_array.ensures.same
-    ∙ append_assoc c.args.text.now _ (10 ∷ [])
+    c.push_front.ensures.same
     ∙ ap (λ digits. c.args.text.now ++ ended (codes " ! " ++ digits)) (sym (decimal_digit c.args.number c.if-number-lt10.true))
