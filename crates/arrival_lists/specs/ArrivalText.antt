@@ -1,4 +1,4 @@
--- The text of an arrival list, no part of the standards: what it means, and its first fault.
+-- The text of an arrival list: what it means, and its first fault.
 use Rattle.std.specs.Prelude.{◌≡◌, ℕ, ◌+◌, ◌<◌, ◌≤◌, ◌⊎◌, Bool, true, false, not, ◌&&◌, ◌==◌, nat_le, IsTrue, List, [], ◌∷◌, ◌++◌, length, Some, None, if◌then◌else◌}
 use Rattle.std.specs.List.{list_all}
 use Rattle.osek_base.specs.declared.limits.TheConstants.{MAX_ARRIVALS, MAX_TICKS}

@@ -1,4 +1,4 @@
-//! A line of an arrival list, no part of the standards: a tick, one space and a routine's name.
+//! A line of an arrival list: a tick, one space and a routine's name.
 
 ghost use Rattle.std.specs.Prelude.{◌≡◌, ◌+◌, true, ◌<◌, ◌≤◌, ℕ, List, IsTrue, IfOk, IfErr, IfSome, IfNone, length, min, take, slice_index};
 ghost use Rattle.std.specs.List.{list_all};

@@ -1,4 +1,4 @@
-//! Arrival lists, no part of the standards: when the interrupts of routines arrive.
+//! Arrival lists: when the interrupts of routines arrive.
 
 ghost use Rattle.std.specs.Prelude.{◌≡◌, ◌<◌, ◌⊎◌, ℕ, List, IfOk, IfErr, OnOk, [], ◌∷◌, ◌++◌, length};
 ghost use Rattle.std.specs.List.{All};

@@ -1,4 +1,4 @@
-//! Why a text is no arrival list, no part of the standards.
+//! Why a text is no arrival list.
 
 ghost use Rattle.std.specs.Prelude.{◌≡◌};
 

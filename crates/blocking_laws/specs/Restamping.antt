@@ -1,4 +1,4 @@
--- What the kernel does to the stamps of all tasks' jobs in a tick, over what is kept of a state. No part of the standards.
+-- What the kernel does to the stamps of all tasks' jobs in a tick, over what is kept of a state.
 use Rattle.std.specs.Prelude.{ℕ, Bool, false, not, ◌&&◌, ◌==◌, nat_lt, if◌then◌else◌, List, [], ◌∷◌, ◌++◌, Option, Some, None, is_some, length, slice_index_or, slice_set, ◌≡◌}
 use Rattle.std.specs.Option.{option_map}
 use Rattle.osek_base.specs.declared.task.Action.{Action}

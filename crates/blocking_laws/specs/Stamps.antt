@@ -1,4 +1,4 @@
--- Since which tick each job is ready, where it hasn't executed since. No part of the standards.
+-- Since which tick each job is ready, where it hasn't executed since.
 use Rattle.std.specs.Prelude.{ℕ, zero, suc, Bool, nat_lt, if◌then◌else◌, List, map, Option, Some, None}
 use Rattle.std.specs.Option.{option_map, option_or}
 use Rattle.std.specs.List.{list_any}

@@ -1,5 +1,4 @@
--- Partitions, no part of the standards. Bounds of an upper part that hold in every system that has
--- it.
+-- Partitions. Bounds of an upper part that hold in every system that has it.
 use Rattle.std.specs.Prelude.{ℕ, List}
 use Rattle.osek_base.specs.System.{System}
 use Rattle.bound_nodes.specs.declared.found.Bounds.{Bounds}

@@ -1,4 +1,4 @@
-//! How far a search through all runs is. No part of the standards.
+//! How far a search through all runs is.
 
 use bound_nodes::Watch;
 use run_views::Progress;

@@ -1,4 +1,4 @@
-//! How far a trace is, by what is written of it. No part of the standards.
+//! How far a trace is, by what is written of it.
 
 use osek_base::words::number_at;
 use run_views::Progress;

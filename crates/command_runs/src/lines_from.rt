@@ -1,4 +1,4 @@
-//! The end of a trace. No part of the standards.
+//! The end of a trace.
 
 use osek_base::words::number_at;
 use std::io::{self, Write};

@@ -1,5 +1,5 @@
--- Partitions, no part of the standards. What a system, its upper part by itself and every system
--- that agrees with it have in common.
+-- Partitions. What a system, its upper part by itself and every system that agrees with it have in
+-- common.
 use Rattle.std.specs.Prelude.{ℕ}
 use Rattle.osek_base.specs.System.{System}
 use Rattle.osek_base.specs.Agree.{upper_part}

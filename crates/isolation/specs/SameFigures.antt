@@ -1,5 +1,4 @@
--- Partitions, no part of the standards. Figures of the upper part are the same in systems that
--- agree.
+-- Partitions. Figures of the upper part are the same in systems that agree.
 use Rattle.std.specs.Prelude.{ℕ, ◌≡◌, ◌<◌, IsTrue, List, [], None, length, slice_index_or}
 use Rattle.osek_base.specs.declared.arrivals.Arrival.{Arrival}
 use Rattle.osek_base.specs.System.{System}

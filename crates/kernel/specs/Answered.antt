@@ -1,4 +1,4 @@
--- OSEK/VDX OS: task management. What a service does to the stamps of jobs, as its status tells. No part of the standards.
+-- OSEK/VDX OS: task management. What a service does to the stamps of jobs, as its status tells.
 use Rattle.std.specs.Prelude.{ℕ, ◌≡◌, ◌<◌, ◌≤◌, ◌∷◌, ◌++◌, [], Option, Some, None, length}
 use Rattle.osek_base.specs.declared.ids.Owner.{Owner}
 use Rattle.osek_base.specs.declared.instr.Service.{Service}

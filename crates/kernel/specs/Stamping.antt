@@ -1,4 +1,4 @@
--- What is seen of a task before and after something, and what is done by it to the stamps of jobs. No part of the standards.
+-- What is seen of a task before and after something, and what is done by it to the stamps of jobs.
 use Rattle.std.specs.Prelude.{ℕ, ◌+◌, ◌-◌, ◌<◌, ◌≤◌, ◌≡◌, ◌==◌, Bool, true, false, not, ◌&&◌, nat_lt, if◌then◌else◌, List, Option, Some, None, IfSome, length, replicate, slice_set, take}
 use Rattle.osek_base.specs.declared.limits.TheConstants.{MAX_ACTIVATION, MAX_TASK_PRIORITY, MAX_TASKS}
 use Rattle.std.specs.Option.{option_map}

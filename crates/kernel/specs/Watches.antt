@@ -1,4 +1,4 @@
--- A system within a tick whose jobs' stamps are followed, and what a step does to both. No part of the standards.
+-- A system within a tick whose jobs' stamps are followed, and what a step does to both.
 use Rattle.std.specs.Prelude.{ℕ, ◌≡◌, ◌<◌, ◌≤◌, ◌+◌, ◌∷◌, Bool, true, false, List, [], Option, None, IfSome, length, replicate, slice_index_or}
 use Rattle.osek_base.specs.declared.executed.Executed.{Executed}
 use Rattle.osek_base.specs.declared.ids.Owner.{Owner}

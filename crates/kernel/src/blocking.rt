@@ -1,5 +1,5 @@
 //! Since which tick each job is ready, and how many blockers it had, in a kernel that counts
-//! blockers. No part of the standards.
+//! blockers.
 
 ghost use Rattle.std.specs.Prelude.{◌≡◌, ◌<◌, true, IfSome, length};
 ghost use Rattle.blocking_laws.specs.Restamping.{named_by, preempted_by};

@@ -1,4 +1,4 @@
--- The modelled processor, no part of the standards; alarms. What a state holds has 32 bits.
+-- The modelled processor; alarms. What a state holds has 32 bits.
 use Rattle.std.specs.Prelude.{ℕ, ◌+◌, ◌<◌, ◌^◌, List, Option, Some, None, IfSome}
 use Rattle.std.specs.List.{AllByRecursion}
 use Rattle.osek_base.specs.declared.arrivals.Arrival.{Arrival}

@@ -1,4 +1,4 @@
--- How many bytes the lines of a run have, without their LF, no part of the standards.
+-- How many bytes the lines of a run have, without their LF.
 use Rattle.std.specs.Prelude.{ℕ, ◌≤◌, List, length}
 use Rattle.std.specs.List.{AllByRecursion, flat_map}
 use Rattle.osek_base.specs.declared.arrivals.Arrival.{Arrival}

@@ -1,4 +1,4 @@
--- The modelled processor, no part of the standards. The programs of a system, kept as words.
+-- The modelled processor. The programs of a system, kept as words.
 use Rattle.std.specs.Prelude.{ℕ, List, [], map, slice_index_or, Option}
 use Rattle.std.specs.Option.{unwrap_or}
 use Rattle.osek_base.specs.declared.instr.Plain.{Plain}

@@ -1,4 +1,4 @@
--- The modelled processor, no part of the standards. Where an instruction may be executed.
+-- The modelled processor. Where an instruction may be executed.
 use Rattle.std.specs.Prelude.{◌+◌, ◌<◌}
 use Rattle.osek_base.specs.declared.instr.Plain.{Plain}
 use Rattle.osek_base.specs.Types.{PlainInstr}

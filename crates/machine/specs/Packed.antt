@@ -1,4 +1,4 @@
--- The modelled processor, no part of the standards. What a word tells, by the kind of its instruction.
+-- The modelled processor. What a word tells, by the kind of its instruction.
 use Rattle.std.specs.Prelude.{ℕ, Bool, true, false}
 use Rattle.osek_base.specs.declared.instr.Plain.{Plain}
 use Rattle.osek_base.specs.declared.instr.Service.{Service}

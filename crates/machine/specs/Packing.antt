@@ -1,4 +1,4 @@
--- The modelled processor, no part of the standards. Instructions as words of 64 bits.
+-- The modelled processor. Instructions as words of 64 bits.
 use Rattle.std.specs.Prelude.{ℕ, ◌+◌, ◌*◌, ◌/◌, ◌%◌, ◌^◌, ◌==◌, ◌&&◌, nat_lt, nat_le, if◌then◌else◌, Option, Some, None}
 use Rattle.osek_base.specs.declared.limits.TheConstants.{REGISTERS, MAX_TASKS, MAX_RESOURCES, MAX_ALARMS, MAX_INSTRUCTIONS}
 use Rattle.osek_base.specs.declared.ids.ResId.{ResId}

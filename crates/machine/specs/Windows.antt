@@ -1,4 +1,4 @@
--- The modelled processor, no part of the standards. The windows of words in one list: the words of index 0 of each task that
+-- The modelled processor. The windows of words in one list: the words of index 0 of each task that
 -- there may be, and then of each routine; then those of index 1, and so on.
 use Rattle.std.specs.Prelude.{ℕ, ◌≡◌, ◌≤◌, ◌+◌, ◌*◌, Bool, ◌&&◌, nat_lt, if◌then◌else◌, List, slice_index}
 use Rattle.osek_base.specs.declared.ids.Owner.{Owner}

@@ -1,4 +1,4 @@
--- The modelled processor, no part of the standards. Which data of the programs what a run does may depend on, word by word.
+-- The modelled processor. Which data of the programs what a run does may depend on, word by word.
 use Rattle.std.specs.Prelude.{ℕ, suc, ◌<◌, ◌≤◌, ◌+◌, ◌%◌, ◌==◌, ◌≢◌, Bool, true, not, ◌&&◌, ◌||◌, ◌≡◌, IsTrue, Option, Some, None, List, [], ◌∷◌, length, slice_get, if◌then◌else◌}
 use Rattle.std.specs.Option.{option_map}
 use Rattle.osek_base.specs.declared.limits.TheConstants.{WINDOW_WORDS, REGISTERS}

@@ -1,4 +1,4 @@
-//! What is seen of one tick, no part of the standards.
+//! What is seen of one tick.
 
 ghost use Rattle.std.specs.Prelude.{◌≡◌};
 ghost use Rattle.observations.specs.Seen.{alarm_seen, holder_seen, routine_seen, task_seen};

@@ -1,4 +1,4 @@
--- Ticks in which nothing comes to a routine or an alarm, no part of the standards.
+-- Ticks in which nothing comes to a routine or an alarm.
 use Rattle.std.specs.Prelude.{ℕ, ◌≡◌, Bool, false, List, [], map, length, slice_index_or}
 use Rattle.observations.specs.declared.alarm_seen.AlarmSeen.{AlarmSeen}
 use Rattle.observations.specs.declared.observation.Observation.{Observation}

@@ -1,4 +1,4 @@
--- What is seen of a task, by whether it executes, and where each task is left what it was. No part of the standards.
+-- What is seen of a task, by whether it executes, and where each task is left what it was.
 use Rattle.std.specs.Prelude.{ℕ, ◌≡◌, ◌+◌, ◌-◌, ◌&&◌, Bool, true, false, Option, Some, None}
 use Rattle.observations.specs.declared.task_seen.TaskSeen.{TaskSeen}
 use Rattle.osek_base.specs.declared.executed.Executed.{Executed}

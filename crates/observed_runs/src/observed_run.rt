@@ -1,4 +1,4 @@
-//! A run that is observed, no part of the standards.
+//! A run that is observed.
 
 ghost use Rattle.std.specs.Prelude.{◌≡◌, ◌+◌, ◌-◌, ◌≤◌, [], not, map, length, IsTrue, IsFalse, Some, IfOk};
 ghost use Rattle.std.specs.Option.{option_map};

@@ -1,4 +1,4 @@
-//! What is seen of the tick that a run did last, put together. No part of the standards.
+//! What is seen of the tick that a run did last, put together.
 
 ghost use Rattle.std.specs.Prelude.{◌≡◌, ◌-◌, ◌≤◌, true, map, length};
 ghost use Rattle.std.specs.Option.{option_map};

@@ -1,4 +1,4 @@
-//! A run beside what its kernel tells of the last tick, no part of the standards.
+//! A run beside what its kernel tells of the last tick.
 
 ghost use Rattle.std.specs.Prelude.{◌≡◌, ◌+◌, ◌-◌, ◌≤◌, true, false, length, map, IfOk, IfSome, IsFalse, IsTrue, Some, None};
 ghost use Rattle.osek_base.specs.Executed.{StandsIn, idle_or_executed};

@@ -1,4 +1,4 @@
-//! The files that are imported, no part of the standards, and the places in them.
+//! The files that are imported, and the places in them.
 
 /// A file: its name as it was given, and its bytes.
 #[derive(Clone, Copy)]

@@ -1,4 +1,4 @@
--- The mnemonics, no part of the standards: the word that an instruction begins with, whatever its operands are.
+-- The mnemonics: the word that an instruction begins with, whatever its operands are.
 use Rattle.std.specs.Prelude.{ℕ, List, codes}
 use Rattle.osek_base.specs.declared.instr.Operation.{Operation}
 use Rattle.osek_base.specs.declared.instr.Comparison.{Comparison}

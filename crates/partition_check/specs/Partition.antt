@@ -1,4 +1,4 @@
--- Partitions, no part of the standards. What the check answers, rule by rule.
+-- Partitions. What the check answers, rule by rule.
 use Rattle.std.specs.Prelude.{ℕ, Bool, not, List, map, drop, Option, Some, None, Ok, Err, length}
 use Rattle.std.specs.List.{filter, flat_map, enumerate_from}
 use Rattle.std.specs.declared.result.Result.{Result}

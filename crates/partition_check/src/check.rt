@@ -1,4 +1,4 @@
-//! Partitions, no part of the standards. The check of the seven rules.
+//! Partitions. The check of the seven rules.
 
 ghost use Rattle.std.specs.Prelude.{◌≡◌, ◌↔◌, IsOk, OnOk, IfErr, IfSome};
 ghost use Rattle.osek_base.specs.Laws.{IsIsolated, IsItsUpperPart};

@@ -1,4 +1,4 @@
-//! Partitions, no part of the standards. The rules, and what breaks one of them.
+//! Partitions. The rules, and what breaks one of them.
 
 ghost use Rattle.std.specs.Prelude.{◌≡◌};
 ghost use Rattle.osek_base.specs.Names.{HasOwner, owner_name};

@@ -1,4 +1,4 @@
-//! Partitions, no part of the standards. What an instruction names, and which rules forbid it.
+//! Partitions. What an instruction names, and which rules forbid it.
 
 ghost use Rattle.std.specs.Prelude.{◌≡◌};
 ghost use Rattle.osek_base.specs.Upper.{is_upper_object, named_task, named_resource, named_alarm, service_names, named_object};

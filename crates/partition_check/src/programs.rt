@@ -1,4 +1,4 @@
-//! Partitions, no part of the standards. The rules on programs: lower programs, upper programs, and those of routines.
+//! Partitions. The rules on programs: lower programs, upper programs, and those of routines.
 
 ghost use Rattle.std.specs.Prelude.{◌≡◌, ◌<◌, Some, None, IfSome, if◌then◌else◌, map, length};
 ghost use Rattle.osek_base.specs.declared.ids.Owner.{Owner};

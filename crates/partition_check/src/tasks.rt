@@ -1,4 +1,4 @@
-//! Partitions, no part of the standards. The rules on what lower tasks are and list.
+//! Partitions. The rules on what lower tasks are and list.
 
 ghost use Rattle.std.specs.Prelude.{◌≡◌, ◌<◌, None, IfSome, not, ◌&&◌, nat_le, length};
 ghost use Rattle.std.specs.List.{list_any};

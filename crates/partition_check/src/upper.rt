@@ -1,4 +1,4 @@
-//! Partitions, no part of the standards. What is upper at a priority.
+//! Partitions. What is upper at a priority.
 
 ghost use Rattle.std.specs.Prelude.{◌≡◌};
 ghost use Rattle.osek_base.specs.System.{alarm as alarm_at};

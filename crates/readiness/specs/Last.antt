@@ -1,4 +1,4 @@
--- In which tick a job of each level last executed. No part of the standards.
+-- In which tick a job of each level last executed.
 use Rattle.std.specs.Prelude.{ℕ, ◌<◌, ◌≤◌, ◌+◌, List, slice_index_or, slice_set}
 use Rattle.osek_base.specs.declared.limits.TheConstants.{MAX_TASK_PRIORITY}
 

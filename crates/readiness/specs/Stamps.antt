@@ -1,4 +1,4 @@
--- Since which tick each job of a task is ready, where it hasn't executed since. No part of the standards.
+-- Since which tick each job of a task is ready, where it hasn't executed since.
 use Rattle.std.specs.Prelude.{ℕ, ◌≡◌, Bool, true, false, List, [], ◌∷◌, Option, Some, None, IfSome, nat_lt, if◌then◌else◌, slice_index_or, slice_set}
 use Rattle.osek_base.specs.declared.limits.TheConstants.{MAX_TASKS}
 

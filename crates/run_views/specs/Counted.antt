@@ -1,4 +1,4 @@
--- The figures of a run, no part of the standards.
+-- The figures of a run.
 use Rattle.std.specs.Prelude.{ℕ, true, drop, reverse, List}
 use Rattle.osek_base.specs.System.{System}
 use Rattle.kernel.specs.Progress.{Progress}

@@ -1,4 +1,4 @@
--- The picture of a run, no part of the standards.
+-- The picture of a run.
 use Rattle.std.specs.Prelude.{ℕ, ◌≡◌, ◌+◌, false, min, List}
 use Rattle.osek_base.specs.System.{System}
 use Rattle.kernel.specs.Progress.{Progress}

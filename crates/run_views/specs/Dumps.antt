@@ -1,4 +1,4 @@
--- The value change dump of a run, no part of the standards.
+-- The value change dump of a run.
 use Rattle.std.specs.Prelude.{ℕ, ◌≡◌, false, List}
 use Rattle.osek_base.specs.System.{System}
 use Rattle.kernel.specs.Progress.{Progress}

@@ -1,4 +1,4 @@
--- Figures of whole runs, no part of the standards.
+-- Figures of whole runs.
 use Rattle.std.specs.Prelude.{ℕ}
 use Rattle.osek_base.specs.Proper.{IsProper}
 use Rattle.kernel.specs.Progress.{Progress}

@@ -1,4 +1,4 @@
--- What is seen of the ticks of a run, no part of the standards.
+-- What is seen of the ticks of a run.
 use Rattle.std.specs.Prelude.{ℕ, suc, ◌≡◌, ◌<◌, ◌≤◌, ◌+◌, ◌-◌, ◌⊎◌, Bool, true, false, min, length, List, [], ◌∷◌}
 use Rattle.osek_base.specs.declared.arrivals.Arrival.{Arrival}
 use Rattle.osek_base.specs.declared.limits.TheConstants.{MAX_TICKS}

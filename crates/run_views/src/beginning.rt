@@ -1,4 +1,4 @@
-//! How each run begins that is shown, no part of the standards.
+//! How each run begins that is shown.
 
 ghost use Rattle.std.specs.Prelude.{◌≡◌, IfErr, IfOk};
 ghost use Rattle.tracer.specs.WholeRuns.{IsBegun, RefusesStart};

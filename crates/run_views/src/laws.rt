@@ -1,4 +1,4 @@
-//! What holds of the figures of whole runs, no part of the standards.
+//! What holds of the figures of whole runs.
 
 ghost use Rattle.run_views.specs.Law.{CountedAreRunFigures};
 

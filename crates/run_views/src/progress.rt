@@ -1,4 +1,4 @@
-//! How far a run is, for who waits before a terminal. No part of the standards.
+//! How far a run is, for who waits before a terminal.
 
 use std::io::Write;
 

@@ -1,4 +1,4 @@
-//! The ticks of a run, one after another, as views are handed them. No part of the standards.
+//! The ticks of a run, one after another, as views are handed them.
 
 ghost use Rattle.std.specs.Prelude.{◌≡◌, ◌≤◌, IfNone, IfSome, IsFalse, IsTrue};
 ghost use Rattle.run_views.specs.Seen.{DoesNext, HasNone, PassesSome};

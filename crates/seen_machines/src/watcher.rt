@@ -1,4 +1,4 @@
-//! What is seen of a machine's ticks, one at a time, no part of the standards.
+//! What is seen of a machine's ticks, one at a time.
 
 ghost use Rattle.std.specs.Prelude.{◌≡◌, ◌<◌, ◌≤◌, ◌+◌, false, map, length};
 ghost use Rattle.std.specs.List.{All, AllByRecursion};

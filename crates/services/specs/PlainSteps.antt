@@ -1,5 +1,5 @@
--- The modelled processor, no part of the standards. A plain instruction of a task or routine, on its registers, its place and
--- its window.
+-- The modelled processor. A plain instruction of a task or routine, on its registers, its place
+-- and its window.
 use Rattle.std.specs.Prelude.{ℕ, ◌≡◌, true, List}
 use Rattle.osek_base.specs.declared.ids.Owner.{Owner}
 use Rattle.osek_base.specs.declared.trace_event.Effect.{Effect}

@@ -1,4 +1,4 @@
--- What a sink tells of its writes. No part of the standards.
+-- What a sink tells of its writes.
 use Rattle.std.specs.Prelude.{ℕ, Bool, true, ◌==◌, not, ◌&&◌, List, ◌++◌, ◌≡◌, Option, Ok, Err, OnOk, OnErr}
 use Rattle.std.specs.Io.KnownBytes.{Appends}
 use Rattle.std.specs.declared.result.Result.{Result}

@@ -1,4 +1,4 @@
-//! Bytes that wait to be written, no part of the standards.
+//! Bytes that wait to be written.
 
 ghost use Rattle.std.specs.Prelude.{◌≡◌, ◌+◌, ◌<◌, ◌≤◌, [], ◌∷◌, ◌++◌, length, take, OnOk};
 ghost use Rattle.sinks.specs.Sinks.{Puts};

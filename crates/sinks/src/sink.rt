@@ -1,4 +1,4 @@
-//! Where texts are written, no part of the standards.
+//! Where texts are written.
 
 ghost use Rattle.std.specs.Prelude.{◌≡◌, ◌≤◌, ◌||◌, ℕ, Bool, List, None, IfOk, length, take, false};
 ghost use Rattle.std.specs.Io.KnownBytes.{Appends, WriteAppends};

@@ -1,4 +1,4 @@
--- The modelled processor, no part of the standards. What generation refuses in programs.
+-- The modelled processor. What generation refuses in programs.
 use Rattle.std.specs.Prelude.{ℕ, ◌-◌, Bool, true, false, not, ◌&&◌, List, Option, length, nat_lt, nat_le, slice_get, bytes_eq}
 use Rattle.std.specs.List.{list_all, list_any}
 use Rattle.std.specs.Option.{option_map_or}

@@ -1,4 +1,4 @@
-//! The modelled processor, no part of the standards. What generation refuses in programs.
+//! The modelled processor. What generation refuses in programs.
 
 ghost use Rattle.std.specs.Prelude.{◌≡◌, None, is_some, length, option_copied};
 ghost use Rattle.std.specs.List.{find, list_all, list_any};

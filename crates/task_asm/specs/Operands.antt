@@ -1,4 +1,4 @@
--- The last hexadecimal digits of a mask. No part of the standards.
+-- The last hexadecimal digits of a mask.
 use Rattle.std.specs.Prelude.{ℕ, zero, suc, ◌/◌, ◌%◌, Bool, List, [], ◌∷◌, ◌++◌}
 use Rattle.std.specs.Fmt.{digit_glyph}
 

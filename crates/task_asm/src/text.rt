@@ -1,5 +1,4 @@
-//! The texts of instructions, no part of the standards: a mnemonic, then its operands, separated by
-//! `, `.
+//! The texts of instructions: a mnemonic, then its operands, separated by `, `.
 
 ghost use Rattle.std.specs.Prelude.{◌≡◌, ◌+◌, ◌<◌, ◌≤◌, ◌++◌, ◌∷◌, [], length, decimal};
 ghost use Rattle.osek_base.specs.Names.{name_at};

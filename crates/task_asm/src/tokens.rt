@@ -1,4 +1,4 @@
-//! Bytes to tokens, no part of the standards. Words and numbers are those of OIL.
+//! Bytes to tokens. Words and numbers are those of OIL.
 
 ghost use Rattle.std.specs.Prelude.{◌≡◌, ◌<◌, Some, length, slice_index, IfOk, IfErr};
 ghost use Rattle.osek_base.specs.Tokens.{Lexes};

@@ -1,4 +1,4 @@
--- Lines and columns of a text, no part of the standards.
+-- Lines and columns of a text.
 use Rattle.std.specs.Prelude.{ℕ, ◌+◌, ◌==◌, List, [], ◌∷◌, length, take, if◌then◌else◌}
 use Rattle.std.specs.List.{filter}
 

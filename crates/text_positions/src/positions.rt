@@ -1,4 +1,4 @@
-//! Lines and columns, no part of the standards.
+//! Lines and columns.
 
 ghost use Rattle.std.specs.Prelude.{◌≡◌, ◌<◌, ◌≤◌, length, take};
 ghost use Rattle.text_positions.specs.Positions.{line_ends, bytes_since, line_of, column_of};

@@ -1,4 +1,5 @@
--- What marks stand on the rows of a picture: what comes to tasks and routines in the ticks that are drawn. No part of the standards.
+-- What marks stand on the rows of a picture: what comes to tasks and routines in the ticks that
+-- are drawn.
 use Rattle.std.specs.Prelude.{ℕ, ◌≡◌, ◌<◌, Bool, true, false, if◌then◌else◌, nat_lt, ◌==◌, List, [], ◌∷◌, ◌++◌, Option, Some, None, map, length, slice_index_or}
 use Rattle.std.specs.List.{flat_map}
 use Rattle.osek_base.specs.declared.ids.Owner.{Owner}

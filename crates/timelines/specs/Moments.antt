@@ -1,4 +1,4 @@
--- What a row of a picture shows of a tick, from what is seen of it. No part of the standards.
+-- What a row of a picture shows of a tick, from what is seen of it.
 use Rattle.std.specs.Prelude.{ℕ, Bool, false, Option, Some, None, if◌then◌else◌, ◌&&◌, not, nat_lt}
 use Rattle.osek_base.specs.declared.status.TaskState.{TaskState}
 use Rattle.observations.specs.declared.task_seen.TaskSeen.{TaskSeen}

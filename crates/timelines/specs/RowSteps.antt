@@ -1,4 +1,4 @@
--- What a tick changes of what is kept of tasks and routines. No part of the standards.
+-- What a tick changes of what is kept of tasks and routines.
 use Rattle.std.specs.Prelude.{ℕ, ◌≡◌, ◌<◌, ◌≤◌, ◌++◌, ◌⊎◌, List, length, slice_index_or}
 use Rattle.osek_base.specs.declared.ids.Owner.{Owner}
 use Rattle.osek_base.specs.declared.trace_event.TraceEvent.{TraceEvent}

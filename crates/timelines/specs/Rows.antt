@@ -1,4 +1,4 @@
--- What the rows of a picture show of the ticks of a run, oldest first and from tick 0 on. No part of the standards.
+-- What the rows of a picture show of the ticks of a run, oldest first and from tick 0 on.
 use Rattle.std.specs.Prelude.{ℕ, ◌≡◌, ◌<◌, ◌+◌, ◌*◌, Bool, false, List, [], ◌∷◌, Option, Some, None, cond, map, length, take, drop, slice_index_or, nat_lt, ◌==◌}
 use Rattle.osek_base.specs.System.{System, priority_of, routine}
 use Rattle.osek_base.specs.declared.ids.Owner.{Owner}

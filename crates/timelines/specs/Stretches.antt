@@ -1,4 +1,4 @@
--- The stretches of a row: its longest runs of ticks that show the same. No part of the standards.
+-- The stretches of a row: its longest runs of ticks that show the same.
 use Rattle.std.specs.Prelude.{ℕ, ◌+◌, ◌==◌, Bool, true, false, ◌&&◌, List, [], ◌∷◌, if◌then◌else◌}
 use Rattle.timelines.specs.declared.activity.Activity.{Activity}
 use Rattle.timelines.specs.declared.moment.Moment.{Moment}

@@ -1,4 +1,4 @@
-//! A picture of a run as SVG, no part of the standards.
+//! A picture of a run as SVG.
 
 use crate::chosen_rows::drawn_count;
 use crate::drawn_marks::write_marks;

@@ -1,4 +1,4 @@
--- What is written of the records of a tick. No part of the standards.
+-- What is written of the records of a tick.
 use Rattle.std.specs.Prelude.{ℕ, zero, suc, ◌+◌, List, [], ◌∷◌, ◌++◌, ◌≡◌, ◌≤◌, ◌==◌, if◌then◌else◌, Option, None, codes, decimal, length}
 use Rattle.std.specs.List.{flat_map}
 use Rattle.osek_base.specs.declared.ids.Owner.{Owner}

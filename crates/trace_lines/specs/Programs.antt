@@ -1,4 +1,4 @@
--- What is known of the instructions that a run records, and the texts that are kept of a program. No part of the standards.
+-- What is known of the instructions that a run records, and the texts that are kept of a program.
 use Rattle.std.specs.Prelude.{◌≡◌, ℕ, List, Some, slice_get, length}
 use Rattle.osek_base.specs.declared.ids.Owner.{Owner}
 use Rattle.osek_base.specs.declared.trace_event.TraceEvent.{TraceEvent}

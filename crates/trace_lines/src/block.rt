@@ -1,4 +1,4 @@
-//! Lines that wait to be written, no part of the standards.
+//! Lines that wait to be written.
 
 ghost use Rattle.std.specs.Prelude.{◌≡◌, ◌+◌, ◌≤◌, [], length, OnOk};
 ghost use Rattle.sinks.specs.Sinks.{Passes, Writing};

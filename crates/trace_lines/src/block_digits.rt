@@ -1,5 +1,5 @@
-//! Numbers in a block, no part of the standards. Most have one digit, and most others up to four,
-//! which are appended as one array.
+//! Numbers in a block. Most have one digit, and most others up to four, which are appended as one
+//! array.
 
 ghost use Rattle.std.specs.Prelude.{◌≡◌, ◌+◌, ◌<◌, ◌≤◌, ◌++◌, length, decimal};
 

@@ -1,5 +1,5 @@
-//! The outcomes of instructions in a block, no part of the standards. What nearly all lines have, a
-//! number of one digit and the sign before it, is appended as one array.
+//! The outcomes of instructions in a block. What nearly all lines have, a number of one digit and
+//! the sign before it, is appended as one array.
 
 ghost use Rattle.std.specs.Prelude.{◌≡◌, ◌+◌, ◌≤◌, ◌++◌, ℕ, length, decimal, codes};
 ghost use Rattle.osek_base.specs.BlockingText.{blockers_text};

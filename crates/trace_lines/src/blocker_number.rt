@@ -1,4 +1,4 @@
-//! The number of blockers that the line of an instruction tells, no part of the standards.
+//! The number of blockers that the line of an instruction tells.
 
 ghost use Rattle.std.specs.Prelude.{◌≡◌, ℕ, Option};
 

@@ -1,4 +1,4 @@
-//! The lines of ticks in which nothing happens, no part of the standards.
+//! The lines of ticks in which nothing happens.
 
 ghost use Rattle.std.specs.Prelude.{◌≡◌, ◌+◌, ◌≤◌, ◌++◌, length, codes, decimal, OnOk};
 ghost use Rattle.osek_base.specs.Names.{Names};

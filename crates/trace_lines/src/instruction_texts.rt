@@ -1,4 +1,4 @@
-//! The texts of a system's instructions, made before the first tick, no part of the standards.
+//! The texts of a system's instructions, made before the first tick.
 
 ghost use Rattle.std.specs.Prelude.{◌≡◌, ◌+◌, ◌≤◌, ◌∷◌, ◌++◌, [], IfOk, IfSome, OnOk, length};
 ghost use Rattle.osek_base.specs.Executed.{StandsIn, executed_record};

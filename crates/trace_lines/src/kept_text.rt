@@ -1,4 +1,4 @@
-//! Texts that are made once and written often, no part of the standards.
+//! Texts that are made once and written often.
 
 ghost use Rattle.std.specs.Prelude.{◌≡◌, ◌+◌, ◌≤◌, ◌++◌, length, IfOk};
 

@@ -1,4 +1,4 @@
-//! The lines of a trace, no part of the standards.
+//! The lines of a trace.
 
 ghost use Rattle.std.specs.Prelude.{◌≡◌, ◌+◌, ◌<◌, ◌≤◌, ◌++◌, ℕ, length, decimal, codes};
 ghost use Rattle.osek_base.specs.declared.ids.Owner.{Owner};

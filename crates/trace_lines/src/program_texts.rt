@@ -1,4 +1,4 @@
-//! The texts of a program's instructions, made before the first tick, no part of the standards.
+//! The texts of a program's instructions, made before the first tick.
 
 ghost use Rattle.std.specs.Prelude.{◌≡◌, ◌+◌, ◌<◌, ◌≤◌, ◌∷◌, ◌++◌, [], Some, IfOk, IfSome, OnOk, length, slice_get};
 ghost use Rattle.osek_base.specs.Separable.{IsOwner};

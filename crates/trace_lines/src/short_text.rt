@@ -1,4 +1,4 @@
-//! Short texts in places of their own, no part of the standards.
+//! Short texts in places of their own.
 
 ghost use Rattle.std.specs.Prelude.{◌≡◌, ◌<◌, ◌≤◌, length, slice_set, take};
 

@@ -1,4 +1,4 @@
-//! Texts that are put together piece by piece, no part of the standards.
+//! Texts that are put together piece by piece.
 
 ghost use Rattle.std.specs.Prelude.{◌≡◌, ℕ, ◌+◌, ◌≤◌, List, ◌++◌, length};
 

@@ -1,4 +1,4 @@
-//! The ticks of a run as text, no part of the standards.
+//! The ticks of a run as text.
 
 ghost use Rattle.std.specs.Prelude.{◌≡◌, ◌+◌, ◌-◌, ◌<◌, ◌≤◌, ◌++◌, codes, decimal, length};
 ghost use Rattle.trace_lines.specs.Lines.{front_digits};

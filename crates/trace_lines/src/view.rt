@@ -1,4 +1,4 @@
-//! Partitions, no part of the standards. The view of a tick at a priority.
+//! Partitions. The view of a tick at a priority.
 
 ghost use Rattle.std.specs.Prelude.{◌≡◌};
 ghost use Rattle.osek_base.specs.Upper.{is_upper_owner};

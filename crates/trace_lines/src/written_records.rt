@@ -1,4 +1,4 @@
-//! The records of a tick as lines that are written, no part of the standards.
+//! The records of a tick as lines that are written.
 
 ghost use Rattle.std.specs.Prelude.{◌≡◌, ◌≤◌, ◌+◌, ◌∷◌, ◌++◌, ℕ, length, IfSome, OnOk};
 ghost use Rattle.std.specs.List.{AllByRecursion};

@@ -1,4 +1,4 @@
--- Which refusal of a run comes of a refused input. No part of the standards.
+-- Which refusal of a run comes of a refused input.
 use Rattle.oil_reader.specs.declared.fault.OilFault.{OilFault}
 use Rattle.task_asm.specs.declared.fault.AsmFault.{AsmFault}
 use Rattle.system_gen.specs.declared.fault.GenFault.{GenFault}

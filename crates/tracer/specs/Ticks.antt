@@ -1,4 +1,4 @@
--- What writing a tick of a run needs, and what it does. No part of the standards.
+-- What writing a tick of a run needs, and what it does.
 use Rattle.std.specs.Prelude.{◌≡◌, ℕ, ◌+◌, ◌<◌, ◌≤◌, Bool, true, false, List, Option, Ok}
 use Rattle.std.specs.declared.result.Result.{Result}
 use Rattle.osek_base.specs.declared.arrivals.Arrival.{Arrival}

@@ -1,4 +1,4 @@
--- The view of a run that is asked for, and which refusal is the first. Partitions, no part of the standards.
+-- Partitions. The view of a run that is asked for, and which refusal is the first.
 use Rattle.std.specs.Prelude.{◌≡◌, ◌⊎◌, ℕ, List, Some}
 use Rattle.osek_base.specs.Names.{owner_name}
 use Rattle.osek_base.specs.System.{System}

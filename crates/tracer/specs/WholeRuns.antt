@@ -1,4 +1,5 @@
--- What the texts of a run mean together, the trace that is asked for, and which fault is the first. No part of the standards.
+-- What the texts of a run mean together, the trace that is asked for, and which fault is the
+-- first.
 use Rattle.std.specs.Prelude.{◌≡◌, ◌⊎◌, ℕ, List, None, Some}
 use Rattle.oil_reader.specs.Configuration.{Configuration}
 use Rattle.oil_reader.specs.Faults.{HasFault as HasOilFault, Means}

@@ -1,4 +1,4 @@
--- What a run answers that writes to a sink. No part of the standards.
+-- What a run answers that writes to a sink.
 use Rattle.std.specs.Prelude.{◌≡◌, ℕ, Bool, true, List, Option, Ok, Err}
 use Rattle.std.specs.Io.KnownBytes.{Appends}
 use Rattle.std.specs.declared.result.Result.{Result}

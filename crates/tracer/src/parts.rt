@@ -1,4 +1,4 @@
-//! Whether views of a run are written. No part of the standards.
+//! Whether views of a run are written.
 
 ghost use Rattle.std.specs.Prelude.{◌≡◌, Bool, true, false};
 

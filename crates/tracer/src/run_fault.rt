@@ -1,4 +1,4 @@
-//! Why a run came to no end, no part of the standards.
+//! Why a run came to no end.
 
 ghost use Rattle.std.specs.Prelude.{◌≡◌};
 

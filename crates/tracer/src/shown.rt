@@ -1,4 +1,4 @@
-//! What of a run is written, no part of the standards.
+//! What of a run is written.
 
 /// All records; all, with the number of blockers; or those of the view at a priority.
 #[derive(Clone, Copy)]

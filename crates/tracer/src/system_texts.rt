@@ -1,4 +1,4 @@
-//! The system of two texts, no part of the standards.
+//! The system of two texts.
 
 ghost use Rattle.std.specs.Prelude.{IfOk, IfErr};
 ghost use Rattle.tracer.specs.WholeRuns.{IsSystemOf, RefusesSystem};

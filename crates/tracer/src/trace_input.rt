@@ -1,4 +1,4 @@
-//! What a trace is asked for by, no part of the standards.
+//! What a trace is asked for by.
 
 ghost use Rattle.std.specs.Prelude.{◌≡◌, ◌≤◌};
 

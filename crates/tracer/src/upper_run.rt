@@ -1,4 +1,4 @@
-//! Partitions, no part of the standards. From the three texts to the view at a priority.
+//! Partitions. From the three texts to the view at a priority.
 
 ghost use Rattle.std.specs.Prelude.{IfErr, OnOk};
 ghost use Rattle.osek_base.specs.Separable.{Separable};

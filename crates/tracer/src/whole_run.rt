@@ -1,4 +1,4 @@
-//! Whole runs, no part of the standards: from the three texts to the trace.
+//! Whole runs: from the three texts to the trace.
 
 ghost use Rattle.std.specs.Prelude.{IfOk, IfErr};
 ghost use Rattle.tracer.specs.declared.shown.Shown.{Shown};

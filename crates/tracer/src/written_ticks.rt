@@ -1,4 +1,4 @@
-//! The ticks of a run that are written, no part of the standards.
+//! The ticks of a run that are written.
 
 ghost use Rattle.std.specs.Prelude.{◌≡◌, ◌+◌, ◌≤◌, ◌-◌, [], ◌∷◌, ◌++◌, IfOk, IfSome, OnOk, false, true};
 ghost use Rattle.std.specs.List.{AllByRecursion};

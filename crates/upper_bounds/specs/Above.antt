@@ -1,5 +1,5 @@
--- Partitions, no part of the standards. What systems that agree have in common, and so a system and
--- its upper part by itself.
+-- Partitions. What systems that agree have in common, and so a system and its upper part by
+-- itself.
 use Rattle.std.specs.Prelude.{ℕ, ◌≡◌, ◌<◌, IsTrue, length}
 use Rattle.osek_base.specs.System.{System}
 use Rattle.osek_base.specs.Upper.{is_upper_task, is_upper_alarm}

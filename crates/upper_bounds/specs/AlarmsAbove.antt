@@ -1,5 +1,5 @@
--- Partitions, no part of the standards. The upper alarms that act in a tick, and how their actions
--- are answered, are the same in systems that agree.
+-- Partitions. The upper alarms that act in a tick, and how their actions are answered, are the
+-- same in systems that agree.
 use Rattle.std.specs.Prelude.{ℕ, ◌≡◌, if◌then◌else◌, List, [], ◌∷◌}
 use Rattle.osek_base.specs.declared.arrivals.Arrival.{Arrival}
 use Rattle.osek_base.specs.declared.status.Status.{Status}

@@ -1,5 +1,5 @@
--- Partitions, no part of the standards. How long upper tasks take at the most is the same in
--- systems that agree, and is found in the upper part by itself.
+-- Partitions. How long upper tasks take at the most is the same in systems that agree, and is
+-- found in the upper part by itself.
 use Rattle.std.specs.Prelude.{ℕ, suc, ◌≡◌, ◌<◌, ◌≤◌, ◌+◌, ◌↔◌, false, IsTrue, List, [], ◌∷◌, length, Bool, Some, IfSome}
 use Rattle.std.specs.List.{AllByRecursion}
 use Rattle.osek_base.specs.declared.arrivals.Arrival.{Arrival}

@@ -1,5 +1,4 @@
--- Partitions, no part of the standards. What the upper part executes is the same in systems that
--- agree.
+-- Partitions. What the upper part executes is the same in systems that agree.
 use Rattle.std.specs.Prelude.{ℕ, ◌≡◌, if◌then◌else◌, List, Option, Some, None}
 use Rattle.std.specs.List.{filter_map}
 use Rattle.osek_base.specs.declared.arrivals.Arrival.{Arrival}

@@ -1,5 +1,4 @@
--- Partitions, no part of the standards. The jobs of upper tasks are made and end in the same ticks
--- in systems that agree.
+-- Partitions. The jobs of upper tasks are made and end in the same ticks in systems that agree.
 use Rattle.std.specs.Prelude.{ℕ, ◌≡◌, ◌↔◌, List}
 use Rattle.osek_base.specs.declared.arrivals.Arrival.{Arrival}
 use Rattle.osek_base.specs.System.{System}

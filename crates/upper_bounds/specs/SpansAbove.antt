@@ -1,5 +1,5 @@
--- Partitions, no part of the standards. What lasts for some ticks in the upper part begins and ends
--- in the same ticks in systems that agree.
+-- Partitions. What lasts for some ticks in the upper part begins and ends in the same ticks in
+-- systems that agree.
 use Rattle.std.specs.Prelude.{ℕ, ◌≡◌, List, length}
 use Rattle.osek_base.specs.declared.arrivals.Arrival.{Arrival}
 use Rattle.osek_base.specs.System.{System}

@@ -1,5 +1,4 @@
--- Partitions, no part of the standards. What is seen of the upper part of a state is the same in
--- systems that agree.
+-- Partitions. What is seen of the upper part of a state is the same in systems that agree.
 use Rattle.std.specs.Prelude.{ℕ, ◌≡◌, ◌<◌, Bool, false, ◌==◌, IsTrue, List, [], Option, Some, None, length, slice_index}
 use Rattle.std.specs.Option.{option_map}
 use Rattle.osek_base.specs.declared.arrivals.Arrival.{Arrival}

@@ -1,5 +1,5 @@
--- Partitions, no part of the standards. Bounds that are found in the upper part by itself hold in
--- every system with that part.
+-- Partitions. Bounds that are found in the upper part by itself hold in every system with that
+-- part.
 use Rattle.std.specs.Prelude.{ℕ, suc, ◌≡◌, ◌<◌, ◌≤◌, false, Contains, IfSome, IsTrue, List, [], length, slice_index_or}
 use Rattle.osek_base.specs.declared.arrivals.Arrival.{Arrival}
 use Rattle.osek_base.specs.System.{System}

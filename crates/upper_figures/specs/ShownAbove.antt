@@ -1,5 +1,4 @@
--- Partitions, no part of the standards. What each tick shows of the upper part is the same in
--- systems that agree.
+-- Partitions. What each tick shows of the upper part is the same in systems that agree.
 use Rattle.std.specs.Prelude.{ℕ, ◌≡◌, Bool, false, if◌then◌else◌, ◌&&◌, List, Option, Some, None}
 use Rattle.std.specs.Option.{option_map}
 use Rattle.osek_base.specs.declared.arrivals.Arrival.{Arrival}

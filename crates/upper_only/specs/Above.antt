@@ -1,4 +1,4 @@
--- Partitions, no part of the standards. A system, and the priority from which its upper part goes.
+-- Partitions. A system, and the priority from which its upper part goes.
 use Rattle.std.specs.Prelude.{ℕ}
 use Rattle.osek_base.specs.System.{System}
 

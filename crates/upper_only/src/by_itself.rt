@@ -1,4 +1,4 @@
-//! Partitions, no part of the standards. The upper part of a system by itself.
+//! Partitions. The upper part of a system by itself.
 
 ghost use Rattle.std.specs.Prelude.{◌≡◌, IfOk};
 ghost use Rattle.osek_base.specs.Separable.{Separable};

@@ -1,4 +1,4 @@
-//! Partitions, no part of the standards. The names of what is upper.
+//! Partitions. The names of what is upper.
 
 ghost use Rattle.std.specs.Prelude.{◌≡◌, ◌<◌, ◌≤◌, IfOk, length, map};
 ghost use Rattle.osek_base.specs.Names.{name_at};

@@ -1,4 +1,4 @@
-//! Partitions, no part of the standards. Programs whose operands have their numbers among what is upper.
+//! Partitions. Programs whose operands have their numbers among what is upper.
 
 ghost use Rattle.std.specs.Prelude.{◌≡◌, IfOk, map};
 ghost use Rattle.osek_base.specs.Agree.{renumbered_operand, renumbered_resource, renumbered_alarm, renumbered_service, renumbered};

@@ -1,4 +1,4 @@
-//! Partitions, no part of the standards. The numbers of what is upper among themselves.
+//! Partitions. The numbers of what is upper among themselves.
 
 ghost use Rattle.std.specs.Prelude.{◌≡◌, ◌≤◌};
 ghost use Rattle.osek_base.specs.Upper.{is_upper_alarm};

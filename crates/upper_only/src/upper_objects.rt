@@ -1,4 +1,4 @@
-//! Partitions, no part of the standards. Upper tasks, resources and alarms, and all routines, under their new numbers.
+//! Partitions. Upper tasks, resources and alarms, and all routines, under their new numbers.
 
 ghost use Rattle.std.specs.Prelude.{◌≡◌, ◌<◌, IfOk, length, map};
 ghost use Rattle.osek_base.specs.System.{alarm as alarm_at};

@@ -1,4 +1,4 @@
-//! Partitions, no part of the standards. The part of a system from a priority upward.
+//! Partitions. The part of a system from a priority upward.
 
 ghost use Rattle.std.specs.Prelude.{◌≡◌};
 ghost use Rattle.osek_base.specs.Upper.{is_upper_task, is_upper_alarm};

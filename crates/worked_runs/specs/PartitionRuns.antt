@@ -1,4 +1,4 @@
--- Partitions, no part of the standards. Worked checks, views and upper parts by themselves.
+-- Partitions. Worked checks, views and upper parts by themselves.
 use Rattle.std.specs.Prelude.{ℕ, true, ◌≡◌, IsTrue, List, [], ◌∷◌, Option, Some, None, codes, bytes_eq}
 use Rattle.std.specs.List.{concat, flat_map}
 use Rattle.osek_base.specs.declared.arrivals.Arrival.{Arrival}
