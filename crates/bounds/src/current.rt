@@ -35,7 +35,7 @@ pub(crate) fn boot_again<'s>(
 {
     let booted = Machine::boot(alloc, system, mode)?;
     machine.copy_from(&booted);
-    // It goes by one call.
+    // Dropped by one call, kept out of line: smaller code.
     mem::drop(booted);
     Ok(())
 }

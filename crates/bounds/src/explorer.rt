@@ -51,8 +51,8 @@ impl<'s, 'w, W: Watch> Model for Explorer<'s, 'w, W> {
     ghost invariant = { λ e. IsExploring (explorer_of e.ruling e.noted.peaks) e.states e.current };
 }
 
-/// Two things, or want of memory for either: where they are made together, no way out drops one of
-/// them part by part.
+/// Two things, or want of memory for either. Made together they need no drop of one of them alone,
+/// inlined on each way out: smaller code.
 fn both<A: Drop, B: Drop>(
     one: Result<A, AllocError>,
     other: Result<B, AllocError>,
@@ -154,7 +154,7 @@ impl<'s, 'w, W: Watch> Explorer<'s, 'w, W> {
             ..
         } = self;
         let wants_memory = room.wants_memory();
-        // Each of these goes by one call.
+        // Each is dropped by one call, kept out of line: smaller code.
         mem::drop(states);
         mem::drop(current);
         mem::drop(read);
@@ -195,7 +195,7 @@ impl<'s, 'w, W: Watch> Steps for Explorer<'s, 'w, W> {
         let routines = system.routine_count();
         let labels = Labels::first(alloc, tasks, routines, held_count(system))?;
         let node = node_of(&self.current, self.ruling.needs, &labels, Vec::new(alloc));
-        // They go by one call.
+        // Dropped by one call, kept out of line: smaller code.
         mem::drop(labels);
         node
     }

@@ -85,8 +85,8 @@ impl<'s, Q: ReadyQueues, B: Blockers> Watched<'s, Q, B> {
         executed
     }
 
-    /// As `late_phases`, in a call of its own, which leaves what is executed: a local for it would
-    /// be filled with zeros in each tick.
+    /// As `late_phases`, kept out of line: a smaller tick (docs/SPEED.md). It leaves what is
+    /// executed, since a local for it would be filled with zeros in each tick.
     #[inline(never)]
     pub fn late_apart(
         &mut self,
@@ -100,7 +100,7 @@ impl<'s, Q: ReadyQueues, B: Blockers> Watched<'s, Q, B> {
         *executed = self.late_phases(tick, behind);
     }
 
-    /// As `finish`, in a call of its own.
+    /// As `finish`, kept out of line: a smaller tick (docs/SPEED.md).
     #[inline(never)]
     fn finish_apart(&mut self, who: Owner, tick: u32, behind: &mut TickRecord) -> Executed
         requires { MayFinish B.are_counted self.old who behind.old }

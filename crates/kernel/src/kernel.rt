@@ -1,5 +1,10 @@
-//! OSEK/VDX OS: system start-up; application modes. The kernel: a machine with all interrupts that
-//! arrive.
+//! OSEK/VDX OS: system start-up; application modes. The kernel: a machine with its arrivals.
+//!
+//! [`Kernel::tick`] is *the* tick: it answers the records of one tick as the model has them.
+//! `tick_into`, `tick_parts` and `tick_seen` leave the same records in lists of the caller.
+//! All others are shorter ways along the same run: `go_on`, which a trace is written with,
+//! `tick_steady` where nothing comes before a task's instruction, `pass_plain` over ticks of plain
+//! instructions alone, and `pass_idle` over ticks in which nobody executes.
 
 ghost use Rattle.std.specs.Prelude.{◌≡◌, ◌<◌, ◌≤◌, ◌+◌, ◌-◌, ◌++◌, [], false, IfOk, MatchOption, Some, map, length};
 ghost use Rattle.osek_base.specs.BlockingText.{blockers_at};
@@ -40,7 +45,7 @@ pub struct Kernel<'s, Q: ReadyQueues, B: Blockers = Counted> {
     /// How many had arrived before the last tick.
     pub(crate) earlier: usize,
     pub(crate) arrived: usize,
-    /// 0 before the first tick, then the tick of the next arrival, or the greatest number.
+    /// The tick of the next arrival, or `u32::MAX` if none is left. Before tick 0 it is 0.
     pub(crate) next: u32,
     pub(crate) machine: Machine<'s, Q, B>,
 }
@@ -148,9 +153,8 @@ impl<'s, Q: ReadyQueues, B: Blockers> Kernel<'s, Q, B> {
         self.machine.blockers()
     }
 
-    /// The ticks that follow, at most some, are done at once as long as nothing happens in them: no
-    /// interrupt arrives, no alarm is due, and nobody executes. Answers how many were done. The
-    /// first tick is none of these.
+    /// Does the ticks that follow, at most some, as long as no interrupt arrives, no alarm is due
+    /// and nobody executes. Answers how many were done. The first tick is none of these.
     #[tactic(auto, using(crate::proofs::LawLemmas::lawful))]
     #[inline(always)]
     pub fn pass_idle(&mut self, most: u32) -> u32
@@ -219,11 +223,10 @@ impl<'s, Q: ReadyQueues, B: Blockers> Kernel<'s, Q, B> {
         self.tick_with(&mut Unseen, before, behind)
     }
 
-    /// Does one tick, where no interrupt arrives in it and it is known that nothing comes before
-    /// the instruction of the running task: no alarm is due, no routine is pending, and a
-    /// reschedule would change nothing. Answers what it executed; `behind` becomes the records
-    /// behind that of the instruction, and none stand before it. None is where that isn't known:
-    /// then nothing changed, and a caller does the usual tick, [`tick_parts`](Kernel::tick_parts).
+    /// Does one tick, where it is known that nothing comes before the instruction of the running
+    /// task: no interrupt arrives, no alarm is due, no routine is pending, and a reschedule would
+    /// change nothing. Answers what it executed; `behind` becomes the records behind it, and none
+    /// stand before it. None is where that isn't known: then nothing changed.
     #[inline(always)]
     pub fn tick_steady(&mut self, behind: &mut TickRecord) -> Option<Executed>
         requires { is_over self.old ≡ false }
@@ -280,8 +283,7 @@ impl<'s, Q: ReadyQueues, B: Blockers> Kernel<'s, Q, B> {
     }
 
     /// As [`tick_parts`](Kernel::tick_parts), and leaves what the tasks are when the instruction is
-    /// executed: that is behind phases 1 to 4 of the tick, in which alarms act, interrupts arrive,
-    /// a task is dispatched and a routine starts.
+    /// executed: behind phases 1 to 4 of the tick.
     pub fn tick_seen(
         &mut self,
         before: &mut TickRecord,
@@ -351,8 +353,7 @@ fn next_arrival(list: &[Arrival], arrived: usize) -> u32
     }
 }
 
-/// The routines of the arrivals of a tick: none, where that of the next arrival is another. How many
-/// have arrived, and the tick of the next arrival, become those behind it.
+/// The routines that arrive in a tick. `arrived` and `next` become what they are behind it.
 #[inline(always)]
 fn take_arrived<'k>(
     list: &[Arrival],
@@ -376,8 +377,7 @@ fn take_arrived<'k>(
     &routines[first..end]
 }
 
-/// How many of the ticks from one on, at most some, come before the next arrival, where so many
-/// have arrived.
+/// How many of the ticks from one on, at most some, come before the next arrival.
 fn ticks_before(list: &[Arrival], arrived: usize, tick: u32, most: u32) -> u32
     requires { AreLeft list.now arrived tick }
     ensures { AreFree list.now arrived tick most result }

@@ -203,7 +203,7 @@ impl<'s, Q: ReadyQueues, B: Blockers> Watched<'s, Q, B> {
             .preempted(runner, &self.processor.running(), tick);
     }
 
-    /// As `reschedule_now`, in a call of its own.
+    /// As `reschedule_now`, kept out of line: a smaller tick (docs/SPEED.md).
     #[inline(never)]
     fn reschedule_apart(&mut self, tick: u32, records: &mut TickRecord)
         requires { length records.old + 2 ≤ MAX_RECORDS }

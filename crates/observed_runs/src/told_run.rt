@@ -236,7 +236,7 @@ impl<'s, B: Blockers> ToldRun<'s, B> {
     }
 }
 
-/// It becomes another, part by part: all at once, the room between its parts is copied too.
+/// It becomes another, field by field: fewer bytes to copy than all at once, with the padding.
 #[inline(always)]
 fn replace(execution: &mut Execution, other: Execution)
     ensures { execution.new ≡ other }

@@ -220,8 +220,6 @@ module _ (S : System) (proper : IsProper S) where
 
   -- ---- boot, and a run
 
-  -- ---- boot, and a run
-
   pub first_ordered : (t : ℕ) (s : State) → t < length S.tasks → AllByRecursion (λ (j : Job). j.id.task < t) s.jobs → IsRunState S s → IsRunState S (activated S t s)
   first_ordered t s inside older good = record {
     single = first_single S proper t s inside older good.single;

@@ -1,4 +1,4 @@
-//! How far a run is, for who waits before a terminal.
+//! How far a run or a search through every run is, for who waits before a terminal.
 
 use std::io::Write;
 
@@ -8,8 +8,8 @@ const TICKS_BETWEEN: u32 = 50_000;
 /// After how many visits of states at least the numbers of a search are shown anew.
 const VISITS_BETWEEN: u64 = 10_000;
 
-/// How far a run or a search through all runs is: a line on a terminal, which is written over and
-/// over, and nothing where there is no terminal.
+/// A line on a terminal that says how far a run or a search is, written over and over. Nothing
+/// where there is no terminal.
 #[derive(Drop)]
 pub struct Progress<'e, E> {
     err: &'e mut E,

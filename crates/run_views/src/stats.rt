@@ -31,7 +31,7 @@ pub struct StatsInput<'a> {
 }
 
 /// Runs a system and writes the figures of its ticks from one on, those of [`counted_figures`]. A
-/// refusal comes before the first byte. What is answered is a line for each limit that is broken.
+/// refusal comes before the first byte. Answers the text of the broken limits, a line for each.
 pub fn write_stats<O: Write, E: Write>(
     alloc: Global,
     system: &System,

@@ -152,7 +152,7 @@ fn write_any<B: Blockers, S: Sink>(
 
 /// Does a tick, if the run isn't over, and writes all its records by way of the block. Of most
 /// ticks that of the instruction is the first. Answers whether a tick was done.
-/// It has the type of parts as its own, so that each loop over ticks has one, which is written out.
+/// `V` only makes a copy for each loop over ticks, so that each loop has its tick inlined.
 #[inline(always)]
 fn pass_whole<B: Blockers, V: Parts, S: Sink>(
     kernel: &mut Kernel<'_, LevelQueues, B>,
