@@ -306,8 +306,8 @@ impl Alarms {
                   (first_expiry (alarm_start_in system.now mode alarm));
             } }
     {
-        // Who asks for the count of alarms learns that the system is proper, so that its values are within their limits.
-        let _proper = system.alarm_count();
+        // So its values are within their limits.
+        system.shows_proper();
         if let Some((time, cycle)) = system.alarm_start(mode, alarm) {
             self.start_alarm(alarm, time, cycle);
         }
@@ -329,8 +329,8 @@ fn counter_of(system: &System, alarm: AlarmId) -> Counter
     ensures base { 1 ≤ result.ticks_per_base }
     ensures round { result.max_allowed_value < 2 ^ 31 }
 {
-    // Who asks for the count of alarms learns that the system is proper, so that its values are within their limits.
-    let _proper = system.alarm_count();
+    // So its values are within their limits.
+    system.shows_proper();
     system.counter_of(alarm)
 }
 

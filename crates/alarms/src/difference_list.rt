@@ -218,6 +218,7 @@ impl DifferenceList {
         ensures apart { are_apart self.new ≡ true }
         ensures ahead { are_ahead self.new ≡ true }
     {
+        // Who asks for the length learns that few alarms are running.
         let _few = self.len();
         let mut due = earlier;
         while let Some(expired) = self.take_due() {

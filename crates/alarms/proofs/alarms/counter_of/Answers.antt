@@ -5,10 +5,10 @@ use Rattle.alarms.proofs.alarms.counter_of.Goals as goal
 
 pub returns-clause-base : goal.returns-clause-base
 returns-clause-base c =
-    let k : IsSound (counter_of c.args.system.now c.args.alarm) = sound _ _ c.alarm_count-proper.ensures.proper c.requires in
+    let k : IsSound (counter_of c.args.system.now c.args.alarm) = sound _ _ c.shows_proper.ensures c.requires in
     rw c.counter_of.ensures k.base
 
 pub returns-clause-round : goal.returns-clause-round
 returns-clause-round c =
-    let k : IsSound (counter_of c.args.system.now c.args.alarm) = sound _ _ c.alarm_count-proper.ensures.proper c.requires in
+    let k : IsSound (counter_of c.args.system.now c.args.alarm) = sound _ _ c.shows_proper.ensures c.requires in
     rw c.counter_of.ensures (omega (arith, k.round))

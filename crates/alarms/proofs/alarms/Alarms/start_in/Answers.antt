@@ -7,5 +7,5 @@ pub start_alarm-requires-clause-wait : goal.start_alarm-requires-clause-wait
 start_alarm-requires-clause-wait c =
     let found : alarm_start_in c.args.system.now c.args.mode c.args.alarm ≡ Some (c.in-Some.time, c.in-Some.cycle) =
     sym c.alarm_start.ensures ∙ c.in-Some.is in
-    let low : IsLowStart (c.in-Some.time, c.in-Some.cycle) = start_low _ _ _ _ c.alarm_count-proper.ensures.proper c.requires.alarm found in
+    let low : IsLowStart (c.in-Some.time, c.in-Some.cycle) = start_low _ _ _ _ c.shows_proper.ensures c.requires.alarm found in
     low.some
