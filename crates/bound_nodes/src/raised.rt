@@ -2,10 +2,17 @@
 
 use crate::figure::{Figure, held_count};
 use bound_labels::Labels;
-use osek_base::System;
+use osek_base::{MAX_RESOURCES, MAX_ROUTINES, MAX_TASKS, System};
 
 /// How many things of a kind are told apart; of those beyond, nothing is raised.
 const MAX_THINGS: usize = 64;
+
+const _: () = prove!(MAX_TASKS <= MAX_THINGS);
+
+const _: () = prove!(MAX_ROUTINES <= MAX_THINGS);
+
+// RES_SCHEDULER is one more.
+const _: () = prove!(MAX_RESOURCES + 1 <= MAX_THINGS);
 
 /// The things of which others raise the labels, as sets by number.
 #[derive(Clone, Copy)]

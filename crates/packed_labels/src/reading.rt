@@ -3,7 +3,7 @@
 
 use bound_labels::Labels;
 use number_bytes::{read_count, read_number, read_optional};
-use osek_base::TaskId;
+use osek_base::{MAX_TASKS, TaskId};
 use std::alloc::AllocError;
 
 /// A number of 32 bits. What is greater was never written.
@@ -63,9 +63,11 @@ fn read_ages<'b>(labels: &mut Labels, bytes: &'b [u8]) -> Result<&'b [u8], Alloc
     Ok(rest)
 }
 
-/// The task of a number. Those that were written are below 64.
+const _: () = prove!(MAX_TASKS <= u8::MAX as usize);
+
+/// The task of a number. Those that were written are below [`MAX_TASKS`].
 fn task_of(number: u64) -> TaskId {
-    TaskId::new((number % 64) as u8)
+    TaskId::new((number % MAX_TASKS as u64) as u8)
 }
 
 fn read_holds<'b>(labels: &mut Labels, bytes: &'b [u8]) -> Result<&'b [u8], AllocError> {
