@@ -63,6 +63,7 @@ impl<'s, B: Blockers> ToldRun<'s, B> {
         ensures unknown { result ≡ Err BootFault.UnknownMode
             → number_of mode.now system.now.names.modes ≡ None }
     {
+        // Who asks for the list learns that it keeps its limits.
         let _few = arrivals.list();
         let kernel = Kernel::boot(alloc, system, mode, arrivals)?;
         Ok(ToldRun {
@@ -204,7 +205,7 @@ impl<'s, B: Blockers> ToldRun<'s, B> {
         ensures holders { holders.new.items ≡ holders_seen self.now.system (run_of self.now).state }
         ensures proper { IsProper self.now.system }
     {
-        let _proper = self.system.task_count();
+        self.system.shows_proper();
         self.kernel.see_holders(holders);
     }
 
@@ -217,7 +218,7 @@ impl<'s, B: Blockers> ToldRun<'s, B> {
         ensures proper { IsProper self.now.system }
     {
         if is_seen {
-            let _proper = self.system.task_count();
+            self.system.shows_proper();
         } else {
             self.see_holders(holders);
         }

@@ -29,7 +29,7 @@ fn task_texts(alloc: Global, system: &System) -> Result<Vec<ProgramTexts>, Alloc
         (λ r. AreAllTexts system.now Owner.Task (length system.now.tasks) r.items) }
 {
     let mut programs = Vec::new(alloc);
-    system.names();
+    system.shows_proper();
     'tasks: for number in 0..system.task_count() {
         let who = Owner::Task(TaskId::new(number as u8));
         push_program(&mut programs, ProgramTexts::of(alloc, system, &who)?)?;
@@ -43,7 +43,7 @@ fn routine_texts(alloc: Global, system: &System) -> Result<Vec<ProgramTexts>, Al
         (λ r. AreAllTexts system.now Owner.Routine (length system.now.routines) r.items) }
 {
     let mut programs = Vec::new(alloc);
-    system.names();
+    system.shows_proper();
     'routines: for number in 0..system.routine_count() {
         let who = Owner::Routine(IsrId::new(number as u8));
         push_program(&mut programs, ProgramTexts::of(alloc, system, &who)?)?;

@@ -120,8 +120,7 @@ fn find_in(
     ensures { IfOk result (λ found.
         IfSome found (IsEndless system.now mode distances.now task)) }
 {
-    // Who asks for the count of tasks learns that the system is proper.
-    let _proper = system.task_count();
+    system.shows_proper();
     let needs = needed_data(alloc, system)?;
     let Some((from, until)) = suspected(
         alloc, system, mode, distances, &needs, arrivals, ticks, task,
