@@ -15,14 +15,14 @@ use work_ticks::Work;
 
 /// The labels that a program has so far, and those of the repeats that are open.
 #[derive(Drop)]
-struct Labels {
+struct ProgramLabels {
     next: usize,
     open: Vec<usize>,
 }
 
-impl Labels {
+impl ProgramLabels {
     fn new(alloc: Global) -> Self {
-        Labels {
+        ProgramLabels {
             next: 0,
             open: Vec::new(alloc),
         }
@@ -73,7 +73,7 @@ fn write_events<W: Write>(
     out.write_all(b"\n")
 }
 
-fn write_repeat<W: Write>(rounds: u32, labels: &mut Labels, out: &mut W) -> io::Result<()> {
+fn write_repeat<W: Write>(rounds: u32, labels: &mut ProgramLabels, out: &mut W) -> io::Result<()> {
     let register = counter(labels.open.len());
     let label = labels.take();
     labels.open.push(label)?;
@@ -83,7 +83,7 @@ fn write_repeat<W: Write>(rounds: u32, labels: &mut Labels, out: &mut W) -> io::
     writeln!(out, "L{label}:")
 }
 
-fn write_end<W: Write>(labels: &mut Labels, out: &mut W) -> io::Result<()> {
+fn write_end<W: Write>(labels: &mut ProgramLabels, out: &mut W) -> io::Result<()> {
     let label = labels.open.pop().unwrap_or(0);
     let register = counter(labels.open.len());
     writeln!(out, "      SUB {register}, {register}, r6")?;
@@ -94,7 +94,7 @@ fn write_step<W: Write>(
     alloc: Global,
     nodes: &[Node],
     does: Does<'_>,
-    labels: &mut Labels,
+    labels: &mut ProgramLabels,
     out: &mut W,
 ) -> io::Result<()> {
     match does {
@@ -126,7 +126,7 @@ fn write_steps<W: Write>(
     body: &Body<'_>,
     out: &mut W,
 ) -> io::Result<()> {
-    let mut labels = Labels::new(alloc);
+    let mut labels = ProgramLabels::new(alloc);
     for step in &body.steps {
         write_step(alloc, nodes, step.does, &mut labels, out)?;
     }

@@ -5,16 +5,16 @@ use partition_check::{Rule, is_upper_alarm, is_upper_resource, is_upper_task};
 
 /// What an operand names.
 #[derive(Clone, Copy)]
-enum Object {
+enum NamedObject {
     Task(TaskId),
     Resource(ResId),
     Alarm(AlarmId),
 }
 
-impl Object {
+impl NamedObject {
     fn is_scheduler(&self) -> bool {
         match self {
-            Object::Resource(ResId::Scheduler) => true,
+            NamedObject::Resource(ResId::Scheduler) => true,
             _ => false,
         }
     }
@@ -23,37 +23,37 @@ impl Object {
     /// alarm of such a task.
     fn is_upper(&self, system: &System, p: u8) -> bool {
         match self {
-            Object::Task(task) => is_upper_task(system, p, *task),
-            Object::Resource(resource) => is_upper_resource(system, p, *resource),
-            Object::Alarm(alarm) => is_upper_alarm(system, p, *alarm),
+            NamedObject::Task(task) => is_upper_task(system, p, *task),
+            NamedObject::Resource(resource) => is_upper_resource(system, p, *resource),
+            NamedObject::Alarm(alarm) => is_upper_alarm(system, p, *alarm),
         }
     }
 }
 
-fn named_task(task: Option<TaskId>) -> Option<Object> {
+fn named_task(task: Option<TaskId>) -> Option<NamedObject> {
     match task {
         None => None,
-        Some(task) => Some(Object::Task(task)),
+        Some(task) => Some(NamedObject::Task(task)),
     }
 }
 
-fn named_resource(resource: &Option<ResId>) -> Option<Object> {
+fn named_resource(resource: &Option<ResId>) -> Option<NamedObject> {
     match resource {
         None => None,
-        Some(resource) => Some(Object::Resource(*resource)),
+        Some(resource) => Some(NamedObject::Resource(*resource)),
     }
 }
 
-fn named_alarm(alarm: Option<AlarmId>) -> Option<Object> {
+fn named_alarm(alarm: Option<AlarmId>) -> Option<NamedObject> {
     match alarm {
         None => None,
-        Some(alarm) => Some(Object::Alarm(alarm)),
+        Some(alarm) => Some(NamedObject::Alarm(alarm)),
     }
 }
 
 /// What a service's operand names, if anything: INVALID names nothing, and a mask of events belongs
 /// to nobody.
-fn named_by(service: &Service<Register>) -> Option<Object> {
+fn named_by(service: &Service<Register>) -> Option<NamedObject> {
     match service {
         Service::ActivateTask(task) => named_task(*task),
         Service::ChainTask(task) => named_task(*task),
@@ -74,7 +74,7 @@ fn named_by(service: &Service<Register>) -> Option<Object> {
 }
 
 /// The object that an instruction names, if any.
-fn named_object(instr: &Instr) -> Option<Object> {
+fn named_object(instr: &Instr) -> Option<NamedObject> {
     match instr {
         Instr::Service(service) => named_by(service),
         _ => None,

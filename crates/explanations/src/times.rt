@@ -9,13 +9,13 @@ use text_explanations::Source;
 
 /// The values of a counter.
 #[derive(Clone, Copy)]
-struct Limits {
+struct CounterValues {
     most: u32,
     cycle: u32,
 }
 
-fn limits_of(counter: &Object<'_>) -> Limits {
-    Limits {
+fn limits_of(counter: &Object<'_>) -> CounterValues {
+    CounterValues {
         most: number_in(counter, "MAXALLOWEDVALUE"),
         cycle: number_in(counter, "MINCYCLE"),
     }
@@ -54,7 +54,7 @@ fn explain_value<'a, W: Write>(
 
 /// The attribute of a counter that is out of its range, and the range.
 fn wrong_value(counter: &Object<'_>) -> (&'static str, (u32, u32)) {
-    let Limits { most, cycle } = limits_of(counter);
+    let CounterValues { most, cycle } = limits_of(counter);
     if most == 0 || most > MAX_COUNTS {
         ("MAXALLOWEDVALUE", (1, MAX_COUNTS))
     } else if cycle == 0 || cycle > most {
@@ -89,7 +89,7 @@ fn counter_of<'t, 'a>(tree: &'t SyntaxTree<'a>, alarm: &Object<'a>) -> Option<&'
 
 /// The time of an alarm that is out of its range, and the range.
 fn wrong_time<'a>(alarm: &Object<'a>, counter: &Object<'a>) -> Option<(Setting<'a>, (u32, u32))> {
-    let Limits { most, cycle } = limits_of(counter);
+    let CounterValues { most, cycle } = limits_of(counter);
     let start = inner(alarm, "AUTOSTART", "ALARMTIME")?;
     let time = number_of(start.value);
     if time == 0 || time > most {

@@ -13,14 +13,14 @@ struct Place {
 
 /// A walk that goes two places on, or one. At the fifth place a new round begins.
 #[derive(Drop)]
-struct Walk {
+struct RingWalk {
     /// How many steps the longest round had.
     longest: u32,
     /// How many visits it was told of.
     told: u64,
 }
 
-impl Steps for Walk {
+impl Steps for RingWalk {
     ghost use Rattle.std.specs.Prelude.{◌≡◌, ◌+◌, ◌-◌, ◌%◌, ◌<◌, ◌≤◌, if◌then◌else◌, nat_lt};
 
     type Node = Place;
@@ -113,7 +113,7 @@ impl Steps for Walk {
 
 /// How the search ends within limits, the longest round, and how many visits the walk was told of.
 fn searched(alloc: Global, nodes: usize, visits: u64) -> Result<(Outcome, u32, u64), AllocError> {
-    let mut walk = Walk {
+    let mut walk = RingWalk {
         longest: 0,
         told: 0,
     };

@@ -30,7 +30,7 @@ pub(crate) struct Declared<'a> {
 
 /// The objects that are declared, each name of a kind once.
 #[derive(Drop)]
-pub(crate) struct Objects<'a> {
+pub(crate) struct DeclaredObjects<'a> {
     list: Vec<Declared<'a>>,
 }
 
@@ -75,10 +75,10 @@ fn lists_events(attributes: &[Item<'_>], depth: usize) -> bool {
     false
 }
 
-impl<'a> Objects<'a> {
+impl<'a> DeclaredObjects<'a> {
     /// The objects among items, which lie at that depth.
     pub(crate) fn new(alloc: Global, items: &[Item<'a>], depth: usize) -> Result<Self, AllocError> {
-        let mut objects = Objects {
+        let mut objects = DeclaredObjects {
             list: Vec::new(alloc),
         };
         for (number, item) in items.iter().enumerate() {

@@ -2,7 +2,7 @@
 
 use crate::attributes::is_cpu_name;
 use crate::braces::inside;
-use crate::declared::{DEFAULT_MODE, Objects};
+use crate::declared::{DEFAULT_MODE, DeclaredObjects};
 use crate::draft::Draft;
 use crate::items::{Item, Written};
 use crate::messages::{Messages, Subject, Verdict};
@@ -43,7 +43,7 @@ impl<'a> Importer<'a> {
         messages: Messages<'a>,
     ) -> Result<Self, AllocError> {
         Ok(Importer {
-            objects: Objects::new(alloc, objects, depth_of(objects))?,
+            objects: DeclaredObjects::new(alloc, objects, depth_of(objects))?,
             messages,
             draft: Draft::new(alloc),
             needs_default_mode: false,

@@ -6,14 +6,14 @@ use crate::declared::is_scheduler;
 use crate::items::{Item, Written};
 use crate::messages::Subject;
 use crate::reasons;
-use crate::settings::{Importer, Seen, is_one};
+use crate::settings::{EarlierAttributes, Importer, is_one};
 use crate::sources::Place;
 use oil_reader::{AttributeName, Kind, attributes_of};
 use std::alloc::{AllocError, Global};
 
 /// An object that is imported: its kind and name, and the place of its end.
 #[derive(Clone, Copy)]
-struct Object<'a> {
+struct ImportedObject<'a> {
     kind: Kind,
     name: &'a str,
     end: Place,
@@ -86,7 +86,7 @@ impl<'a> Importer<'a> {
         }
         self.draft.open_object(item.word, name)?;
         let end = item.end;
-        self.attributes(alloc, Object { kind, name, end }, attributes)?;
+        self.attributes(alloc, ImportedObject { kind, name, end }, attributes)?;
         self.draft.close_object()
     }
 
@@ -131,11 +131,11 @@ impl<'a> Importer<'a> {
     fn attributes(
         &mut self,
         alloc: Global,
-        object: Object<'a>,
+        object: ImportedObject<'a>,
         items: &[Item<'a>],
     ) -> Result<(), AllocError> {
         let scope = attributes_of(object.kind);
-        let mut seen = Seen::new(alloc);
+        let mut seen = EarlierAttributes::new(alloc);
         let depth = depth_of(items);
         for (number, item) in items.iter().enumerate() {
             if item.depth == depth {
@@ -172,7 +172,7 @@ impl<'a> Importer<'a> {
     /// Refuses several activations of a task that lists an event.
     fn refuse_activations(
         &mut self,
-        object: Object<'a>,
+        object: ImportedObject<'a>,
         item: &Item<'a>,
         value: &str,
     ) -> Result<(), AllocError> {
@@ -190,11 +190,11 @@ impl<'a> Importer<'a> {
     fn attribute(
         &mut self,
         alloc: Global,
-        object: Object<'a>,
+        object: ImportedObject<'a>,
         attribute: AttributeName,
         item: &Item<'a>,
         block: &[Item<'a>],
-        seen: &mut Seen<'a>,
+        seen: &mut EarlierAttributes<'a>,
     ) -> Result<(), AllocError> {
         let Some(value) = self.taken(attribute, item, seen)? else {
             return Ok(());
@@ -222,7 +222,7 @@ impl<'a> Importer<'a> {
         end: Place,
         items: &[Item<'a>],
     ) -> Result<(), AllocError> {
-        let mut seen = Seen::new(alloc);
+        let mut seen = EarlierAttributes::new(alloc);
         let depth = depth_of(items);
         for item in items {
             if item.depth == depth {
@@ -241,7 +241,7 @@ impl<'a> Importer<'a> {
         scope: &[AttributeName],
         attribute: AttributeName,
         item: &Item<'a>,
-        seen: &mut Seen<'a>,
+        seen: &mut EarlierAttributes<'a>,
     ) -> Result<(), AllocError> {
         let Some(value) = self.taken(attribute, item, seen)? else {
             return Ok(());
@@ -259,7 +259,7 @@ impl<'a> Importer<'a> {
     fn set_all_missing(
         &mut self,
         scope: &[AttributeName],
-        seen: &Seen<'a>,
+        seen: &EarlierAttributes<'a>,
         end: Place,
     ) -> Result<(), AllocError> {
         for attribute in scope {

@@ -2,7 +2,7 @@
 //! is missing.
 
 use crate::attributes::{default_of, is_hook, is_of_hook_code, named_by, reason_against, value_of};
-use crate::declared::{DEFAULT_MODE, Objects, is_scheduler};
+use crate::declared::{DEFAULT_MODE, DeclaredObjects, is_scheduler};
 use crate::draft::Draft;
 use crate::items::{Item, Written};
 use crate::messages::{Message, Messages, Subject, Verdict};
@@ -14,7 +14,7 @@ use std::alloc::{AllocError, Global};
 /// An import so far.
 #[derive(Drop)]
 pub(crate) struct Importer<'a> {
-    pub objects: Objects<'a>,
+    pub objects: DeclaredObjects<'a>,
     pub messages: Messages<'a>,
     pub draft: Draft,
     /// Whether the mode is named that is there without being declared.
@@ -23,7 +23,7 @@ pub(crate) struct Importer<'a> {
 
 /// The attributes that an object or a block has had so far, those that list names once a name.
 #[derive(Drop)]
-pub(crate) struct Seen<'a> {
+pub(crate) struct EarlierAttributes<'a> {
     list: Vec<Had<'a>>,
 }
 
@@ -34,9 +34,9 @@ struct Had<'a> {
     value: Option<&'a str>,
 }
 
-impl<'a> Seen<'a> {
+impl<'a> EarlierAttributes<'a> {
     pub(crate) fn new(alloc: Global) -> Self {
-        Seen {
+        EarlierAttributes {
             list: Vec::new(alloc),
         }
     }
@@ -161,7 +161,12 @@ fn without_hook_code<'a>(item: &Item<'a>, value: &'a str) -> Taken<'a> {
 
 impl<'a> Importer<'a> {
     /// What is taken for an attribute.
-    fn choice(&self, attribute: AttributeName, item: &Item<'a>, seen: &Seen<'a>) -> Taken<'a> {
+    fn choice(
+        &self,
+        attribute: AttributeName,
+        item: &Item<'a>,
+        seen: &EarlierAttributes<'a>,
+    ) -> Taken<'a> {
         let word = Subject::Word(item.word);
         if !attribute.presence().is_list() && seen.has(attribute) {
             return untaken(item.place, Verdict::Refused, word, reasons::TWICE);
@@ -181,7 +186,7 @@ impl<'a> Importer<'a> {
         attribute: AttributeName,
         item: &Item<'a>,
         value: &'a str,
-        seen: &Seen<'a>,
+        seen: &EarlierAttributes<'a>,
     ) -> Taken<'a> {
         if is_of_hook_code(attribute) {
             return without_hook_code(item, value);
@@ -212,7 +217,7 @@ impl<'a> Importer<'a> {
         attribute: AttributeName,
         kind: Kind,
         name: &str,
-        seen: &Seen<'a>,
+        seen: &EarlierAttributes<'a>,
     ) -> Option<(Verdict, &'static str)> {
         if is_scheduler(kind, name) {
             return Some((Verdict::LeftOut, reasons::RES_SCHEDULER_IS_OPEN));
@@ -278,7 +283,7 @@ impl<'a> Importer<'a> {
         &mut self,
         attribute: AttributeName,
         item: &Item<'a>,
-        seen: &mut Seen<'a>,
+        seen: &mut EarlierAttributes<'a>,
     ) -> Result<Option<&'a str>, AllocError> {
         let taken = self.choice(attribute, item, seen);
         seen.add(attribute, taken.value)?;

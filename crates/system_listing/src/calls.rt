@@ -113,21 +113,21 @@ fn warn_of_operand<W: Write>(
 /// What stands before a word: the kind and the owner of its program, and its instruction's first
 /// operand.
 #[derive(Clone, Copy)]
-struct Before<'a> {
+struct BeforeWord<'a> {
     kind: ProgramKind,
     owner: &'a str,
     first: &'a str,
 }
 
 /// What stands before the words behind a word.
-fn behind<'a>(before: Before<'a>, word: CodeWord<'a>) -> Before<'a> {
+fn behind<'a>(before: BeforeWord<'a>, word: CodeWord<'a>) -> BeforeWord<'a> {
     match word.part {
-        Part::Owner(kind) => Before {
+        Part::Owner(kind) => BeforeWord {
             kind,
             owner: word.text,
             first: "",
         },
-        Part::Operand { number: 0, .. } => Before {
+        Part::Operand { number: 0, .. } => BeforeWord {
             first: word.text,
             ..before
         },
@@ -140,7 +140,7 @@ pub(crate) fn warn_of_calls<W: Write>(
     parsed: Parsed<'_, '_>,
     warnings: &mut Warnings<'_, W>,
 ) -> io::Result<()> {
-    let mut before = Before {
+    let mut before = BeforeWord {
         kind: ProgramKind::Task,
         owner: "",
         first: "",

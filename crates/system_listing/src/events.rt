@@ -1,7 +1,7 @@
 //! Events and their masks.
 
 use crate::lists::tasks_with;
-use crate::table::Table;
+use crate::table::ListingTable;
 use oil_reader::{Object, SyntaxTree};
 use osek_base::System;
 use std::alloc::{AllocError, Global};
@@ -23,7 +23,7 @@ fn add_event(
     tree: &SyntaxTree<'_>,
     event: &str,
     mask: u32,
-    table: &mut Table,
+    table: &mut ListingTable,
 ) -> Result<(), AllocError> {
     table.text(event)?;
     table.mask(mask)?;
@@ -35,8 +35,8 @@ pub(crate) fn event_table(
     alloc: Global,
     system: &System,
     tree: &SyntaxTree<'_>,
-) -> Result<Table, AllocError> {
-    let mut table = Table::new(alloc, &["event", "mask", "tasks"])?;
+) -> Result<ListingTable, AllocError> {
+    let mut table = ListingTable::new(alloc, &["event", "mask", "tasks"])?;
     let masks = system.parts().events.iter();
     for (event, mask) in system.names().events.iter().zip(masks) {
         add_event(alloc, tree, event.as_str(), *mask, &mut table)?;

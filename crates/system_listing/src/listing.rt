@@ -3,7 +3,7 @@
 use crate::class::write_class;
 use crate::events::event_table;
 use crate::objects::{alarm_table, counter_table, resource_table, routine_table};
-use crate::table::Table;
+use crate::table::ListingTable;
 use crate::tasks::task_table;
 use oil_reader::SyntaxTree;
 use osek_base::{Class, System};
@@ -11,7 +11,7 @@ use std::alloc::{AllocError, Global};
 use std::io::{self, Write};
 
 /// Writes a table for which memory sufficed.
-fn write_table<W: Write>(table: Result<Table, AllocError>, out: &mut W) -> io::Result<()> {
+fn write_table<W: Write>(table: Result<ListingTable, AllocError>, out: &mut W) -> io::Result<()> {
     table?.write(out)
 }
 

@@ -1,7 +1,7 @@
 //! The tables of interrupt routines, resources, counters and alarms.
 
 use crate::lists::{modes, tasks_with};
-use crate::table::Table;
+use crate::table::ListingTable;
 use oil_reader::{Kind, Object, SyntaxTree};
 use osek_base::{ResId, ResourceNumber, System};
 use std::alloc::{AllocError, Global};
@@ -16,8 +16,11 @@ fn word_in<'a>(object: &Object<'a>, word: &str) -> &'a str {
 }
 
 /// The interrupt routines, in declaration order.
-pub(crate) fn routine_table(alloc: Global, tree: &SyntaxTree<'_>) -> Result<Table, AllocError> {
-    let mut table = Table::new(alloc, &["routine", "priority"])?;
+pub(crate) fn routine_table(
+    alloc: Global,
+    tree: &SyntaxTree<'_>,
+) -> Result<ListingTable, AllocError> {
+    let mut table = ListingTable::new(alloc, &["routine", "priority"])?;
     for routine in &tree.objects {
         if routine.kind == Kind::Isr {
             table.text(routine.name.text)?;
@@ -36,7 +39,7 @@ fn ceiling(system: &System, number: usize) -> u8 {
 }
 
 /// Adds RES_SCHEDULER, which is open to every task.
-fn add_scheduler(system: &System, table: &mut Table) -> Result<(), AllocError> {
+fn add_scheduler(system: &System, table: &mut ListingTable) -> Result<(), AllocError> {
     table.text("RES_SCHEDULER")?;
     table.number(usize::from(system.ceiling(ResId::Scheduler)))?;
     table.text("STANDARD")?;
@@ -48,7 +51,7 @@ fn add_resource(
     tree: &SyntaxTree<'_>,
     resource: &Object<'_>,
     ceiling: u8,
-    table: &mut Table,
+    table: &mut ListingTable,
 ) -> Result<(), AllocError> {
     let name = resource.name.text;
     table.text(name)?;
@@ -62,8 +65,8 @@ pub(crate) fn resource_table(
     alloc: Global,
     system: &System,
     tree: &SyntaxTree<'_>,
-) -> Result<Table, AllocError> {
-    let mut table = Table::new(alloc, &["resource", "ceiling", "property", "tasks"])?;
+) -> Result<ListingTable, AllocError> {
+    let mut table = ListingTable::new(alloc, &["resource", "ceiling", "property", "tasks"])?;
     let mut number: usize = 0;
     for resource in &tree.objects {
         if resource.kind == Kind::Resource {
@@ -78,9 +81,12 @@ pub(crate) fn resource_table(
 }
 
 /// The counters, in declaration order.
-pub(crate) fn counter_table(alloc: Global, tree: &SyntaxTree<'_>) -> Result<Table, AllocError> {
+pub(crate) fn counter_table(
+    alloc: Global,
+    tree: &SyntaxTree<'_>,
+) -> Result<ListingTable, AllocError> {
     let words = ["MAXALLOWEDVALUE", "TICKSPERBASE", "MINCYCLE"];
-    let mut table = Table::new(alloc, &["counter", words[0], words[1], words[2]])?;
+    let mut table = ListingTable::new(alloc, &["counter", words[0], words[1], words[2]])?;
     for counter in &tree.objects {
         if counter.kind == Kind::Counter {
             table.text(counter.name.text)?;
@@ -101,7 +107,7 @@ fn acted_on<'a>(alarm: &Object<'a>, word: &str) -> &'a str {
 }
 
 /// Adds a time of an alarm that starts by itself, in counts.
-fn add_time(alarm: &Object<'_>, word: &str, table: &mut Table) -> Result<(), AllocError> {
+fn add_time(alarm: &Object<'_>, word: &str, table: &mut ListingTable) -> Result<(), AllocError> {
     match inner(alarm, "AUTOSTART", word) {
         Some(setting) => table.number(number_of(setting.value) as usize),
         None => table.text(""),
@@ -119,7 +125,11 @@ const ALARM_COLUMNS: [&str; 8] = [
     "CYCLETIME",
 ];
 
-fn add_alarm(alloc: Global, alarm: &Object<'_>, table: &mut Table) -> Result<(), AllocError> {
+fn add_alarm(
+    alloc: Global,
+    alarm: &Object<'_>,
+    table: &mut ListingTable,
+) -> Result<(), AllocError> {
     table.text(alarm.name.text)?;
     table.text(word_in(alarm, "COUNTER"))?;
     table.text(word_in(alarm, "ACTION"))?;
@@ -131,8 +141,11 @@ fn add_alarm(alloc: Global, alarm: &Object<'_>, table: &mut Table) -> Result<(),
 }
 
 /// The alarms, in declaration order.
-pub(crate) fn alarm_table(alloc: Global, tree: &SyntaxTree<'_>) -> Result<Table, AllocError> {
-    let mut table = Table::new(alloc, &ALARM_COLUMNS)?;
+pub(crate) fn alarm_table(
+    alloc: Global,
+    tree: &SyntaxTree<'_>,
+) -> Result<ListingTable, AllocError> {
+    let mut table = ListingTable::new(alloc, &ALARM_COLUMNS)?;
     for alarm in &tree.objects {
         if alarm.kind == Kind::Alarm {
             add_alarm(alloc, alarm, &mut table)?;

@@ -5,7 +5,7 @@ use std::io::{self, Write};
 
 /// A table: its cells row by row, those of the heading first.
 #[derive(Drop)]
-pub(crate) struct Table {
+pub(crate) struct ListingTable {
     alloc: Global,
     /// How many cells a row has.
     columns: usize,
@@ -21,10 +21,10 @@ fn write_cell<W: Write>(cell: &str, width: usize, out: &mut W) -> io::Result<()>
     out.write_all(b"  ")
 }
 
-impl Table {
+impl ListingTable {
     /// A table with a heading and no rows.
     pub(crate) fn new(alloc: Global, heading: &[&str]) -> Result<Self, AllocError> {
-        let mut table = Table {
+        let mut table = ListingTable {
             alloc,
             columns: heading.len(),
             cells: Vec::new(alloc),

@@ -1,7 +1,7 @@
 //! The table of the tasks.
 
 use crate::lists::{listed, modes, resources};
-use crate::table::Table;
+use crate::table::ListingTable;
 use oil_reader::{Kind, Object, SyntaxTree};
 use osek_base::{System, TaskId};
 use std::alloc::{AllocError, Global};
@@ -35,7 +35,7 @@ fn add_attributes(
     alloc: Global,
     tree: &SyntaxTree<'_>,
     task: &Object<'_>,
-    table: &mut Table,
+    table: &mut ListingTable,
 ) -> Result<(), AllocError> {
     table.text(match attribute(task, "SCHEDULE") {
         Some(schedule) => word_of(schedule.setting.value),
@@ -54,7 +54,7 @@ fn add_task(
     tree: &SyntaxTree<'_>,
     number: usize,
     task: &Object<'_>,
-    table: &mut Table,
+    table: &mut ListingTable,
 ) -> Result<(), AllocError> {
     table.text(task.name.text)?;
     table.number(number)?;
@@ -68,8 +68,8 @@ pub(crate) fn task_table(
     alloc: Global,
     system: &System,
     tree: &SyntaxTree<'_>,
-) -> Result<Table, AllocError> {
-    let mut table = Table::new(alloc, &COLUMNS)?;
+) -> Result<ListingTable, AllocError> {
+    let mut table = ListingTable::new(alloc, &COLUMNS)?;
     for (number, name) in system.names().tasks.iter().enumerate() {
         if let Some(task) = object(tree, Kind::Task, name.as_str()) {
             add_task(alloc, system, tree, number, task, &mut table)?;

@@ -15,7 +15,7 @@ enum Bracket {
 
 /// A text that is gone over.
 #[derive(Drop)]
-struct Walk<'t> {
+struct TextWalk<'t> {
     len: usize,
     rest: &'t str,
     /// How deep what stands outside of brackets is: 1 in a section.
@@ -35,9 +35,9 @@ fn joined(alloc: Global, key: &Key) -> Result<String, AllocError> {
     Ok(text)
 }
 
-impl<'t> Walk<'t> {
+impl<'t> TextWalk<'t> {
     fn new(alloc: Global, text: &'t str) -> Self {
-        Walk {
+        TextWalk {
             len: text.len(),
             rest: text,
             base: 0,
@@ -167,7 +167,7 @@ fn kind_of(scalar: Scalar) -> Kind {
 
 /// The keys and values of a text that is TOML, in its order.
 pub(crate) fn nodes_of(alloc: Global, text: &str) -> Result<Vec<Node>, ParseError> {
-    let mut walk = Walk::new(alloc, text);
+    let mut walk = TextWalk::new(alloc, text);
     for _byte in text.as_bytes() {
         if !walk.step(alloc)? {
             break;

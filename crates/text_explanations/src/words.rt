@@ -26,7 +26,7 @@ pub struct CodeWord<'a> {
 
 /// What is seen up to a token.
 #[derive(Clone, Copy)]
-struct Seen<'a> {
+struct BeforeToken<'a> {
     /// What the next word is, where it is no label.
     next: Part<'a>,
     /// How many directives there were.
@@ -41,7 +41,7 @@ fn is_colon(token: Option<&Placed<'_>>) -> bool {
 }
 
 /// The word of a token, behind what was seen.
-fn word_at<'a>(seen: Seen<'a>, placed: &Placed<'a>, is_label: bool) -> Option<CodeWord<'a>> {
+fn word_at<'a>(seen: BeforeToken<'a>, placed: &Placed<'a>, is_label: bool) -> Option<CodeWord<'a>> {
     let Token::Word(text) = placed.token else {
         return None;
     };
@@ -58,7 +58,7 @@ fn word_at<'a>(seen: Seen<'a>, placed: &Placed<'a>, is_label: bool) -> Option<Co
 }
 
 /// What is seen with a word.
-fn behind_word<'a>(word: CodeWord<'a>) -> Seen<'a> {
+fn behind_word<'a>(word: CodeWord<'a>) -> BeforeToken<'a> {
     let next = match word.part {
         Part::Owner(kind) => Part::Owner(kind),
         Part::Label => Part::Mnemonic,
@@ -71,20 +71,20 @@ fn behind_word<'a>(word: CodeWord<'a>) -> Seen<'a> {
             number: number.saturating_add(1),
         },
     };
-    Seen {
+    BeforeToken {
         next,
         program: word.program,
     }
 }
 
 /// What is seen with a token that is no word.
-fn behind<'a>(seen: Seen<'a>, token: Token<'a>) -> Seen<'a> {
+fn behind<'a>(seen: BeforeToken<'a>, token: Token<'a>) -> BeforeToken<'a> {
     match token {
-        Token::LineEnd => Seen {
+        Token::LineEnd => BeforeToken {
             next: Part::Mnemonic,
             program: seen.program,
         },
-        Token::Directive(kind) => Seen {
+        Token::Directive(kind) => BeforeToken {
             next: Part::Owner(kind),
             program: seen.program.saturating_add(1),
         },
@@ -98,7 +98,7 @@ pub fn code_words<'a>(
     tokens: &[Placed<'a>],
 ) -> Result<Vec<CodeWord<'a>>, AllocError> {
     let mut words = Vec::new(alloc);
-    let mut seen = Seen {
+    let mut seen = BeforeToken {
         next: Part::Mnemonic,
         program: 0,
     };

@@ -1,7 +1,7 @@
 //! A row of a picture as SVG.
 
 use crate::drawn_stretch::write_stretch;
-use crate::kind::Kind;
+use crate::kind::RowKind;
 use crate::layout::Layout;
 use crate::pieces::{Piece, write_pieces};
 use crate::track::Track;
@@ -11,7 +11,7 @@ use std::io::{self, Write};
 /// A row: whose it is, by its name and static priority, and at which place it stands, from 0 on.
 #[derive(Clone, Copy)]
 pub(crate) struct DrawnRow<'a> {
-    pub(crate) kind: Kind,
+    pub(crate) kind: RowKind,
     pub(crate) name: &'a str,
     pub(crate) priority: u8,
     pub(crate) place: usize,

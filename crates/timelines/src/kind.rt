@@ -4,24 +4,24 @@ use crate::activity::Activity;
 
 /// Whose row it is.
 #[derive(Clone, Copy)]
-pub(crate) enum Kind {
+pub(crate) enum RowKind {
     Task,
     Routine,
 }
 
-impl Kind {
+impl RowKind {
     pub(crate) fn name(self) -> &'static str {
         match self {
-            Kind::Task => "task",
-            Kind::Routine => "routine",
+            RowKind::Task => "task",
+            RowKind::Routine => "routine",
         }
     }
 
     /// The word for what is done.
     pub(crate) fn does(self, activity: Activity) -> &'static str {
         match (self, activity) {
-            (Kind::Task, Activity::Executing) => "running",
-            (Kind::Routine, Activity::Ready) => "pending",
+            (RowKind::Task, Activity::Executing) => "running",
+            (RowKind::Routine, Activity::Ready) => "pending",
             _ => class(activity),
         }
     }

@@ -4,7 +4,7 @@ use crate::chosen_rows::drawn_count;
 use crate::drawn_marks::write_marks;
 use crate::drawn_row::DrawnRow;
 use crate::frame::{write_head, write_heading, write_legend, write_ticks};
-use crate::kind::Kind;
+use crate::kind::RowKind;
 use crate::layout::Layout;
 use crate::timeline::Timeline;
 use crate::track::Track;
@@ -61,7 +61,7 @@ fn write_routines<W: Write>(
             continue;
         }
         let row = DrawnRow {
-            kind: Kind::Routine,
+            kind: RowKind::Routine,
             name: name.as_str(),
             priority: routine.priority,
             place: place_of_routine(tracks, routines, number, routine.priority),
@@ -87,7 +87,7 @@ fn write_tasks<W: Write>(
             continue;
         }
         let row = DrawnRow {
-            kind: Kind::Task,
+            kind: RowKind::Task,
             name: name.as_str(),
             priority: task.priority,
             place,
