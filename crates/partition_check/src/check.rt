@@ -25,7 +25,7 @@ pub fn check_partition(system: &System, p: u8) -> Result<(), Denial>
     ensures isolated { OnOk result (IsIsolated system.now p) }
     ensures by_itself { OnOk result (IsItsUpperPart system.now p) }
 {
-    system.names();
+    system.shows_proper();
     match first_denial(system, p) {
         None => Ok(()),
         Some(denial) => Err(denial),

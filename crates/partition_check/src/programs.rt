@@ -17,7 +17,7 @@ fn is_broken_at(system: &System, p: u8, rule: Rule, owner: Owner, place: u16) ->
     requires place { place < length (program system.now owner) }
     ensures { result ≡ forbids system.now p rule (instruction_at system.now owner place) }
 {
-    system.names();
+    system.shows_proper();
     let instr = system.instruction_at(owner, Place::new(place));
     forbids(system, p, rule, &instr)
 }
@@ -38,7 +38,7 @@ fn first_in_program(system: &System, p: u8, rule: Rule, owner: &Owner, place: u1
     ensures first { told result ≡ first_place system.now p rule owner.now place }
     ensures subject { IfSome result (λ d. IsOwner system.now d.subject) }
 {
-    system.names();
+    system.shows_proper();
     if (place as usize) >= system.program_len(*owner) {
         return None;
     }

@@ -23,9 +23,9 @@ returns-in-Some-clause-accepts c =
 pub returns-in-None-clause-isolated : goal.returns-in-None-clause-isolated
 returns-in-None-clause-isolated c =
     let S = c.args.system.now in
-    isolated S c.args.p c.names.ensures.proper (separable_where_none S c.args.p (sym c.first_denial.ensures.first ∙ ap told c.in-None.is))
+    isolated S c.args.p c.shows_proper.ensures (separable_where_none S c.args.p (sym c.first_denial.ensures.first ∙ ap told c.in-None.is))
 
 pub returns-in-None-clause-by_itself : goal.returns-in-None-clause-by_itself
 returns-in-None-clause-by_itself c =
     let S = c.args.system.now in
-    its_upper_part S c.args.p c.names.ensures.proper (separable_where_none S c.args.p (sym c.first_denial.ensures.first ∙ ap told c.in-None.is))
+    its_upper_part S c.args.p c.shows_proper.ensures (separable_where_none S c.args.p (sym c.first_denial.ensures.first ∙ ap told c.in-None.is))
