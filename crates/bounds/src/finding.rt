@@ -29,8 +29,7 @@ pub fn find_bounds<W: Watch>(
     ensures found { IfOk result (AreFound system.now mode distances.now) }
     ensures cap { IfOk result (λ found. found.cap ≡ extent.cap) }
 {
-    // Who asks for the count of tasks learns that the system is proper.
-    let _proper = system.task_count();
+    system.shows_proper();
     let needs = needed_data(alloc, system)?;
     let mut explorer = Explorer::new(alloc, system, &needs, mode, distances, extent.cap, watch)?;
     let limits = Limits {

@@ -43,8 +43,7 @@ pub fn find_upper_bounds<W: Watch>(
     ensures found { IfOk result (λ upper.
         HoldAbove system.now p mode distances.now upper.bounds) }
 {
-    // Who asks for the count of tasks learns that the system is proper.
-    let _proper = system.task_count();
+    system.shows_proper();
     bounds_of_the_part_hold();
     let part = upper_only(alloc, system, p)?;
     let bounds = find_bounds(alloc, &part, mode, distances, extent, watch)?;

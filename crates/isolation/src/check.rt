@@ -33,8 +33,7 @@ pub fn check_isolation(system: &System, p: u8) -> Result<(), Denial>
     ensures shown { OnOk result (IsTheSameEverywhere TicksShowTheSame system.now p) }
     ensures figures { OnOk result (IsTheSameEverywhere FiguresAreTheSame system.now p) }
 {
-    // Who asks for the count of tasks learns that the system is proper.
-    let _proper = system.task_count();
+    system.shows_proper();
     upper_parts_show_the_same();
     check_partition(system, p)
 }

@@ -50,7 +50,7 @@ impl<'s, Q: ReadyQueues> Processor<'s, Q> {
         requires { opening.old ≡ [] }
         ensures { IfOk result (λ p. IsStarted system.now mode p opening.new) }
     {
-        system.names();
+        system.shows_proper();
         let mut core = started(alloc, system, mode)?;
         record_startup(system, opening);
         let _runner = core.reschedule(opening);

@@ -42,9 +42,8 @@ fn task_of_few<B: Blockers>(
     ensures value { result ≡ task_at system.now (run_of kernel.now).state task }
     ensures few { result.jobs ≤ MAX_ACTIVATION }
 {
-    // Who asks for the count of tasks learns that the system is proper, so that few jobs are
-    // allowed.
-    let _proper = system.task_count();
+    // So few jobs are allowed.
+    system.shows_proper();
     kernel.task_at(task)
 }
 
@@ -92,7 +91,7 @@ impl<'s, B: Blockers> ToldRun<'s, B> {
         requires { 1 ≤ self.now.ticks }
         ensures { result ≡ true → LeavesTasks self.now.system (last_tick self.now) }
     {
-        let _proper = self.system.task_count();
+        self.system.shows_proper();
         is_plain(&self.execution.executed)
     }
 

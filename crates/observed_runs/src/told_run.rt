@@ -146,7 +146,7 @@ impl<'s, B: Blockers> ToldRun<'s, B> {
         if passed == 0 {
             return 0;
         }
-        let _proper = self.system.task_count();
+        self.system.shows_proper();
         self.execution = Execution::of(self.system, None);
         self.ahead.clear();
         self.behind.clear();
@@ -165,7 +165,7 @@ impl<'s, B: Blockers> ToldRun<'s, B> {
         if worked == 0 {
             return 0;
         }
-        let _proper = self.system.task_count();
+        self.system.shows_proper();
         self.execution.ending = None;
         self.execution.refusing = None;
         self.execution.moved = false;

@@ -25,8 +25,7 @@ fn ticks_per_base(system: &System, alarm: AlarmId) -> u32
     ensures value { result ≡ (counter_of system.now alarm).ticks_per_base }
     ensures some { 1 ≤ result }
 {
-    // Who asks for the count of alarms learns that the system is proper.
-    let _proper = system.alarm_count();
+    system.shows_proper();
     system.counter_of(alarm).ticks_per_base
 }
 

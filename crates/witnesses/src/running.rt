@@ -243,8 +243,7 @@ pub(crate) fn shown_in_run(
     ensures { IfOk result (λ found. IfSome found
         (λ shown. Shows system.now mode arrivals shown.0 figure shown.1)) }
 {
-    // Who asks for the count of tasks learns that the system is proper.
-    let _proper = system.task_count();
+    system.shows_proper();
     if !is_of(system, figure) {
         return Ok(None);
     }

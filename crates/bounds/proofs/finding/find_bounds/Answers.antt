@@ -9,7 +9,7 @@ use Rattle.bounds.proofs.finding.find_bounds.Goals as goal
 pub new-requires : goal.new-requires
 new-requires g c =
     record {
-      proper = c.task_count-proper.ensures.proper;
+      proper = c.shows_proper.ensures;
       suffices = c.in_ok-needs.ensures.closed;
       own = c.in_ok-needs.ensures.within.words;
     }
@@ -22,7 +22,7 @@ returns-clause-found g c =
     c.in_ok-explorer.explorer c.search-searched.new.steps _ c.search-searched.result
     c.into_bounds.result c.searches_bound.ensures c.levels_bound.ensures
     (record {
-      proper = c.task_count-proper.ensures.proper;
+      proper = c.shows_proper.ensures;
       suffices = c.in_ok-needs.ensures.closed;
       own = c.in_ok-needs.ensures.within.words;
     })

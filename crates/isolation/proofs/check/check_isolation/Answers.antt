@@ -6,11 +6,11 @@ pub returns-clause-shown : goal.returns-clause-shown
 returns-clause-shown c =
     where_ok c.check_partition.result
     (λ ok. everywhere TicksShowTheSame c.upper_parts_show_the_same.ensures.others
-    c.args.system.now c.args.p c.task_count-proper.ensures.proper
+    c.args.system.now c.args.p c.shows_proper.ensures
     (c.check_partition.ensures.accepts.0 ok))
 
 pub returns-clause-figures : goal.returns-clause-figures
 returns-clause-figures c =
     where_ok c.check_partition.result
-    (λ ok. figures_everywhere c.args.system.now c.args.p c.task_count-proper.ensures.proper
+    (λ ok. figures_everywhere c.args.system.now c.args.p c.shows_proper.ensures
     (c.check_partition.ensures.accepts.0 ok))

@@ -3,5 +3,5 @@ use Rattle.state_bytes.proofs.times.ticks_per_base.Goals as goal
 
 pub returns-clause-some : goal.returns-clause-some
 returns-clause-some c =
-    let base = some_ticks _ _ c.alarm_count-proper.ensures.proper c.requires in
+    let base = some_ticks _ _ c.shows_proper.ensures c.requires in
     rw c.counter_of.ensures base

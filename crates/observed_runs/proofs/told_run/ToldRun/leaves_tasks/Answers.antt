@@ -10,7 +10,7 @@ pub returns : goal.returns
 returns g c = λ plain.
     let r : Progress = c.self.inside.kernel in
     let told = c.self.invariant.told (subst (λ (x : Progress). 1 ≤ x.ticks) (sym c.self.view_is) c.requires) in
-    let proper : IsProper r.system = subst IsProper (sym c.self.invariant.system) c.task_count-proper.ensures.proper in
+    let proper : IsProper r.system = subst IsProper (sym c.self.invariant.system) c.shows_proper.ensures in
     subst (λ (x : Progress). LeavesTasks x.system (last_tick x)) c.self.view_is
     (plain_leaves r.system proper r.mode r.arrivals (r.ticks - 1) told.on
     (ap is_plain (sym told.done.executed) ∙ sym c.is_plain.ensures ∙ plain))

@@ -16,7 +16,7 @@ invariant_of-self-2 g c =
     let system : new.system ≡ c.self.inside.system.now = ap (λ (r : Progress). r.system) p.ensures.next ∙ v.system in
     let here = sym system in
     let some : 0 < p.result = omega (arith, c.if-passed-eq0.false) in
-    let proper : IsProper k.system = subst IsProper (sym v.system) c.task_count-proper.ensures.proper in
+    let proper : IsProper k.system = subst IsProper (sym v.system) c.shows_proper.ensures in
     record {
       system = system;
       few = subst (λ (r : Progress). length r.arrivals ≤ MAX_ARRIVALS) (sym p.ensures.next) v.few;

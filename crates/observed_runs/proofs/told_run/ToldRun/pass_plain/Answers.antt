@@ -17,7 +17,7 @@ invariant_of-self-2 g c =
     let new : Progress = p.new.self in
     let v = c.self.invariant in
     let some : 0 < p.result = omega (arith, c.if-worked-eq0.false) in
-    let proper : IsProper k.system = subst IsProper (sym v.system) c.task_count-proper.ensures.proper in
+    let proper : IsProper k.system = subst IsProper (sym v.system) c.shows_proper.ensures in
     record {
       system = ap (λ (r : Progress). r.system) w.next ∙ v.system;
       few = subst (λ (r : Progress). length r.arrivals ≤ MAX_ARRIVALS) (sym w.next) v.few;
