@@ -25,7 +25,7 @@ pub fn upper_only(alloc: Global, system: &System, p: u8) -> Result<System, Alloc
     ensures shows { IfOk result (λ part. HaveOneView system.now part p) }
     ensures whole { IfOk result (λ part. p ≡ 0 → part ≡ system.now) }
 {
-    system.names();
+    system.shows_proper();
     let parts = UpperPart::new(system, p).parts(alloc)?;
     Ok(System::new(parts))
 }
