@@ -1,17 +1,13 @@
 -- What the methods of `Alarms` do to the table, and starts.
-use Rattle.std.proofs.Common.{ℕ, ◌≡◌, ◌<◌, ◌≤◌, ◌+◌, List, [], ◌∷◌, ◌++◌, map, take, drop, length, set, get_or, replicate, Option, None, refl, arith}
+use Rattle.std.proofs.Common.{ℕ, ◌≡◌, ◌<◌, ◌≤◌, ◌+◌, List, [], ◌∷◌, ◌++◌, map, take, drop, length, set, replicate, Option, None, refl, arith}
 use Rattle.std.proofs.Math.Numerals.{add-one}
 use Rattle.std.proofs.Math.Nat.{sub_self}
 use Rattle.std.proofs.Math.Seq.{drop-cons}
-use Rattle.std.proofs.lemmas.List.{append_assoc, map-append, length-map, length-take, length-replicate, take_more, set-append_right, set-get_or}
+use Rattle.std.proofs.lemmas.List.{append_assoc, map-append, length-map, length-take, length-replicate, take_more, set-append_right}
 use Rattle.osek_base.specs.System.{System, Alarm, no_alarm, start_in, alarm_start_in}
 use Rattle.osek_base.specs.State.{Expiry}
 use Rattle.osek_base.specs.Trace.{first_expiry}
 use Rattle.alarms.specs.Alarms.{AlarmTable}
-
--- what stands in the place already
-pub set_there : (es : List (Option Expiry)) (i : ℕ) (e : Option Expiry) → get_or es i None ≡ e → set es i e ≡ es
-set_there es i e is = rw (← is) (set-get_or es i None)
 
 -- ---- starts
 

@@ -42,16 +42,6 @@ has-without (w ∷ ws) a b none =
       | inr other ↦ rw (other, away) (has-without ws a b others)
     ]
 
-not_in : (ws : List Wait) (b : ℕ) → are_apart ws ≡ true → has b (without b ws) ≡ false
-not_in [] b apart = refl
-not_in (w ∷ ws) b apart =
-    let parts = and_parts (not (has w.alarm ws)) (are_apart ws) apart in
-    let alone : has w.alarm ws ≡ false = not-true _ parts.0 in
-    elim (cases_Bool (eqb w.alarm b)) [
-      | inl found ↦ rw found (rw (eqb-true w.alarm b found) at alone)
-      | inr other ↦ rw (other, other) (not_in ws b parts.1)
-    ]
-
 pub apart-without : (ws : List Wait) (b : ℕ) → are_apart ws ≡ true → are_apart (without b ws) ≡ true
 apart-without [] b apart = refl
 apart-without (w ∷ ws) b apart =

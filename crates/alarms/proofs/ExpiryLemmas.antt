@@ -106,13 +106,6 @@ overs-inserted (x ∷ rest) t some = elim (cases_Bool (list_all (is_sooner t) (x
   | inr late ↦ rw (late, overs-inserted rest t some) refl
 ]
 
-pub overs-length : (ws : List Wait) → overs ws ≤ length ws
-overs-length [] = omega arith
-overs-length (x ∷ ws) = elim (cases_Bool (eqb x.left 0)) [
-  | inl here ↦ rw here (omega (arith, overs-length ws))
-  | inr away ↦ rw away (omega (arith, overs-length ws))
-]
-
 -- where no wait is over, none starts again
 pub ahead-again : (ws : List Wait) (a : ℕ) → are_ahead ws ≡ true → again (wait_of a ws) ≡ wait_of a ws
 ahead-again [] a ahead = refl

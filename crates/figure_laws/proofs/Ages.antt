@@ -9,7 +9,7 @@ use Rattle.figures.specs.Reaching.{worst, put}
 use Rattle.figures.specs.ResponseSums.{standing, later, some_more, entered, ready_since, oldest_response, responses, response_figures, spread}
 use Rattle.figures.specs.StateSums.{leaves}
 use Rattle.figure_laws.specs.Labels.{label_after, AreNumbered, reached, all_shown}
-use Rattle.figure_laws.specs.Ages.{followed, ages_in, ages_next, ages, oldest, leaving_age, tick_of, AgesAreReadiness, ResponsesAreAges, OldestIsAge}
+use Rattle.figure_laws.specs.Ages.{followed, ages_in, ages_next, ages, oldest, leaving_age, tick_of, ResponsesAreAges, OldestIsAge}
 use Rattle.figure_laws.proofs.Greatest.{is_greatest}
 
 -- in a tick each is as old as the ticks since it was ready, both counted
@@ -150,17 +150,6 @@ after_tick t before h = aged_next t (ready_since before) (label_after ages befor
     (in_tick t before h)
 
 -- ---- the laws
-
-as_counted : (tick : ℕ) (since old : List ℕ) → Aged tick since old
-    → old ≡ map (λ s. tick - s + 1) since
-as_counted tick [] [] h = refl
-as_counted tick [] (n ∷ old) h = absurd h
-as_counted tick (s ∷ since) [] h = absurd h
-as_counted tick (s ∷ since) (n ∷ old) h = λ i. h.1 i ∷ as_counted tick since old h.2 i
-
-pub ages_are_readiness : AgesAreReadiness
-ages_are_readiness t before h = as_counted t.tick (ready_since (t ∷ before))
-    (label_after ages (t ∷ before)) (after_tick t before h)
 
 oldest_is : (tick : ℕ) (since old : List ℕ) → Aged tick since old
     → oldest_response tick since ≡ reached tick (oldest old)

@@ -5,7 +5,7 @@ use Rattle.figures.specs.Counts.{capped}
 use Rattle.figures.specs.Reaching.{worst, worse_of}
 use Rattle.figures.specs.ResourceSums.{is_same, last_holder, hold_on, hold, hold_at, longest_hold, resource_figures}
 use Rattle.figure_laws.specs.Labels.{label_after, reached, all_shown, IsAtMost}
-use Rattle.figure_laws.specs.Holding.{Hold, held_in, hold_next, holding, held_ticks, tick_of, IsLonger, IsHold, HoldsAreKnown, HoldsAreLabels, HoldingKeepsOrder}
+use Rattle.figure_laws.specs.Holding.{Hold, held_in, hold_next, holding, held_ticks, tick_of, IsLonger, HoldsAreLabels, HoldingKeepsOrder}
 use Rattle.figure_laws.proofs.Greatest.{is_greatest, worst_put}
 
 holder_is : (seen : List HolderTick) → last_holder seen ≡ (label_after holding seen).holder
@@ -26,15 +26,6 @@ held_is [] = omega arith
 held_is (h ∷ before) =
     let old = label_after holding before in
     (λ i. hold_on h.holder (holder_is before i) (held_is before i)) ∙ held_on h.holder old
-
-known : (seen : List HolderTick) → last_holder seen ≡ (label_after holding seen).holder
-    → hold seen ≡ capped (label_after holding seen).held
-    → IsHold seen
-unfolding resource_figures
-known seen e k = record { holder = e; held = k }
-
-pub holds_are_known : HoldsAreKnown
-holds_are_known seen = known seen (holder_is seen) (held_is seen)
 
 held_at : (tick : ℕ) (h : Option ℕ) (n : ℕ)
     → cond (is_some h) (Some (record { ticks = capped n; at = tick })) None

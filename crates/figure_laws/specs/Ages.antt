@@ -1,6 +1,6 @@
 -- OSEK/VDX OS: task management. Ages of a task's jobs: for how many ticks each stands ready, the
 -- present one counted.
-use Rattle.std.specs.Prelude.{ℕ, suc, ◌≡◌, ◌≤◌, ◌+◌, ◌-◌, List, [], ◌∷◌, ◌++◌, map, replicate, length, min, cond, Option, Some, None}
+use Rattle.std.specs.Prelude.{ℕ, suc, ◌≡◌, ◌≤◌, ◌-◌, List, [], ◌∷◌, ◌++◌, map, replicate, length, min, cond, Option, Some, None}
 use Rattle.figures.specs.declared.task_tick.TaskTick.{TaskTick}
 use Rattle.figures.specs.declared.response_figures.TheConstants.{MAX_UNFINISHED}
 use Rattle.figures.specs.ResponseSums.{standing, later, ready_since, oldest_response, response_figures}
@@ -43,12 +43,6 @@ AreOlder [] (n ∷ others) = ⊥
 AreOlder (n ∷ old) (k ∷ others) = (k ≤ n) × AreOlder old others
 
 -- ---- laws
-
--- ages are since when the figures know jobs to be ready, counted from the last tick
-abbrev pub AgesAreReadiness : Type 0
-AgesAreReadiness =
-    (t : TaskTick) (before : List TaskTick) → AreNumbered tick_of (t ∷ before)
-    → label_after ages (t ∷ before) ≡ map (λ s. t.tick - s + 1) (ready_since (t ∷ before))
 
 -- the longest response is the greatest age with which a job ends or begins to wait
 abbrev pub ResponsesAreAges : Type 0

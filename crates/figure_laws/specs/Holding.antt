@@ -1,10 +1,9 @@
 -- OSEK/VDX OS: resource management. By whom a resource is held, and for how many ticks in a row,
 -- the present one counted.
-use Rattle.std.specs.Prelude.{ℕ, suc, ◌≡◌, ◌≤◌, List, cond, is_some, Option, Some, None}
+use Rattle.std.specs.Prelude.{ℕ, suc, ◌≤◌, List, cond, is_some, Option, Some, None}
 use Rattle.figures.specs.declared.resource_figures.HolderTick.{HolderTick}
-use Rattle.figures.specs.Counts.{capped}
 use Rattle.figures.specs.ResourceSums.{is_same, resource_figures}
-use Rattle.figure_laws.specs.Labels.{Label, label_after, IsGreatest, IsOrder, ShowsNoLess}
+use Rattle.figure_laws.specs.Labels.{Label, IsGreatest, IsOrder, ShowsNoLess}
 
 pub record Hold : Type 0 where
   pub holder : Option ℕ
@@ -36,14 +35,6 @@ abbrev pub IsLonger : Hold → Hold → Type 0
 IsLonger hold other = (t : ℕ) → held_by t other ≤ held_by t hold
 
 -- ---- laws
-
--- who holds it, and for how long
-pub record IsHold (seen : List HolderTick) : Type 0 where
-  pub holder : (resource_figures seen).holder ≡ (label_after holding seen).holder
-  pub held : (resource_figures seen).held ≡ capped (label_after holding seen).held
-
-abbrev pub HoldsAreKnown : Type 0
-HoldsAreKnown = (seen : List HolderTick) → IsHold seen
 
 -- the longest hold is the greatest that labels show
 abbrev pub HoldsAreLabels : Type 0

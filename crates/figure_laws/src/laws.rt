@@ -1,24 +1,13 @@
 //! The laws, one function each. The functions are empty: the clause is the law.
 
-ghost use Rattle.figure_laws.specs.Ages.{
-  AgesAreReadiness,
-  AgesKeepOrder,
-  OldestIsAge,
-  ResponsesAreAges,
-};
+ghost use Rattle.figure_laws.specs.Ages.{AgesKeepOrder, OldestIsAge, ResponsesAreAges};
 ghost use Rattle.figure_laws.specs.Blocking.{BlockedIsCounted, BlockingKeepsOrder};
 ghost use Rattle.figure_laws.specs.Counts.{CountsTell};
-ghost use Rattle.figure_laws.specs.Holding.{HoldingKeepsOrder, HoldsAreKnown, HoldsAreLabels};
+ghost use Rattle.figure_laws.specs.Holding.{HoldingKeepsOrder, HoldsAreLabels};
 ghost use Rattle.figure_laws.specs.Merging.{LabelsMerge};
 ghost use Rattle.figure_laws.specs.Pending.{LatenciesAreAges, PendingIsAge, PendingKeepsOrder};
 ghost use Rattle.figure_laws.specs.Seen.{LabelsGoBySeen};
 ghost use Rattle.figure_laws.specs.Times.{RoutineTimesAreAges, TaskTimesAreAges};
-
-/// The age of each job that is followed is counted from the tick since which the figures know it
-/// to be ready.
-pub fn ages_are_readiness()
-    ensures { AgesAreReadiness }
-{}
 
 /// The longest response is the greatest age with which a job ends or begins to wait.
 pub fn responses_are_ages()
@@ -48,11 +37,6 @@ pub fn pending_is_age()
 /// An older age of a pending interrupt stays older, and shows no less.
 pub fn pending_keeps_order()
     ensures { PendingKeepsOrder }
-{}
-
-/// A resource is held by whom its label says, for so many ticks.
-pub fn holds_are_known()
-    ensures { HoldsAreKnown }
 {}
 
 /// The longest hold is the longest that labels show.

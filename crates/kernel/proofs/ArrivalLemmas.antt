@@ -198,9 +198,6 @@ module _ (list : List Arrival) (cursor tick : ℕ) (left : AreLeft list cursor t
         ∙ order_later tick (tick + n) a later_ones (sym (ap (are_in_order tick) here) ∙ left.ordered)
         (omega (arith, until, first)))
 
-  pub free_at_end : (n : ℕ) → length list ≤ cursor → AreFree list cursor tick n n
-  free_at_end n end = free_from n n (omega arith) (ap (are_in_order (tick + n)) (drop_of_length-le list end))
-
 -- from an earlier tick on, the same stand in order
 order_earlier : (least earlier : ℕ) (xs : List Arrival) → are_in_order least xs ≡ true → earlier ≤ least → are_in_order earlier xs ≡ true
 order_earlier least earlier [] h low = refl

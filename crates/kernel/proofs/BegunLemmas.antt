@@ -1,6 +1,6 @@
 -- The task on which an instruction acts exists; the stamps with which a run begins.
-use Rattle.std.proofs.Common.{◌≡◌, ℕ, zero, suc, ◌+◌, ◌<◌, ◌≤◌, Bool, true, false, List, [], length, replicate, refl, sym, ◌∙◌, ap, subst, arith}
-use Rattle.std.specs.Prelude.{Option, Some, None, IfSome, ◌==◌}
+use Rattle.std.proofs.Common.{◌≡◌, ℕ, ◌<◌, ◌≤◌, length, replicate, sym, ap, subst}
+use Rattle.std.specs.Prelude.{Option, Some, None, IfSome}
 use Rattle.osek_base.specs.declared.ids.Owner.{Owner}
 use Rattle.osek_base.specs.declared.instr.Instr.{Instr}
 use Rattle.osek_base.specs.declared.instr.Service.{Service}
@@ -11,7 +11,6 @@ use Rattle.osek_base.specs.System.{System, alarm, instruction_at}
 use Rattle.osek_base.specs.Instruction.{Context}
 use Rattle.osek_base.specs.Tick.{at_values}
 use Rattle.osek_base.proofs.PlaceLemmas.{KnownPlace}
-use Rattle.run_laws.proofs.Foremost.{equal}
 use Rattle.kept_state.specs.Kept.{Kept}
 use Rattle.services.proofs.BoundLemmas.{activation_few}
 use Rattle.services.specs.Calls.{IsKnown, IsTaskOperand}
@@ -62,32 +61,3 @@ activates_is S T a t proper here inside is =
 pub record AreBegunTo (i : ℕ) (o : Kept) (xs : StampLists) : Type 0 where
   pub each : (t : ℕ) → t < i → stamps_at xs t ≡ replicate (o.slots t).count (Some 0)
   pub none : (t : ℕ) → i ≤ t → length (stamps_at xs t) ≡ 0
-
-none_there : (n t : ℕ) → length (stamps_at (replicate n []) t) ≡ 0
-none_there zero t = refl
-none_there (suc n) zero = refl
-none_there (suc n) (suc t) = none_there n t
-
-pub begun_none : (n : ℕ) (o : Kept) (xs : StampLists) → xs ≡ replicate n [] → AreBegunTo 0 o xs
-begun_none n o xs is = record {
-  each = λ t low. absurd (omega (arith, low));
-  none = λ t low. ap (λ (ys : StampLists). length (stamps_at ys t)) is ∙ none_there n t;
-}
-
-pub begun_more : (i t count : ℕ) (o : Kept) (xs ys : StampLists) → AreBegunTo i o xs → t ≡ i → count ≡ (o.slots t).count
-    → ((v : ℕ) → (t == v) ≡ false → stamps_at ys v ≡ stamps_at xs v) → stamps_at ys t ≡ replicate count (Some 0)
-    → AreBegunTo (i + 1) o ys
-begun_more i t count o xs ys begun same is others own = record {
-  each = λ v low. go v low (t == v) refl;
-  none = λ v high.
-      let other : (t == v) ≡ false = grind (arith, high, same) in
-      ap (λ (zs : List (Option ℕ)). length zs) (others v other) ∙ begun.none v (omega (arith, high));
-}
-  where
-    go : (v : ℕ) → v < i + 1 → (b : Bool) → (t == v) ≡ b → stamps_at ys v ≡ replicate (o.slots v).count (Some 0)
-    go v low true e =
-        subst (λ u. stamps_at ys u ≡ replicate (o.slots u).count (Some 0)) (equal t v e)
-        (own ∙ ap (λ k. replicate k (Some 0)) is)
-    go v low false e =
-        let lower : v < i = grind (arith, low, same, e) in
-        others v e ∙ begun.each v lower

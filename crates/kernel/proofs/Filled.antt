@@ -1,7 +1,7 @@
 -- A list whose places are filled by number, from the first on.
-use Rattle.std.proofs.Common.{◌≡◌, ℕ, ◌+◌, ◌<◌, List, [], ◌∷◌, ◌++◌, get_or, map, take, set, length, sym, ◌∙◌, ap, ap₂, arith}
+use Rattle.std.proofs.Common.{◌≡◌, ℕ, ◌+◌, ◌<◌, List, [], ◌∷◌, ◌++◌, map, take, set, length, sym, ◌∙◌, ap, arith}
 use Rattle.std.proofs.Math.Numerals.{add-one}
-use Rattle.std.proofs.lemmas.List.{append-nil, length-set, map-append, take_all, take_more, take_more_set}
+use Rattle.std.proofs.lemmas.List.{append-nil, length-set, map-append, take_all, take_more_set}
 use Rattle.std.proofs.Math.ListN.{drop_of_length-le}
 use Rattle.std.specs.List.{refill}
 use Rattle.osek_base.specs.Lists.{below}
@@ -12,13 +12,6 @@ module _ {X : Type 0} (f : ℕ → X) (n : ℕ) (xs : List X) where
       → take (n + 1) (set xs n x) ≡ map f (below (n + 1))
   one_more h low x e =
       take_more_set xs n x low ∙ ap (λ v. v ++ x ∷ []) h ∙ ap (λ y. map f (below n) ++ y ∷ []) e
-      ∙ sym (map-append f (below n) (n ∷ [])) ∙ ap (λ m. map f (below m)) (sym (add-one n))
-
-  -- one that is what fills its place counts, too
-  pub one_stands : take n xs ≡ map f (below n) → n < length xs → (d : X) → get_or xs n d ≡ f n
-      → take (n + 1) xs ≡ map f (below (n + 1))
-  one_stands h low d e =
-      take_more xs n d low ∙ ap₂ (λ v y. v ++ y ∷ []) h e
       ∙ sym (map-append f (below n) (n ∷ [])) ∙ ap (λ m. map f (below m)) (sym (add-one n))
 
   -- so it goes on in a list of some length, by the element of a number that is the next one

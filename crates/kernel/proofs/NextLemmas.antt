@@ -1,24 +1,21 @@
 -- What comes next, as the objects alone have it, and what it does to the machine.
-use Rattle.std.proofs.Common.{◌≡◌, ℕ, List, [], ◌∷◌, refl, sym, ◌∙◌, ap, ap₂, subst}
-use Rattle.std.specs.Prelude.{Option, Some, None}
+use Rattle.std.proofs.Common.{◌≡◌, ℕ, List, [], ◌∷◌, sym, ◌∙◌, ap, ap₂, subst}
 use Rattle.osek_base.specs.declared.instr.Instr.{Instr}
 use Rattle.osek_base.specs.declared.trace_event.Outcome.{Outcome}
 use Rattle.osek_base.specs.declared.trace_event.TraceEvent.{TraceEvent}
 use Rattle.osek_base.specs.System.{System, instruction_at}
 use Rattle.osek_base.specs.Proper.{IsProper}
 use Rattle.osek_base.specs.Instruction.{Context}
-use Rattle.osek_base.specs.State.{Words}
 use Rattle.osek_base.proofs.PlaceLemmas.{KnownPlace}
 use Rattle.run_laws.proofs.Formed.{IsPlaced}
 use Rattle.machine.specs.Windows.{word}
 use Rattle.machine.specs.Code.{Programs}
 use Rattle.machine.specs.Packed.{instr_of}
-use Rattle.kept_state.specs.Moves.{KeptRecorded, contender}
+use Rattle.kept_state.specs.Moves.{KeptRecorded}
 use Rattle.kept_state.specs.KeptTick.{execute_phase_in}
-use Rattle.kept_state.specs.Standing.{MayServe, is_overtaken, is_overtaken_by}
 use Rattle.services.specs.Objects.{Objects, kept_in, kept_of}
 use Rattle.services.specs.Calls.{IsExecuting, MayGoOn, context_in}
-use Rattle.kernel.specs.Processor.{Processor, IsNext, IsProcessor, MayExecute}
+use Rattle.kernel.specs.Processor.{Processor, IsNext, IsProcessor}
 use Rattle.kernel.specs.Does.{Does}
 use Rattle.kernel.specs.declared.next.Next.{Next}
 use Rattle.kernel.proofs.DoesLemmas.{processor_of}
@@ -54,19 +51,6 @@ fetched m S o words code next is h there =
 
 pub goes_on_there : (o : Objects) (next : Next) → IsFetched o next → MayGoOn o next.owner
 goes_on_there o next f = may_go_on o next.owner (executing o next.owner).cpu f.who
-
--- a service may be called, the words of windows aside
-overtaken_alone : (S : System) (w : Words) (o : Objects) → is_overtaken S (kept_of w o) ≡ is_overtaken S (kept_in o)
-overtaken_alone S w o = go (contender (kept_in o))
-  where
-    go : (c : Option ℕ) → is_overtaken_by S c (kept_of w o) ≡ is_overtaken_by S c (kept_in o)
-    go None = refl
-    go (Some t) = refl
-
-pub serves_alone : (m : Processor) (o : Objects) (words : List ℕ) → processor_of o words ≡ m → MayExecute m → MayServe o.system (kept_in o)
-serves_alone m o words is may =
-    let h : MayServe o.system (kept_of (word words) o) = (subst MayExecute (sym is) may).serves in
-    record { ready = h.ready; chosen = λ on. sym (overtaken_alone o.system (word words) o) ∙ h.chosen on }
 
 -- what it does, and what is told of it
 pub executed_does : (m : Processor) (o n : Objects) (words after : List ℕ) (next : Next) → processor_of o words ≡ m → IsFetched o next

@@ -2,7 +2,7 @@
 use Rattle.std.proofs.Common.{◌≡◌, ℕ, ◌+◌, ◌<◌, List, [], ◌∷◌, get_or, map, take, drop, set, length, refl, sym, ◌∙◌, ap, arith}
 use Rattle.std.proofs.lemmas.List.{drop-set-lt, drop_more, get_or-drop, length-set}
 use Rattle.osek_base.specs.Lists.{below}
-use Rattle.kernel.proofs.Filled.{all_of, one_more, one_stands}
+use Rattle.kernel.proofs.Filled.{one_more}
 
 -- of so many the first n are, and those left are as they were
 pub record IsReplaced {X : Type 0} (f : ℕ → X) (old : List X) (count n : ℕ) (xs : List X) : Type 0 where
@@ -37,18 +37,3 @@ module _ {X : Type 0} (f : ℕ → X) (old : List X) (count : ℕ) where
               ∙ sym (ap rest (drop_more xs n x (omega (arith, low, long)))) ∙ ap rest is.left
               ∙ ap rest (drop_more old n x (omega (arith, low, all)));
         }
-
-    -- an element that is what replaces it stays
-    pub one_stays : n < count → length old ≡ count → (d : X) → get_or old n d ≡ f n → IsReplaced f old count (n + 1) xs
-    one_stays low all d e =
-        let long = is.long in
-        record {
-          long = is.long;
-          done = one_stands f n xs is.done (omega (arith, low, long)) d (next_is d ∙ e);
-          left =
-              sym (ap rest (drop_more xs n d (omega (arith, low, long)))) ∙ ap rest is.left
-              ∙ ap rest (drop_more old n d (omega (arith, low, all)));
-        }
-
-  pub all_replaced : (n : ℕ) (xs : List X) → IsReplaced f old count n xs → n ≡ count → xs ≡ map f (below n)
-  all_replaced n xs is all = all_of f n xs is.done (is.long ∙ sym all)

@@ -7,19 +7,17 @@ use Rattle.osek_base.specs.declared.ids.ResId.{ResId}
 use Rattle.osek_base.specs.Lists.{below}
 use Rattle.osek_base.specs.System.{System}
 use Rattle.osek_base.specs.State.{State, jobs_of}
-use Rattle.osek_base.specs.Service.{task_state}
 use Rattle.osek_base.specs.Proper.{IsProper}
 use Rattle.osek_base.specs.Trace.{run}
 use Rattle.run_laws.proofs.RankedTick.{IsRunState, run_ordered}
 use Rattle.run_laws.proofs.FormedTick.{run_form}
 use Rattle.kept_state.specs.Kept.{Kept, kept}
-use Rattle.kept_state.specs.KeptService.{task_state_in}
 use Rattle.kept_state.specs.Seen.{holder_in}
 use Rattle.kept_state.proofs.Ticked.{settled_of, known_of}
 use Rattle.seen_ticks.specs.Observed.{holders_seen}
 use Rattle.seen_ticks.specs.Shown.{holder}
 use Rattle.seen_ticks.specs.Told.{task_at, task_at_in}
-use Rattle.seen_ticks.proofs.SeenLemmas.{counted, holder_is, state_is, task_is}
+use Rattle.seen_ticks.proofs.SeenLemmas.{counted, holder_is, task_is}
 use Rattle.services.specs.Objects.{Objects, kept_in, kept_of}
 use Rattle.machine.specs.Windows.{word}
 use Rattle.kernel.specs.Holders.{holders_in}
@@ -35,13 +33,6 @@ module _ (counting : Bool) (S : System) (proper : IsProper S) (mode : ℕ) (arri
 
   same : kept_of (word m.processor.words) (record o { tick = next_tick m }) ≡ kept S (run S mode arrivals (next_tick m)).state
   same = ap (kept_of (word m.processor.words)) objects ∙ come.at.same
-
-  pub state_seen : (t : ℕ) → task_state_in (kept_in o) t ≡ task_state (run S mode arrivals (next_tick m)).state t
-  state_seen t =
-      let s : State = (run S mode arrivals (next_tick m)).state in
-      let good : IsRunState S s = run_ordered S proper mode arrivals (next_tick m) in
-      ap (λ k. task_state_in k t) same
-      ∙ state_is S s (settled_of S s good.single good.ordered.ranked) (known_of S s (run_form S proper mode arrivals (next_tick m))) t
 
   pub count_seen : (t : ℕ) → ((kept_in o).slots t).count ≡ length (jobs_of t (run S mode arrivals (next_tick m)).state.jobs)
   count_seen t = ap (λ (k : Kept). (k.slots t).count) same ∙ counted (jobs_of t (run S mode arrivals (next_tick m)).state.jobs)

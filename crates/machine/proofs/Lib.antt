@@ -1,3 +1,2 @@
 mod WindowLemmas
-pub mod ExecutionLemmas
 pub mod CodeLemmas

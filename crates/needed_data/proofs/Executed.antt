@@ -1,5 +1,5 @@
 -- The instruction of a tick: of a cleaned state it records the same but for values, and leaves a state with the same needed data.
-use Rattle.std.proofs.Common.{◌≡◌, ℕ, ◌%◌, ◌+◌, Bool, true, cond, ◌&&◌, IsTrue, List, [], ◌∷◌, map, refl, sym, ◌∙◌, ap, ap₂, subst}
+use Rattle.std.proofs.Common.{◌≡◌, ℕ, ◌%◌, ◌+◌, Bool, true, cond, ◌&&◌, IsTrue, [], ◌∷◌, map, refl, sym, ◌∙◌, ap, ap₂, subst}
 use Rattle.std.specs.Prelude.{Option, Some, None}
 use Rattle.std.specs.Option.{option_map}
 use Rattle.std.proofs.lemmas.Bool.{and_parts}
@@ -243,9 +243,6 @@ module _ (S : System) (need : Need) (who : Owner) (d : KeptCaller) (o : Kept) wh
       go (ByTask t) = refl
       go ByRoutine = refl
       go ByNobody = refl
-
-  refusal_of : List (Bool × Status) → Option Status
-  refusal_of rs = first_refusal ((interrupts_off (bare o), Status.SysDisabled) ∷ rs)
 
   load_alike : (r : Option ResId) (i k : ℕ)
       → ((n : ℕ) → r ≡ Some (ResId.Declared n) → need.registers who 1 ≡ true → (need.shared n ≡ true) × (i ≡ k))

@@ -7,4 +7,3 @@ pub mod Executed
 pub mod Ticks
 pub mod Runs
 pub mod Meanings
-pub mod Sufficient

@@ -1,19 +1,15 @@
 -- What it means that two states have the same needed data.
 use Rattle.std.proofs.Math.Path.{fun_ext}
-use Rattle.std.proofs.Common.{◌≡◌, ◌%◌, ℕ, suc, Bool, true, false, cond, List, [], ◌∷◌, length, refl, sym, ◌∙◌, ap, ap₂, arith, true≢false}
-use Rattle.std.specs.Prelude.{Option, Some, None, IfSome, is_some, slice_index}
+use Rattle.std.proofs.Common.{◌≡◌, ℕ, suc, Bool, true, false, cond, List, [], ◌∷◌, length, refl, sym, ◌∙◌, ap, ap₂, arith, true≢false}
+use Rattle.std.specs.Prelude.{Option, Some, None, is_some, slice_index}
 use Rattle.std.specs.Option.{option_map}
 use Rattle.osek_base.specs.declared.ids.Owner.{Owner}
 use Rattle.osek_base.specs.Instruction.{Context}
 use Rattle.osek_base.specs.State.{Active, Words, shared_window}
 use Rattle.kept_state.specs.Kept.{Kept, Slot}
-use Rattle.std.proofs.lemmas.Bool.{and_from}
-use Rattle.osek_base.specs.declared.limits.TheConstants.{WINDOW_WORDS}
-use Rattle.needed_data.specs.Need.{Need, are_allowed}
-use Rattle.needed_data.proofs.Indices.{HoldsThere, value_holds, kept_where_held}
-use Rattle.needed_data.proofs.AllowedSteps.{task_holds, routine_holds}
-use Rattle.needed_data.specs.Same.{allowed_routine, HasAllowedIndices, cleaned_registers, cleaned_context, cleaned_slot, cleaned_slots, cleaned_routine, cleaned_words, cleaned_shared, zeros, HaveSameNeeded}
-use Rattle.needed_data.specs.Meaning.{AreSameContexts, AreSameSlots, AreSameActive, AreSameShared, HaveSameData, SameMeans, HasAllowed, IndicesMean}
+use Rattle.needed_data.specs.Need.{Need}
+use Rattle.needed_data.specs.Same.{cleaned_registers, cleaned_context, cleaned_slot, cleaned_slots, cleaned_routine, cleaned_words, cleaned_shared, zeros, HaveSameNeeded}
+use Rattle.needed_data.specs.Meaning.{AreSameContexts, AreSameSlots, AreSameActive, AreSameShared, HaveSameData, SameMeans}
 use Rattle.needed_data.proofs.Cleaning.{value_alike, word_alike, shared_at}
 
 -- ---- lists
@@ -187,52 +183,3 @@ module _ (need : Need) where
 
 pub same_means : SameMeans
 same_means need o p = (same_where_alike need o p, alike_where_same need o p)
-
--- ---- registers that hold what they may have
-
-holds_each : (index : ℕ → ℕ → Bool) (vs : List ℕ) → ((r : ℕ) → index r (slice_index vs r % WINDOW_WORDS) ≡ true)
-    → are_allowed index vs ≡ true
-holds_each index [] each = refl
-holds_each index (w ∷ vs) each =
-    and_from (index 0 (w % WINDOW_WORDS)) (are_allowed (λ r. index (suc r)) vs) (each 0)
-    (holds_each (λ r. index (suc r)) vs (λ r. each (suc r)))
-
-holds_there : (index : ℕ → ℕ → ℕ → Bool) (x : Context) → HasAllowed index x → HoldsThere index x
-holds_there index x h = record { size = h.size; holds = holds_each (index x.place) x.registers h.values }
-
-active_each : (need : Need) (active : Option Active)
-    → IfSome active (λ a. HasAllowed (need.indices (Owner.Routine a.routine)) a.context)
-    → option_map (allowed_routine need) active ≡ active
-active_each need None each = refl
-active_each need (Some a) each =
-    ap (λ x. Some (record { routine = a.routine; context = x }))
-    (kept_where_held (need.indices (Owner.Routine a.routine)) a.context
-    (holds_there (need.indices (Owner.Routine a.routine)) a.context each))
-
-pub indices_mean : IndicesMean
-indices_mean S need o enough = (
-  λ h. record {
-    slots = λ t. indices_of (Owner.Task t) (o.slots t).context (task_holds S need enough o h t);
-    active = go h o.active refl;
-  },
-  λ each. λ i. record o {
-    slots =
-        λ t. record (o.slots t) {
-          context =
-              kept_where_held (need.indices (Owner.Task t)) (o.slots t).context
-              (holds_there (need.indices (Owner.Task t)) (o.slots t).context (each.slots t)) i;
-        };
-    active = active_each need o.active each.active i;
-  },
-)
-  where
-    indices_of : (who : Owner) (x : Context) → HoldsThere (need.indices who) x → HasAllowed (need.indices who) x
-    indices_of who x h = record {
-      size = h.size;
-      values = value_holds (need.indices who) (enough.zero who) (enough.beyond who) x h;
-    }
-
-    go : HasAllowedIndices need o → (active : Option Active) → o.active ≡ active
-        → IfSome active (λ a. HasAllowed (need.indices (Owner.Routine a.routine)) a.context)
-    go h None e = tt
-    go h (Some a) e = indices_of (Owner.Routine a.routine) a.context (routine_holds S need enough o h a e)

@@ -8,9 +8,9 @@ use Rattle.kept_state.specs.Moves.{KeptRecorded}
 use Rattle.kept_state.specs.KeptTick.{KeptStep, and_then_in, execute_phase_in, last_phase_in, before_execution_in, tick_in}
 use Rattle.needed_data.specs.Need.{Need, Suffices}
 use Rattle.needed_data.specs.Same.{cleaned, cleaned_words, cleaned_shared, HaveSameNeeded, AreStepsOfSame, HasAllowedIndices, blanked}
-use Rattle.needed_data.specs.Laws.{TicksKeepSame, TicksKeepIndices}
+use Rattle.needed_data.specs.Laws.{TicksKeepSame}
 use Rattle.needed_data.proofs.Steps.{mapped_recorded, before_clean, last_clean}
-use Rattle.needed_data.proofs.AllowedSteps.{before_held, tick_held}
+use Rattle.needed_data.proofs.AllowedSteps.{before_held}
 use Rattle.needed_data.proofs.Executed.{cleaning, fresh_clean, AreAlikeRecorded, execute_alike}
 
 abbrev cleaned_recorded : Need → KeptRecorded → KeptRecorded
@@ -70,6 +70,3 @@ module _ (S : System) (need : Need) (enough : Suffices S need) where
 
 pub ticks_keep_same : TicksKeepSame
 ticks_keep_same S need arrived o p enough h k alike = tick_alike S need enough arrived o p h k alike
-
-pub ticks_keep_indices : TicksKeepIndices
-ticks_keep_indices S need arrived o enough h = tick_held S need enough arrived o h

@@ -1,13 +1,11 @@
 -- What it means that two states have the same needed data, fact by fact.
-use Rattle.std.specs.Prelude.{◌≡◌, ◌↔◌, ◌%◌, ℕ, Bool, true, List, Option, Some, None, IfSome, length}
-use Rattle.osek_base.specs.declared.limits.TheConstants.{WINDOW_WORDS, REGISTERS}
-use Rattle.osek_base.specs.System.{System}
+use Rattle.std.specs.Prelude.{◌≡◌, ◌↔◌, ℕ, Bool, true, List, Option, Some, None, length}
 use Rattle.osek_base.specs.declared.ids.Owner.{Owner}
 use Rattle.osek_base.specs.Instruction.{Context, value}
 use Rattle.osek_base.specs.State.{Active, shared_window}
 use Rattle.kept_state.specs.Kept.{Kept, Slot}
-use Rattle.needed_data.specs.Need.{Need, Suffices}
-use Rattle.needed_data.specs.Same.{HaveSameNeeded, HasAllowedIndices}
+use Rattle.needed_data.specs.Need.{Need}
+use Rattle.needed_data.specs.Same.{HaveSameNeeded}
 
 -- at one place, with as many registers, and the same value in each that is needed
 pub record AreSameContexts (need : ℕ → Bool) (x y : Context) : Type 0 where
@@ -50,15 +48,3 @@ pub record HaveSameData (need : Need) (o p : Kept) : Type 0 where
 
 abbrev pub SameMeans : Type 0
 SameMeans = (need : Need) (o p : Kept) → HaveSameNeeded need o p ↔ HaveSameData need o p
-
--- eight registers have indices that they may have at their place
-pub record HasAllowed (index : ℕ → ℕ → ℕ → Bool) (x : Context) : Type 0 where
-  pub size : length x.registers ≡ REGISTERS
-  pub values : (r : ℕ) → index x.place r (value x r % WINDOW_WORDS) ≡ true
-
-pub record HaveAllowed (need : Need) (o : Kept) : Type 0 where
-  pub slots : (t : ℕ) → HasAllowed (need.indices (Owner.Task t)) (o.slots t).context
-  pub active : IfSome o.active (λ a. HasAllowed (need.indices (Owner.Routine a.routine)) a.context)
-
-abbrev pub IndicesMean : Type 0
-IndicesMean = (S : System) (need : Need) (o : Kept) → Suffices S need → HasAllowedIndices need o ↔ HaveAllowed need o

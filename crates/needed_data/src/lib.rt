@@ -13,7 +13,4 @@
 
 mod laws;
 
-pub use laws::{
-    all_suffices, indices_mean, runs_keep_indices, runs_keep_same, same_means, ticks_keep_indices,
-    ticks_keep_same,
-};
+pub use laws::{runs_keep_indices, same_means, ticks_keep_same};

@@ -1,8 +1,7 @@
 -- Where all is needed, each instruction of a proper system is respected.
-use Rattle.std.proofs.Common.{ℕ, zero, suc, ◌≡◌, ◌<◌, ◌≤◌, ◌+◌, ◌&&◌, nat_lt, true, false, Bool, IsTrue, List, [], ◌∷◌, ◌++◌, length, refl, sym, ◌∙◌, ap, subst, inl, inr, ◌⊎◌}
+use Rattle.std.proofs.Common.{ℕ, zero, ◌≡◌, ◌<◌, ◌≤◌, ◌+◌, ◌&&◌, nat_lt, true, false, Bool, IsTrue, length, refl, sym, ◌∙◌, ap, subst, inl, inr, ◌⊎◌}
 use Rattle.std.specs.Prelude.{Some}
 use Rattle.std.proofs.lemmas.Bool.{cases_lt, and_parts, and_from, ltb-true, lt-ltb}
-use Rattle.std.proofs.lemmas.Option.{none-some, same_Some}
 use Rattle.osek_base.specs.declared.limits.TheConstants.{REGISTERS, WINDOW_WORDS}
 use Rattle.osek_base.specs.declared.ids.ResId.{ResId}
 use Rattle.osek_base.specs.declared.ids.Owner.{Owner}
@@ -128,10 +127,3 @@ tasks_all S needs proper all declared t low own is = entry_all S own needs.share
 pub routines_all : (S : System) (needs : Needs) → IsProper S → AreAll needs.routines.items
     → ((r : ℕ) → has needs.shared r ≡ nat_lt r (length S.resources)) → RoutinesRespect S needs (length S.routines)
 routines_all S needs proper all declared i low own is = entry_all S own needs.shared (all i own is) declared (Owner.Routine i) proper low
-
--- one more at the end
-pub all_more : (owners : List OwnerNeeds) (one : OwnerNeeds) → AreAll owners → IsAll one → AreAll (owners ++ one ∷ [])
-all_more [] one all last zero own is = subst IsAll (same_Some one own is) last
-all_more [] one all last (suc k) own is = absurd (none-some own is)
-all_more (x ∷ xs) one all last zero own is = all zero own is
-all_more (x ∷ xs) one all last (suc k) own is = all_more xs one (λ j. all (suc j)) last k own is

@@ -580,9 +580,3 @@ steady_jobs k new gone =
     (λ t.
     ap (λ b. jobs_before b s t) later ∙ sym (counted_jobs (jobs_of t s.jobs))
     ∙ sym (ap (λ (x : Kept). (x.slots t).count) gone.at) ∙ counted_jobs (jobs_of t e.jobs))
-
--- and so are the pending routines
-pub steady_pending : (k new : Progress) → HasGoneSteadily k new → (run_of k).state.pending ≡ (last_tick new).at.pending
-steady_pending k new gone =
-    one_on k new (λ S mode arrivals n. (run_of k).state.pending ≡ (tick_at S mode arrivals n).at.pending) gone.next
-    (sym (ap (λ (x : Kept). x.pending) gone.at))

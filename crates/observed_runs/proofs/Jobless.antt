@@ -1,6 +1,6 @@
 -- What is seen of a task that has no job, and to which nothing comes.
 use Rattle.std.proofs.Common.{◌≡◌, ◌≢◌, ℕ, ◌+◌, ◌-◌, Bool, true, false, cond, List, [], ◌∷◌, length, refl, sym, ◌∙◌, ap, ap₂, arith}
-use Rattle.std.specs.Prelude.{Option, Some, None, is_some, ◌&&◌, ◌==◌}
+use Rattle.std.specs.Prelude.{Option, Some, None, ◌&&◌, ◌==◌}
 use Rattle.std.specs.Option.{option_map}
 use Rattle.std.specs.List.{list_any}
 use Rattle.observations.specs.Seen.{unseen_task}
@@ -19,7 +19,7 @@ use Rattle.seen_ticks.specs.Told.{task_at}
 use Rattle.observed_runs.proofs.Refusals.{none_refused, same_number}
 use Rattle.observed_runs.specs.Passing.{LeavesAll, task_left}
 use Rattle.observed_runs.specs.Resting.{IsRest}
-use Rattle.observed_runs.specs.Tasks.{LeavesTasks, MakesNone, other_seen, own_seen, standing_seen}
+use Rattle.observed_runs.specs.Tasks.{LeavesTasks, MakesNone, standing_seen}
 
 abbrev without_job : TaskAt
 without_job = record { state = TaskState.Suspended; priority = None; jobs = 0 }
@@ -52,50 +52,6 @@ not_ended S (Some e) t h = by (is_accepted e.outcome && is_end (instruction S e)
     by true (Owner.Task u) k = sym (same_number u t ∙ k)
     by true (Owner.Routine i) k = refl
     by false owner k = refl
-
--- where it is, one of it ends if any does
-own_ended : (S : System) (e : Option Executed) (t : ℕ) → is_by (Owner.Task t) e ≡ true → is_some (ending S e) ≡ is_number t (ending S e)
-own_ended S None t h = refl
-own_ended S (Some e) t h = by (is_accepted e.outcome && is_end (instruction S e)) e.owner h
-  where
-    by : (b : Bool) (owner : Owner) → same_owner (Owner.Task t) owner ≡ true
-        → is_some (cond b (task_of owner) None) ≡ is_number t (cond b (task_of owner) None)
-    by true (Owner.Task u) k = sym (same_number u t ∙ k)
-    by true (Owner.Routine i) k = refl
-    by false owner k = refl
-
-module _ (S : System) (k : Ticked) (t : ℕ) (at behind : TaskAt) (before refused : ℕ) (at_is : at ≡ task_at S k.at t)
-    (behind_is : behind ≡ task_at S k.after t) (before_is : before ≡ jobs_before k.first k.before t)
-    (refused_is : refused ≡ one_if (is_number t (refusing S k.executed)) + activations_by S t k.refused) where
-  -- what is seen of the task that executes
-  pub own_is : is_by (Owner.Task t) k.executed ≡ true → (ended : Bool) → ended ≡ is_some (ending S k.executed)
-      → own_seen at behind before refused ended ≡ task_seen S k t
-  own_is own ended ended_is =
-      let ends : ended ≡ is_number t (ending S k.executed) = ended_is ∙ own_ended S k.executed t own in
-      λ i. record {
-        state = (sym (ap (λ b. state_seen b (task_at S k.at t).state) own)) i;
-        priority = (at_is i).priority;
-        jobs = (at_is i).jobs;
-        made = (behind_is i).jobs + one_if (ends i) - before_is i;
-        refused = refused_is i;
-        ended = ends i;
-        waits = (ap (λ (x : TaskAt). is_waiting x.state) behind_is ∙ sym (ap (λ b. b && is_waiting (task_state k.after t)) own)) i;
-      }
-
-  -- and of another
-  pub other_is : is_by (Owner.Task t) k.executed ≡ false → other_seen at behind.jobs before refused ≡ task_seen S k t
-  other_is other =
-      let ends : false ≡ is_number t (ending S k.executed) = not_ended S k.executed t other in
-      let plus : behind.jobs ≡ behind.jobs + 0 = omega arith in
-      λ i. record {
-        state = (ap (λ (x : TaskAt). state_seen false x.state) at_is ∙ sym (ap (λ b. state_seen b (task_at S k.at t).state) other)) i;
-        priority = (at_is i).priority;
-        jobs = (at_is i).jobs;
-        made = (ap (λ n. n - before) plus ∙ (λ j. (behind_is j).jobs + one_if (ends j) - before_is j)) i;
-        refused = refused_is i;
-        ended = ends i;
-        waits = (sym (ap (λ b. b && is_waiting (task_state k.after t)) other)) i;
-      }
 
 -- and of one that is behind the tick what it was at it
 pub standing_is : (S : System) (k : Ticked) (t : ℕ) (at : TaskAt) (before refused : ℕ) (executes : Bool) → at ≡ task_at S k.at t

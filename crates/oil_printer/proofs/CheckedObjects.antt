@@ -69,10 +69,6 @@ mask_right (mask.Bits n) h = (and_parts (leb 1 n) (is_number n) h).0
 
 -- ---- lists of names
 
-pub all_of : {X Y : Type 0} (f : X → Y) (test : Y → Bool) (one : X → Bool) → ((x : X) → test (f x) ≡ one x) → (xs : List X) → list_all test (map f xs) ≡ list_all one xs
-all_of f test one same [] = refl
-all_of f test one same (x ∷ xs) = ap (λ (b : Bool). b && list_all test (map f xs)) (same x) ∙ ap (λ (b : Bool). one x && b) (all_of f test one same xs)
-
 pub any_of : {X Y : Type 0} (f : X → Y) (test : Y → Bool) (one : X → Bool) → ((x : X) → test (f x) ≡ one x) → (xs : List X) → list_any test (map f xs) ≡ list_any one xs
 any_of f test one same [] = refl
 any_of f test one same (x ∷ xs) = ap (λ (b : Bool). b || list_any test (map f xs)) (same x) ∙ ap (λ (b : Bool). one x || b) (any_of f test one same xs)

@@ -1,6 +1,5 @@
 -- Going over settings that stand together.
-use Rattle.std.proofs.Common.{◌≡◌, ℕ, ◌+◌, ◌<◌, List, [], ◌∷◌, ◌++◌, length, take, drop, map, get_or, Option, Some, None, Bool, ◌||◌, refl, sym, ap, ◌∙◌}
-use Rattle.std.specs.List.{list_any}
+use Rattle.std.proofs.Common.{◌≡◌, ℕ, ◌+◌, ◌<◌, List, [], ◌∷◌, ◌++◌, length, take, drop, get_or, Option, Some, None, refl, sym, ap, ◌∙◌}
 use Rattle.std.proofs.lemmas.List.{drop_more, take_more, map_push}
 use Rattle.oil_reader.specs.declared.fault.OilFault.{OilFault}
 use Rattle.oil_reader.specs.declared.syntax.Setting as code_setting
@@ -9,10 +8,6 @@ use Rattle.oil_reader.specs.Grammar.{Setting}
 use Rattle.oil_reader.specs.Order.{first_of_all, earlier}
 use Rattle.oil_reader.specs.Checks.{setting_faults, settings_faults, lacking_faults, scope_faults}
 use Rattle.oil_reader.specs.Trees.{setting_of, settings_of}
-
-pub any_map : {X Y : Type 0} (f : X → Y) (test : Y → Bool) (xs : List X) → list_any (λ x. test (f x)) xs ≡ list_any test (map f xs)
-any_map f test [] = refl
-any_map f test (x ∷ xs) = ap (λ (b : Bool). test (f x) || b) (any_map f test xs)
 
 pub first_of_both : (e : Option OilFault) (a b : List OilFault) → first_of_all e (a ++ b) ≡ first_of_all (first_of_all e a) b
 first_of_both e [] b = refl

@@ -1,7 +1,7 @@
 -- What the parts of a tick leave alone.
 use Rattle.std.proofs.Common.{◌≡◌, ℕ, ◌+◌, List, [], ◌∷◌, refl, ◌∙◌, ap, cond}
 use Rattle.std.specs.Prelude.{Bool, true, false}
-use Rattle.osek_base.specs.Types.{ServiceCall, Control, Instr, Owner}
+use Rattle.osek_base.specs.Types.{Control, Instr, Owner}
 use Rattle.osek_base.specs.System.{System}
 use Rattle.osek_base.specs.Instruction.{Context}
 use Rattle.osek_base.specs.State.{State}
@@ -9,11 +9,6 @@ use Rattle.osek_base.specs.Reschedule.{reschedule}
 use Rattle.osek_base.specs.Service.{Caller, JobCalls, RoutineCalls, NobodyCalls, service, unasked_service, controlled}
 use Rattle.osek_base.specs.Alarm.{due_alarms, alarms_advanced}
 use Rattle.osek_base.specs.Tick.{alarms_act, alarm_acts, alarm_phase, start_phase, execute_phase, caller_executes, executor, executed, tick, before_execution, from_execution}
-
--- no service moves the tick, whoever calls which
-pub tick_service : (S : System) (c : Caller) (s : State) (call : ServiceCall) → (service S c s call).state.tick ≡ s.tick
-unfolding service
-tick_service S c s call = refl
 
 pub tick_reschedule : (S : System) (s : State) → (reschedule S s).state.tick ≡ s.tick
 unfolding reschedule

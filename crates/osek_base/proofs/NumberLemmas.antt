@@ -22,14 +22,6 @@ grows radix n (b ∷ bytes) h =
     let more : n ≤ n * radix + digit_of b = omega (arith, mul-le-mul_left n h) in
     omega (arith, grows radix (n * radix + digit_of b) bytes h)
 
--- one more digit
-pub goes_on : (radix : ℕ) (digits : List ℕ) (number b : ℕ) (rest : List ℕ) → digit_of b < radix → GoesOn radix digits number (b ∷ rest) → GoesOn radix digits (number * radix + digit_of b) rest
-goes_on radix digits number b rest small so_far = record {
-  value = so_far.value;
-  all = λ h. so_far.all (small, h);
-  each = λ h. (so_far.each h).1;
-}
-
 -- too large behind one more digit is too large
 pub too_large : (radix : ℕ) (digits : List ℕ) (number b : ℕ) (rest : List ℕ) → 0 < radix → 2 ^ 32 ≤ number * radix + digit_of b → GoesOn radix digits number (b ∷ rest) → 2 ^ 32 ≤ number_from radix 0 digits
 too_large radix digits number b rest positive large so_far =
@@ -41,9 +33,6 @@ too_large radix digits number b rest positive large so_far =
 
 one_more : (radix : ℕ) (digits : List ℕ) (number i : ℕ) → i < length digits → GoesOn radix digits number (drop i digits) → GoesOn radix digits number (get_or digits i 0 ∷ drop (i + 1) digits)
 one_more radix digits number i inside h = subst (GoesOn radix digits number) (drop_more digits i 0 inside) h
-
-pub goes_on_at : (radix : ℕ) (digits : List ℕ) (number i more : ℕ) → i < length digits → digit_of (get_or digits i 0) < radix → more ≡ number * radix + digit_of (get_or digits i 0) → GoesOn radix digits number (drop i digits) → GoesOn radix digits more (drop (i + 1) digits)
-goes_on_at radix digits number i more inside small e h = rw e (goes_on radix digits number (get_or digits i 0) (drop (i + 1) digits) small (one_more radix digits number i inside h))
 
 pub too_large_at : (radix : ℕ) (digits : List ℕ) (number i : ℕ) → 0 < radix → i < length digits → 2 ^ 32 ≤ number * radix + digit_of (get_or digits i 0) → GoesOn radix digits number (drop i digits) → 2 ^ 32 ≤ number_from radix 0 digits
 too_large_at radix digits number i positive inside large h = too_large radix digits number (get_or digits i 0) (drop (i + 1) digits) positive large (one_more radix digits number i inside h)

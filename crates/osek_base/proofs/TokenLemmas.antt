@@ -68,9 +68,6 @@ module _ {W : Type 0} (IsPiece : List ℕ → ℕ → Option W → Type 0) (text
     pub tokens : (more : List (Lexeme W)) → Lexes IsPiece text p more → Lexes IsPiece text 0 (ts ++ more)
     pub fails : (q : ℕ) → LexFails IsPiece text p q → LexFails IsPiece text 0 q
 
-  pub before_all : TokensBefore 0 []
-  before_all = record { within = omega arith; tokens = λ more h. h; fails = λ q h. h }
-
   -- a piece without a token
   pub before_gap : (p : ℕ) (ts : List (Lexeme W)) (n : ℕ) → p < length text → n ≤ length (drop p text)
       → IsPiece (drop p text) n None → TokensBefore p ts → TokensBefore (p + n) ts

@@ -1,23 +1,19 @@
 -- The first denial of what is left: of tasks, of routines and of places from a number on.
 use Rattle.std.proofs.Common.{◌≡◌, ℕ, zero, suc, ◌+◌, ◌<◌, ◌≤◌, Bool, true, false, ◌&&◌, cond, List, [], ◌∷◌, ◌++◌, map, drop, length, refl, sym, ◌∙◌, ap, subst, arith, inl, inr, ◌⊎◌}
 use Rattle.std.specs.Prelude.{IfSome, Option, Some, None}
-use Rattle.std.specs.List.{filter, flat_map, enumerate_from}
+use Rattle.std.specs.List.{filter, flat_map}
 use Rattle.std.specs.Option.{option_or}
 use Rattle.std.proofs.lemmas.Bool.{cases_lt}
 use Rattle.osek_base.specs.declared.ids.Owner.{Owner}
-use Rattle.osek_base.specs.declared.instr.Instr.{Instr}
 use Rattle.osek_base.specs.Lists.{below}
 use Rattle.osek_base.specs.System.{System}
-use Rattle.osek_base.specs.Separable.{Denial, task_denial, place_denial, broken_places, first_of_list}
+use Rattle.osek_base.specs.Separable.{Denial, task_denial, broken_places, first_of_list}
 use Rattle.partition_check.specs.declared.denial.Rule.{Rule}
 use Rattle.partition_check.specs.Partition.{Told, told, rule_number, forbids, first_breaking, first_broken}
 
 pub first_append : (xs ys : List Denial) → first_of_list (xs ++ ys) ≡ option_or (first_of_list xs) (first_of_list ys)
 first_append [] ys = refl
 first_append (x ∷ xs) ys = refl
-
-one_more : (n : ℕ) → suc n ≡ n + 1
-one_more n = omega arith
 
 -- ---- numbers below a limit, from one on
 
@@ -131,24 +127,6 @@ module _ (S : System) (p : ℕ) (r : Rule) where
 
   pub routine_end : (n i : ℕ) → n ≤ i → first_broken S p r (map Owner.Routine (drop i (below n))) ≡ None
   routine_end n i h = ap (λ xs. first_broken S p r (map Owner.Routine xs)) (below_end n i h)
-
-  -- ---- places of one program
-
-  place_at : (owner : Owner) (place : ℕ) (x : Instr) (xs : List Instr)
-      → first_of_list (flat_map (place_denial (rule_number r) owner (forbids S p r)) (enumerate_from place (x ∷ xs)))
-      ≡ cond (forbids S p r x) (Some (record { rule = rule_number r; subject = owner; place = Some place }))
-      (first_of_list (flat_map (place_denial (rule_number r) owner (forbids S p r)) (enumerate_from (place + 1) xs)))
-  place_at owner place x xs = go (forbids S p r x)
-    where
-      rest : List Denial
-      rest = flat_map (place_denial (rule_number r) owner (forbids S p r)) (enumerate_from (place + 1) xs)
-
-      here : Denial
-      here = record { rule = rule_number r; subject = owner; place = Some place }
-
-      go : (b : Bool) → first_of_list (cond b (here ∷ []) [] ++ rest) ≡ cond b (Some here) (first_of_list rest)
-      go true = refl
-      go false = refl
 
 -- ---- answers of the code
 

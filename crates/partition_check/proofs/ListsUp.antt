@@ -187,10 +187,6 @@ module _ {X : Type 0} (P : X → Type 0) where
   all_map f [] keeps all = tt
   all_map f (x ∷ xs) keeps all = (keeps x all.0, all_map f xs keeps all.1)
 
-  pub all_of : (xs : List X) → ((x : X) → P x) → AllByRecursion P xs
-  all_of [] each = tt
-  all_of (x ∷ xs) each = (each x, all_of xs each)
-
 -- what passes a test passes it
 pub all_pass : {X : Type 0} (q : X → Bool) (xs : List X) → AllByRecursion (λ x. q x ≡ true) (filter q xs)
 all_pass q [] = tt

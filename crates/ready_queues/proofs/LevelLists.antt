@@ -99,15 +99,3 @@ by_level-without_first q =
         let t : IsTop LEVELS q l = top_below-is LEVELS q l top in
         by_level-with_level l (drop 1 (q l)) q t.below
         ∙ ap (λ (xs : List ℕ). with_level l (drop 1 xs) (by_level (level_lists q))) (sym (by_level-below q l t.below))
-
--- the laws that a caller with a list of the levels names by `using(..)`
-pub ruleset level_list_laws = (
-  by_level-below,
-  by_level-no_tasks,
-  by_level-with_newest,
-  by_level-with_oldest,
-  by_level-without_first,
-  top_level-by_level,
-  total-by_level,
-  first_task-by_level,
-)

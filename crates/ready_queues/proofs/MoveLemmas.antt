@@ -2,7 +2,7 @@
 use Rattle.std.proofs.Common.{◌≡◌, ℕ, zero, suc, ◌+◌, ◌-◌, ◌<◌, ◌≤◌, cond, Some, List, [], ◌∷◌, ◌++◌, length, slice_get, drop, refl, ap, sym, ◌∙◌, arith}
 use Rattle.osek_base.specs.Lists.{is_empty}
 use Rattle.ready_queues.specs.declared.ready_queues.TheConstants.{LEVELS}
-use Rattle.ready_queues.specs.Queues.{Queues, with_level, or_below, top_below, top_level, first_at, first_task, with_newest, with_oldest, without_first_at, without_first, HasNoneAbove}
+use Rattle.ready_queues.specs.Queues.{Queues, with_level, or_below, top_below, top_level, first_at, first_task, with_newest, with_oldest, without_first_at, without_first}
 use Rattle.ready_queues.specs.QueueMoves.{changed_at, put_newest, put_oldest, rest, first, without_first_at_level, highest}
 use Rattle.ready_queues.proofs.Tops.{IsTop, top_below-is}
 
@@ -64,15 +64,3 @@ highest-top n q low none =
     let all : n + (LEVELS - n) ≡ LEVELS = omega arith in
     highest-top_below n q ∙ sym (top_below-more n (LEVELS - n) q (λ l from high. none l from (omega arith)))
     ∙ ap (λ m. top_below m q) all
-
-pub highest-none_above : (n : ℕ) (q : Queues) → n < LEVELS → HasNoneAbove n q → highest (suc n) q ≡ top_level q
-highest-none_above n q low high = highest-top (suc n) q (omega arith) (λ k from below. high.none k (omega arith) below)
-
--- the laws that a caller names by `using(..)` whose moves name their level
-pub ruleset move_laws = (
-  with_newest-put_newest,
-  with_oldest-put_oldest,
-  first_task-first,
-  without_first-level,
-  highest-none_above,
-)

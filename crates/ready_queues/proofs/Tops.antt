@@ -1,8 +1,8 @@
 -- The highest level that has a task.
-use Rattle.std.proofs.Common.{◌≡◌, ◌≢◌, ℕ, zero, suc, ◌+◌, ◌<◌, Option, Some, None, List, [], ◌∷◌, length, refl, ap, ap₂, sym, ◌∙◌, arith, inl, inr}
+use Rattle.std.proofs.Common.{◌≡◌, ◌≢◌, ℕ, zero, suc, ◌<◌, Option, Some, None, List, [], ◌∷◌, length, refl, ap, ap₂, sym, ◌∙◌, arith, inl, inr}
 use Rattle.std.proofs.lemmas.Bool.{cases_eq}
 use Rattle.ready_queues.specs.declared.ready_queues.TheConstants.{LEVELS}
-use Rattle.ready_queues.specs.Queues.{Queues, with_level, total_below, or_below, top_below, top_level, HasNoneAbove}
+use Rattle.ready_queues.specs.Queues.{Queues, with_level, or_below, top_below, top_level, HasNoneAbove}
 use Rattle.ready_queues.proofs.Writes.{with_level-same, with_level-other}
 
 -- j is the highest level below n that has a task
@@ -67,17 +67,6 @@ top_below-is (suc n) q j e = go (q n) refl e (λ found. top_below-is n q j found
         let same : n ≡ j = cc in
         let long : length (q j) ≡ suc (length xs) = ap (λ k. length (q k)) (sym same) ∙ ap length full in
         record { below = omega arith; has_task = omega arith; none_above = λ k high within. absurd (omega arith) }
-
--- where none is found, there is no entry
-pub total_below-top : (n : ℕ) (q : Queues) → top_below n q ≡ None → total_below n q ≡ 0
-unfolding top_below total_below
-total_below-top zero q none = refl
-total_below-top (suc n) q none = go (q n) none (λ e. total_below-top n q e)
-  where
-    go : (xs : List ℕ) → or_below n xs (top_below n q) ≡ None → (top_below n q ≡ None → total_below n q ≡ 0)
-        → length xs + total_below n q ≡ 0
-    go [] none rest = let e = rest none in omega arith
-    go (x ∷ xs) none rest = absurd (cc)
 
 -- queues that are equal below n have the same on top there
 pub top_below-same : (n : ℕ) (p q : Queues) → ((k : ℕ) → k < n → p k ≡ q k) → top_below n p ≡ top_below n q

@@ -1,5 +1,5 @@
 -- States with one key have one future, and show the same.
-use Rattle.std.proofs.Common.{ℕ, ◌≡◌, ◌+◌, false, List, [], map, length, refl, sym, ◌∙◌, ap, subst}
+use Rattle.std.proofs.Common.{ℕ, ◌≡◌, ◌+◌, false, List, map, length, refl, sym, ◌∙◌, ap, subst}
 use Rattle.std.proofs.Math.Path.{fun_ext}
 use Rattle.osek_base.specs.declared.arrivals.Arrival.{Arrival}
 use Rattle.osek_base.specs.Lists.{below}
@@ -97,14 +97,6 @@ unfolding run
 boot_state S mode arrivals proper = ap (λ (r : KeptRecorded). r.state) (sym (boots S mode proper))
 
 module _ (S : System) (proper : IsProper S) where
-  pub boot_comes : (mode : ℕ) → Comes S (boot_in S mode).state
-  boot_comes mode = record {
-    mode = mode;
-    arrivals = [];
-    ticks = 0;
-    same = boot_state S mode [] proper;
-  }
-
   run_goes_on : (mode : ℕ) (arrivals : List Arrival) (n : ℕ) (arrived : List ℕ)
       → (run S mode arrivals n).state.over ≡ false
       → Comes S (tick_in S arrived (kept_after S mode arrivals n)).after

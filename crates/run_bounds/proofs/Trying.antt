@@ -14,16 +14,12 @@ use Rattle.bound_labels.specs.Labels.{IsAtLeast, arrives_in, next_labels, wait_o
 use Rattle.bound_peaks.specs.Peaks.{IsNoted, TickShown}
 use Rattle.run_bounds.specs.Going.{GoOnAlike, HaveOneFuture, KeysTellFutures}
 use Rattle.run_bounds.specs.Nodes.{May, Node, Setting, StandsFor, routines_of, tick_shown_from}
-use Rattle.run_bounds.specs.Trying.{AreFree, LabelsAreOrdered, OneStateTells, StatesCome, SubsetsMay}
+use Rattle.run_bounds.specs.Trying.{AreFree, LabelsAreOrdered, OneStateTells, SubsetsMay}
 use Rattle.run_bounds.proofs.Arrived.{all_chosen}
-use Rattle.run_bounds.proofs.Going.{boot_comes, goes_on}
 use Rattle.run_bounds.proofs.Ordered.{at_least_itself, at_least_joined}
 
 pub labels_are_ordered : LabelsAreOrdered
 labels_are_ordered = record { itself = at_least_itself; joined = at_least_joined }
-
-pub states_come : StatesCome
-states_come S proper = record { boot = boot_comes S proper; tick = goes_on S proper }
 
 -- ---- states of a node
 

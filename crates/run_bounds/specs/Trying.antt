@@ -1,16 +1,14 @@
 -- What a search that tries one state of each node has to know.
-use Rattle.std.specs.Prelude.{ℕ, ◌≡◌, ◌<◌, ◌^◌, ◌==◌, false, List, length}
+use Rattle.std.specs.Prelude.{ℕ, ◌≡◌, ◌<◌, ◌^◌, ◌==◌, false, length}
 use Rattle.osek_base.specs.Proper.{IsProper}
-use Rattle.osek_base.specs.System.{System}
 use Rattle.kept_state.specs.Kept.{Kept}
-use Rattle.kept_state.specs.KeptTick.{boot_in, tick_in}
 use Rattle.needed_data.specs.Need.{Suffices}
 use Rattle.state_keys.specs.InRange.{NeedsOwnWords}
 use Rattle.search.specs.Subsets.{IsSubset}
 use Rattle.figures.specs.FigureSums.{levels_of}
 use Rattle.bound_labels.specs.Labels.{IsAtLeast, Labels, arrives_in, wait_of}
 use Rattle.bound_peaks.specs.Peaks.{IsNoted, Peaks}
-use Rattle.run_bounds.specs.Nodes.{AreNoted, Comes, IsAfter, IsNext, May, Node, Setting, StandsFor, tick_shown_from}
+use Rattle.run_bounds.specs.Nodes.{AreNoted, IsAfter, IsNext, May, Node, Setting, StandsFor, tick_shown_from}
 
 -- ---- labels
 
@@ -19,15 +17,6 @@ pub record LabelsAreOrdered : Type 0 where
   pub joined : (l m n : Labels) → IsAtLeast l m → IsAtLeast m n → IsAtLeast l n
 
 -- ---- states
-
--- a run comes to the state after boot, and from a state to that behind each tick
-pub record Come (S : System) : Type 0 where
-  pub boot : (mode : ℕ) → Comes S (boot_in S mode).state
-  pub tick : (o : Kept) (arrived : List ℕ) → Comes S o → o.over ≡ false
-      → Comes S (tick_in S arrived o).after
-
-abbrev pub StatesCome : Type 0
-StatesCome = (S : System) → IsProper S → Come S
 
 -- what comes of one state comes of each that the node stands for, and what is seen from it is seen
 -- from each

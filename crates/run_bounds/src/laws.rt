@@ -4,12 +4,7 @@ ghost use Rattle.bound_peaks.specs.Peaks.{NotesStay};
 ghost use Rattle.run_bounds.specs.Bounds.{LevelsBound, NodesAreKept, SearchesBound};
 ghost use Rattle.run_bounds.specs.Going.{KeysTellFutures};
 ghost use Rattle.run_bounds.specs.Lost.{LostChangeNothing};
-ghost use Rattle.run_bounds.specs.Trying.{
-  LabelsAreOrdered,
-  OneStateTells,
-  StatesCome,
-  SubsetsMay,
-};
+ghost use Rattle.run_bounds.specs.Trying.{LabelsAreOrdered, OneStateTells, SubsetsMay};
 
 use state_keys::{alike_have_one_key, keys_tell, runs_are_in_range};
 
@@ -22,12 +17,6 @@ pub fn keys_tell_futures()
     alike_have_one_key();
     runs_are_in_range();
 }
-
-/// A run comes to the state after boot, and from each state in which it isn't over to that behind a
-/// tick, whatever arrives in it.
-pub fn states_come()
-    ensures { StatesCome }
-{}
 
 /// What comes of one state that a node stands for, and what is seen from it, is so of each of them.
 pub fn one_state_tells()

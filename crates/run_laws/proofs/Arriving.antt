@@ -22,9 +22,6 @@ use Rattle.run_laws.specs.Runs.{DependsOnThePast, GoesOnByAny, TakesAnyArrivals}
 abbrev is_past : ℕ → Arrival → Bool
 is_past n a = nat_lt a.tick n
 
-arriving_by : Arrival → List Arrival → ℕ → Bool → List ℕ
-arriving_by a rest t b = map (λ (x : Arrival). x.routine) (cond b (a ∷ filter (λ (x : Arrival). x.tick == t) rest) (filter (λ (x : Arrival). x.tick == t) rest))
-
 arriving_other : (a : Arrival) (rest : List Arrival) (t : ℕ) → (a.tick == t) ≡ false → arriving (a ∷ rest) t ≡ arriving rest t
 arriving_other a rest t other = rw other refl
 

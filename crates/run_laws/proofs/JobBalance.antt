@@ -1,8 +1,7 @@
 -- In each tick, of a task, as many jobs are made as there are more behind it, and those that end.
-use Rattle.std.proofs.Common.{ℕ, ◌≡◌, ◌<◌, ◌≤◌, ◌+◌, Bool, true, false, cond, ◌||◌, List, [], ◌∷◌, ◌++◌, replicate, length, refl, sym, ◌∙◌, ap, ap₂, subst, arith}
+use Rattle.std.proofs.Common.{ℕ, ◌≡◌, ◌<◌, ◌≤◌, ◌+◌, Bool, true, false, cond, ◌||◌, List, [], ◌∷◌, ◌++◌, length, refl, sym, ◌∙◌, ap, ap₂, subst, arith}
 use Rattle.std.specs.Prelude.{Option, Some, None, slice_index, bit_or}
 use Rattle.std.specs.List.{AllByRecursion}
-use Rattle.std.proofs.lemmas.List.{get_or-replicate, length-replicate}
 use Rattle.std.proofs.lemmas.List.Folds.{list_any-append}
 use Rattle.osek_base.specs.declared.ids.Owner.{Owner}
 use Rattle.osek_base.specs.declared.instr.Service.{Service}
@@ -17,14 +16,13 @@ use Rattle.osek_base.specs.declared.task.Action.{Action}
 use Rattle.osek_base.specs.Types.{ServiceCall}
 use Rattle.osek_base.specs.System.{System, alarm, instruction_at}
 use Rattle.osek_base.specs.Instruction.{Context, plain, next}
-use Rattle.osek_base.specs.State.{Job, JobId, Active, State, still, may_dispatch, interrupts_off, same_id, jobs_of}
+use Rattle.osek_base.specs.State.{Job, JobId, Active, State, may_dispatch, interrupts_off, same_id, jobs_of}
 use Rattle.osek_base.specs.Choice.{choice}
-use Rattle.osek_base.specs.Activation.{activated}
 use Rattle.osek_base.specs.Alarm.{due_alarms, alarms_advanced}
 use Rattle.osek_base.specs.Reschedule.{Recorded, hooked, entered, left_record, entered_record, switch_records, switched, with_dispatch_of, reschedule}
 use Rattle.osek_base.specs.Service.{Caller, JobCalls, RoutineCalls, NobodyCalls, Reply, first_refusal, refusals, with_events, reply_to, service, unasked_service, answer, controlled}
 use Rattle.osek_base.specs.Tick.{action_call, error_record, alarm_acts, alarms_act, alarm_phase, arrival_phase, start_phase, at_values, job_moved, with_context, answered, shutdown_record, executed, caller_executes, executor, execute_phase, before_execution, last_phase, tick}
-use Rattle.osek_base.specs.Trace.{all_activated, starting_tasks, starting_alarms, boot, arriving, run}
+use Rattle.osek_base.specs.Trace.{arriving, run}
 use Rattle.osek_base.specs.Proper.{IsProper}
 use Rattle.run_laws.proofs.Lists.{Pairs, pairs_weaker}
 use Rattle.run_laws.proofs.Foremost.{AreApart}
@@ -321,25 +319,6 @@ module _ (S : System) (t : ℕ) where
         (execute_phase S (before_execution S arrived s).state).state.made (execute_phase S (before_execution S arrived s).state).state.jobs _ _ _ executed last.0))
 
     -- ---- boot
-
-    all_even : (ts : List ℕ) (s : State) → t < length s.made → BalancesTo S t s (all_activated S ts s) 0
-    all_even [] s inside = stays S t s.made s.jobs
-    all_even (u ∷ ts) s inside =
-        let one : BalancesTo S t s (activated S u s) 0 = activates S t u s inside in
-        then_more S t s.made s.jobs (activated S u s).made (activated S u s).jobs _ _ 0 one
-        (all_even ts (activated S u s) (subst (λ n. t < n) (sym one.size) inside))
-
-    pub boot_even : (mode : ℕ) → slice_index (boot S mode).state.made t ≡ length (jobs_of t (boot S mode).state.jobs)
-    unfolding boot
-    boot_even mode =
-        let first : State = record (still S) { alarms = starting_alarms S mode } in
-        let size = length-replicate {A = ℕ} (length S.tasks) 0 in
-        let none : slice_index (replicate (length S.tasks) 0) t ≡ 0 = get_or-replicate (length S.tasks) t 0 0 low in
-        let started = all_even (starting_tasks S mode) (record (still S) { alarms = starting_alarms S mode }) (omega (arith, low, size)) in
-        let dispatched = reschedule_even (all_activated S (starting_tasks S mode) (record (still S) { alarms = starting_alarms S mode })) in
-        let one = started.even in
-        let two = dispatched.even in
-        omega (arith, one, two, none)
 
 pub always_balanced : AlwaysBalanced
 always_balanced S mode t arrivals n proper low going =

@@ -29,10 +29,6 @@ module _ {X : Type 0} where
   by_end x [] = record { front = []; end = x; same = refl }
   by_end x (y ∷ ys) = let h = by_end y ys in record { front = x ∷ h.front; end = h.end; same = ap (λ zs. x ∷ zs) h.same }
 
-  abbrev head_or : X → List X → X
-  head_or d [] = d
-  head_or d (x ∷ xs) = x
-
   none_inside : {Y : Type 0} (xs ys : List X) (x : X) → [] ≡ xs ++ x ∷ ys → Y
   none_inside [] ys x h = absurd (cc)
   none_inside (z ∷ xs) ys x h = absurd (cc)

@@ -225,10 +225,6 @@ module _ (S : System) where
     still_changed again k true e one still = subst (λ z. IsStill (f z)) (sym (one e)) again.still
     still_changed again k false e one still = still
 
-    id_changed : IsRedispatch c (f c) → (k : Job) (b : Bool) → same_id k.id c.id ≡ b → (same_id k.id c.id ≡ true → k ≡ c) → (cond b (f k) k).id ≡ k.id
-    id_changed again k true e one = subst (λ z. (f z).id ≡ z.id) (sym (one e)) again.id
-    id_changed again k false e one = refl
-
     -- of the two, the later one runs
     behind_changed : IsRedispatch c (f c) → (x y : Job) (a b : Bool) → same_id x.id c.id ≡ a → same_id y.id c.id ≡ b → Beside x y
         → IsBehind S (Some c.id) (cond a (f x) x) (cond b (f y) y)

@@ -1,5 +1,5 @@
 -- OSEK/VDX OS: task management. The jobs of a task, counted in the order in which they are made and end.
-use Rattle.std.specs.Prelude.{ℕ, suc, ◌-◌, ◌+◌, ◌≡◌, ◌<◌, ◌≤◌, Bool, true, false, ◌==◌, List, length, slice_index}
+use Rattle.std.specs.Prelude.{ℕ, suc, ◌+◌, ◌≡◌, ◌<◌, ◌≤◌, Bool, true, false, ◌==◌, List, length, slice_index}
 use Rattle.std.specs.List.{list_any}
 use Rattle.osek_base.specs.declared.arrivals.Arrival.{Arrival}
 use Rattle.osek_base.specs.declared.ids.Owner.{Owner}
@@ -33,28 +33,6 @@ made_by S mode t arrivals n = slice_index (run S mode arrivals n).state.made t
 
 abbrev pub left_after : System → ℕ → ℕ → List Arrival → ℕ → ℕ
 left_after S mode t arrivals n = length (jobs_of t (run S mode arrivals n).state.jobs)
-
-abbrev pub ended_by : System → ℕ → ℕ → List Arrival → ℕ → ℕ
-ended_by S mode t arrivals n = made_by S mode t arrivals n - left_after S mode t arrivals n
-
--- jobs of a task are counted from 0 in the order in which they are made, and end in that order. Job k is made in tick u;
--- those that boot makes, in tick 0
-pub record IsMadeIn (S : System) (mode t : ℕ) (arrivals : List Arrival) (k u : ℕ) : Type 0 where
-  pub made : k < made_by S mode t arrivals (suc u)
-  pub not_before : 0 < u → made_by S mode t arrivals u ≤ k
-
--- and ends in tick v
-pub record EndsIn (S : System) (mode t : ℕ) (arrivals : List Arrival) (k v : ℕ) : Type 0 where
-  pub ended : k < ended_by S mode t arrivals (suc v)
-  pub not_before : ended_by S mode t arrivals v ≤ k
-
--- a response: some job ends in tick n, so many ticks from that in which it was made on, both counted
-pub record EndsAfter (S : System) (mode t : ℕ) (arrivals : List Arrival) (n r : ℕ) : Type 0 where
-  pub job : ℕ
-  pub made_in : ℕ
-  pub is_made : IsMadeIn S mode t arrivals job made_in
-  pub ends : EndsIn S mode t arrivals job n
-  pub long : r + made_in ≡ suc n
 
 -- ---- the law
 

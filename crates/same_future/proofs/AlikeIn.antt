@@ -1,32 +1,21 @@
 -- States that are alike in what is needed, and a tick of them.
-use Rattle.std.proofs.Common.{ℕ, ◌≡◌, Bool, true, List, map, refl, sym, ◌∙◌, ap, subst, subst₂}
+use Rattle.std.proofs.Common.{ℕ, ◌≡◌, Bool, List, map, sym, ◌∙◌, ap, subst₂}
 use Rattle.osek_base.specs.System.{System}
 use Rattle.osek_base.specs.Proper.{IsProper}
 use Rattle.kept_state.specs.Kept.{Kept}
 use Rattle.kept_state.specs.Moves.{KeptRecorded}
 use Rattle.kept_state.specs.KeptTick.{before_execution_in, tick_in}
 use Rattle.needed_data.specs.Need.{Need, Suffices}
-use Rattle.needed_data.specs.Same.{cleaned, cleaned_words, cleaned_shared, HaveSameNeeded, HasAllowedIndices, AreStepsOfSame, blanked}
-use Rattle.needed_data.specs.Laws.{all_needed}
-use Rattle.needed_data.proofs.Sufficient.{all_cleaned}
+use Rattle.needed_data.specs.Same.{cleaned, cleaned_words, cleaned_shared, HasAllowedIndices, AreStepsOfSame, blanked}
 use Rattle.needed_data.proofs.Steps.{before_clean}
 use Rattle.needed_data.proofs.AllowedSteps.{tick_held}
 use Rattle.needed_data.proofs.Executed.{cleaning, fresh_clean}
 use Rattle.needed_data.proofs.Ticks.{tick_of_cleaned}
-use Rattle.same_future.specs.Alike.{untimed, AreAlike, AreAlikeBy, TicksAreAlikeBy}
-use Rattle.same_future.specs.AlikeIn.{AreAlikeIn, AlikeInIsEquivalence, AlikeInIsWider, executing_in, TicksAreAlikeIn, AlikeInTicks}
-use Rattle.same_future.proofs.Relation.{itself, turned, joined}
+use Rattle.same_future.specs.Alike.{untimed, AreAlikeBy, TicksAreAlikeBy}
+use Rattle.same_future.specs.AlikeIn.{AreAlikeIn, executing_in, TicksAreAlikeIn, AlikeInTicks}
 use Rattle.same_future.proofs.Ticks.{ticks_alike}
 
 module _ (S : System) (need : Need) where
-  pub alike_in_itself : (o : Kept) → AreAlikeIn S need o o
-  alike_in_itself o = itself S need.counters (cleaned need o)
-
-  pub alike_in_joined : (o p q : Kept) → AreAlikeIn S need o p → AreAlikeIn S need p q
-      → AreAlikeIn S need o q
-  alike_in_joined o p q first second =
-      joined S need.counters (cleaned need o) (cleaned need p) (cleaned need q) first second
-
   -- cleaned, states stay alike
   cleaned_alike : (valued : ℕ → Bool) (o p : Kept) → AreAlikeBy S valued o p
       → AreAlikeBy S valued (cleaned need o) (cleaned need p)
@@ -36,37 +25,6 @@ module _ (S : System) (need : Need) where
     phases = alike.phases;
     alarms = alike.alarms;
   }
-
-  pub by_time : (o p : Kept) → AreAlike S o p → AreAlikeIn S need o p
-  by_time o p alike =
-      let same = cleaned_alike (λ c. true) o p alike in
-      record {
-        rest = same.rest;
-        values = λ c inside is. same.values c inside refl;
-        phases = same.phases;
-        alarms = same.alarms;
-      }
-
-  by_data : (o p : Kept) → HaveSameNeeded need o p → AreAlikeIn S need o p
-  by_data o p same =
-      subst (AreAlikeBy S need.counters (cleaned need o)) same (itself S need.counters (cleaned need o))
-
-pub where_all : (S : System) (o p : Kept) → AreAlikeIn S all_needed o p → AreAlike S o p
-where_all S o p alike = subst₂ (AreAlike S) (all_cleaned o) (all_cleaned p) alike
-
-pub alike_in_is_equivalence : AlikeInIsEquivalence
-alike_in_is_equivalence S need = record {
-  itself = alike_in_itself S need;
-  turned = λ o p alike. turned S need.counters (cleaned need o) (cleaned need p) alike;
-  joined = alike_in_joined S need;
-}
-
-pub alike_in_is_wider : AlikeInIsWider
-alike_in_is_wider S need = record {
-  by_time = by_time S need;
-  by_data = by_data S need;
-  where_all = where_all S;
-}
 
 -- ---- one tick
 

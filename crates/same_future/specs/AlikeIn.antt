@@ -7,33 +7,13 @@ use Rattle.osek_base.specs.Proper.{IsProper}
 use Rattle.kept_state.specs.Kept.{Kept}
 use Rattle.kept_state.specs.KeptTick.{before_execution_in, tick_in}
 use Rattle.needed_data.specs.Need.{Need, Suffices}
-use Rattle.needed_data.specs.Same.{cleaned, HaveSameNeeded, HasAllowedIndices, blanked}
-use Rattle.needed_data.specs.Laws.{all_needed}
-use Rattle.same_future.specs.Alike.{untimed, AreAlike, AreAlikeBy}
+use Rattle.needed_data.specs.Same.{cleaned, HasAllowedIndices, blanked}
+use Rattle.same_future.specs.Alike.{untimed, AreAlikeBy}
 
 -- two states are alike in what is needed: between them only absolute time, data that isn't needed
 -- and values of counters that aren't needed differ
 abbrev pub AreAlikeIn : System → Need → Kept → Kept → Type 0
 AreAlikeIn S need o p = AreAlikeBy S need.counters (cleaned need o) (cleaned need p)
-
-pub record IsEquivalenceIn (S : System) (need : Need) : Type 0 where
-  pub itself : (o : Kept) → AreAlikeIn S need o o
-  pub turned : (o p : Kept) → AreAlikeIn S need o p → AreAlikeIn S need p o
-  pub joined : (o p q : Kept) → AreAlikeIn S need o p → AreAlikeIn S need p q
-      → AreAlikeIn S need o q
-
-abbrev pub AlikeInIsEquivalence : Type 0
-AlikeInIsEquivalence = (S : System) (need : Need) → IsEquivalenceIn S need
-
--- states are alike in what is needed where only absolute time differs, and where only data does
--- that isn't needed; where all is needed, only time may
-pub record IsWider (S : System) (need : Need) : Type 0 where
-  pub by_time : (o p : Kept) → AreAlike S o p → AreAlikeIn S need o p
-  pub by_data : (o p : Kept) → HaveSameNeeded need o p → AreAlikeIn S need o p
-  pub where_all : (o p : Kept) → AreAlikeIn S all_needed o p → AreAlike S o p
-
-abbrev pub AlikeInIsWider : Type 0
-AlikeInIsWider = (S : System) (need : Need) → IsWider S need
 
 -- ---- one tick
 

@@ -8,8 +8,7 @@ use Rattle.std.proofs.lemmas.Option.{slice_get_within, same_Some}
 use Rattle.std.proofs.Math.ListN.{length-set, drop_of_length-le}
 use Rattle.search.specs.Rules.{Rules}
 use Rattle.search.specs.Numbers.{is_in, put_in}
-use Rattle.search.specs.declared.table.Admitted.{Admitted}
-use Rattle.search.specs.Admitted.{IsCovered, IsCoveredAt, IsClosed, Admits, IsJoinedAt, OthersStay}
+use Rattle.search.specs.Admitted.{IsCovered, IsCoveredAt, IsClosed, Admits, IsJoinedAt}
 use Rattle.search.proofs.NumberLemmas.{is_put, was_out, put_more, none_more}
 
 -- ---- lists
@@ -91,11 +90,6 @@ module _ {N : Type 0} (r : Rules N) where
 
       apart : (number : ℕ) (x : N) → IsClosed (set before k is.new) (put_in k numbers) number x → number ≡ k → ⊥
       apart number x at same = false≢true (sym at.closed ∙ ap (λ n. is_in n (put_in k numbers)) same ∙ is_put k numbers)
-
-  pub others_stay : (before after : List N) (y : N) (k : ℕ) → IsJoinedAt r before after y k → OthersStay before after (Admitted.At k)
-  others_stay before after y k is number x apart there =
-      ap (λ (nodes : List N). slice_get nodes number) is.set_here
-      ∙ slice_get_other before k number is.new (λ same. apart (ap Admitted.At (sym same))) ∙ there
 
   -- ---- a node is added
 

@@ -138,10 +138,6 @@ only_one k j is = go (or_cases (nat_eq k j) false is)
 
 -- ---- one less
 
-pub below_behind : (n : ℕ) (numbers : List ℕ) → AreBelow n numbers → AreBelow n (drop 1 numbers)
-below_behind n [] below = refl
-below_behind n (k ∷ numbers) below = (and_parts (nat_lt k n) (list_all (λ j. nat_lt j n) numbers) below).1
-
 pub none_left : (numbers : List ℕ) → slice_get numbers 0 ≡ None → numbers ≡ []
 none_left [] none = refl
 none_left (k ∷ numbers) none = absurd (none-some k (sym none))

@@ -8,7 +8,7 @@ use Rattle.search.specs.Searched.{IsTried, IsVisited}
 use Rattle.search.specs.Numbers.{is_in}
 use Rattle.search.specs.Admitted.{IsAbove, IsCovered, IsCoveredAt, AreMore}
 use Rattle.search.specs.Visited.{AreTried, AreVisited, Closes, Passes, Stays, Tries, Visits, closed_by}
-use Rattle.search.proofs.NumberLemmas.{and_more, none_more, only_one}
+use Rattle.search.proofs.NumberLemmas.{and_more, only_one}
 
 -- what holds of a node holds of one that covers it
 pub through : {N : Type 0} (r : Rules N) (P : N → Type 0) → ((y z : N) → P y → r.covers z y → P z)
@@ -87,18 +87,6 @@ pub record IsVisiting {N : Type 0} (r : Rules N) (is_noted : N → ℕ → Type 
   pub last : AreMore start_numbers numbers
   pub same : Stays start nodes number
   pub tried : (x : N) → slice_get nodes number ≡ Some x → AreTried r is_noted nodes x from
-
-pub begins : {N : Type 0} (r : Rules N) (is_noted : N → ℕ → Type 0) (nodes : List N) (numbers : List ℕ) (number : ℕ) → number < length nodes
-    → AreVisited r is_noted nodes numbers → IsVisiting r is_noted nodes numbers nodes numbers number 0
-begins r is_noted nodes numbers number inside others = record {
-  inside = inside;
-  first = λ some. some;
-  others = others;
-  grows = λ k x there. record { node = x; here = there; above = inl refl };
-  last = none_more numbers;
-  same = λ x there. there;
-  tried = λ x is choice low. absurd (omega (arith, low));
-}
 
 module _ {N : Type 0} (r : Rules N) (kept : AreKept r) {X : Type 0} (is_noted : X → N → ℕ → Type 0) (s t : X) (stays : StaysNoted is_noted s t)
     (start before after : List N) (start_numbers numbers more : List ℕ) (number from choice : ℕ)

@@ -1,7 +1,7 @@
 -- What is seen of a task that neither executes nor ends nor is refused, and of alarms where none
 -- is due.
 use Rattle.std.proofs.Common.{◌≡◌, ℕ, ◌+◌, ◌-◌, ◌==◌, true, false, ◌&&◌, List, [], ◌∷◌, length, refl, sym, ◌∙◌, ap, arith, eq-eqb, eqb-true, ne_eqb, true≢false}
-use Rattle.std.specs.Prelude.{Option, Some, None, is_some}
+use Rattle.std.specs.Prelude.{Option, Some, None}
 use Rattle.observations.specs.declared.task_seen.TaskSeen.{TaskSeen}
 use Rattle.osek_base.specs.declared.executed.Executed.{Executed}
 use Rattle.osek_base.specs.declared.ids.Owner.{Owner}
@@ -27,21 +27,9 @@ pub executes_not : (t : ℕ) (e : Option Executed) → (number_or_none (executin
 executes_not t None h = refl
 executes_not t (Some e) h = by_other t e.owner h
 
-absent : (o : Option ℕ) → is_some o ≡ false → o ≡ None
-absent None h = refl
-absent (Some n) h = absurd cc
-
 empty : (xs : List ℕ) → length xs ≡ 0 → xs ≡ []
 empty [] h = refl
 empty (x ∷ xs) h = absurd (omega (arith, h))
-
-pub none_refused : (w : Told) (acted : Acted) → is_some w.execution.refusing ≡ false
-    → length acted.refused ≡ 0 → NoneIsRefused w acted
-none_refused w acted by_instruction by_alarms =
-    record {
-      by_instruction = absent w.execution.refusing by_instruction;
-      by_alarms = empty acted.refused by_alarms;
-    }
 
 pub none_acted : (acted : Acted) → (length acted.due + length acted.refused == 0) ≡ true
     → NoneActed acted

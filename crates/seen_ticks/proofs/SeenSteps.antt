@@ -1,10 +1,8 @@
 -- One number more of those gone over, and what stands at each number.
-use Rattle.std.proofs.Common.{◌≡◌, ℕ, zero, suc, ◌+◌, ◌<◌, Bool, true, false, List, [], ◌∷◌, ◌++◌, get_or, map, length, refl, sym, ◌∙◌, ap, arith, inl, inr}
+use Rattle.std.proofs.Common.{◌≡◌, ℕ, zero, suc, ◌+◌, ◌<◌, List, [], ◌∷◌, get_or, map, length, refl, sym, ◌∙◌, ap, arith, inl, inr}
 use Rattle.std.proofs.Math.Numerals.{add-one}
 use Rattle.std.proofs.lemmas.Bool.{cases_eq}
 use Rattle.std.proofs.lemmas.List.{get_or_push, get_or_append_left, map-append, length-append, length-map}
-use Rattle.std.proofs.lemmas.List.Elements.{filter-append}
-use Rattle.std.specs.List.{filter}
 use Rattle.osek_base.specs.Lists.{below}
 
 length_below : (n : ℕ) → length (below n) ≡ n
@@ -14,28 +12,6 @@ length_below (suc n) = length-append (below n) (n ∷ []) ∙ (ap (λ m. m + 1) 
 module _ {X : Type 0} (f : ℕ → X) (n : ℕ) where
   pub seen_count : (xs : List X) → xs ≡ map f (below n) → length xs ≡ n
   seen_count xs h = ap (λ (v : List X). length v) h ∙ length-map (below n) f ∙ length_below n
-
-  pub seen_more : (xs : List X) (x : X) → xs ≡ map f (below n) → x ≡ f n → xs ++ x ∷ [] ≡ map f (below (n + 1))
-  seen_more xs x h e =
-      ap (λ v. v ++ x ∷ []) h ∙ ap (λ y. map f (below n) ++ y ∷ []) e ∙ sym (map-append f (below n) (n ∷ []))
-      ∙ ap (λ m. map f (below m)) (sym (add-one n))
-
--- how many of the first n pass a test
-module _ (test : ℕ → Bool) (n count : ℕ) (h : count ≡ length (filter test (below n))) where
-  both : length (filter test (below (n + 1))) ≡ length (filter test (below n)) + length (filter test (n ∷ []))
-  both =
-      ap (λ m. length (filter test (below m))) (add-one n) ∙ ap (λ (v : List ℕ). length v) (filter-append test (below n) (n ∷ []))
-      ∙ length-append (filter test (below n)) (filter test (n ∷ []))
-
-  pub one_passes : test n ≡ true → count + 1 ≡ length (filter test (below (n + 1)))
-  one_passes pass =
-      let one : length (filter test (n ∷ [])) ≡ 1 = rw pass refl in
-      omega (arith, h, both, one)
-
-  pub none_passes : test n ≡ false → count ≡ length (filter test (below (n + 1)))
-  none_passes pass =
-      let none : length (filter test (n ∷ [])) ≡ 0 = rw pass refl in
-      omega (arith, h, both, none)
 
 module _ {X : Type 0} (f : ℕ → X) where
   at_below : (n i : ℕ) (d : X) → i < n → get_or (map f (below n)) i d ≡ f i

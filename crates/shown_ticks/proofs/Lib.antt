@@ -1,4 +1,3 @@
 pub mod Shown
-pub mod BothShown
 pub mod AlikeShown
 pub mod NeededShown

@@ -7,9 +7,8 @@ use Rattle.kept_state.specs.Kept.{Kept}
 use Rattle.same_future.specs.Alike.{AreAlikeBy}
 use Rattle.needed_data.specs.Need.{HaveAsked, Need, Suffices}
 use Rattle.needed_data.specs.Same.{HasAllowedIndices, HaveSameNeeded}
-use Rattle.observations.specs.declared.observation.Observation.{Observation}
 use Rattle.seen_ticks.specs.Observed.{answered, failure_of, owner_of}
-use Rattle.shown_ticks.specs.Shown.{KeptTicked, IsShown, alarm_seen_in, holders_seen_in, routine_seen_in, task_seen_in, ticked_in}
+use Rattle.shown_ticks.specs.Shown.{KeptTicked, alarm_seen_in, holders_seen_in, routine_seen_in, task_seen_in, ticked_in}
 
 -- two ticks show the same
 pub record AreShownAlike (S : System) (x y : KeptTicked) : Type 0 where
@@ -20,12 +19,6 @@ pub record AreShownAlike (S : System) (x y : KeptTicked) : Type 0 where
   pub routines : (i : ℕ) → routine_seen_in x i ≡ routine_seen_in y i
   pub holders : holders_seen_in S x.at ≡ holders_seen_in S y.at
   pub alarms : (a : ℕ) → alarm_seen_in x a ≡ alarm_seen_in y a
-
--- so one observation is of both
-abbrev pub ShownByBoth : Type 0
-ShownByBoth =
-    (S : System) (x y : KeptTicked) (o : Observation) → AreShownAlike S x y → IsShown S x o
-    → IsShown S y o
 
 -- ---- laws, where the same routines arrive
 

@@ -1,7 +1,7 @@
 //! The laws, one function each. The functions are empty: the clause is the law.
 
 ghost use Rattle.shown_ticks.specs.Shown.{RunsShow, SeenIsShown};
-ghost use Rattle.shown_ticks.specs.ShownAlike.{AlikeShow, SameNeededShow, ShownByBoth};
+ghost use Rattle.shown_ticks.specs.ShownAlike.{AlikeShow, SameNeededShow};
 
 /// In each tick of a run the definitions' states show what is kept of the state before it and the
 /// routines that arrive show.
@@ -23,9 +23,4 @@ pub fn alike_show()
 /// So do states that have the same needed data, and registers with indices that they may have.
 pub fn same_needed_show()
     ensures { SameNeededShow }
-{}
-
-/// An observation is of each tick that shows the same.
-pub fn shown_by_both()
-    ensures { ShownByBoth }
 {}

@@ -3,4 +3,4 @@
 
 mod laws;
 
-pub use laws::{alike_show, runs_show, same_needed_show, seen_is_shown, shown_by_both};
+pub use laws::{alike_show, runs_show, same_needed_show, seen_is_shown};

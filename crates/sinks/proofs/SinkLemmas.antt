@@ -60,10 +60,6 @@ begins_later a b c xs ys p q =
 pub passes_none : (a : Option (List ℕ)) (p : List ℕ) → Passes a a p p []
 passes_none a p = record { front = []; whole = sym (append-nil p); taken = Appends-nil a }
 
--- all that waited is taken
-pub passes_all : (a b : Option (List ℕ)) (p q : List ℕ) → q ≡ [] → Appends a b p → Passes a b p q []
-passes_all a b p q e h = record { front = p; whole = ap (λ t. p ++ t) e; taken = h }
-
 -- more waits
 pub waits_more : (a b : Option (List ℕ)) (p q xs ys : List ℕ) → Passes a b p q xs → Passes a b p (q ++ ys) (xs ++ ys)
 waits_more a b p q xs ys h =

@@ -1,6 +1,5 @@
 pub mod Steps
 pub mod SetLemmas
-pub mod ReadyLemmas
 pub mod JobLemmas
 pub mod CounterLemmas
 pub mod TimeLemmas

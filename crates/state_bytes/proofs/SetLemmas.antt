@@ -27,9 +27,6 @@ is_zero b e = ap (λ x. x == 1) e
 is_one : (b : ℕ) → b ≡ 1 → (b == 1) ≡ true
 is_one b e = ap (λ x. x == 1) e
 
-pub none_from : (set from : ℕ) → 64 ≤ from → HasNone set from 64
-none_from set from high i more low = absurd (omega (arith, high, more, low))
-
 pub none_left : (set from : ℕ) → set / 2 ^ from ≡ 0 → HasNone set from 64
 none_left set from none i more low =
     is_zero _

@@ -6,5 +6,3 @@ mod Told
 mod Windows
 mod Runs
 mod Equal
-mod Examples
-mod Short

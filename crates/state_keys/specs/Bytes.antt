@@ -1,6 +1,5 @@
 -- The bytes of numbers, flags and lists, of which none begins another.
-use Rattle.std.specs.Prelude.{ℕ, zero, suc, ◌+◌, ◌/◌, ◌%◌, ◌^◌, ◌<◌, ◌≤◌, Bool, nat_lt, if◌then◌else◌, List, [], ◌∷◌, ◌++◌, length, Option, Some, None}
-use Rattle.std.specs.List.{AllByRecursion}
+use Rattle.std.specs.Prelude.{ℕ, zero, suc, ◌+◌, ◌/◌, ◌%◌, Bool, nat_lt, if◌then◌else◌, List, [], ◌∷◌, ◌++◌, Option, Some, None}
 
 -- the parts of the numbers below n, one after another
 unfoldable pub each : ℕ → (ℕ → List ℕ) → List ℕ
@@ -29,13 +28,3 @@ optional bytes (Some x) = 1 ∷ bytes x
 -- nothing for what isn't needed
 abbrev pub needed : Bool → ℕ → List ℕ
 needed need n = if need then number n else []
-
--- ---- the law
-
-abbrev pub IsByte : ℕ → Type 0
-IsByte b = b < 256
-
--- a number of 32 bits is five bytes at most
-abbrev pub NumbersAreShort : Type 0
-NumbersAreShort =
-    (n : ℕ) → n < 2 ^ 32 → AllByRecursion IsByte (number n) × (length (number n) ≤ 5)

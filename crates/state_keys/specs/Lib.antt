@@ -1,4 +1,3 @@
 pub mod Bytes
 pub mod Key
 pub mod InRange
-pub mod Worked

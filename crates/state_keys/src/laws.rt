@@ -1,18 +1,6 @@
 //! The laws, one function each. The functions are empty: the clause is the law.
 
-ghost use Rattle.state_keys.specs.Bytes.{NumbersAreShort};
 ghost use Rattle.state_keys.specs.InRange.{AlikeHaveOneKey, KeysTell, RunsAreInRange};
-ghost use Rattle.state_keys.specs.Worked.{WorkedKeys};
-
-/// The keys of a state of a run, with the value of a counter and without, worked out by hand.
-pub fn worked_keys()
-    ensures { WorkedKeys }
-{}
-
-/// A number of 32 bits is one to five bytes.
-pub fn numbers_are_short()
-    ensures { NumbersAreShort }
-{}
 
 /// States in range whose keys are equal are alike in what is needed, where no word is needed beyond
 /// the windows of the system's tasks and routines.

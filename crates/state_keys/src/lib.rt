@@ -8,4 +8,4 @@
 
 mod laws;
 
-pub use laws::{alike_have_one_key, keys_tell, numbers_are_short, runs_are_in_range, worked_keys};
+pub use laws::{alike_have_one_key, keys_tell, runs_are_in_range};

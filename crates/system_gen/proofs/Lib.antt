@@ -1,4 +1,3 @@
-pub mod Tasks
 pub mod Places
 pub mod OrderLemmas
 pub mod LimitLemmas

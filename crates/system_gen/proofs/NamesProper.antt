@@ -1,7 +1,7 @@
 -- A generated system is within the limits, named throughout, and its names are proper; its tasks stand by falling priority, each at the number of its name.
-use Rattle.std.proofs.Common.{◌≡◌, ℕ, zero, suc, ◌<◌, ◌≤◌, Bool, true, not, ◌&&◌, ltb, List, [], ◌∷◌, length, map, Some, None, refl, sym, ap, ◌∙◌, arith, inl, inr}
+use Rattle.std.proofs.Common.{◌≡◌, ℕ, suc, ◌<◌, ◌≤◌, Bool, true, not, ◌&&◌, ltb, List, [], ◌∷◌, length, map, Some, None, refl, sym, ap, ◌∙◌, arith, inl, inr}
 use Rattle.std.specs.Prelude.{slice_get}
-use Rattle.std.specs.List.{list_all, list_any, Contains, AllByRecursion}
+use Rattle.std.specs.List.{list_all, list_any, AllByRecursion}
 use Rattle.std.specs.Str.{bytes_eq}
 use Rattle.std.proofs.lemmas.Bool.{and_parts, or_cases, ltb-false, le-leb, eq-eqb}
 use Rattle.std.proofs.lemmas.List.{length-map}
@@ -23,7 +23,7 @@ use Rattle.system_gen.proofs.LimitLemmas.{split_limit}
 use Rattle.system_gen.proofs.OrderLemmas.{order_short}
 use Rattle.system_gen.proofs.NumberedNames.{equal_names, number_below}
 use Rattle.system_gen.proofs.ObjectsProper.{system_of}
-use Rattle.system_gen.proofs.TasksDeclared.{order_of_length, numbered_proper, tasks_fall, each_at, each_of_all, task_at_number}
+use Rattle.system_gen.proofs.TasksDeclared.{numbered_proper, tasks_fall, each_of_all, task_at_number}
 
 -- ---- limits and lengths
 
@@ -45,14 +45,6 @@ some_mode : (modes : List (List ℕ)) → are_checked_modes modes ≡ true → 1
 some_mode modes h =
     let parts = and_parts (not (is_empty modes) && list_all (is_object_name kind.AppMode) modes) (are_proper_names modes) h in
     some_length modes (and_parts (not (is_empty modes)) (list_all (is_object_name kind.AppMode) modes) parts.0).0
-
--- the record at a place is one of the list
-contains_at : (tasks : List TaskRecord) (i : ℕ) (t : TaskRecord) → slice_get tasks i ≡ Some t → Contains tasks t
-contains_at [] i t is = absurd cc
-contains_at (first ∷ tasks) zero t is = (0, omega arith, cc)
-contains_at (first ∷ tasks) (suc i) t is =
-    let more = contains_at tasks i t is in
-    (suc more.0, omega (arith, more.1), more.2)
 
 module _ (f : Configuration) (programs : List Program) where
   -- no more objects than allowed, and one mode at least
@@ -103,24 +95,9 @@ module _ (f : Configuration) (programs : List Program) where
   pub tasks_named : length (system_of f programs).tasks ≡ length (declared_in f).tasks
   tasks_named = length-map (order_of f.tasks) (task_declared (known_of f) programs f.tasks) ∙ sym (length-map (order_of f.tasks) (task_name f.tasks))
 
-  -- as many tasks as the file has
-  pub tasks_length : is_checked f ≡ true → length (system_of f programs).tasks ≡ length f.tasks
-  tasks_length checked =
-      length-map (order_of f.tasks) (task_declared (known_of f) programs f.tasks) ∙ order_of_length f.tasks (checked_parts f checked).tasks
-
   -- the number of a task's name is that of a task
   pub task_number : (name : List ℕ) → is_named name (declared_in f).tasks ≡ true → ltb (number (declared_in f).tasks name) (length (system_of f programs).tasks) ≡ true
   task_number name h = rw tasks_named (number_below (declared_in f).tasks name h)
-
-  -- what the task of each record passes, each task passes: by place
-  pub each_task : (test : Task → Bool) → ((i : ℕ) (t : TaskRecord) → slice_get f.tasks i ≡ Some t → test (resolved_task (known_of f) programs t) ≡ true)
-      → list_all test (system_of f programs).tasks ≡ true
-  each_task test h = each_at f.tasks (known_of f) programs test h
-
-  -- by membership
-  pub each_task_in : (test : Task → Bool) → ((t : TaskRecord) → Contains f.tasks t → test (resolved_task (known_of f) programs t) ≡ true)
-      → list_all test (system_of f programs).tasks ≡ true
-  each_task_in test h = each_task test (λ i t is. h t (contains_at f.tasks i t is))
 
   -- where it is known of all
   pub each_task_of_all : (test : Task → Bool) → AllByRecursion (λ t. test (resolved_task (known_of f) programs t) ≡ true) f.tasks

@@ -201,10 +201,6 @@ filter_short : (test : ℕ → Bool) (xs : List ℕ) → length (filter test xs)
 filter_short test [] = omega arith
 filter_short test (x ∷ xs) = kept_short (test x) x (filter test xs) (length xs) (filter_short test xs)
 
-all_lower : (ps xs : List ℕ) (p : ℕ) → ((i : ℕ) → get_or ps i 0 < p) → lower ps p xs ≡ xs
-all_lower ps [] p small = refl
-all_lower ps (x ∷ xs) p small = rw (lt-ltb (get_or ps x 0) p (small x)) (ap (λ (ys : List ℕ). x ∷ ys) (all_lower ps xs p small))
-
 below_length : (n : ℕ) → length (below n) ≡ n
 below_length zero = refl
 below_length (suc n) = omega (arith, length-append (below n) (n ∷ []), below_length n)
@@ -214,9 +210,3 @@ pub order_short : (ps : List ℕ) → length (task_order ps) ≤ length ps
 unfolding task_order
 order_short ps =
     omega (arith, order_lower ps (MAX_TASK_PRIORITY + 1), filter_short (λ i. ltb (get_or ps i 0) (MAX_TASK_PRIORITY + 1)) (below (length ps)), below_length (length ps))
-
--- and as long, where all are priorities of tasks
-pub order_length : (ps : List ℕ) → ((i : ℕ) → get_or ps i 0 ≤ MAX_TASK_PRIORITY) → length (task_order ps) ≡ length ps
-unfolding task_order
-order_length ps small =
-    omega (arith, order_lower ps (MAX_TASK_PRIORITY + 1), ap length (all_lower ps (below (length ps)) (MAX_TASK_PRIORITY + 1) (λ i. omega (arith, small i))), below_length (length ps))

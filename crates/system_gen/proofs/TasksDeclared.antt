@@ -20,7 +20,7 @@ use Rattle.system_gen.specs.ObjectNames.{task_name, order_of}
 use Rattle.system_gen.specs.DeclaredNames.{number}
 use Rattle.system_gen.specs.Generated.{Known, resolved_task, task_declared}
 use Rattle.system_gen.proofs.Places.{order_each, order_places}
-use Rattle.system_gen.proofs.OrderLemmas.{order_distinct, order_has, order_length}
+use Rattle.system_gen.proofs.OrderLemmas.{order_distinct, order_has}
 use Rattle.system_gen.proofs.NumberedNames.{equal_names, names_equal, number_low, name_stands}
 use Rattle.system_gen.proofs.NamePlaces.{apart}
 
@@ -175,11 +175,6 @@ module _ (tasks : List TaskRecord) where
 
     distinct : are_distinct_names (names tasks) ≡ true
     distinct = (and_parts (list_all is_proper_name (names tasks)) (are_distinct_names (names tasks)) names_checked).1
-
-    -- as many numbers as tasks
-    pub order_of_length : length (order_of tasks) ≡ length tasks
-    order_of_length =
-        order_length (priorities tasks) (λ i. low_priority tasks i each_checked) ∙ length-map tasks (λ t. t.priority)
 
     tells : (i j : ℕ) → i < length tasks → j < length tasks → task_name tasks i ≡ task_name tasks j → i ≡ j
     tells i j li lj e =

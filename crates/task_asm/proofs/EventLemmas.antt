@@ -1,5 +1,5 @@
 -- Event names that are joined by +, read one after the other.
-use Rattle.std.proofs.Common.{◌≡◌, ℕ, true, false, List, [], ◌∷◌, ◌++◌, Option, Some, None, refl, sym, ap, ◌∙◌, append_assoc}
+use Rattle.std.proofs.Common.{◌≡◌, ℕ, true, List, [], ◌∷◌, ◌++◌, Option, Some, None, refl, sym, ap, ◌∙◌, append_assoc}
 use Rattle.std.specs.Option.{option_map}
 use Rattle.std.specs.Prelude.{is_some}
 use Rattle.osek_base.specs.Tokens.{Lexeme}
@@ -26,24 +26,7 @@ plus_by t us mid (Some u) e h =
 plus_first : (t : Lexeme Symbol) (us mid : Tokens) → a_mark sign.Plus (t ∷ us) ≡ Some (record { value = tt; rest = mid }) → PlusFirst t us mid
 plus_first t us mid h = plus_by t us mid (mark_of sign.Plus t) refl h
 
-no_plus_by : (t : Lexeme Symbol) (us : Tokens) (o : Option (Unit {0})) → mark_of sign.Plus t ≡ o
-    → option_map (λ x. let r : Taken (Unit {0}) = record { value = x; rest = us } in r) o ≡ None → is_plus t ≡ false
-no_plus_by t us None e h = ap (λ (o : Option (Unit {0})). is_some o) e
-no_plus_by t us (Some u) e h = absurd cc
-
-no_plus : (t : Lexeme Symbol) (us : Tokens) → a_mark sign.Plus (t ∷ us) ≡ None → is_plus t ≡ false
-no_plus t us h = no_plus_by t us (mark_of sign.Plus t) refl h
-
 -- ---- the names behind it
-
-pub more_end : (ts : Tokens) → a_mark sign.Plus ts ≡ None → more_names ts ≡ Some (record { value = []; rest = ts })
-more_end [] h = refl
-more_end (t ∷ []) h = let p = no_plus t [] h in rw p refl
-more_end (t ∷ u ∷ ts) h = let p = no_plus t (u ∷ ts) h in rw p refl
-
-name_none : (u : Lexeme Symbol) (ts : Tokens) (o : Option (List ℕ)) → name_of u ≡ o → a_name (u ∷ ts) ≡ None → name_of u ≡ None
-name_none u ts None e h = e
-name_none u ts (Some n) e h = absurd (let k = rw e at h in cc)
 
 record NameFirst (u : Lexeme Symbol) (ts : Tokens) (n : List ℕ) (last : Tokens) : Type 0 where
   name : name_of u ≡ Some n
@@ -55,16 +38,6 @@ name_first u ts n last None e h = absurd cc
 name_first u ts n last (Some m) e h =
     let same = taken_same (record { value = m; rest = ts }) (record { value = n; rest = last }) h in
     record { name = e ∙ ap (λ (r : Taken (List ℕ)). Some r.value) same; behind = ap (λ (r : Taken (List ℕ)). r.rest) same }
-
-none_at : (t : Lexeme Symbol) (us : Tokens) → is_plus t ≡ true → a_name us ≡ None → more_names (t ∷ us) ≡ None
-none_at t [] p h = rw p refl
-none_at t (u ∷ ts) p h = let e = name_none u ts (name_of u) refl h in rw (p, e) refl
-
-pub more_none : (ts mid : Tokens) → a_mark sign.Plus ts ≡ Some (record { value = tt; rest = mid }) → a_name mid ≡ None → more_names ts ≡ None
-more_none [] mid p h = absurd cc
-more_none (t ∷ us) mid p h =
-    let f = plus_first t us mid p in
-    none_at t us f.plus (ap a_name f.behind ∙ h)
 
 some_at : (t : Lexeme Symbol) (us : Tokens) (n : List ℕ) (last : Tokens) → is_plus t ≡ true → a_name us ≡ Some (record { value = n; rest = last })
     → more_names (t ∷ us) ≡ option_map (with_name n) (more_names last)

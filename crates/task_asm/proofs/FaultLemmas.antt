@@ -2,7 +2,7 @@
 use Rattle.std.proofs.Common.{◌≡◌, ℕ, ◌+◌, ◌-◌, ◌≤◌, ◌<◌, Bool, true, false, List, [], ◌∷◌, ◌++◌, length, take, drop, get_or, Option, Some, None, refl, sym, ap, ◌∙◌, arith, length-drop}
 use Rattle.std.specs.Prelude.{IfSome, if◌then◌else◌}
 use Rattle.std.specs.Option.{option_map}
-use Rattle.std.proofs.lemmas.List.{drop_more, drop-drop, drop_all, take_more, take-append-drop, get_or-drop}
+use Rattle.std.proofs.lemmas.List.{drop_more, drop-drop, take_more, take-append-drop, get_or-drop}
 use Rattle.task_asm.specs.declared.fault.AsmFault.{AsmFault}
 use Rattle.task_asm.specs.Mnemonics.{or_else}
 use Rattle.task_asm.specs.Statements.{Statement}
@@ -24,9 +24,6 @@ pub record Walk (es : List Statement) (at : ℕ) (start : Option ℕ) : Type 0 w
   pub started : IfSome start (λ s. s ≤ at)
   pub own : open_after None (take at es) ≡ own_of es at start
   pub rest : fault_behind (take at es) (drop at es) ≡ first_fault es
-
-pub begin : (es : List Statement) → Walk es 0 None
-begin es = record { within = omega arith; started = tt; own = refl; rest = refl }
 
 open_more : (o : Option (List Statement)) (xs : List Statement) (x : Statement)
     → open_after o (xs ++ x ∷ []) ≡ (if is_program x then Some [] else option_map (λ own. own ++ x ∷ []) (open_after o xs))
@@ -69,10 +66,6 @@ module _ (es : List Statement) (at : ℕ) (x : Statement) (inside : at < length 
         sym walk.rest ∙ ap (fault_behind (take at es)) here
         ∙ ap (λ (v : Option AsmFault). or_else v (fault_behind (take at es ++ x ∷ []) (drop (at + 1) es))) (value o h)
 
-    -- the fault of the statement is the first
-    pub fault_here : (e : AsmFault) → front_fault (take at es) (own_of es at start) (drop at es) ≡ Some e → first_fault es ≡ Some e
-    fault_here e fault = split (Some e) fault
-
     rest_after : front_fault (take at es) (own_of es at start) (drop at es) ≡ None → fault_behind (take (at + 1) es) (drop (at + 1) es) ≡ first_fault es
     rest_after none = ap (λ (before : List Statement). fault_behind before (drop (at + 1) es)) so_far ∙ sym (split None none)
 
@@ -100,6 +93,3 @@ module _ (es : List Statement) (at : ℕ) (x : Statement) (inside : at < length 
       own = own_after false p ∙ own_more start walk.started;
       rest = rest_after none;
     }
-
-pub at_end : (es : List Statement) (at : ℕ) (start : Option ℕ) → length es ≤ at → Walk es at start → first_fault es ≡ None
-at_end es at start past walk = sym walk.rest ∙ ap (fault_behind (take at es)) (drop_all at es past)

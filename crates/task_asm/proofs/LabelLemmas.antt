@@ -3,7 +3,7 @@ use Rattle.std.proofs.Common.{◌≡◌, ℕ, suc, ◌+◌, ◌<◌, ◌≤◌, 
 use Rattle.std.specs.Prelude.{if◌then◌else◌, bytes_eq, nat_lt}
 use Rattle.std.specs.Option.{option_map}
 use Rattle.std.specs.Map.{update}
-use Rattle.std.proofs.lemmas.List.{drop_more, drop_all}
+use Rattle.std.proofs.lemmas.List.{drop_more}
 use Rattle.std.proofs.lemmas.Slice.Eq.{bytes_eq-Decides}
 use Rattle.std.proofs.lemmas.Bool.{cases_lt, lt-ltb, le-ltb}
 use Rattle.task_asm.specs.declared.labels.Definition.{Definition}
@@ -20,9 +20,6 @@ pub record Known (es : List Statement) (at place : ℕ) (f : List ℕ → Option
   pub fewer : place ≤ at
   pub whole : (w : List ℕ) → or_else (f w) (definition_from at place (drop at es) w) ≡ definition_from 0 0 es w
 
-pub nothing : (es : List Statement) (f : List ℕ → Option Definition) → ((w : List ℕ) → f w ≡ None) → Known es 0 0 f
-nothing es f none = record { within = omega arith; fewer = omega arith; whole = λ w. rw (none w) refl }
-
 same_word : (v w : List ℕ) → bytes_eq v w ≡ true → v ≡ w
 same_word v w e = let d = bytes_eq-Decides v w in (rw e at d).0 refl
 
@@ -31,10 +28,6 @@ or_same o d p e = rw e refl
 
 or_none : (o p : Option Definition) → o ≡ None → or_else o p ≡ p
 or_none o p e = rw e refl
-
-or_nothing : (o : Option Definition) → or_else o None ≡ o
-or_nothing None = refl
-or_nothing (Some d) = refl
 
 module _ (es : List Statement) (at place : ℕ) (p : ℕ) (i : Item) (f : List ℕ → Option Definition) (inside : at < length es)
     (is : record { place = p; item = i } ≡ get_or es at (record { place = p; item = i })) (known : Known es at place f) where
@@ -57,12 +50,6 @@ module _ (es : List Statement) (at place : ℕ) (p : ℕ) (i : Item) (f : List �
     fewer = omega (arith, known.fewer);
     whole = λ w. ap (λ (j : Item). or_else (f w) (definition_from at place (record { place = p; item = j } ∷ drop (at + 1) es) w)) (sym e) ∙ left w;
   }
-
-  -- the directive ends the program
-  pub at_program : {kind : _} {o : _} → i ≡ Item.Program kind o → (w : List ℕ) → f w ≡ definition_from 0 0 es w
-  at_program e w =
-      sym (or_nothing (f w))
-      ∙ ap (λ (j : Item). or_else (f w) (definition_from at place (record { place = p; item = j } ∷ drop (at + 1) es) w)) (sym e) ∙ left w
 
   module _ (v : List ℕ) (e : i ≡ Item.Label v) where
     label_left : (w : List ℕ) → or_else (f w) (if bytes_eq v w then Some (let d : Definition = record { statement = at; place = place } in d) else definition_from (at + 1) place (drop (at + 1) es) w)
@@ -111,10 +98,6 @@ module _ (es : List Statement) (at place : ℕ) (p : ℕ) (i : Item) (f : List �
           ap (λ (o : Option Definition). or_else o (definition_from (at + 1) place (drop (at + 1) es) w)) (again_at g h d e w (bytes_eq v w) refl has (put w) (back w))
           ∙ old_at w (bytes_eq v w) refl d has (label_left w);
     }
-
-pub at_last : (es : List Statement) (at place : ℕ) (f : List ℕ → Option Definition) → length es ≤ at → Known es at place f → (w : List ℕ) → f w ≡ definition_from 0 0 es w
-at_last es at place f past known w =
-    sym (or_nothing (f w)) ∙ ap (λ (xs : List Statement). or_else (f w) (definition_from at place xs w)) (sym (drop_all at es past)) ∙ known.whole w
 
 -- ---- what they say
 

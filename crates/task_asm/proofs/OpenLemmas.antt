@@ -33,9 +33,6 @@ elim_same a (Some d) None e = absurd cc
 elim_same a (Some d) (Some n) e = refl
 
 module _ (es : List Statement) (at passed : ℕ) (o : Open) (it : IsOpen es at passed o) where
-  own : List Statement
-  own = take (at - o.start) (drop o.start es)
-
   whole : take (at - o.start) (drop o.start es) ++ drop at es ≡ drop o.start es
   whole = joined es o.start at it.started
 

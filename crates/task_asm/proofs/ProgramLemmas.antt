@@ -1,12 +1,11 @@
 -- The programs of what stands in a text, from the last statement to the first.
 use Rattle.std.proofs.Common.{◌≡◌, ℕ, suc, ◌+◌, ◌≤◌, ◌<◌, List, [], ◌∷◌, ◌++◌, length, drop, get_or, Some, None, refl, sym, ap, ◌∙◌, arith, append_assoc}
 use Rattle.std.specs.Prelude.{reverse}
-use Rattle.std.proofs.lemmas.List.{drop_more, reverse-append, append-nil}
+use Rattle.std.proofs.lemmas.List.{drop_more, reverse-append}
 use Rattle.task_asm.specs.declared.program.ProgramKind.{ProgramKind}
 use Rattle.task_asm.specs.declared.program.NamedInstr.{NamedInstr}
 use Rattle.task_asm.specs.declared.operands.Title.{Title}
 use Rattle.task_asm.specs.Programs.{Program}
-use Rattle.task_asm.specs.Lines.{Written}
 use Rattle.task_asm.specs.Statements.{Statement, Item}
 use Rattle.task_asm.specs.Meaning.{instructions, programs_of, finished, target_of}
 use Rattle.task_asm.specs.Walk.{targets_from, lines_with, programs_with}
@@ -66,9 +65,6 @@ pub record Built (es : List Statement) (ts : List ℕ) (left : List Statement) (
   pub built_lines : reverse lines ≡ lines_with rest (drop n ts)
   pub built_programs : reverse programs ≡ programs_with rest (drop n ts)
 
-pub begin : (es : List Statement) (ts : List ℕ) (n : ℕ) → n ≤ length ts → Built es ts es n [] []
-begin es ts n within = record { rest = []; whole = sym (append-nil es); within = within; built_lines = refl; built_programs = refl }
-
 module _ (es : List Statement) (ts : List ℕ) (left fewer : List Statement) (x : Statement) (n m : ℕ) (lines : List NamedInstr) (programs : List Program)
     (popped : left ≡ fewer ++ x ∷ []) (size : m + 1 ≡ n) (built : Built es ts left n lines programs) where
   here : drop m ts ≡ get_or ts m 0 ∷ drop n ts
@@ -105,13 +101,6 @@ module _ (es : List Statement) (ts : List ℕ) (left fewer : List Statement) (x 
   pub at_no_title : (place : ℕ) (kind : ProgramKind) → x ≡ record { place = place; item = Item.Program kind None } → Built es ts fewer m [] programs
   at_no_title place kind is = step_at place (Item.Program kind None) is [] programs refl built.built_programs
 
-  pub at_instruction : (place : ℕ) (w : Written) → x ≡ record { place = place; item = Item.Instruction (Some w) }
-      → (ls : List NamedInstr) → ls ≡ lines ++ finished (get_or ts m 0) w ∷ [] → Built es ts fewer m ls programs
-  at_instruction place w is ls e =
-      step_at place (Item.Instruction (Some w)) is ls programs
-      (ap reverse e ∙ reverse-append lines (finished (get_or ts m 0) w ∷ []) ∙ ap (λ (is : List NamedInstr). finished (get_or ts m 0) w ∷ is) built.built_lines)
-      built.built_programs
-
   pub at_faulty : (place : ℕ) → x ≡ record { place = place; item = Item.Instruction None } → Built es ts fewer m lines programs
   at_faulty place is = step_at place (Item.Instruction None) is lines programs built.built_lines built.built_programs
 
@@ -120,9 +109,3 @@ module _ (es : List Statement) (ts : List ℕ) (left fewer : List Statement) (x 
 
   pub at_unknown : (place : ℕ) → x ≡ record { place = place; item = Item.Unknown } → Built es ts fewer m lines programs
   at_unknown place is = step_at place Item.Unknown is lines programs built.built_lines built.built_programs
-
-pub at_end : (es : List Statement) (ts : List ℕ) (left : List Statement) (lines : List NamedInstr) (programs : List Program) (n : ℕ)
-    → left ≡ [] → n ≡ 0 → Built es ts left n lines programs → reverse programs ≡ programs_with es ts
-at_end es ts left lines programs n empty zero built =
-    built.built_programs ∙ ap (λ (k : ℕ). programs_with built.rest (drop k ts)) zero
-    ∙ ap (λ (xs : List Statement). programs_with xs ts) (sym (built.whole ∙ ap (λ (xs : List Statement). xs ++ built.rest) empty))

@@ -18,9 +18,6 @@ use Rattle.task_asm.specs.Faults.{StandsAt, Stands, NamesUnknown}
 pub same_fault : (a e : AsmFault) → Some a ≡ Some e → a ≡ e
 same_fault a e h = cc
 
-said : ℕ → Item → Statement
-said place i = record { place = place; item = i }
-
 module _ (before after : List Statement) (place : ℕ) where
   -- a fault that stands is the one that was found
   found : (own : Option (List Statement)) (i : Item) (a e : AsmFault) → Some a ≡ Some e

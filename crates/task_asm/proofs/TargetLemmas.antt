@@ -2,7 +2,7 @@
 use Rattle.std.proofs.Common.{◌≡◌, ℕ, ◌+◌, ◌<◌, ◌≤◌, List, [], ◌∷◌, ◌++◌, length, drop, get_or, Option, Some, None, refl, sym, ap, ◌∙◌, arith, append_assoc}
 use Rattle.std.specs.Prelude.{unwrap_or}
 use Rattle.std.specs.Option.{option_map}
-use Rattle.std.proofs.lemmas.List.{drop_more, drop_all, append-nil}
+use Rattle.std.proofs.lemmas.List.{drop_more}
 use Rattle.task_asm.specs.declared.labels.Definition.{Definition}
 use Rattle.task_asm.specs.declared.labels.Labels.{Labels}
 use Rattle.task_asm.specs.Lines.{Written, Ready, Jump, JumpIf, Label}
@@ -36,17 +36,7 @@ pub record Aimed (es : List Statement) (at : ℕ) (labels : Labels) (targets : L
   pub knows : Knows labels program
   pub whole : targets ++ targets_from program (drop at es) ≡ targets_of es
 
-pub begin : (es : List Statement) (labels : Labels) (targets : List ℕ) → targets ≡ [] → Knows labels es → Aimed es 0 labels targets
-begin es labels targets e knows = record { within = omega arith; program = es; knows = knows; whole = ap (λ (ts : List ℕ). ts ++ targets_of es) e }
-
-pub done : (es : List Statement) (at : ℕ) (labels : Labels) (targets : List ℕ) → length es ≤ at → Aimed es at labels targets → targets ≡ targets_of es
-done es at labels targets past it =
-    sym (append-nil targets) ∙ ap (λ (xs : List Statement). targets ++ targets_from it.program xs) (sym (drop_all at es past)) ∙ it.whole
-
 module _ (es : List Statement) (at : ℕ) (labels : Labels) (targets : List ℕ) (it : Aimed es at labels targets) (x : Statement) (inside : at < length es) (is : x ≡ get_or es at x) where
-  said : Item → Statement
-  said i = record { place = x.place; item = i }
-
   front : (i : Item) → x.item ≡ i → drop at es ≡ record { place = x.place; item = i } ∷ drop (at + 1) es
   front i e = drop_more es at x inside ∙ ap (λ (y : Statement). y ∷ drop (at + 1) es) (sym is) ∙ ap (λ (j : Item). let y : Statement = record { place = x.place; item = j } in y ∷ drop (at + 1) es) e
 

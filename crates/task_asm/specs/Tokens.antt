@@ -1,8 +1,7 @@
 -- The tokens of a program text, each with its place.
-use Rattle.std.specs.Prelude.{◌≡◌, ℕ, ◌<◌, ◌≤◌, ◌⊎◌, ◌||◌, ◌==◌, IsTrue, List, length, take, slice_index, Option, Some, None, option_map, if◌then◌else◌, codes}
+use Rattle.std.specs.Prelude.{◌≡◌, ℕ, ◌<◌, ◌≤◌, ◌⊎◌, ◌||◌, ◌==◌, List, length, take, slice_index, Option, Some, None, option_map, if◌then◌else◌, codes}
 use Rattle.osek_base.specs.declared.limits.TheConstants.{MAX_NAME}
 use Rattle.osek_base.specs.Words.{is_letter, is_digit, IsRun, IsNumeral, IsLine}
-use Rattle.osek_base.specs.Names.{is_proper_name}
 use Rattle.osek_base.specs.Tokens as base
 use Rattle.osek_base.specs.Tokens.{Lexeme, LexFails}
 use Rattle.task_asm.specs.declared.program.ProgramKind.{ProgramKind}
@@ -73,11 +72,6 @@ lexeme_of t = base.lexeme_of symbol_of t
 
 abbrev pub lexemes_of : List (Placed Token) → List (Lexeme Symbol)
 lexemes_of ts = base.lexemes_of symbol_of ts
-
--- words have 1 to 32 bytes
-abbrev pub IsProperSymbol : Symbol → Type 0
-IsProperSymbol (Word w) = IsTrue (is_proper_name w)
-IsProperSymbol _ = Unit {0}
 
 -- a function that looks for a piece of a class: what it found, or there is none
 abbrev pub GivesPiece : Class → List ℕ → Option (Piece Token) → Type 0

@@ -1,6 +1,6 @@
 -- Rows of a picture after ticks in which the same is seen.
 use Rattle.std.proofs.Common.{ℕ, zero, suc, ◌≡◌, ◌<◌, ◌≤◌, ◌+◌, ◌-◌, List, [], ◌∷◌, ◌++◌, length, ◌⊎◌, inl, inr, refl, sym, ap, ◌∙◌, subst, arith}
-use Rattle.std.proofs.lemmas.List.{append_assoc, append-nil, length-append}
+use Rattle.std.proofs.lemmas.List.{append_assoc, length-append}
 use Rattle.osek_base.specs.System.{System}
 use Rattle.observations.specs.declared.observation.Observation.{Observation}
 use Rattle.observations.specs.Seen.{alike_ticks, numbered}
@@ -42,16 +42,6 @@ pub record AreDrawnBelow (S : System) (o : Observation) (first tick : ℕ) (old 
   pub marks : (told : Records) (seen : List Observation) → length seen ≡ first
       → ((t : ℕ) → first ≤ t → t < tick → LeaveNothing (told t)) → AreMarks S told seen old
       → AreMarks S told (seen ++ alike_ticks o first (tick - first)) new
-
-none_drawn : (S : System) (o : Observation) (first : ℕ) (old : Picture) → AreDrawnBelow S o first first old old
-none_drawn S o first old =
-    let e : first - first ≡ 0 = omega arith in
-    record {
-      from = refl;
-      to = refl;
-      rows = λ seen counts are. rw (e, append-nil) are;
-      marks = λ told seen counts none are. rw (e, append-nil) are;
-    }
 
 pub one_more_drawn : (S : System) (o : Observation) (first tick end : ℕ) (old middle new : Picture)
     → AreDrawn old first end → first ≤ tick → tick < end → AreDrawnBelow S o first tick old middle → Drawn S o [] tick middle new

@@ -1,6 +1,5 @@
 -- What the refusals of a run's texts tell, once they are faults of the run.
-use Rattle.std.proofs.Common.{◌≡◌, ℕ, List, None, inl, inr, refl}
-use Rattle.std.specs.Prelude.{◌⊎◌}
+use Rattle.std.proofs.Common.{ℕ, List, inl, inr}
 use Rattle.oil_reader.specs.Configuration.{Configuration}
 use Rattle.oil_reader.specs.Faults.{HasFault as HasOilFault, Means}
 use Rattle.oil_reader.specs.declared.fault.OilFault.{OilFault}
@@ -8,16 +7,10 @@ use Rattle.task_asm.specs.Programs.{Program}
 use Rattle.task_asm.specs.Meaning.{HasFault as HasAsmFault, IsProgramText}
 use Rattle.task_asm.specs.declared.fault.AsmFault.{AsmFault}
 use Rattle.system_gen.specs.declared.fault.GenFault.{GenFault}
-use Rattle.osek_base.specs.declared.arrivals.Arrival.{Arrival}
-use Rattle.osek_base.specs.Names.{number_of}
-use Rattle.osek_base.specs.System.{System}
-use Rattle.kernel.specs.declared.boot.BootFault.{BootFault}
-use Rattle.arrival_lists.specs.ArrivalText.{IsArrivalList, IsFirstFault}
-use Rattle.tracer.specs.RunFaults.{of_oil, of_asm, of_gen, of_irq, of_boot}
+use Rattle.tracer.specs.RunFaults.{of_oil, of_asm, of_gen}
 use Rattle.system_gen.specs.Checks.{IsFoundOrMemory}
 use Rattle.system_gen.specs.Faults.{generation_fault}
-use Rattle.tracer.specs.WholeRuns.{RefusesSystem, RefusesStart}
-use Rattle.arrival_lists.specs.declared.irq_fault.IrqFault.{IrqFault}
+use Rattle.tracer.specs.WholeRuns.{RefusesSystem}
 
 pub told_of_oil : (oil asm : List ℕ) (fault : OilFault) → HasOilFault oil fault → RefusesSystem oil asm (of_oil fault)
 told_of_oil oil asm OilFault.Memory h = tt
@@ -61,22 +54,3 @@ told_of_system oil asm file programs (GenFault.Counter name) m p (inl e) = absur
 told_of_system oil asm file programs (GenFault.Counter name) m p (inr h) = (file, (programs, m, p, h))
 told_of_system oil asm file programs (GenFault.Alarm name) m p (inl e) = absurd (cc e)
 told_of_system oil asm file programs (GenFault.Alarm name) m p (inr h) = (file, (programs, m, p, h))
-
-pub told_of_arrivals : (S : System) (irqs mode : List ℕ) (fault : IrqFault) → (fault ≡ IrqFault.Memory) ⊎ IsFirstFault S.names irqs fault
-    → RefusesStart S irqs mode (of_irq fault)
-told_of_arrivals S irqs mode IrqFault.Memory h = tt
-told_of_arrivals S irqs mode (IrqFault.Syntax line) (inl e) = absurd (cc e)
-told_of_arrivals S irqs mode (IrqFault.Syntax line) (inr h) = h
-told_of_arrivals S irqs mode (IrqFault.UnknownIsr line) (inl e) = absurd (cc e)
-told_of_arrivals S irqs mode (IrqFault.UnknownIsr line) (inr h) = h
-told_of_arrivals S irqs mode (IrqFault.Order line) (inl e) = absurd (cc e)
-told_of_arrivals S irqs mode (IrqFault.Order line) (inr h) = h
-told_of_arrivals S irqs mode (IrqFault.TooMany line) (inl e) = absurd (cc e)
-told_of_arrivals S irqs mode (IrqFault.TooMany line) (inr h) = h
-told_of_arrivals S irqs mode (IrqFault.TickRange line) (inl e) = absurd (cc e)
-told_of_arrivals S irqs mode (IrqFault.TickRange line) (inr h) = h
-
-pub told_of_boot : (S : System) (irqs mode : List ℕ) (arrivals : List Arrival) (fault : BootFault) → IsArrivalList S.names irqs arrivals
-    → (fault ≡ BootFault.UnknownMode → number_of mode S.names.modes ≡ None) → RefusesStart S irqs mode (of_boot fault)
-told_of_boot S irqs mode arrivals BootFault.Memory l h = tt
-told_of_boot S irqs mode arrivals BootFault.UnknownMode l h = (arrivals, l, h refl)

@@ -1,11 +1,11 @@
 -- How a tick passes that is done only if the run isn't over.
-use Rattle.std.proofs.Common.{◌≡◌, ℕ, ◌+◌, ◌<◌, ◌≤◌, Bool, true, false, true≢false, ◌||◌, List, ◌++◌, Option, Result, Ok, Err, ◌⊎◌, inl, inr, arith, ap, sym, subst, ◌∙◌}
+use Rattle.std.proofs.Common.{◌≡◌, ℕ, ◌+◌, ◌<◌, ◌≤◌, Bool, true, false, true≢false, ◌||◌, List, ◌++◌, Option, Result, Ok, Err, arith, ap, sym, subst, ◌∙◌}
 use Rattle.std.specs.Prelude.{nat_le}
 use Rattle.std.specs.Result.{IsErrAnd}
 use Rattle.osek_base.specs.System.{System}
 use Rattle.kernel.specs.Progress.{Progress, is_over, run_of}
 use Rattle.sinks.specs.Sinks.{AppendsSome, Passes}
-use Rattle.tracer.specs.Shown.{is_view, tick_text_shown}
+use Rattle.tracer.specs.Shown.{tick_text_shown}
 use Rattle.tracer.specs.Ticks.{IsOver, PassesIfOn, TickPasses}
 use Rattle.tracer.specs.declared.shown.Shown.{Shown}
 
@@ -21,11 +21,6 @@ over_is r few =
 
 pub alive : (r : Progress) → r.ticks < 1000000 → (run_of r).state.over ≡ false → is_over r ≡ false
 alive r few on = over_is r few ∙ on
-
--- what is shown is no view
-pub unviewed : (shown : Shown) → (shown ≡ Shown.All) ⊎ (shown ≡ Shown.Blocking) → is_view shown ≡ false
-unviewed shown (inl is) = ap is_view is
-unviewed shown (inr is) = ap is_view is
 
 -- a sink and a block that are what they were before
 pub carried : {X : Type 0} (taken : X → Option (List ℕ)) (a : Option (List ℕ)) (new mid : X) (p waits held told : List ℕ) → new ≡ mid

@@ -1,13 +1,8 @@
 pub mod Sides
-pub mod Aging
 pub mod Counted
 pub mod SeenUp
 pub mod States
 pub mod Executions
 pub mod ToldAbove
 pub mod Refused
-pub mod Readying
-pub mod Lasting
 pub mod Answered
-pub mod Longest
-pub mod Bounds

@@ -1,9 +1,6 @@
--- Activations of upper tasks that are answered E_OS_LIMIT, and waits of upper tasks, are told by
--- what the upper part executes.
-use Rattle.std.proofs.Common.{◌≡◌, ℕ, Bool, true, false, cond, List, [], ◌∷◌, refl, sym, ◌∙◌, ap, ne_eqb}
-use Rattle.std.specs.Prelude.{Option, Some, None}
-use Rattle.std.specs.List.{list_any}
-use Rattle.osek_base.specs.declared.arrivals.Arrival.{Arrival}
+-- Activations of upper tasks that are answered E_OS_LIMIT are told by what the upper part executes.
+use Rattle.std.proofs.Common.{◌≡◌, ℕ, true, false, cond, refl, sym, ◌∙◌, ap, ne_eqb}
+use Rattle.std.specs.Prelude.{Some, None}
 use Rattle.osek_base.specs.declared.ids.Owner.{Owner}
 use Rattle.osek_base.specs.declared.instr.Instr.{Instr}
 use Rattle.osek_base.specs.declared.instr.Service.{Service}
@@ -11,18 +8,16 @@ use Rattle.osek_base.specs.declared.status.Status.{Status}
 use Rattle.osek_base.specs.declared.trace_event.Outcome.{Outcome}
 use Rattle.osek_base.specs.declared.trace_event.TraceEvent.{TraceEvent}
 use Rattle.osek_base.specs.System.{System}
-use Rattle.osek_base.specs.Upper.{is_upper_task, is_upper_owner}
+use Rattle.osek_base.specs.Upper.{is_upper_task}
 use Rattle.osek_base.specs.Separable.{names_upper}
 use Rattle.osek_base.specs.Agree.{renumbered}
 use Rattle.partition_check.proofs.ListsUp.{true≢false}
 use Rattle.partition_check.proofs.ExecuteUp.{found}
 use Rattle.upper_bounds.specs.ExecutedAbove.{refused_to, ExecuteTheSame, ExecutionsAreTheSame}
-use Rattle.same_future.specs.Alike.{records_at}
 use Rattle.same_future.specs.Incidents.{activates, tells_limit}
-use Rattle.same_future.specs.Spans.{is_wait_of}
-use Rattle.upper_bounds.specs.Above.{IsUpperTask, AreOneAbove}
+use Rattle.upper_bounds.specs.Above.{AreOneAbove}
 use Rattle.upper_bounds.proofs.Sides.{upper_there, of_the_part}
-use Rattle.upper_bounds.proofs.ToldAbove.{told, GoesByUpper, executions_same, told_same}
+use Rattle.upper_bounds.proofs.ToldAbove.{GoesByUpper, executions_same, told_same}
 
 -- ---- refused activations
 
@@ -99,76 +94,3 @@ execute_the_same S B p pair =
 
 pub executions_are_the_same : ExecutionsAreTheSame
 executions_are_the_same = of_the_part ExecuteTheSame execute_the_same
-
--- ---- waits
-
-abbrev pub told_if : (TraceEvent → Bool) → TraceEvent → Option ℕ
-told_if test e = cond (test e) (Some 0) None
-
-abbrev pub is_any : List ℕ → Bool
-is_any [] = false
-is_any (n ∷ ns) = true
-
-any_told : (test : TraceEvent → Bool) (events : List TraceEvent)
-    → list_any test events ≡ is_any (told (told_if test) events)
-any_told test [] = refl
-any_told test (e ∷ events) = go (test e) refl (any_told test events)
-  where
-    go : (b : Bool) → test e ≡ b → list_any test events ≡ is_any (told (told_if test) events)
-        → list_any test (e ∷ events) ≡ is_any (told (told_if test) (e ∷ events))
-    go true is rest = rw is refl
-    go false is rest = rw is rest
-
-wait_up : (S : System) (p t : ℕ) (who : Owner) (place : ℕ) (what : Instr) (outcome : Outcome)
-    → is_wait_of t (TraceEvent.Executed who place what outcome)
-    ≡ is_wait_of t (TraceEvent.Executed who place (renumbered S p what) outcome)
-wait_up S p t (Owner.Routine i) place what outcome = refl
-wait_up S p t (Owner.Task u) place (Instr.Plain x) outcome = refl
-wait_up S p t (Owner.Task u) place (Instr.Control x) outcome = refl
-wait_up S p t (Owner.Task u) place (Instr.Service (Service.GetResource r)) outcome = refl
-wait_up S p t (Owner.Task u) place (Instr.Service (Service.ReleaseResource r)) outcome = refl
-wait_up S p t (Owner.Task u) place (Instr.Service (Service.LoadShared r x)) outcome = refl
-wait_up S p t (Owner.Task u) place (Instr.Service (Service.StoreShared r x y)) outcome = refl
-wait_up S p t (Owner.Task u) place (Instr.Service (Service.SetRelAlarm a x y)) outcome = refl
-wait_up S p t (Owner.Task u) place (Instr.Service (Service.SetAbsAlarm a x y)) outcome = refl
-wait_up S p t (Owner.Task u) place (Instr.Service (Service.CancelAlarm a)) outcome = refl
-wait_up S p t (Owner.Task u) place (Instr.Service (Service.GetAlarm a)) outcome = refl
-wait_up S p t (Owner.Task u) place (Instr.Service (Service.GetAlarmBase a)) outcome = refl
-wait_up S p t (Owner.Task u) place (Instr.Service call) outcome = refl
-
-wait_none : (S : System) (p t : ℕ) → is_upper_task S p t ≡ true → (who : Owner) (place : ℕ)
-    (what : Instr) (outcome : Outcome) → is_upper_owner S p who ≡ false
-    → is_wait_of t (TraceEvent.Executed who place what outcome) ≡ false
-wait_none S p t high (Owner.Task u) place (Instr.Service (Service.WaitEvent m))
-    (Outcome.Answer Status.Ok answer) low =
-    ne_eqb u t (λ e. true≢false (sym high ∙ ap (is_upper_task S p) (sym e) ∙ low))
-wait_none S p t high who place what outcome low = refl
-
-waits_upper : (S : System) (p t : ℕ) → is_upper_task S p t ≡ true
-    → GoesByUpper (told_if (is_wait_of t)) S p
-waits_upper S p t high =
-    record {
-      only =
-          record {
-            pre = λ u. refl;
-            post = λ u. refl;
-            error = λ who what status. refl;
-            shutdown = λ n. refl;
-          };
-      idle = refl;
-      upper = λ who place what outcome is.
-          ap (λ (b : Bool). cond b (Some 0) None) (wait_up S p t who place what outcome);
-      lower = λ who place what outcome low named.
-          ap (λ (b : Bool). cond b (Some 0) None) (wait_none S p t high who place what outcome low);
-    }
-
--- a task calls WaitEvent in both or in neither
-pub waits_same : (S B : System) (p : ℕ) → AreOneAbove S B p → (t : ℕ) → IsUpperTask S p t
-    → (mode : ℕ) (arrivals : List Arrival) (n : ℕ)
-    → list_any (is_wait_of t) (records_at S mode arrivals n)
-    ≡ list_any (is_wait_of t) (records_at B mode arrivals n)
-waits_same S B p pair t mine mode arrivals n =
-    any_told (is_wait_of t) (records_at S mode arrivals n)
-    ∙ ap is_any (told_same (told_if (is_wait_of t)) S B p pair (waits_upper S p t mine.upper)
-    (waits_upper B p t (upper_there S B p pair t mine).upper) mode arrivals n)
-    ∙ sym (any_told (is_wait_of t) (records_at B mode arrivals n))

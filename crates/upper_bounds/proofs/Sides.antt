@@ -4,14 +4,12 @@ use Rattle.std.proofs.lemmas.List.{length-map}
 use Rattle.osek_base.specs.declared.arrivals.Arrival.{Arrival}
 use Rattle.osek_base.specs.System.{System, Routine, Task}
 use Rattle.osek_base.specs.State.{State}
-use Rattle.osek_base.specs.Tick.{tick}
 use Rattle.osek_base.specs.Trace.{run}
 use Rattle.osek_base.specs.Agree.{upper_core, upper_part, upper_routine}
 use Rattle.osek_base.specs.Proper.{IsProper}
 use Rattle.osek_base.specs.Separable.{Separable}
 use Rattle.partition_check.proofs.UpperState.{up}
 use Rattle.partition_check.proofs.RunLemmas.{runs_related}
-use Rattle.partition_check.proofs.IsolationLemmas.{Agree-core}
 use Rattle.partition_check.proofs.Core.{counterpart, low}
 use Rattle.partition_check.proofs.Dispatch.{lines_none}
 use Rattle.partition_check.proofs.Boot.{boot_alike}
@@ -45,23 +43,6 @@ module _ (S : System) (p : ℕ) (proper : IsProper S) (separable : Separable S p
       mode arrivals (booted.layered, sym booted.state, refl, booted.lines) n in
       record { layered = related.0; state = related.1 }
 
-  pub tick_beside : (arrived : List ℕ) (s c : State) → IsBeside S p s c
-      → IsBeside S p (tick S arrived s).after (tick (upper_core S p) arrived c).after
-  tick_beside arrived s c beside =
-      let alike = tick_alike S p both below proper separable arrived s beside.layered in
-      record {
-        layered = alike.layered;
-        state = ap (λ x. (tick (upper_core S p) arrived x).after) beside.state ∙ sym alike.state;
-      }
-
-  -- in tick n of a run
-  pub later_beside : (mode : ℕ) (arrivals : List Arrival) (n : ℕ) (arrived : List ℕ)
-      → IsBeside S p (tick S arrived (run S mode arrivals n).state).after
-      (tick (upper_core S p) arrived (run (upper_core S p) mode arrivals n).state).after
-  later_beside mode arrivals n arrived =
-      tick_beside arrived (run S mode arrivals n).state (run (upper_core S p) mode arrivals n).state
-      (run_beside mode arrivals n)
-
 -- what is one state of the core is one state from above
 pub one_state : (S B : System) (p : ℕ) (s b c d : State) → IsBeside S p s c → IsBeside B p b d
     → c ≡ d → up S p s ≡ up B p b
@@ -92,32 +73,6 @@ of_the_part IsTheSame others =
     }
 
 module _ (S B : System) (p : ℕ) (pair : AreOneAbove S B p) where
-  cores : upper_core S p ≡ upper_core B p
-  cores = Agree-core S B p pair.agree
-
-  -- after every number of ticks
-  pub same_state : (mode : ℕ) (arrivals : List Arrival) (n : ℕ)
-      → up S p (run S mode arrivals n).state ≡ up B p (run B mode arrivals n).state
-  same_state mode arrivals n =
-      one_state S B p (run S mode arrivals n).state (run B mode arrivals n).state
-      (run (upper_core S p) mode arrivals n).state (run (upper_core B p) mode arrivals n).state
-      (run_beside S p pair.proper pair.separable mode arrivals n)
-      (run_beside B p pair.proper_there pair.separable_there mode arrivals n)
-      (ap (λ C. (run C mode arrivals n).state) cores)
-
-  -- and a tick later, whatever arrives
-  pub same_later : (mode : ℕ) (arrivals : List Arrival) (n : ℕ) (arrived : List ℕ)
-      → up S p (tick S arrived (run S mode arrivals n).state).after
-      ≡ up B p (tick B arrived (run B mode arrivals n).state).after
-  same_later mode arrivals n arrived =
-      one_state S B p (tick S arrived (run S mode arrivals n).state).after
-      (tick B arrived (run B mode arrivals n).state).after
-      (tick (upper_core S p) arrived (run (upper_core S p) mode arrivals n).state).after
-      (tick (upper_core B p) arrived (run (upper_core B p) mode arrivals n).state).after
-      (later_beside S p pair.proper pair.separable mode arrivals n arrived)
-      (later_beside B p pair.proper_there pair.separable_there mode arrivals n arrived)
-      (ap (λ C. (tick C arrived (run C mode arrivals n).state).after) cores)
-
   -- the same tasks are upper
   pub upper_there : (t : ℕ) → IsUpperTask S p t → IsUpperTask B p t
   upper_there t h =

@@ -3,7 +3,6 @@ use Rattle.std.proofs.Common.{◌≡◌, ℕ, ◌/◌, ◌<◌, List, length, re
 use Rattle.std.specs.Prelude.{IsTrue, slice_index}
 use Rattle.std.specs.Option.{option_map}
 use Rattle.std.proofs.lemmas.List.{length-map}
-use Rattle.osek_base.specs.declared.arrivals.Arrival.{Arrival}
 use Rattle.osek_base.specs.declared.ids.ResId.{ResId}
 use Rattle.osek_base.specs.declared.ids.Owner.{Owner}
 use Rattle.osek_base.specs.System.{System, alarm, counter_of, task}
@@ -31,7 +30,7 @@ use Rattle.partition_check.proofs.TickUp.{before_alike}
 use Rattle.partition_check.proofs.PartAgrees.{all_upper}
 use Rattle.upper_bounds.specs.Above.{IsUpperTask, IsTheSameResource, IsTheSameAlarm, AreOneAbove}
 use Rattle.upper_bounds.specs.StatesAbove.{oldest_job, but_held, counts_from, counts_left, executes, IsTaskSeenTheSame, IsSeenTheSame, DeclareTheSame, HaveTheSameStates, StatesAreSeenTheSame}
-use Rattle.upper_bounds.proofs.Sides.{IsBeside, both, below, run_beside, later_beside, one_state, upper_there, of_the_part}
+use Rattle.upper_bounds.proofs.Sides.{IsBeside, both, below, run_beside, one_state, upper_there, of_the_part}
 use Rattle.upper_bounds.proofs.Counted.{left_same}
 use Rattle.upper_bounds.proofs.SeenUp.{holder_of, holder_declared, holder_scheduler, oldest_up, priority_up, holder_up, counts_up, task_executes, routine_executes}
 
@@ -195,21 +194,6 @@ same_states S B p pair =
           (run_beside B p pair.proper_there pair.separable_there mode arrivals n))
           (ap (λ C. (tick C (arriving arrivals n) (run C mode arrivals n).state).executing) one);
     }
-
--- a tick later, whatever the end
-pub later_states : (S B : System) (p : ℕ) → AreOneAbove S B p → (mode : ℕ) (arrivals : List Arrival)
-    (n : ℕ) → IsSeenTheSame S B p (tick S (arriving arrivals n) (run S mode arrivals n).state).after
-    (tick B (arriving arrivals n) (run B mode arrivals n).state).after
-later_states S B p pair mode arrivals n =
-    beside_same S B p pair
-    (tick S (arriving arrivals n) (run S mode arrivals n).state).after
-    (tick B (arriving arrivals n) (run B mode arrivals n).state).after
-    (tick (upper_core S p) (arriving arrivals n) (run (upper_core S p) mode arrivals n).state).after
-    (tick (upper_core B p) (arriving arrivals n) (run (upper_core B p) mode arrivals n).state).after
-    (later_beside S p pair.proper pair.separable mode arrivals n (arriving arrivals n))
-    (later_beside B p pair.proper_there pair.separable_there mode arrivals n (arriving arrivals n))
-    (ap (λ C. (tick C (arriving arrivals n) (run C mode arrivals n).state).after)
-    (Agree-core S B p pair.agree))
 
 -- ---- the numbers of the upper part by itself
 

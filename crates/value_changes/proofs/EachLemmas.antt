@@ -95,9 +95,3 @@ module _ {V T : Type 0} (after : V → T → V) where
       ∙ ap (λ (l : List ℕ). start ++ l)
       (ap (λ (m : ℕ). front ++ text m (get_or vs i d) (get_or xs i e)) (sym begun)
       ∙ sym (changes_more text 0 vs xs i d e h k) ∙ ap (λ (m : ℕ). changes_from text 0 vs (take m xs)) (sym (add-one i)))
-
-  -- no value goes
-  pub length-after : (vs : List V) (xs : List T) → length (values_after after vs xs) ≡ length vs
-  length-after vs [] = refl
-  length-after [] (x ∷ xs) = refl
-  length-after (v ∷ vs) (x ∷ xs) = ap suc (length-after vs xs)

@@ -1,44 +1,18 @@
 -- A walk in whose ticks a job of a task stood.
-use Rattle.std.proofs.Common.{ℕ, ◌≡◌, ◌+◌, List, inl, inr, refl, sym, ◌∙◌, ap, subst, arith}
-use Rattle.std.proofs.lemmas.Bool.{cases_lt}
+use Rattle.std.proofs.Common.{ℕ, ◌≡◌, List, sym, ◌∙◌, ap, subst}
 use Rattle.osek_base.specs.declared.arrivals.Arrival.{Arrival}
 use Rattle.osek_base.specs.System.{System}
 use Rattle.kernel.specs.Progress.{Progress}
 use Rattle.needed_data.specs.Need.{Need}
 use Rattle.same_future.specs.Alike.{kept_after}
 use Rattle.state_keys.specs.Key.{key}
-use Rattle.endless_runs.specs.Unending.{Stands, StandsBetween}
+use Rattle.endless_runs.specs.Unending.{StandsBetween}
 use Rattle.witnesses.specs.Walks.{ComesTwice}
 
 -- a walk is some ticks behind another one, and in each of them a job of a task stood
 pub record HasStood (first now : Progress) (k : ℕ) : Type 0 where
   pub same : now ≡ record first { ticks = now.ticks }
   pub stands : StandsBetween first.system first.mode first.arrivals first.ticks now.ticks k
-
-pub stood_none : (first : Progress) (k : ℕ) → HasStood first first k
-stood_none first k = record {
-  same = refl;
-  stands = λ t high low. absurd (omega (arith, high, low));
-}
-
-pub stood_more : (first old new : Progress) (k : ℕ) → HasStood first old k
-    → new ≡ record old { ticks = old.ticks + 1 }
-    → ((n : ℕ) → new.ticks ≡ n + 1 → Stands new.system new.mode new.arrivals n k)
-    → HasStood first new k
-stood_more first old new k has step last =
-    let more : new.ticks ≡ old.ticks + 1 = ap (λ (r : Progress). r.ticks) step in
-    let same : new ≡ record first { ticks = new.ticks } =
-    step ∙ ap (λ (r : Progress). record r { ticks = old.ticks + 1 }) has.same
-    ∙ ap (λ n. record first { ticks = n }) (sym more) in
-    record {
-      same = same;
-      stands = λ t high low. elim (cases_lt t old.ticks) [
-        | inl early ↦ has.stands t high early
-        | inr late ↦
-            let is : new.ticks ≡ t + 1 = omega (arith, more, low, late) in
-            subst (λ (r : Progress). Stands r.system r.mode r.arrivals t k) same (last t is)
-      ];
-    }
 
 -- the key of a walk's state
 abbrev pub key_now : Need → Progress → List ℕ

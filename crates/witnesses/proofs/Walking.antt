@@ -1,5 +1,5 @@
 -- What a walk keeps of its run, tick by tick.
-use Rattle.std.proofs.Common.{ℕ, suc, ◌≡◌, ◌<◌, ◌≤◌, ◌+◌, true, false, List, map, length, sym, ◌∙◌, ap, subst, arith}
+use Rattle.std.proofs.Common.{ℕ, suc, ◌≡◌, ◌<◌, ◌+◌, true, false, List, map, length, sym, ◌∙◌, ap, subst, arith}
 use Rattle.std.specs.Prelude.{slice_range}
 use Rattle.std.specs.List.{All}
 use Rattle.osek_base.specs.declared.arrivals.Arrival.{Arrival}
@@ -12,15 +12,11 @@ use Rattle.kernel.specs.Machine.{HasCome, IsBooted, Machine, next_tick, picture,
 use Rattle.kernel.specs.Progress.{AreKnown, AreLeft}
 use Rattle.kernel.proofs.ArrivalLemmas.{all_left, arriving_known}
 use Rattle.observations.specs.declared.observation.Observation.{Observation}
-use Rattle.observations.specs.Seen.{Seen, seen_of}
-use Rattle.figures.specs.ResponseSums.{standing}
-use Rattle.figures.specs.StateSums.{leaves}
+use Rattle.observations.specs.Seen.{seen_of}
 use Rattle.same_future.specs.Alike.{kept_after}
 use Rattle.same_future.proofs.Futures.{kept_more}
 use Rattle.shown_ticks.specs.Seen.{seen_in}
-use Rattle.bound_labels.specs.Ticks.{task_tick}
-use Rattle.endless_runs.specs.Unending.{Stands}
-use Rattle.witnesses.specs.Walks.{IsShown, IsStanding, IsWalk}
+use Rattle.witnesses.specs.Walks.{IsShown, IsWalk}
 
 -- ---- before the first tick
 
@@ -127,13 +123,3 @@ module _ (S : System) (mode : ℕ) (arrivals : List Arrival) (routines : List �
           let same : now ≡ n = omega (arith, is, step) in
           subst (λ k. IsShown S mode arrivals k other) same shown;
     }
-
-  pub stood : (k n : ℕ) → IsStanding (task_tick (seen_of seen) k) → now ≡ n + 1
-      → Stands S mode arrivals n k
-  stood k n standing_is is =
-      let last : IsShown S mode arrivals n seen = walk.last n is in
-      record {
-        going = last.going;
-        stands = subst (λ (x : Seen). 1 ≤ standing (task_tick x k)) last.seen standing_is.stands;
-        stays = ap (λ (x : Seen). leaves (task_tick x k)) (sym last.seen) ∙ standing_is.stays;
-      }

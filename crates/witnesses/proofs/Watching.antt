@@ -2,7 +2,6 @@
 use Rattle.std.proofs.Common.{ℕ, suc, ◌≡◌, ◌<◌, ◌≤◌, ◌+◌, ◌-◌, ◌^◌, Bool, true, false, List, [], ◌∷◌, map, length, refl, sym, ◌∙◌, ap, subst, arith, add-one, true≢false}
 use Rattle.std.specs.Prelude.{◌||◌, IfSome, Option, Some, None, cond, nat_le, nat_lt, not, slice_index_or}
 use Rattle.osek_base.specs.declared.arrivals.Arrival.{Arrival}
-use Rattle.std.proofs.lemmas.Bool.{leb-true}
 use Rattle.osek_base.specs.declared.limits.TheConstants.{MAX_TICKS}
 use Rattle.osek_base.specs.BlockingText.{blockers_at}
 use Rattle.osek_base.specs.Proper.{IsProper}
@@ -115,39 +114,6 @@ goes_on first old new n more k number v w same is step =
     let after : IsWatched first new (n + (more + 1)) number w =
     subst (λ m. IsWatched first new m number w) (omega arith) (step before) in
     subst (λ j. IsWatched first new (n + (more + 1)) j w) same after
-
--- one tick more tells whether a run is over
-pub told_by_one_more : (r : Progress) (goes : Bool) → r.ticks < MAX_TICKS → goes ≡ not (is_over r)
-    → not goes ≡ (run_of r).state.over
-told_by_one_more r goes low is =
-    ap not is ∙ go (nat_le MAX_TICKS r.ticks) (run_of r).state.over refl
-  where
-    go : (b over : Bool) → nat_le MAX_TICKS r.ticks ≡ b → not (not (b || over)) ≡ over
-    go false false is = refl
-    go false true is = refl
-    go true over is = let high = leb-true MAX_TICKS r.ticks is in absurd (omega (arith, low, high))
-
-pub ended : (first now : Progress) (n k : ℕ) (w : Watched) (over : Bool) → IsWatched first now n k w
-    → over ≡ (run_of now).state.over
-    → Watches first.system first.mode first.arrivals n k (record w { is_over = over })
-ended first now n k w over is ends = record {
-  figures = record {
-    seen = is.watches.seen;
-    ticks = is.watches.ticks;
-    told = is.watches.told;
-    are = record {
-      task = is.watches.are.task;
-      routine = is.watches.are.routine;
-      resource = is.watches.are.resource;
-      alarm = is.watches.are.alarm;
-      last = is.watches.are.last;
-      jobs = is.watches.are.jobs;
-      blocked = is.watches.are.blocked;
-      failure = is.watches.are.failure;
-    };
-  };
-  over = ends ∙ ap (λ (r : Progress). (run_of r).state.over) is.same;
-}
 
 -- ---- what is shown
 
