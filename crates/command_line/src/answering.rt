@@ -14,7 +14,7 @@ use command_texts::{explain_fault, explain_verdict, write_shown};
 use run_views::Progress;
 use std::alloc::{AllocError, Global};
 use std::convert::AsStr;
-use std::io::Write;
+use std::io::{self, Write};
 use system_gen::class_of;
 use tracer::RunFault;
 
@@ -136,7 +136,13 @@ fn print_help<O: Write, E: Write>(error: LineError, out: &mut O, err: &mut E) ->
         let _ = write!(err, "{error}");
         return REFUSED_LINE;
     }
-    if write!(out, "{error}").is_err() || out.flush().is_err() {
+    let written = write!(out, "{error}");
+    end_print(written, out, err)
+}
+
+/// Gives the exit status behind a text that was written.
+fn end_print<O: Write, E: Write>(written: io::Result<()>, out: &mut O, err: &mut E) -> u8 {
+    if written.is_err() || out.flush().is_err() {
         let _ = writeln!(err, "write");
         return WRITE_FAILED;
     }
@@ -157,6 +163,10 @@ fn answer_asked<F: Files, O: Write, E: Write>(
         Ok(Asked::System(request)) => answer(alloc, &request, files, out, err, shows_progress),
         Ok(Asked::Make(line)) => make_files(alloc, line, files, err),
         Ok(Asked::Import(names)) => answer_import(alloc, &names, files, out, err),
+        Ok(Asked::Text(text)) => {
+            let written = out.write_all(text.as_bytes());
+            end_print(written, out, err)
+        }
     }
 }
 

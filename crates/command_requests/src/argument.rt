@@ -73,6 +73,53 @@ impl Argument {
         }
     }
 
+    /// What the help says of it.
+    pub(crate) fn help(&self) -> &'static str {
+        match *self {
+            Argument::Word(_, _, help)
+            | Argument::Words(_, help)
+            | Argument::Flag(_, help)
+            | Argument::Option(_, _, _, help)
+            | Argument::Required(_, _, _, help) => help,
+        }
+    }
+
+    /// Whether it is no option.
+    pub(crate) fn is_word(&self) -> bool {
+        match *self {
+            Argument::Word(_, _, _) | Argument::Words(_, _) => true,
+            Argument::Flag(_, _) | Argument::Option(_, _, _, _) | Argument::Required(_, _, _, _) =>
+                false,
+        }
+    }
+
+    /// What the help calls the value of an option that has one.
+    pub(crate) fn value(&self) -> Option<&'static str> {
+        match *self {
+            Argument::Option(_, value, _, _) | Argument::Required(_, _, value, _) => Some(value),
+            Argument::Word(_, _, _) | Argument::Words(_, _) | Argument::Flag(_, _) => None,
+        }
+    }
+
+    /// The letter of an option that has one.
+    pub(crate) fn letter(&self) -> Option<char> {
+        match *self {
+            Argument::Required(letter, _, _, _) => Some(letter),
+            Argument::Word(_, _, _)
+            | Argument::Words(_, _)
+            | Argument::Flag(_, _)
+            | Argument::Option(_, _, _, _) => None,
+        }
+    }
+
+    /// Whether a line may have it several times.
+    pub(crate) fn is_many(&self) -> bool {
+        matches!(
+            *self,
+            Argument::Words(_, _) | Argument::Option(_, _, Takes::Texts, _)
+        )
+    }
+
     /// As clap has it.
     pub(crate) fn arg<'a>(&self, alloc: Global) -> Arg<'a> {
         match *self {

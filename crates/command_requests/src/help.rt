@@ -177,6 +177,10 @@ printed.
 Example:
   osek import application.oil implementation.oil > system.oil";
 
+pub(crate) const MAN: &str = "Prints the manual page, for `man -l -`";
+
+pub(crate) const COMPLETIONS: &str = "Prints completions for a shell";
+
 pub(crate) const HINT: &str =
     "`--help` also tells the exit statuses, `osek SUBCOMMAND --help` the words of a subcommand.";
 

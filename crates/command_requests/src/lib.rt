@@ -2,13 +2,16 @@
 #![tactic(auto)]
 
 mod argument;
+mod bash_completions;
 mod bounds_line;
 mod fault;
 mod help;
 mod lines;
+mod man_page;
 mod reading;
 mod request;
 mod subcommand;
+mod zsh_completions;
 
 pub use bounds_line::{BoundsLine, Distance, Wanted};
 pub use reading::read_line;

@@ -4,7 +4,8 @@ use crate::argument::{Argument, Takes};
 use crate::bounds_line::{MAX_LONGEST, MAX_STATES};
 use crate::help;
 use crate::subcommand::Subcommand;
-use clap::Command;
+use clap::builder::ValueParser;
+use clap::{Arg, ArgAction, Command};
 use osek_base::{MAX_TASK_PRIORITY, MAX_TICKS};
 use std::alloc::{AllocError, Global};
 
@@ -35,8 +36,8 @@ const RUN: [Argument; 3] = [
 
 /// Which ticks of a run are shown.
 const PART: [Argument; 2] = [
-    Argument::Option("from", "from", TICKS, help::FROM),
-    Argument::Option("to", "to", TICKS, help::TO),
+    Argument::Option("from", "TICK", TICKS, help::FROM),
+    Argument::Option("to", "TICK", TICKS, help::TO),
 ];
 
 fn trace() -> Subcommand {
@@ -83,7 +84,7 @@ fn timeline() -> Subcommand {
             &SYSTEM,
             &RUN,
             &PART,
-            &[Argument::Option("rows", "rows", Takes::Text, help::ROWS)],
+            &[Argument::Option("rows", "NAMES", Takes::Text, help::ROWS)],
         ],
         alternatives: &[],
     }
@@ -100,8 +101,8 @@ fn stats() -> Subcommand {
             &[
                 Argument::Flag("csv", help::CSV),
                 Argument::Flag("json", help::JSON),
-                Argument::Option("from", "from", TICKS, help::FIRST),
-                Argument::Option("to", "to", TICKS, help::LAST),
+                Argument::Option("from", "TICK", TICKS, help::FIRST),
+                Argument::Option("to", "TICK", TICKS, help::LAST),
                 Argument::Option("limit", "NAME=TICKS", Takes::Texts, help::LIMIT),
                 Argument::Flag("no-loss", help::NO_LOSS),
                 Argument::Flag("no-refusal", help::NO_REFUSAL),
@@ -201,8 +202,13 @@ fn import() -> Subcommand {
     }
 }
 
+/// What means the same in each subcommand that has it.
+pub(crate) fn shared() -> [&'static [Argument]; 4] {
+    [&SYSTEM, &RUN, &[P], &PART]
+}
+
 /// All of them, in the order of the help.
-fn subcommands() -> [Subcommand; 12] {
+pub(crate) fn subcommands() -> [Subcommand; 12] {
     [
         trace(),
         upper(),
@@ -230,6 +236,29 @@ fn commands<'a>(alloc: Global) -> Result<Vec<Command<'a>>, AllocError> {
 /// What the command is called, whatever the file that runs is.
 const NAME: &str = "osek";
 
+/// The names of the shells that there are completions for.
+pub(crate) const SHELLS: [&str; 2] = ["bash", "zsh"];
+
+/// The options of the program, without a subcommand.
+fn own_args<'a>(alloc: Global) -> Result<Vec<Arg<'a>>, AllocError> {
+    let mut args = Vec::new(alloc);
+    args.push(
+        Arg::new(alloc, "man")
+            .long("man")
+            .action(ArgAction::SetTrue)
+            .help(help::MAN),
+    )?;
+    args.push(
+        Arg::new(alloc, "completions")
+            .long("completions")
+            .value_name("SHELL")
+            .value_parser(ValueParser::Names(&SHELLS))
+            .conflicts_with("man")?
+            .help(help::COMPLETIONS),
+    )?;
+    Ok(args)
+}
+
 /// The program's line with its subcommands.
 pub(crate) fn lines<'a>(alloc: Global) -> Result<Command<'a>, AllocError> {
     let commands = commands(alloc)?;
@@ -239,7 +268,10 @@ pub(crate) fn lines<'a>(alloc: Global) -> Result<Command<'a>, AllocError> {
         .long_version(help::LONG_VERSION)
         .after_help(help::HINT)
         .after_long_help(help::STATUSES)
-        .subcommand_required(true)
+        .arg_required_else_help(true)
+        .args_conflicts_with_subcommands(true)
+        .args(own_args(alloc)?)?
+        .override_usage("osek <COMMAND>")
         .bin_name(NAME)?
         .subcommands(commands)
 }

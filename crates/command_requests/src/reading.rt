@@ -1,10 +1,13 @@
 //! Reads what a command line asks for.
 
+use crate::bash_completions::bash_completions;
 use crate::bounds_line::{distances, figure_fault, searched};
 use crate::fault::Fault;
 use crate::help;
 use crate::lines::lines;
+use crate::man_page::man_page;
 use crate::request::{Asked, Lines, MakeLine, Question, Request, RunLine, StatsLine, View};
+use crate::zsh_completions::zsh_completions;
 use clap::error::ErrorKind;
 use clap::{ArgMatches, Command, Error};
 use figure_texts::{Form, Limit};
@@ -192,6 +195,18 @@ fn request_of<'a>(
     })
 }
 
+/// The manual page or the completions, where a line asks for them.
+fn text_of(alloc: Global, matches: &ArgMatches<'_>) -> Result<Option<String>, AllocError> {
+    if matches.get_flag("man") {
+        return Ok(Some(man_page(alloc)?));
+    }
+    match matches.get_str("completions") {
+        Some("zsh") => Ok(Some(zsh_completions(alloc)?)),
+        Some(_) => Ok(Some(bash_completions(alloc)?)),
+        None => Ok(None),
+    }
+}
+
 /// What the matches of a line ask for.
 fn asked_of<'a>(
     alloc: Global,
@@ -199,7 +214,10 @@ fn asked_of<'a>(
     has_mode: bool,
 ) -> Result<Asked<'a>, Fault> {
     let Some((name, found)) = matches.subcommand() else {
-        return Err(Fault::Refused(ErrorKind::MissingSubcommand, "a subcommand is wanted"));
+        return match text_of(alloc, matches)? {
+            Some(text) => Ok(Asked::Text(text)),
+            None => Err(Fault::Refused(ErrorKind::MissingSubcommand, "a subcommand is wanted")),
+        };
     };
     match name {
         "make" => Ok(Asked::Make(MakeLine {

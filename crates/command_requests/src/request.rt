@@ -176,11 +176,12 @@ pub struct MakeLine<'a> {
     pub folder: &'a str,
 }
 
-/// What a command line asks for: something of a system, the files of a description, or the import
-/// of files of these names.
+/// What a command line asks for: something of a system, the files of a description, the import of
+/// files of these names, or a text that is printed as it is.
 #[derive(Drop)]
 pub enum Asked<'a> {
     System(Request<'a>),
     Make(MakeLine<'a>),
     Import(Vec<&'a str>),
+    Text(String),
 }
