@@ -16,7 +16,8 @@ _osek_options() {
 const OFFERS: &str = "  esac
 }
 
-# Offers, for the word at the cursor, subcommands, options, folders behind options that take one, or names of files.
+# Offers, for the word at the cursor, subcommands, options, folders behind options that take one,
+# or names of files.
 _osek() {
   local word=${COMP_WORDS[COMP_CWORD]} before=${COMP_WORDS[COMP_CWORD - 1]} subcommand='' at
   local subcommands='";

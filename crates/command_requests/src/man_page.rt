@@ -15,9 +15,11 @@ osek \\- run OSEK systems tick by tick, and check what holds of them
 .br
 \\fBosek help\\fR \\fISUBCOMMAND\\fR
 .br
-\\fBosek\\fR \\fB\\-\\-help\\fR | \\fB\\-\\-version\\fR | \\fB\\-\\-man\\fR | \\fB\\-\\-completions\\fR \\fISHELL\\fR
+\\fBosek\\fR \\fB\\-\\-help\\fR | \\fB\\-\\-version\\fR | \\fB\\-\\-man\\fR |
+\\fB\\-\\-completions\\fR \\fISHELL\\fR
 .SH DESCRIPTION
-\\fBosek\\fR reads a system: an OIL file, the programs of its tasks and interrupt routines, and a list of interrupts.
+\\fBosek\\fR reads a system: an OIL file, the programs of its tasks and interrupt routines,
+and a list of interrupts.
 It prints the trace of every tick, and tells what holds of the system.
 .SH WORDS
 \\fB\\-\\fR in place of a file's name is standard input, for one of them.
@@ -67,13 +69,14 @@ Where a system can be cut, and why not elsewhere:
 .SH IN THE REPOSITORY
 The script \\fB./osek\\fR at the top of the repository builds this program and runs it.
 It explains refusals and denials without being told, unless the line has \\fB\\-\\-brief\\fR.
-\\fB./osek \\-\\-unproved\\fR runs a program that is built without proofs, and so does \\fB./osek\\fR where the variable
-\\fBOSEK_UNPROVED\\fR is 1.
-\\fB./osek install\\fR \\fIFOLDER\\fR copies the proved program, this page and completions for bash and zsh into a folder.
+\\fB./osek \\-\\-unproved\\fR runs a program that is built without proofs, and so does
+\\fB./osek\\fR where the variable \\fBOSEK_UNPROVED\\fR is 1.
+\\fB./osek install\\fR \\fIFOLDER\\fR copies the proved program, this page and completions
+for bash and zsh into a folder.
 .SH SEE ALSO
-The pages in \\fIdocs\\fR of the repository: \\fITUTORIAL.md\\fR begins, \\fICARD.md\\fR has instructions, services and
-limits on one page, \\fIKERNEL.md\\fR the rules, \\fIINPUTS.md\\fR and \\fIOUTPUTS.md\\fR the texts that are read and
-printed.
+The pages in \\fIdocs\\fR of the repository: \\fITUTORIAL.md\\fR begins, \\fICARD.md\\fR
+has instructions, services and limits on one page, \\fIKERNEL.md\\fR the rules,
+\\fIINPUTS.md\\fR and \\fIOUTPUTS.md\\fR the texts that are read and printed.
 ";
 
 /// Adds a text: the signs that mean something in the page are written as such, and what stands
