@@ -2,11 +2,10 @@
 use Rattle.std.proofs.Common.{ℕ, zero, suc, ◌≡◌, ◌<◌, ◌≤◌, ◌+◌, ◌-◌, List, [], ◌∷◌, ◌++◌, map, take, drop, length, get_or, set, None, Some, Bool, true, false, ◌&&◌, refl, sym, ◌∙◌, ap, arith, eqb, leb, ltb, add-zero, append_assoc, ◌||◌}
 use Rattle.std.proofs.Math.Seq.{drop-cons, take-suc, take-suc-set, drop-set-lt, set_split}
 use Rattle.std.proofs.lemmas.List.{take-append-drop, drop_all, append-nil, length-set, get_or-set_same}
-use Rattle.std.specs.List.{insert, remove}
+use Rattle.std.specs.List.{insert, remove, list_all, list_any}
 use Rattle.std.proofs.lemmas.Bool.Decides.{nat_tests}
 use Rattle.std.proofs.Math.Bool.{or-true}
 use Rattle.std.proofs.lemmas.Bool.{le-leb, ltb-true, lt-ltb, ltb-false, ne_eqb, and_parts, and_right}
-use Rattle.std.specs.List.{list_all, list_any}
 use Rattle.alarms.specs.declared.difference_list.Waiting.{Waiting}
 use Rattle.alarms.specs.Waits.{Wait, span, wait_before, waits, is_sooner, inserted, without, wait_of, left_in, cycle_in, less_by, IsSoonest, cut, not_waiting, cut_at, grown, grown_at, is_of, are_ahead, are_beyond}
 

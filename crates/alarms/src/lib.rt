@@ -1,4 +1,12 @@
-//! OSEK/VDX OS: alarms, counters and alarm management. The alarms of a system: what sets, cancels and expires them.
+//! Counters and alarms: setting, cancelling and expiring them. Alarms expire exactly as by the
+//! definitions' counts, which never wrap. Refusals are those of the service table.
+//!
+//! - `advance` gives all alarms that are due and no others, in declaration order.
+//! - `pass` lets exactly the ticks pass, of so many, that come before the next in which an alarm
+//!   is due.
+//! - `is_quiet`: true only where none is due in the next tick.
+//!
+//! OSEK/VDX OS: counters and alarm management.
 #![tactic(auto)]
 
 mod alarms;

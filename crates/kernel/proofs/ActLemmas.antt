@@ -14,12 +14,12 @@ use Rattle.osek_base.specs.Lists.{below}
 use Rattle.osek_base.specs.State.{State}
 use Rattle.osek_base.specs.Alarm.{due_alarms, is_due}
 use Rattle.machine.specs.Windows.{word}
-use Rattle.kept_state.specs.Kept.{Kept}
-use Rattle.kept_state.specs.Moves.{KeptRecorded}
-use Rattle.kept_state.specs.KeptService.{ByNobody, bare, unasked_in}
-use Rattle.kept_state.specs.KeptTick.{alarm_reply_in, alarm_acts_in, alarms_act_in, alarm_phase_in, and_then_in, advanced_in}
-use Rattle.kept_state.specs.Standing.{runner_waits}
-use Rattle.kept_state.proofs.InRuns.{action_keeps_ready}
+use Rattle.law_kept.specs.Kept.{Kept}
+use Rattle.law_kept.specs.Moves.{KeptRecorded}
+use Rattle.law_kept.specs.KeptService.{ByNobody, bare, unasked_in}
+use Rattle.law_kept.specs.KeptTick.{alarm_reply_in, alarm_acts_in, alarms_act_in, alarm_phase_in, and_then_in, advanced_in}
+use Rattle.law_kept.specs.Standing.{runner_waits}
+use Rattle.law_kept.proofs.InRuns.{action_keeps_ready}
 use Rattle.services.specs.Objects.{Objects, kept_in}
 use Rattle.kernel.specs.Processor.{IsBefore, Processor, at_tick, clocked, picture, system_of}
 use Rattle.kernel.specs.Does.{Adds, Becomes, Does}

@@ -12,12 +12,12 @@ use Rattle.osek_base.specs.System.{System, alarm, counter_of}
 use Rattle.osek_base.specs.State.{State, Expiry, Words}
 use Rattle.osek_base.specs.Alarm.{count, expiry, is_due, is_due_at, due_alarms, alarms_advanced}
 use Rattle.osek_base.specs.Tick.{action_call, error_record}
-use Rattle.kept_state.specs.Kept.{Kept}
-use Rattle.kept_state.specs.Moves.{KeptRecorded}
-use Rattle.kept_state.specs.KeptService.{ByNobody, KeptReply, bare, unasked_in}
-use Rattle.kept_state.specs.KeptTick.{alarm_reply_in, alarm_acts_in, alarms_act_in, alarm_phase_in, silent_in}
-use Rattle.kept_state.proofs.Quiet.{nothing_due as none_due, nothing_advanced as none_advanced}
-use Rattle.kept_state.proofs.Words.{with_words, reply_with, unasked_words}
+use Rattle.law_kept.specs.Kept.{Kept}
+use Rattle.law_kept.specs.Moves.{KeptRecorded}
+use Rattle.law_kept.specs.KeptService.{ByNobody, KeptReply, bare, unasked_in}
+use Rattle.law_kept.specs.KeptTick.{alarm_reply_in, alarm_acts_in, alarms_act_in, alarm_phase_in, silent_in}
+use Rattle.law_kept.proofs.Quiet.{nothing_due as none_due, nothing_advanced as none_advanced}
+use Rattle.law_kept.proofs.Words.{with_words, reply_with, unasked_words}
 use Rattle.services.specs.Objects.{Objects, kept_of, kept_in}
 use Rattle.kernel.specs.Processor.{AreAhead}
 use Rattle.seen_ticks.specs.Told.{acting_in}

@@ -17,17 +17,17 @@ use Rattle.osek_base.specs.Instruction.{Context}
 use Rattle.osek_base.specs.Service.{answer, first_refusal}
 use Rattle.osek_base.specs.State.{interrupts_off}
 use Rattle.osek_base.specs.Tick.{action_call, answered, at_values}
-use Rattle.run_laws.proofs.Lists.{clash}
-use Rattle.run_laws.proofs.Foremost.{equal, self_equal}
+use Rattle.law_runs.proofs.Lists.{clash}
+use Rattle.law_runs.proofs.Foremost.{equal, self_equal}
 use Rattle.machine.specs.Packed.{instr_of, needs_look}
-use Rattle.kept_state.specs.Kept.{Kept}
-use Rattle.kept_state.specs.KeptService.{KeptCaller, KeptReply, ByTask, ByRoutine, ByNobody, bare, by_routine_in, caller_by, caller_in, changed_in, holds_any_in, is_full_in, service_in, slot_moved, unasked_in}
-use Rattle.kept_state.specs.KeptTick.{alarm_acts_in, execute_phase_in, executed_in, with_context_in}
-use Rattle.kept_state.specs.Moves.{KeptRecorded, activated_in, slot_changed}
-use Rattle.readiness.specs.Stamps.{stamp_oldest, without_oldest}
+use Rattle.law_kept.specs.Kept.{Kept}
+use Rattle.law_kept.specs.KeptService.{KeptCaller, KeptReply, ByTask, ByRoutine, ByNobody, bare, by_routine_in, caller_by, caller_in, changed_in, holds_any_in, is_full_in, service_in, slot_moved, unasked_in}
+use Rattle.law_kept.specs.KeptTick.{alarm_acts_in, execute_phase_in, executed_in, with_context_in}
+use Rattle.law_kept.specs.Moves.{KeptRecorded, activated_in, slot_changed}
+use Rattle.kernel_stamps.specs.Stamps.{stamp_oldest, without_oldest}
 use Rattle.services.specs.Calls.{caller_as, context_in}
-use Rattle.blocking_laws.specs.Restamping.{StampLists, acting_task, alarm_restamped, changed_list, ended_if, ended_of, instr_in, named_by, named_in, restamped, restamped_at, restamped_if, stamps_at, task_waits}
-use Rattle.blocking_laws.proofs.RestampedLemmas.{restamped_more}
+use Rattle.law_blockers.specs.Restamping.{StampLists, acting_task, alarm_restamped, changed_list, ended_if, ended_of, instr_in, named_by, named_in, restamped, restamped_at, restamped_if, stamps_at, task_waits}
+use Rattle.law_blockers.proofs.RestampedLemmas.{restamped_more}
 use Rattle.kernel.specs.declared.next.Next.{Next}
 use Rattle.kernel.specs.Answered.{Activates, IsStamped, MayAddIf, MayChange, MayChangeIf, job_added_if, job_changed, job_changed_if, job_ended}
 use Rattle.kernel.specs.Does.{Does}

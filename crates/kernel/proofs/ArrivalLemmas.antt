@@ -13,7 +13,7 @@ use Rattle.osek_base.specs.declared.arrivals.Arrival.{Arrival}
 use Rattle.osek_base.specs.ArrivalList.{are_in_order, is_arrival_list}
 use Rattle.osek_base.specs.Trace.{arriving}
 use Rattle.osek_base.proofs.PlaceLemmas.{and_split}
-use Rattle.run_laws.proofs.Lists.{all_kept}
+use Rattle.law_runs.proofs.Lists.{all_kept}
 use Rattle.kernel.specs.Progress.{AreFree, AreLeft, HaveArrived}
 
 -- a list in order: its first tick, and its rest

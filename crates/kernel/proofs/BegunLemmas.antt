@@ -11,11 +11,11 @@ use Rattle.osek_base.specs.System.{System, alarm, instruction_at}
 use Rattle.osek_base.specs.Instruction.{Context}
 use Rattle.osek_base.specs.Tick.{at_values}
 use Rattle.osek_base.proofs.PlaceLemmas.{KnownPlace}
-use Rattle.kept_state.specs.Kept.{Kept}
+use Rattle.law_kept.specs.Kept.{Kept}
 use Rattle.services.proofs.BoundLemmas.{activation_few}
 use Rattle.services.specs.Calls.{IsKnown, IsTaskOperand}
-use Rattle.blocking_laws.specs.Restamping.{StampLists, acting_task, named_by, stamps_at}
-use Rattle.blocking_laws.proofs.KnownTasks.{acts_task}
+use Rattle.law_blockers.specs.Restamping.{StampLists, acting_task, named_by, stamps_at}
+use Rattle.law_blockers.proofs.KnownTasks.{acts_task}
 use Rattle.kernel.specs.Answered.{Activates}
 use Rattle.kernel.specs.Stamping.{IsActedOn}
 use Rattle.kernel.proofs.PlaceLemmas.{service_known}

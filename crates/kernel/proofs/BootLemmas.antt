@@ -5,16 +5,15 @@ use Rattle.osek_base.specs.declared.trace_event.TraceEvent.{TraceEvent}
 use Rattle.osek_base.specs.Proper.{IsProper}
 use Rattle.osek_base.specs.Reschedule.{hooked}
 use Rattle.osek_base.specs.System.{System}
-use Rattle.osek_base.specs.Trace.{starting_tasks}
+use Rattle.osek_base.specs.Trace.{starting_tasks, Run, boot, run, run_begun}
 use Rattle.machine.specs.Windows.{word}
-use Rattle.kept_state.specs.KeptTick.{all_activated_in, begun_in}
-use Rattle.kept_state.specs.Moves.{KeptRecorded, rescheduled}
-use Rattle.kept_state.proofs.Ticked.{boots}
+use Rattle.law_kept.specs.KeptTick.{all_activated_in, begun_in}
+use Rattle.law_kept.specs.Moves.{KeptRecorded, rescheduled}
+use Rattle.law_kept.proofs.Ticked.{boots}
 use Rattle.services.specs.Objects.{Objects, kept_in, kept_of, no_words}
 use Rattle.osek_base.specs.declared.arrivals.Arrival.{Arrival}
-use Rattle.osek_base.specs.Trace.{Run, boot, run, run_begun}
-use Rattle.kept_state.specs.Kept.{Kept, kept}
-use Rattle.blocking_laws.proofs.StepLemmas.{tick_zero}
+use Rattle.law_kept.specs.Kept.{Kept, kept}
+use Rattle.law_blockers.proofs.StepLemmas.{tick_zero}
 use Rattle.kernel.specs.declared.acted.Acted.{Acted}
 use Rattle.kernel.specs.Stamping.{AreBegun}
 use Rattle.kernel.specs.Machine.{HasCome, IsBooted, IsMachine, between}

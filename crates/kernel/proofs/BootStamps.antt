@@ -12,16 +12,16 @@ use Rattle.osek_base.specs.Activation.{activated}
 use Rattle.osek_base.specs.Blocker.{is_in_state, waits_in}
 use Rattle.osek_base.specs.Proper.{IsProper}
 use Rattle.osek_base.specs.Trace.{all_activated, boot, run, starting_alarms, starting_tasks}
-use Rattle.run_laws.proofs.FormedTick.{run_form}
-use Rattle.kept_state.specs.Kept.{Kept, Slot, kept}
-use Rattle.blocking_laws.specs.Stamps.{listed, stamps_of}
-use Rattle.blocking_laws.specs.Restamping.{AreListed, StampLists, stamps_at}
+use Rattle.law_runs.proofs.FormedTick.{run_form}
+use Rattle.law_kept.specs.Kept.{Kept, Slot, kept}
+use Rattle.law_blockers.specs.Stamps.{listed, stamps_of}
+use Rattle.law_blockers.specs.Restamping.{AreListed, StampLists, stamps_at}
 use Rattle.kernel.specs.Stamping.{AreBegun}
 use Rattle.kernel.specs.Machine.{AreLast}
-use Rattle.blocking_laws.proofs.AfterStamps.{rescheduled_waits}
-use Rattle.blocking_laws.proofs.OnlyWakes.{wakes_made}
-use Rattle.blocking_laws.proofs.ReadyLemmas.{there_of}
-use Rattle.blocking_laws.proofs.ServiceStamps.{none_of_known}
+use Rattle.law_blockers.proofs.AfterStamps.{rescheduled_waits}
+use Rattle.law_blockers.proofs.OnlyWakes.{wakes_made}
+use Rattle.law_blockers.proofs.ReadyLemmas.{there_of}
+use Rattle.law_blockers.proofs.ServiceStamps.{none_of_known}
 use Rattle.kernel.proofs.KeepingLemmas.{many_jobs}
 
 running_made : (S : System) (t : ℕ) (s : State) → (activated S t s).running ≡ s.running

@@ -5,13 +5,13 @@ use Rattle.std.proofs.lemmas.List.{append-nil}
 use Rattle.osek_base.specs.declared.trace_event.TraceEvent.{TraceEvent}
 use Rattle.osek_base.specs.System.{System}
 use Rattle.osek_base.specs.Alarm.{alarms_advanced, due_alarms}
-use Rattle.kept_state.specs.KeptService.{bare}
+use Rattle.law_kept.specs.KeptService.{bare}
 use Rattle.osek_base.specs.State.{Words}
 use Rattle.machine.specs.Windows.{word}
-use Rattle.kept_state.specs.Kept.{Kept}
-use Rattle.kept_state.specs.KeptTick.{and_then_in, silent_in, start_phase_in}
-use Rattle.kept_state.specs.Moves.{KeptRecorded, contender, rescheduled}
-use Rattle.kept_state.proofs.Words.{with_words, recorded_with, rescheduled_words, start_phase_words}
+use Rattle.law_kept.specs.Kept.{Kept}
+use Rattle.law_kept.specs.KeptTick.{and_then_in, silent_in, start_phase_in}
+use Rattle.law_kept.specs.Moves.{KeptRecorded, contender, rescheduled}
+use Rattle.law_kept.proofs.Words.{with_words, recorded_with, rescheduled_words, start_phase_words}
 use Rattle.services.specs.Objects.{Objects, kept_in}
 use Rattle.kernel.specs.Processor.{Processor, picture, system_of}
 use Rattle.kernel.specs.Does.{Advances, Becomes, Does, Reschedules}

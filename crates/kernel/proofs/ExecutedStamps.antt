@@ -14,15 +14,15 @@ use Rattle.osek_base.specs.Instruction.{Context, next, plain}
 use Rattle.osek_base.specs.Service.{first_refusal, meets}
 use Rattle.osek_base.specs.State.{Active, interrupts_off, words_after}
 use Rattle.osek_base.specs.Tick.{answered, at_values}
-use Rattle.run_laws.proofs.Lists.{clash}
+use Rattle.law_runs.proofs.Lists.{clash}
 use Rattle.machine.specs.Packed.{control_of, instr_of, is_control, is_plain, plain_of}
 use Rattle.machine.specs.Windows.{word}
-use Rattle.kept_state.specs.Kept.{Kept, Slot}
-use Rattle.kept_state.specs.KeptService.{KeptCaller, KeptReply, ByTask, ByRoutine, ByNobody, bare, caller_in, effect_in, event_awaited_in, events_cleared_in, is_outranked_in, refusals_in, reply_in, service_in, slot_gets, slot_given_up, slot_moved, slot_releases, slot_waiting, with_caller_in}
-use Rattle.kept_state.specs.KeptTick.{controlled_in, execute_phase_in, executed_in, with_context_in}
-use Rattle.kept_state.specs.Moves.{KeptRecorded, slot_changed}
+use Rattle.law_kept.specs.Kept.{Kept, Slot}
+use Rattle.law_kept.specs.KeptService.{KeptCaller, KeptReply, ByTask, ByRoutine, ByNobody, bare, caller_in, effect_in, event_awaited_in, events_cleared_in, is_outranked_in, refusals_in, reply_in, service_in, slot_gets, slot_given_up, slot_moved, slot_releases, slot_waiting, with_caller_in}
+use Rattle.law_kept.specs.KeptTick.{controlled_in, execute_phase_in, executed_in, with_context_in}
+use Rattle.law_kept.specs.Moves.{KeptRecorded, slot_changed}
 use Rattle.services.specs.Calls.{Executes, caller_as, context_in}
-use Rattle.blocking_laws.specs.Restamping.{StampLists, ended_if, ended_of, instr_in, restamped_if, named_by, named_in, stamps_at}
+use Rattle.law_blockers.specs.Restamping.{StampLists, ended_if, ended_of, instr_in, restamped_if, named_by, named_in, stamps_at}
 use Rattle.kernel.specs.declared.next.Next.{Next}
 use Rattle.kernel.specs.declared.stamping.Stand.{Stand}
 use Rattle.kernel.specs.Controls.{changes_jobs}

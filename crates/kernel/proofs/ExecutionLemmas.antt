@@ -18,10 +18,10 @@ use Rattle.osek_base.specs.declared.trace_event.Outcome.{Outcome}
 use Rattle.osek_base.specs.declared.trace_event.Source.{Source}
 use Rattle.osek_base.specs.Tick.{answered, at_values, error_record}
 use Rattle.machine.specs.Windows.{word}
-use Rattle.kept_state.specs.Kept.{Kept}
-use Rattle.kept_state.specs.KeptService.{KeptCaller, ByTask, ByRoutine, ByNobody, KeptReply, caller_in, caller_by, service_in}
-use Rattle.kept_state.specs.KeptTick.{executed_in, caller_executes_in, routine_executes, execute_phase_in, with_context_in, controlled_in}
-use Rattle.kept_state.proofs.Words.{with_words, context_words, control_words, service_words, reply_with}
+use Rattle.law_kept.specs.Kept.{Kept}
+use Rattle.law_kept.specs.KeptService.{KeptCaller, ByTask, ByRoutine, ByNobody, KeptReply, caller_in, caller_by, service_in}
+use Rattle.law_kept.specs.KeptTick.{executed_in, caller_executes_in, routine_executes, execute_phase_in, with_context_in, controlled_in}
+use Rattle.law_kept.proofs.Words.{with_words, context_words, control_words, service_words, reply_with}
 use Rattle.services.specs.Objects.{Objects, kept_of, kept_in}
 use Rattle.services.specs.Calls.{Executes, MayGoOn, IsSameCaller, IsSameActive, IsRoutineOrNone, caller_as, served_in}
 use Rattle.osek_base.proofs.PlaceLemmas.{KnownPlace, is_routine}

@@ -10,7 +10,7 @@ use Rattle.osek_base.specs.declared.trace_event.TraceEvent.{TraceEvent}
 use Rattle.osek_base.specs.Executed.{StandsIn, idle_or_executed}
 use Rattle.osek_base.specs.System.{System}
 use Rattle.osek_base.specs.Trace.{arriving, run}
-use Rattle.kept_state.specs.Kept.{Kept}
+use Rattle.law_kept.specs.Kept.{Kept}
 use Rattle.kernel.specs.declared.acted.Acted.{Acted}
 use Rattle.kernel.specs.declared.ticked.Ticked.{Ticked}
 use Rattle.kernel.specs.Begun.{GoesOnBy, HasGoneOn, IsFirst, MayGoOn, NoneComes, StartsTick}

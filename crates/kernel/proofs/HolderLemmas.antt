@@ -9,8 +9,8 @@ use Rattle.std.proofs.lemmas.List.{append-nil, get_or-set_other, get_or-set_same
 use Rattle.osek_base.specs.declared.ids.ResId.{ResId}
 use Rattle.osek_base.specs.Lists.{below, is_empty, same_resource}
 use Rattle.osek_base.specs.System.{System}
-use Rattle.kept_state.specs.Kept.{Kept, Slot}
-use Rattle.kept_state.specs.KeptService.{holds_in}
+use Rattle.law_kept.specs.Kept.{Kept, Slot}
+use Rattle.law_kept.specs.KeptService.{holds_in}
 use Rattle.services.specs.Objects.{by_task}
 use Rattle.services.proofs.RoutineLemmas.{first_here, first_later, first_nowhere}
 use Rattle.seen_ticks.proofs.SeenSteps.{read_at, seen_count}

@@ -7,13 +7,13 @@ use Rattle.osek_base.specs.Alarm.{alarms_advanced, due_alarms}
 use Rattle.osek_base.specs.State.{Active}
 use Rattle.osek_base.specs.System.{System}
 use Rattle.osek_base.specs.Trace.{arriving}
-use Rattle.kept_state.specs.Kept.{Kept}
-use Rattle.kept_state.specs.KeptService.{ByNobody, bare, caller_by, caller_in}
-use Rattle.kept_state.specs.KeptTick.{advanced_in, arrival_phase_in, before_execution_in, execute_phase_in, last_phase_in, silent_in, tick_in}
-use Rattle.kept_state.specs.Moves.{KeptRecorded, contender_of, rescheduled}
-use Rattle.kept_state.specs.Quiet.{IsQuiet, idle_step, later}
-use Rattle.kept_state.proofs.Quiet.{alarm_phase_silent, before_silent, last_silent, nobody_executes, quiet_later, quiet_ticks}
-use Rattle.blocking_laws.specs.Restamping.{StampLists, alarm_phase_restamped, alarms_restamped, before_restamped, ended_of, instr_in, last_restamped, restamped_if, named_in, preempted_by, reschedule_restamped, spent_of}
+use Rattle.law_kept.specs.Kept.{Kept}
+use Rattle.law_kept.specs.KeptService.{ByNobody, bare, caller_by, caller_in}
+use Rattle.law_kept.specs.KeptTick.{advanced_in, arrival_phase_in, before_execution_in, execute_phase_in, last_phase_in, silent_in, tick_in}
+use Rattle.law_kept.specs.Moves.{KeptRecorded, contender_of, rescheduled}
+use Rattle.law_kept.specs.Quiet.{IsQuiet, idle_step, later}
+use Rattle.law_kept.proofs.Quiet.{alarm_phase_silent, before_silent, last_silent, nobody_executes, quiet_later, quiet_ticks}
+use Rattle.law_blockers.specs.Restamping.{StampLists, alarm_phase_restamped, alarms_restamped, before_restamped, ended_of, instr_in, last_restamped, restamped_if, named_in, preempted_by, reschedule_restamped, spent_of}
 use Rattle.services.specs.Objects.{Objects, kept_in}
 use Rattle.kernel.specs.declared.acted.Acted.{Acted}
 use Rattle.kernel.specs.Idle.{Passes, PassesOn, StaysIdle, rested}

@@ -12,18 +12,18 @@ use Rattle.osek_base.specs.Service.{Caller, JobCalls, RoutineCalls, NobodyCalls}
 use Rattle.osek_base.specs.System.{System}
 use Rattle.osek_base.specs.Tick.{executor, tick}
 use Rattle.osek_base.specs.Trace.{Run, arriving, run}
-use Rattle.blocking_laws.specs.Stamps.{blockers_by, levels_of, stamps_in, stamps_of}
-use Rattle.blocking_laws.specs.Steps.{record_at, step_at}
-use Rattle.blocking_laws.proofs.StampLemmas.{blockers_are}
-use Rattle.blocking_laws.proofs.StepLemmas.{run_more, run_tick, unwritten_more}
-use Rattle.kept_state.specs.Kept.{Kept, kept}
-use Rattle.kept_state.specs.KeptService.{KeptCaller, ByNobody, bare, caller_in, kept_caller}
-use Rattle.kept_state.specs.KeptTick.{KeptStep, before_execution_in, silent_in, tick_in}
-use Rattle.kept_state.specs.Moves.{KeptRecorded}
-use Rattle.kept_state.specs.Quiet.{idle_step, later}
-use Rattle.kept_state.proofs.InRuns.{before_alike}
-use Rattle.kept_state.proofs.Served.{executor_kept}
-use Rattle.kept_state.proofs.Ticked.{ticks}
+use Rattle.law_blockers.specs.Stamps.{blockers_by, levels_of, stamps_in, stamps_of}
+use Rattle.law_blockers.specs.Steps.{record_at, step_at}
+use Rattle.law_blockers.proofs.StampLemmas.{blockers_are}
+use Rattle.law_blockers.proofs.StepLemmas.{run_more, run_tick, unwritten_more}
+use Rattle.law_kept.specs.Kept.{Kept, kept}
+use Rattle.law_kept.specs.KeptService.{KeptCaller, ByNobody, bare, caller_in, kept_caller}
+use Rattle.law_kept.specs.KeptTick.{KeptStep, before_execution_in, silent_in, tick_in}
+use Rattle.law_kept.specs.Moves.{KeptRecorded}
+use Rattle.law_kept.specs.Quiet.{idle_step, later}
+use Rattle.law_kept.proofs.InRuns.{before_alike}
+use Rattle.law_kept.proofs.Served.{executor_kept}
+use Rattle.law_kept.proofs.Ticked.{ticks}
 use Rattle.kernel.specs.Idle.{StaysIdle}
 use Rattle.kernel.specs.Keeping.{IsKernel}
 use Rattle.kernel.specs.Machine.{HasCome, Machine, next_tick, picture}

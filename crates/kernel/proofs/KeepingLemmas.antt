@@ -10,28 +10,28 @@ use Rattle.osek_base.specs.BlockingText.{blockers_at}
 use Rattle.osek_base.specs.Proper.{IsProper}
 use Rattle.osek_base.specs.Tick.{before_execution, executor}
 use Rattle.osek_base.specs.Trace.{arriving, run}
-use Rattle.run_laws.proofs.Known.{executor_calls}
-use Rattle.run_laws.proofs.RankedTick.{IsExecuting, before_executing, run_ordered}
-use Rattle.kept_state.specs.Kept.{Kept, kept, slot_of}
-use Rattle.kept_state.specs.Moves.{KeptRecorded}
-use Rattle.kept_state.specs.KeptService.{KeptCaller, ByTask, ByRoutine, ByNobody, caller_in, kept_caller}
-use Rattle.kept_state.specs.KeptTick.{before_execution_in, execute_phase_in}
-use Rattle.kept_state.proofs.InRuns.{before_alike}
-use Rattle.kept_state.proofs.Served.{executor_kept}
-use Rattle.kept_state.proofs.Settled.{IsSettled}
-use Rattle.kept_state.proofs.Ticked.{settled_of}
-use Rattle.readiness.specs.Stamps.{spent_oldest}
-use Rattle.blocking_laws.specs.Steps.{step_at}
-use Rattle.blocking_laws.specs.Stamps.{Stamps, blockers_by, levels_of, stamps_in, stamps_of}
-use Rattle.blocking_laws.specs.Restamping.{AreListed, StampLists, after_restamped, before_restamped, last_restamped, spent_of, stamps_at}
+use Rattle.law_runs.proofs.Known.{executor_calls}
+use Rattle.law_runs.proofs.RankedTick.{IsExecuting, before_executing, run_ordered}
+use Rattle.law_kept.specs.Kept.{Kept, kept, slot_of}
+use Rattle.law_kept.specs.Moves.{KeptRecorded}
+use Rattle.law_kept.specs.KeptService.{KeptCaller, ByTask, ByRoutine, ByNobody, caller_in, kept_caller}
+use Rattle.law_kept.specs.KeptTick.{before_execution_in, execute_phase_in}
+use Rattle.law_kept.proofs.InRuns.{before_alike}
+use Rattle.law_kept.proofs.Served.{executor_kept}
+use Rattle.law_kept.proofs.Settled.{IsSettled}
+use Rattle.law_kept.proofs.Ticked.{settled_of}
+use Rattle.kernel_stamps.specs.Stamps.{spent_oldest}
+use Rattle.law_blockers.specs.Steps.{step_at}
+use Rattle.law_blockers.specs.Stamps.{Stamps, blockers_by, levels_of, stamps_in, stamps_of}
+use Rattle.law_blockers.specs.Restamping.{AreListed, StampLists, after_restamped, before_restamped, last_restamped, spent_of, stamps_at}
 use Rattle.kernel.specs.Stamping.{AreCounted, executed_restamped, noted, number_for}
 use Rattle.kernel.specs.Machine.{AreLast}
-use Rattle.blocking_laws.proofs.AfterStamps.{run_listed}
-use Rattle.blocking_laws.proofs.BeforeStamps.{before_listed}
+use Rattle.law_blockers.proofs.AfterStamps.{run_listed}
+use Rattle.law_blockers.proofs.BeforeStamps.{before_listed}
 use Rattle.kernel.proofs.NumberLemmas.{noted_last, number_is}
-use Rattle.blocking_laws.proofs.StepLemmas.{executing_is}
-use Rattle.blocking_laws.proofs.SpentStamps.{spent_at, spent_here}
-use Rattle.blocking_laws.proofs.StampLemmas.{Going, blockers_are}
+use Rattle.law_blockers.proofs.StepLemmas.{executing_is}
+use Rattle.law_blockers.proofs.SpentStamps.{spent_at, spent_here}
+use Rattle.law_blockers.proofs.StampLemmas.{Going, blockers_are}
 
 -- ---- as many stamps as jobs
 

@@ -1,9 +1,9 @@
 -- The laws of whole runs, as a kernel cites them.
 use Rattle.osek_base.specs.Proper.{IsProper}
-use Rattle.run_laws.proofs.SingleTick.{starts_singly}
-use Rattle.run_laws.proofs.Excluding.{excludes}
-use Rattle.run_laws.proofs.Blocking.{blocks_once}
-use Rattle.run_laws.proofs.Protection.{protects}
+use Rattle.law_runs.proofs.SingleTick.{starts_singly}
+use Rattle.law_runs.proofs.Excluding.{excludes}
+use Rattle.law_runs.proofs.Blocking.{blocks_once}
+use Rattle.law_runs.proofs.Protection.{protects}
 use Rattle.kernel.specs.Progress.{Progress, IsLawful}
 
 pub lawful : (r : Progress) → IsProper r.system → IsLawful r

@@ -7,12 +7,12 @@ use Rattle.osek_base.specs.System.{System, instruction_at}
 use Rattle.osek_base.specs.Proper.{IsProper}
 use Rattle.osek_base.specs.Instruction.{Context}
 use Rattle.osek_base.proofs.PlaceLemmas.{KnownPlace}
-use Rattle.run_laws.proofs.Formed.{IsPlaced}
+use Rattle.law_runs.proofs.Formed.{IsPlaced}
 use Rattle.machine.specs.Windows.{word}
 use Rattle.machine.specs.Code.{Programs}
 use Rattle.machine.specs.Packed.{instr_of}
-use Rattle.kept_state.specs.Moves.{KeptRecorded}
-use Rattle.kept_state.specs.KeptTick.{execute_phase_in}
+use Rattle.law_kept.specs.Moves.{KeptRecorded}
+use Rattle.law_kept.specs.KeptTick.{execute_phase_in}
 use Rattle.services.specs.Objects.{Objects, kept_in, kept_of}
 use Rattle.services.specs.Calls.{IsExecuting, MayGoOn, context_in}
 use Rattle.kernel.specs.Processor.{Processor, IsNext, IsProcessor}

@@ -14,18 +14,18 @@ use Rattle.osek_base.specs.State.{Job, JobId, State}
 use Rattle.osek_base.specs.Blocker.{calling_job, executing_job}
 use Rattle.osek_base.specs.Service.{Caller, JobCalls, RoutineCalls, NobodyCalls}
 use Rattle.osek_base.specs.Proper.{IsProper}
-use Rattle.run_laws.proofs.Between.{is_of_level}
-use Rattle.run_laws.proofs.Counting.{one_if}
-use Rattle.run_laws.proofs.Foremost.{equal}
-use Rattle.run_laws.proofs.Known.{IsCaller}
-use Rattle.kept_state.specs.KeptService.{kept_caller}
-use Rattle.kept_state.proofs.Parts.{IsOldest}
-use Rattle.kept_state.proofs.Settled.{IsSettled, Stands, stands_oldest}
-use Rattle.readiness.specs.Stamps.{stamp_of_oldest}
+use Rattle.law_runs.proofs.Between.{is_of_level}
+use Rattle.law_runs.proofs.Counting.{one_if}
+use Rattle.law_runs.proofs.Foremost.{equal}
+use Rattle.law_runs.proofs.Known.{IsCaller}
+use Rattle.law_kept.specs.KeptService.{kept_caller}
+use Rattle.law_kept.proofs.Parts.{IsOldest}
+use Rattle.law_kept.proofs.Settled.{IsSettled, Stands, stands_oldest}
+use Rattle.kernel_stamps.specs.Stamps.{stamp_of_oldest}
 use Rattle.services.proofs.BoundLemmas.{bounds_of, priority_low}
-use Rattle.blocking_laws.specs.Steps.{step_at}
-use Rattle.blocking_laws.specs.Stamps.{Stamps, blockers_by, count_by, levels_of}
-use Rattle.blocking_laws.specs.Restamping.{AreListed, StampLists}
+use Rattle.law_blockers.specs.Steps.{step_at}
+use Rattle.law_blockers.specs.Stamps.{Stamps, blockers_by, count_by, levels_of}
+use Rattle.law_blockers.specs.Restamping.{AreListed, StampLists}
 use Rattle.kernel.specs.Stamping.{count_below, noted, number_for}
 use Rattle.kernel.specs.Machine.{AreLast}
 

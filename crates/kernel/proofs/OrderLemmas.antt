@@ -5,9 +5,9 @@ use Rattle.osek_base.specs.declared.arrivals.Arrival.{Arrival}
 use Rattle.osek_base.specs.declared.limits.TheConstants.{MAX_TASK_PRIORITY}
 use Rattle.osek_base.specs.declared.trace_event.TraceEvent.{TraceEvent}
 use Rattle.osek_base.specs.System.{System}
-use Rattle.run_laws.proofs.Between.{at_level}
-use Rattle.blocking_laws.specs.Stamps.{levels_of}
-use Rattle.blocking_laws.specs.Steps.{step_at}
+use Rattle.law_runs.proofs.Between.{at_level}
+use Rattle.law_blockers.specs.Stamps.{levels_of}
+use Rattle.law_blockers.specs.Steps.{step_at}
 use Rattle.kernel.specs.declared.acted.Acted.{Acted}
 use Rattle.kernel.specs.Machine.{AreLast, IsMachine, between}
 use Rattle.kernel.specs.Stamping.{Told}

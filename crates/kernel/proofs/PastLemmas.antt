@@ -6,15 +6,15 @@ use Rattle.osek_base.specs.Blocker.{executing_job}
 use Rattle.osek_base.specs.Tick.{Step, tick}
 use Rattle.osek_base.specs.Trace.{Run, arriving, run, with_earlier}
 use Rattle.osek_base.proofs.FrameLemmas.{tick_tick}
-use Rattle.run_laws.specs.Arrived.{HaveOnePast}
-use Rattle.run_laws.proofs.Arriving.{depends_on_the_past}
-use Rattle.run_laws.proofs.Between.{at_level}
+use Rattle.law_runs.specs.Arrived.{HaveOnePast}
+use Rattle.law_runs.proofs.Arriving.{depends_on_the_past}
+use Rattle.law_runs.proofs.Between.{at_level}
 use Rattle.std.proofs.Math.Numerals.{add-one}
-use Rattle.kept_state.specs.Kept.{kept}
-use Rattle.blocking_laws.specs.Steps.{next_step, step_at}
-use Rattle.blocking_laws.specs.Stamps.{Stamps, levels_of, spent, stamped, stamps_of}
-use Rattle.blocking_laws.specs.Restamping.{AreListed}
-use Rattle.blocking_laws.proofs.StepLemmas.{run_more, run_over, tick_zero}
+use Rattle.law_kept.specs.Kept.{kept}
+use Rattle.law_blockers.specs.Steps.{next_step, step_at}
+use Rattle.law_blockers.specs.Stamps.{Stamps, levels_of, spent, stamped, stamps_of}
+use Rattle.law_blockers.specs.Restamping.{AreListed}
+use Rattle.law_blockers.proofs.StepLemmas.{run_more, run_over, tick_zero}
 use Rattle.kernel.specs.Machine.{IsAt, Machine}
 
 -- the number of the next tick is at most that of the ticks

@@ -6,7 +6,7 @@ use Rattle.osek_base.specs.System.{System, instruction_at, instruction_in}
 use Rattle.osek_base.specs.Instruction.{Context}
 use Rattle.osek_base.specs.State.{Words}
 use Rattle.osek_base.proofs.PlaceLemmas.{KnownPlace}
-use Rattle.run_laws.proofs.Formed.{IsPlaced}
+use Rattle.law_runs.proofs.Formed.{IsPlaced}
 use Rattle.kernel.proofs.PlaceLemmas.{placed_known}
 use Rattle.machine.specs.Windows.{word}
 use Rattle.machine.specs.Code.{Programs, program_in}

@@ -10,9 +10,9 @@ use Rattle.osek_base.specs.declared.instr.Plain.{Plain}
 use Rattle.osek_base.specs.declared.instr.Control.{Control}
 use Rattle.osek_base.specs.declared.instr.Service.{Service}
 use Rattle.osek_base.specs.Types.{ServiceCall, PlainInstr}
-use Rattle.osek_base.specs.System.{System, program, instruction_at}
+use Rattle.osek_base.specs.System.{System, program, instruction_at, Task, Routine, no_task, no_routine}
 use Rattle.osek_base.specs.Instruction.{Context, plain, next}
-use Rattle.osek_base.specs.Proper.{is_proper_service, is_proper_instruction, is_end_instruction}
+use Rattle.osek_base.specs.Proper.{is_proper_service, is_proper_instruction, is_end_instruction, IsProper}
 use Rattle.osek_base.specs.declared.status.Status.{Status}
 use Rattle.osek_base.specs.declared.trace_event.Results.{Results}
 use Rattle.osek_base.specs.Tick.{at_values, answered}
@@ -20,10 +20,8 @@ use Rattle.machine.specs.Execution.{HasNext}
 use Rattle.services.specs.Calls.{IsKnown}
 use Rattle.osek_base.proofs.PlaceLemmas.{KnownPlace, and_split, is_routine, known_place}
 use Rattle.osek_base.specs.Separable.{IsOwner}
-use Rattle.osek_base.specs.System.{Task, Routine, no_task, no_routine}
-use Rattle.osek_base.specs.Proper.{IsProper}
-use Rattle.run_laws.proofs.Formed.{IsPlaced}
-use Rattle.run_laws.proofs.FormedTick.{next_placed, plain_placed, answered_placed}
+use Rattle.law_runs.proofs.Formed.{IsPlaced}
+use Rattle.law_runs.proofs.FormedTick.{next_placed, plain_placed, answered_placed}
 use Rattle.kernel.specs.Controls.{ends_routine}
 
 module _ (S : System) (owner : Owner) (x : Context) (k : KnownPlace S owner x.place) where

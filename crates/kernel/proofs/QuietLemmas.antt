@@ -1,6 +1,6 @@
 -- A quiet machine, and ticks that pass in a processor, the words of windows aside.
 use Rattle.std.proofs.Common.{◌≡◌, ◌<◌, ◌≤◌, ℕ, List, ap, subst, arith}
-use Rattle.kept_state.specs.Quiet.{IsQuiet}
+use Rattle.law_kept.specs.Quiet.{IsQuiet}
 use Rattle.machine.specs.Windows.{word}
 use Rattle.services.specs.Objects.{Objects, kept_in, kept_of}
 use Rattle.services.specs.Quiet.{HasPassed as PassesByObjects}

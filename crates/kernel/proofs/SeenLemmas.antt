@@ -9,11 +9,11 @@ use Rattle.osek_base.specs.System.{System}
 use Rattle.osek_base.specs.State.{State, jobs_of}
 use Rattle.osek_base.specs.Proper.{IsProper}
 use Rattle.osek_base.specs.Trace.{run}
-use Rattle.run_laws.proofs.RankedTick.{IsRunState, run_ordered}
-use Rattle.run_laws.proofs.FormedTick.{run_form}
-use Rattle.kept_state.specs.Kept.{Kept, kept}
-use Rattle.kept_state.specs.Seen.{holder_in}
-use Rattle.kept_state.proofs.Ticked.{settled_of, known_of}
+use Rattle.law_runs.proofs.RankedTick.{IsRunState, run_ordered}
+use Rattle.law_runs.proofs.FormedTick.{run_form}
+use Rattle.law_kept.specs.Kept.{Kept, kept}
+use Rattle.law_kept.specs.Seen.{holder_in}
+use Rattle.law_kept.proofs.Ticked.{settled_of, known_of}
 use Rattle.seen_ticks.specs.Observed.{holders_seen}
 use Rattle.seen_ticks.specs.Shown.{holder}
 use Rattle.seen_ticks.specs.Told.{task_at, task_at_in}

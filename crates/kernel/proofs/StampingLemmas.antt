@@ -8,13 +8,13 @@ use Rattle.osek_base.specs.declared.status.Status.{Status}
 use Rattle.osek_base.specs.System.{System, alarm}
 use Rattle.osek_base.specs.Service.{first_refusal, is_met}
 use Rattle.osek_base.specs.Tick.{action_call}
-use Rattle.run_laws.proofs.Foremost.{equal}
-use Rattle.kept_state.specs.Kept.{Kept}
-use Rattle.kept_state.specs.Moves.{activated_in, released_in}
-use Rattle.kept_state.specs.KeptService.{ByNobody, refusals_in, reply_in, unasked_in, with_mask}
-use Rattle.kept_state.specs.KeptTick.{alarm_acts_in}
-use Rattle.readiness.specs.Stamps.{stamp_oldest}
-use Rattle.blocking_laws.specs.Restamping.{StampLists, acting_task, alarm_restamped, changed_list, restamped, restamped_at, stamps_at, task_waits}
+use Rattle.law_runs.proofs.Foremost.{equal}
+use Rattle.law_kept.specs.Kept.{Kept}
+use Rattle.law_kept.specs.Moves.{activated_in, released_in}
+use Rattle.law_kept.specs.KeptService.{ByNobody, refusals_in, reply_in, unasked_in, with_mask}
+use Rattle.law_kept.specs.KeptTick.{alarm_acts_in}
+use Rattle.kernel_stamps.specs.Stamps.{stamp_oldest}
+use Rattle.law_blockers.specs.Restamping.{StampLists, acting_task, alarm_restamped, changed_list, restamped, restamped_at, stamps_at, task_waits}
 use Rattle.kernel.specs.Stamping.{AreCounted, acts_on}
 
 -- ---- the number of a task's jobs, and of its stamps

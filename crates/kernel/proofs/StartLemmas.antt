@@ -19,11 +19,11 @@ use Rattle.osek_base.specs.Proper.{IsProper, is_proper_task, is_proper_alarm, is
 use Rattle.osek_base.specs.Trace.{all_activated, starting_alarms, starting_tasks, first_expiry, boot, run}
 use Rattle.osek_base.specs.declared.arrivals.Arrival.{Arrival}
 use Rattle.osek_base.proofs.PlaceLemmas.{all_at, and_split}
-use Rattle.kept_state.specs.Kept.{Kept, Slot}
+use Rattle.law_kept.specs.Kept.{Kept, Slot}
 use Rattle.ready_queues.specs.QueueMoves.{changed_at}
-use Rattle.kept_state.specs.Moves.{activated_in, rescheduled}
-use Rattle.kept_state.specs.KeptService.{ByNobody, is_full_in, unasked_in}
-use Rattle.kept_state.specs.KeptTick.{all_activated_in, begun_in, boot_in}
+use Rattle.law_kept.specs.Moves.{activated_in, rescheduled}
+use Rattle.law_kept.specs.KeptService.{ByNobody, is_full_in, unasked_in}
+use Rattle.law_kept.specs.KeptTick.{all_activated_in, begun_in, boot_in}
 use Rattle.kernel.specs.Processor.{AreAhead}
 
 -- ---- alarms

@@ -10,14 +10,14 @@ use Rattle.osek_base.specs.Alarm.{due_alarms}
 use Rattle.osek_base.specs.Ceiling.{top_priority}
 use Rattle.osek_base.specs.System.{System}
 use Rattle.osek_base.specs.Tick.{routine_choice}
-use Rattle.run_laws.proofs.Formed.{IsPlaced}
+use Rattle.law_runs.proofs.Formed.{IsPlaced}
 use Rattle.ready_queues.specs.QueueMoves.{highest}
-use Rattle.kept_state.specs.Kept.{Kept, Slot}
-use Rattle.kept_state.specs.KeptService.{ByTask, bare, caller_by, caller_in}
-use Rattle.kept_state.specs.KeptTick.{and_then_in, arrival_phase_in, before_execution_in, routine_started_in, silent_in, start_phase_in, advanced_in}
-use Rattle.kept_state.specs.Moves.{KeptRecorded, chosen, contender, contender_of, dynamic_in, may_dispatch_in, rescheduled}
-use Rattle.kept_state.proofs.Quiet.{alarm_phase_silent}
-use Rattle.blocking_laws.specs.Restamping.{StampLists, alarm_phase_restamped, alarms_restamped, before_restamped, preempted_by, reschedule_restamped}
+use Rattle.law_kept.specs.Kept.{Kept, Slot}
+use Rattle.law_kept.specs.KeptService.{ByTask, bare, caller_by, caller_in}
+use Rattle.law_kept.specs.KeptTick.{and_then_in, arrival_phase_in, before_execution_in, routine_started_in, silent_in, start_phase_in, advanced_in}
+use Rattle.law_kept.specs.Moves.{KeptRecorded, chosen, contender, contender_of, dynamic_in, may_dispatch_in, rescheduled}
+use Rattle.law_kept.proofs.Quiet.{alarm_phase_silent}
+use Rattle.law_blockers.specs.Restamping.{StampLists, alarm_phase_restamped, alarms_restamped, before_restamped, preempted_by, reschedule_restamped}
 use Rattle.services.specs.Calls.{calling_task, context_in}
 use Rattle.services.specs.Objects.{Objects, kept_in}
 use Rattle.services.specs.Quiet.{HasPassed as PassesByObjects}

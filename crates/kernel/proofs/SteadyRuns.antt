@@ -12,10 +12,10 @@ use Rattle.osek_base.specs.Alarm.{due_alarms}
 use Rattle.osek_base.specs.Instruction.{Context}
 use Rattle.osek_base.specs.System.{System, instruction_at}
 use Rattle.osek_base.specs.Trace.{arriving}
-use Rattle.kept_state.specs.Kept.{Kept}
-use Rattle.kept_state.specs.KeptService.{KeptCaller, ByTask, bare, caller_in}
-use Rattle.kept_state.specs.KeptTick.{and_then_in, before_execution_in, caller_executes_in, execute_phase_in, executed_in, last_phase_in, silent_in, tick_in}
-use Rattle.kept_state.specs.Moves.{KeptRecorded}
+use Rattle.law_kept.specs.Kept.{Kept}
+use Rattle.law_kept.specs.KeptService.{KeptCaller, ByTask, bare, caller_in}
+use Rattle.law_kept.specs.KeptTick.{and_then_in, before_execution_in, caller_executes_in, execute_phase_in, executed_in, last_phase_in, silent_in, tick_in}
+use Rattle.law_kept.specs.Moves.{KeptRecorded}
 use Rattle.kernel.specs.Keeping.{IsKernel}
 use Rattle.kernel.specs.Machine.{HasCome, HasTicked, Machine, MayTick, next_tick, picture, system_of}
 use Rattle.kernel.specs.Working.{HasTickedSteady}

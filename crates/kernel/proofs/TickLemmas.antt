@@ -8,21 +8,21 @@ use Rattle.osek_base.specs.System.{System}
 use Rattle.osek_base.specs.Tick.{before_execution, tick}
 use Rattle.osek_base.specs.Trace.{Run, arriving, run}
 use Rattle.osek_base.proofs.FrameLemmas.{tick_tick}
-use Rattle.run_laws.proofs.FormedTick.{run_form}
-use Rattle.blocking_laws.specs.Steps.{record_at, step_at}
-use Rattle.blocking_laws.specs.Stamps.{stamps_of}
-use Rattle.blocking_laws.proofs.StepLemmas.{run_more, run_tick, unwritten_more}
-use Rattle.kept_state.specs.Kept.{Kept, kept}
-use Rattle.kept_state.specs.KeptTick.{KeptStep, before_execution_in, execute_phase_in, last_phase_in, tick_in}
-use Rattle.kept_state.specs.Moves.{KeptRecorded}
-use Rattle.kept_state.specs.KeptService.{caller_in}
-use Rattle.kept_state.specs.Standing.{MayServe, runner_waits}
-use Rattle.kept_state.proofs.InRuns.{before_alike, ready_between_ticks, serves_in_runs}
-use Rattle.kept_state.proofs.Nesting.{few_nested}
-use Rattle.kept_state.proofs.Ticked.{ticks}
-use Rattle.blocking_laws.specs.Restamping.{before_restamped, last_restamped}
-use Rattle.run_laws.specs.Arrived.{AreArrivals, with_arrived}
-use Rattle.run_laws.proofs.Arriving.{earlier, present, takes_any_arrivals}
+use Rattle.law_runs.proofs.FormedTick.{run_form}
+use Rattle.law_blockers.specs.Steps.{record_at, step_at}
+use Rattle.law_blockers.specs.Stamps.{stamps_of}
+use Rattle.law_blockers.proofs.StepLemmas.{run_more, run_tick, unwritten_more}
+use Rattle.law_kept.specs.Kept.{Kept, kept}
+use Rattle.law_kept.specs.KeptTick.{KeptStep, before_execution_in, execute_phase_in, last_phase_in, tick_in}
+use Rattle.law_kept.specs.Moves.{KeptRecorded}
+use Rattle.law_kept.specs.KeptService.{caller_in}
+use Rattle.law_kept.specs.Standing.{MayServe, runner_waits}
+use Rattle.law_kept.proofs.InRuns.{before_alike, ready_between_ticks, serves_in_runs}
+use Rattle.law_kept.proofs.Nesting.{few_nested}
+use Rattle.law_kept.proofs.Ticked.{ticks}
+use Rattle.law_blockers.specs.Restamping.{before_restamped, last_restamped}
+use Rattle.law_runs.specs.Arrived.{AreArrivals, with_arrived}
+use Rattle.law_runs.proofs.Arriving.{earlier, present, takes_any_arrivals}
 use Rattle.std.specs.List.{AllByRecursion}
 use Rattle.kernel.specs.Stamping.{AreCounted, Told, executed_restamped, noted, number_for, number_told as number_of}
 use Rattle.kernel.specs.declared.acted.Acted.{Acted}

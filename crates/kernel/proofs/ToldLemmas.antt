@@ -8,9 +8,9 @@ use Rattle.osek_base.specs.Alarm.{due_alarms}
 use Rattle.osek_base.specs.Proper.{IsProper}
 use Rattle.osek_base.specs.System.{System}
 use Rattle.osek_base.specs.Trace.{run}
-use Rattle.kept_state.specs.Kept.{Kept, kept}
-use Rattle.kept_state.specs.KeptService.{bare}
-use Rattle.kept_state.specs.KeptTick.{advanced_in, alarms_act_in}
+use Rattle.law_kept.specs.Kept.{Kept, kept}
+use Rattle.law_kept.specs.KeptService.{bare}
+use Rattle.law_kept.specs.KeptTick.{advanced_in, alarms_act_in}
 use Rattle.seen_ticks.specs.Told.{acting_in, due_in, if_refused, refused_of_in}
 use Rattle.seen_ticks.proofs.ToldLemmas.{refused_told}
 use Rattle.kernel.specs.declared.acted.Acted.{Acted}

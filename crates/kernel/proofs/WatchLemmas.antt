@@ -3,12 +3,12 @@ use Rattle.std.proofs.Common.{◌≡◌, ℕ, ◌+◌, ◌<◌, ◌≤◌, Bool,
 use Rattle.std.proofs.lemmas.List.{take_more}
 use Rattle.osek_base.specs.declared.trace_event.TraceEvent.{TraceEvent}
 use Rattle.osek_base.specs.System.{System}
-use Rattle.kept_state.specs.Kept.{Kept}
+use Rattle.law_kept.specs.Kept.{Kept}
 use Rattle.osek_base.specs.Alarm.{due_alarms}
-use Rattle.kept_state.specs.KeptService.{bare}
-use Rattle.kept_state.specs.Standing.{runner_waits}
-use Rattle.kept_state.specs.KeptTick.{alarm_acts_in, alarms_act_in, advanced_in}
-use Rattle.blocking_laws.specs.Restamping.{StampLists, alarm_restamped, alarm_phase_restamped, alarms_restamped}
+use Rattle.law_kept.specs.KeptService.{bare}
+use Rattle.law_kept.specs.Standing.{runner_waits}
+use Rattle.law_kept.specs.KeptTick.{alarm_acts_in, alarms_act_in, advanced_in}
+use Rattle.law_blockers.specs.Restamping.{StampLists, alarm_restamped, alarm_phase_restamped, alarms_restamped}
 use Rattle.kernel.specs.declared.stamping.Look.{Look}
 use Rattle.kernel.specs.Does.{Becomes, Does}
 use Rattle.kernel.specs.Stamping.{AreCounted, acts_on, restamped_between, seen}

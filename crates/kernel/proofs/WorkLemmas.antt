@@ -11,13 +11,13 @@ use Rattle.osek_base.specs.Instruction.{Done, plain}
 use Rattle.osek_base.specs.State.{words_after}
 use Rattle.osek_base.specs.System.{System, instruction_at}
 use Rattle.osek_base.specs.Types.{PlainInstr}
-use Rattle.run_laws.proofs.Foremost.{equal}
+use Rattle.law_runs.proofs.Foremost.{equal}
 use Rattle.ready_queues.specs.QueueMoves.{changed_at}
-use Rattle.kept_state.specs.Kept.{Kept, Slot}
-use Rattle.kept_state.specs.KeptService.{ByTask, bare, slot_moved}
-use Rattle.kept_state.specs.KeptTick.{KeptStep, and_then_in, caller_executes_in, execute_phase_in, executed_in, last_phase_in, silent_in, tick_in}
-use Rattle.kept_state.specs.Moves.{KeptRecorded, rescheduled, slot_changed}
-use Rattle.kept_state.specs.Quiet.{later}
+use Rattle.law_kept.specs.Kept.{Kept, Slot}
+use Rattle.law_kept.specs.KeptService.{ByTask, bare, slot_moved}
+use Rattle.law_kept.specs.KeptTick.{KeptStep, and_then_in, caller_executes_in, execute_phase_in, executed_in, last_phase_in, silent_in, tick_in}
+use Rattle.law_kept.specs.Moves.{KeptRecorded, rescheduled, slot_changed}
+use Rattle.law_kept.specs.Quiet.{later}
 use Rattle.services.specs.Dispatched.{is_dispatched_in}
 use Rattle.services.specs.Steady.{IsSteady}
 use Rattle.services.proofs.DispatchedLemmas.{gone_on_dispatched, rescheduled_again}

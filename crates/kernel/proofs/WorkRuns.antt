@@ -15,17 +15,17 @@ use Rattle.osek_base.specs.BlockingText.{blockers_at}
 use Rattle.osek_base.specs.Proper.{IsProper}
 use Rattle.osek_base.specs.System.{System, instruction_at, priority_of}
 use Rattle.osek_base.specs.Trace.{Run, arriving, run}
-use Rattle.readiness.specs.Stamps.{stamp_of_oldest}
-use Rattle.blocking_laws.specs.Steps.{record_at}
-use Rattle.blocking_laws.specs.Restamping.{stamps_at}
-use Rattle.blocking_laws.proofs.StepLemmas.{run_more}
-use Rattle.kept_state.specs.Kept.{Kept, kept}
-use Rattle.kept_state.specs.KeptService.{KeptCaller, ByTask, bare, caller_by, caller_in}
+use Rattle.kernel_stamps.specs.Stamps.{stamp_of_oldest}
+use Rattle.law_blockers.specs.Steps.{record_at}
+use Rattle.law_blockers.specs.Restamping.{stamps_at}
+use Rattle.law_blockers.proofs.StepLemmas.{run_more}
+use Rattle.law_kept.specs.Kept.{Kept, kept}
+use Rattle.law_kept.specs.KeptService.{KeptCaller, ByTask, bare, caller_by, caller_in}
 use Rattle.machine.specs.Packed.{instr_of, is_plain, plain_of}
 use Rattle.services.specs.Calls.{IsExecuting, context_in}
-use Rattle.kept_state.specs.KeptTick.{KeptStep, tick_in}
-use Rattle.kept_state.specs.Moves.{KeptRecorded}
-use Rattle.kept_state.specs.Quiet.{later}
+use Rattle.law_kept.specs.KeptTick.{KeptStep, tick_in}
+use Rattle.law_kept.specs.Moves.{KeptRecorded}
+use Rattle.law_kept.specs.Quiet.{later}
 use Rattle.kernel.specs.Keeping.{IsKernel}
 use Rattle.kernel.specs.declared.next.Next.{Next}
 use Rattle.kernel.specs.Machine.{HasCome, Machine, next_tick, picture, system_of}

@@ -7,8 +7,8 @@ use Rattle.osek_base.specs.declared.status.Status.{Status}
 use Rattle.osek_base.specs.declared.task.Action.{Action}
 use Rattle.osek_base.specs.System.{System, activation_of, alarm}
 use Rattle.osek_base.specs.Types.{ServiceCall}
-use Rattle.readiness.specs.Stamps.{without_oldest}
-use Rattle.blocking_laws.specs.Restamping.{StampLists, changed_list, stamps_at}
+use Rattle.kernel_stamps.specs.Stamps.{without_oldest}
+use Rattle.law_blockers.specs.Restamping.{StampLists, changed_list, stamps_at}
 
 -- a job more of a task, where there is one, is ready from a tick on
 abbrev pub job_added : ℕ → Option ℕ → StampLists → StampLists

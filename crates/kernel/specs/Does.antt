@@ -3,10 +3,10 @@ use Rattle.std.specs.Prelude.{ℕ, ◌≡◌, ◌<◌, ◌≤◌, ◌+◌, List,
 use Rattle.osek_base.specs.declared.trace_event.TraceEvent.{TraceEvent}
 use Rattle.osek_base.specs.System.{System}
 use Rattle.osek_base.specs.Alarm.{due_alarms}
-use Rattle.kept_state.specs.Kept.{Kept}
-use Rattle.kept_state.specs.KeptService.{bare}
-use Rattle.kept_state.specs.KeptTick.{advanced_in}
-use Rattle.kept_state.specs.Moves.{KeptRecorded, contender, rescheduled}
+use Rattle.law_kept.specs.Kept.{Kept}
+use Rattle.law_kept.specs.KeptService.{bare}
+use Rattle.law_kept.specs.KeptTick.{advanced_in}
+use Rattle.law_kept.specs.Moves.{KeptRecorded, contender, rescheduled}
 use Rattle.kernel.specs.Processor.{Processor, clocked, picture, system_of}
 
 -- the system stays, the picture becomes what the step leaves, and its records stand behind the earlier ones

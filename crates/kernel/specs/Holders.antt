@@ -4,9 +4,9 @@ use Rattle.std.specs.List.{find}
 use Rattle.osek_base.specs.declared.ids.ResId.{ResId}
 use Rattle.osek_base.specs.Lists.{below}
 use Rattle.osek_base.specs.System.{System}
-use Rattle.kept_state.specs.Kept.{Kept, Slot}
-use Rattle.kept_state.specs.KeptService.{holds_in}
-use Rattle.kept_state.specs.Seen.{holder_in}
+use Rattle.law_kept.specs.Kept.{Kept, Slot}
+use Rattle.law_kept.specs.KeptService.{holds_in}
+use Rattle.law_kept.specs.Seen.{holder_in}
 use Rattle.services.specs.Objects.{by_task}
 
 -- the resource of a place: first those that are declared, of which there are so many, and behind them RES_SCHEDULER

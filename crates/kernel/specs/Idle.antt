@@ -3,9 +3,9 @@ use Rattle.std.specs.Prelude.{ℕ, ◌≡◌, ◌<◌, ◌≤◌, ◌+◌, Bool,
 use Rattle.osek_base.specs.declared.arrivals.Arrival.{Arrival}
 use Rattle.osek_base.specs.Alarm.{due_alarms}
 use Rattle.osek_base.specs.Trace.{arriving}
-use Rattle.kept_state.specs.KeptService.{ByNobody, bare, caller_in}
-use Rattle.kept_state.specs.KeptTick.{before_execution_in, silent_in, tick_in}
-use Rattle.kept_state.specs.Quiet.{idle_step, later}
+use Rattle.law_kept.specs.KeptService.{ByNobody, bare, caller_in}
+use Rattle.law_kept.specs.KeptTick.{before_execution_in, silent_in, tick_in}
+use Rattle.law_kept.specs.Quiet.{idle_step, later}
 use Rattle.kernel.specs.Machine.{IsOfRun, IsRun, Machine, next_tick, picture, system_of}
 use Rattle.kernel.specs.Processor.{Processor, at_tick, picture as picture_of, system_of as system_in}
 use Rattle.kernel.specs.Watches.{Blocking, Watched}

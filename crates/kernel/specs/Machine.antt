@@ -10,11 +10,11 @@ use Rattle.osek_base.specs.BlockingText.{blockers_at}
 use Rattle.osek_base.specs.Proper.{IsProper}
 use Rattle.osek_base.specs.System.{System}
 use Rattle.osek_base.specs.Trace.{arriving, run}
-use Rattle.run_laws.specs.Arrived.{AreArrivals}
-use Rattle.kept_state.specs.Kept.{Kept, kept}
-use Rattle.kept_state.specs.KeptTick.{tick_in}
-use Rattle.blocking_laws.specs.Stamps.{levels_of, stamps_of}
-use Rattle.blocking_laws.specs.Restamping.{AreListed}
+use Rattle.law_runs.specs.Arrived.{AreArrivals}
+use Rattle.law_kept.specs.Kept.{Kept, kept}
+use Rattle.law_kept.specs.KeptTick.{tick_in}
+use Rattle.law_blockers.specs.Stamps.{levels_of, stamps_of}
+use Rattle.law_blockers.specs.Restamping.{AreListed}
 use Rattle.kernel.specs.Processor.{Processor, at_tick, picture as picture_of, system_of as system_in}
 use Rattle.kernel.specs.declared.acted.Acted.{Acted}
 use Rattle.kernel.specs.Stamping.{number_told}

@@ -11,13 +11,13 @@ use Rattle.osek_base.specs.Proper.{IsProper}
 use Rattle.osek_base.specs.State.{Expiry}
 use Rattle.osek_base.specs.Trace.{boot, starting_tasks}
 use Rattle.osek_base.proofs.PlaceLemmas.{KnownPlace}
-use Rattle.run_laws.proofs.Formed.{IsPlaced}
+use Rattle.law_runs.proofs.Formed.{IsPlaced}
 use Rattle.machine.specs.Code.{Programs, programs_of}
 use Rattle.machine.specs.Packed.{instr_of}
 use Rattle.machine.specs.Windows.{word}
-use Rattle.kept_state.specs.Kept.{Kept, kept}
-use Rattle.kept_state.specs.KeptTick.{all_activated_in, begun_in}
-use Rattle.kept_state.specs.Standing.{MayServe, runner_waits}
+use Rattle.law_kept.specs.Kept.{Kept, kept}
+use Rattle.law_kept.specs.KeptTick.{all_activated_in, begun_in}
+use Rattle.law_kept.specs.Standing.{MayServe, runner_waits}
 use Rattle.services.specs.Objects.{Objects, kept_in, kept_of}
 use Rattle.services.specs.Calls.{IsExecuting, context_in}
 use Rattle.kernel.specs.declared.next.Next.{Next}

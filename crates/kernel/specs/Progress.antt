@@ -14,9 +14,9 @@ use Rattle.osek_base.specs.System.{System}
 use Rattle.osek_base.specs.ArrivalList.{are_in_order}
 use Rattle.osek_base.specs.Laws.{StartsSingly, Excludes, BlocksOnce, Protects}
 use Rattle.kernel.specs.declared.boot.BootFault.{BootFault}
-use Rattle.blocking_laws.specs.Steps.{record_at, step_at}
-use Rattle.kept_state.specs.Kept.{Kept, kept}
-use Rattle.kept_state.specs.Quiet.{later}
+use Rattle.law_blockers.specs.Steps.{record_at, step_at}
+use Rattle.law_kept.specs.Kept.{Kept, kept}
+use Rattle.law_kept.specs.Quiet.{later}
 use Rattle.osek_base.specs.Trace.{Run, arriving, run}
 
 -- the system, the mode, all arrivals, and the ticks done

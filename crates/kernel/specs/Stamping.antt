@@ -4,14 +4,14 @@ use Rattle.osek_base.specs.declared.limits.TheConstants.{MAX_ACTIVATION, MAX_TAS
 use Rattle.std.specs.Option.{option_map}
 use Rattle.std.specs.List.{list_any}
 use Rattle.osek_base.specs.System.{System, alarm, priority_of}
-use Rattle.run_laws.proofs.Counting.{one_if}
-use Rattle.kept_state.specs.Kept.{Kept}
-use Rattle.kept_state.specs.KeptService.{KeptCaller, ByTask, ByRoutine, ByNobody, caller_in}
-use Rattle.kept_state.specs.KeptTick.{execute_phase_in}
-use Rattle.readiness.specs.Stamps.{Stamped, stamp_of_oldest}
+use Rattle.law_runs.proofs.Counting.{one_if}
+use Rattle.law_kept.specs.Kept.{Kept}
+use Rattle.law_kept.specs.KeptService.{KeptCaller, ByTask, ByRoutine, ByNobody, caller_in}
+use Rattle.law_kept.specs.KeptTick.{execute_phase_in}
+use Rattle.kernel_stamps.specs.Stamps.{Stamped, stamp_of_oldest}
 use Rattle.kernel.specs.declared.stamping.Look.{Look}
 use Rattle.kernel.specs.declared.stamping.Stand.{Stand}
-use Rattle.blocking_laws.specs.Restamping.{StampLists, acting_task, changed_list, ended_if, ended_of, instr_in, is_task, restamped, restamped_if, named_in, spent_of, stamps_at, task_waits}
+use Rattle.law_blockers.specs.Restamping.{StampLists, acting_task, changed_list, ended_if, ended_of, instr_in, is_task, restamped, restamped_if, named_in, spent_of, stamps_at, task_waits}
 
 -- how a task stands
 abbrev pub seen : Kept → ℕ → Look

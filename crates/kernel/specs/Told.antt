@@ -5,9 +5,9 @@ use Rattle.osek_base.specs.declared.status.Status.{Status}
 use Rattle.osek_base.specs.declared.trace_event.TraceEvent.{TraceEvent}
 use Rattle.osek_base.specs.System.{System}
 use Rattle.osek_base.specs.Alarm.{due_alarms}
-use Rattle.kept_state.specs.Kept.{Kept}
-use Rattle.kept_state.specs.KeptTick.{alarm_acts_in}
-use Rattle.kept_state.specs.KeptService.{bare}
+use Rattle.law_kept.specs.Kept.{Kept}
+use Rattle.law_kept.specs.KeptTick.{alarm_acts_in}
+use Rattle.law_kept.specs.KeptService.{bare}
 use Rattle.seen_ticks.specs.Told.{acting_in, due_in, refused_by, refused_in}
 use Rattle.kernel.specs.declared.acted.Acted.{Acted}
 use Rattle.kernel.specs.Does.{Does}

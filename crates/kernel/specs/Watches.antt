@@ -8,13 +8,13 @@ use Rattle.osek_base.specs.Executed.{StandsIn, idle_or_executed}
 use Rattle.osek_base.specs.declared.trace_event.TraceEvent.{TraceEvent}
 use Rattle.osek_base.specs.System.{System, priority_of}
 use Rattle.machine.specs.Packed.{instr_of}
-use Rattle.kept_state.specs.Kept.{Kept}
-use Rattle.kept_state.specs.KeptService.{caller_in}
-use Rattle.kept_state.specs.KeptTick.{alarm_acts_in, alarm_phase_in, alarms_act_in, before_execution_in, execute_phase_in, last_phase_in}
-use Rattle.kept_state.specs.Moves.{KeptRecorded, rescheduled}
-use Rattle.kept_state.specs.Standing.{runner_waits}
+use Rattle.law_kept.specs.Kept.{Kept}
+use Rattle.law_kept.specs.KeptService.{caller_in}
+use Rattle.law_kept.specs.KeptTick.{alarm_acts_in, alarm_phase_in, alarms_act_in, before_execution_in, execute_phase_in, last_phase_in}
+use Rattle.law_kept.specs.Moves.{KeptRecorded, rescheduled}
+use Rattle.law_kept.specs.Standing.{runner_waits}
 use Rattle.services.specs.Calls.{calling_task}
-use Rattle.blocking_laws.specs.Restamping.{StampLists, alarm_restamped, alarm_phase_restamped, alarms_restamped, before_restamped, last_restamped, reschedule_restamped}
+use Rattle.law_blockers.specs.Restamping.{StampLists, alarm_restamped, alarm_phase_restamped, alarms_restamped, before_restamped, last_restamped, reschedule_restamped}
 use Rattle.kernel.specs.Controls.{IsCall}
 use Rattle.kernel.specs.Processor.{IsBefore, IsNext, MayExecute, MayFetch, Processor, at_tick, picture, system_of}
 use Rattle.kernel.specs.declared.acted.Acted.{Acted}

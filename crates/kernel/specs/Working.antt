@@ -16,12 +16,12 @@ use Rattle.osek_base.specs.State.{fresh_context}
 use Rattle.osek_base.specs.System.{System, instruction_at}
 use Rattle.osek_base.specs.Trace.{arriving, run}
 use Rattle.osek_base.specs.Types.{PlainInstr}
-use Rattle.readiness.specs.Stamps.{stamp_of_oldest}
-use Rattle.kept_state.specs.Kept.{Kept, Slot, kept}
-use Rattle.kept_state.specs.KeptService.{ByTask, bare, caller_in}
-use Rattle.kept_state.specs.KeptTick.{before_execution_in, silent_in}
-use Rattle.blocking_laws.specs.Restamping.{stamps_at}
-use Rattle.blocking_laws.specs.Steps.{record_at, step_at}
+use Rattle.kernel_stamps.specs.Stamps.{stamp_of_oldest}
+use Rattle.law_kept.specs.Kept.{Kept, Slot, kept}
+use Rattle.law_kept.specs.KeptService.{ByTask, bare, caller_in}
+use Rattle.law_kept.specs.KeptTick.{before_execution_in, silent_in}
+use Rattle.law_blockers.specs.Restamping.{stamps_at}
+use Rattle.law_blockers.specs.Steps.{record_at, step_at}
 use Rattle.services.specs.Steady.{IsSteady}
 use Rattle.kernel.specs.Machine.{HasTicked, Machine, next_tick, picture, system_of}
 use Rattle.kernel.specs.Processor.{picture as picture_of, system_of as system_in}

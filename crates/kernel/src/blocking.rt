@@ -2,7 +2,7 @@
 //! blockers.
 
 ghost use Rattle.std.specs.Prelude.{◌≡◌, ◌<◌, true, IfSome, length};
-ghost use Rattle.blocking_laws.specs.Restamping.{named_by, preempted_by};
+ghost use Rattle.law_blockers.specs.Restamping.{named_by, preempted_by};
 ghost use Rattle.machine.specs.Packed.{if_service, instr_of, makes_job, service_of};
 ghost use Rattle.kernel.specs.Controls.{IsCall, changes_job};
 ghost use Rattle.kernel.specs.Idle.{rested};
@@ -13,9 +13,9 @@ ghost use Rattle.kernel.specs.Watches.{Follows, IsFresh, MaySpend, Spends};
 use crate::blockers::Blockers;
 use crate::processor::Processor;
 use crate::stamping::{Look, Stand, is_that, without_ended};
+use kernel_stamps::{JobStamps, LastTicks};
 use machine::PackedInstr;
 use osek_base::{Owner, Service, Status, TaskId};
-use readiness::{JobStamps, LastTicks};
 use ready_queues::ReadyQueues;
 use std::marker::{Model, PhantomData};
 

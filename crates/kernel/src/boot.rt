@@ -8,9 +8,9 @@ ghost use Rattle.kernel.specs.Stamping.{HasJobs, IsBegun, MayAddJobs};
 ghost use Rattle.kernel.specs.Processor.{IsStarted, IsStarting, picture, system_of};
 
 use crate::processor::Processor;
+use kernel_stamps::JobStamps;
 use machine::{Code, Windows};
 use osek_base::{ModeId, System, TaskId, TickRecord, TraceEvent};
-use readiness::JobStamps;
 use ready_queues::ReadyQueues;
 use services::Core;
 use std::alloc::{AllocError, Global};

@@ -4,7 +4,7 @@
 ghost use Rattle.std.specs.Prelude.{◌≡◌, ◌<◌, ◌∷◌, [], IfSome, Some, false, length, true};
 ghost use Rattle.osek_base.specs.declared.ids.Owner.{Owner};
 ghost use Rattle.osek_base.specs.declared.trace_event.TraceEvent.{TraceEvent};
-ghost use Rattle.kept_state.specs.KeptService.{caller_in};
+ghost use Rattle.law_kept.specs.KeptService.{caller_in};
 ghost use Rattle.services.specs.Calls.{calling_task};
 ghost use Rattle.machine.specs.Packed.{instr_of, is_plain, needs_look, service_of};
 ghost use Rattle.kernel.specs.Controls.{changes_job};

@@ -8,9 +8,9 @@ ghost use Rattle.kernel.specs.Holders.{all_noted, holder_from, holders_in, noted
 
 use crate::places::give_places;
 use arrayvec::ArrayVec;
-use observations::{Holder, MAX_HELD};
 use osek_base::{ResId, System, TaskId};
 use ready_queues::ReadyQueues;
+use seen_ticks::{Holder, MAX_HELD};
 use services::{Objects, Slot};
 
 /// The slots of all tasks.

@@ -9,12 +9,12 @@
 ghost use Rattle.std.specs.Prelude.{◌≡◌, ◌<◌, ◌≤◌, ◌+◌, ◌-◌, ◌++◌, [], false, IfOk, MatchOption, Some, map, length};
 ghost use Rattle.osek_base.specs.BlockingText.{blockers_at};
 ghost use Rattle.osek_base.specs.Names.{number_of};
-ghost use Rattle.kept_state.specs.Kept.{kept};
+ghost use Rattle.law_kept.specs.Kept.{kept};
 ghost use Rattle.kernel.specs.Stamping.{IsNumber};
 ghost use Rattle.kernel.specs.Machine.{HasCome};
 ghost use Rattle.kernel.specs.Begun.{HasGoneOn};
 ghost use Rattle.kernel.specs.Progress.{AreFree, AreKnown, AreLeft, Boots, HasIdled, HasRun, HasRunApart, HasRunSteadily, HaveArrived, IsNextArrival, TakesArrived, is_over, run_of};
-ghost use Rattle.blocking_laws.specs.Steps.{step_at};
+ghost use Rattle.law_blockers.specs.Steps.{step_at};
 ghost use Rattle.seen_ticks.specs.Told.{task_at};
 ghost use Rattle.osek_base.specs.Lists.{below};
 

@@ -4,7 +4,7 @@
 ghost use Rattle.std.specs.Prelude.{◌≡◌, map, length};
 ghost use Rattle.osek_base.specs.Lists.{below};
 ghost use Rattle.osek_base.specs.System.{System};
-ghost use Rattle.kept_state.specs.Kept.{Kept};
+ghost use Rattle.law_kept.specs.Kept.{Kept};
 ghost use Rattle.kernel.specs.Processor.{picture, system_of};
 ghost use Rattle.seen_ticks.specs.Told.{task_at_in};
 

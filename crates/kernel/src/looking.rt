@@ -1,9 +1,9 @@
 //! What is seen of a system in the midst of a tick: who executes, and how tasks stand.
 
 ghost use Rattle.std.specs.Prelude.{◌≡◌, ◌<◌, true, IfSome, MatchOption, length};
-ghost use Rattle.kept_state.specs.KeptService.{ByNobody, caller_in};
-ghost use Rattle.kept_state.specs.KeptTick.{silent_in};
-ghost use Rattle.kept_state.specs.Moves.{rescheduled};
+ghost use Rattle.law_kept.specs.KeptService.{ByNobody, caller_in};
+ghost use Rattle.law_kept.specs.KeptTick.{silent_in};
+ghost use Rattle.law_kept.specs.Moves.{rescheduled};
 ghost use Rattle.services.specs.Calls.{calling_task};
 ghost use Rattle.kernel.specs.Answered.{Activates};
 ghost use Rattle.kernel.specs.Stamping.{IsActedOn, IsLevel, IsLook, IsStand, IsTask, IsTaskCount};

@@ -4,8 +4,8 @@
 ghost use Rattle.std.specs.Prelude.{◌≤◌, ◌+◌, ◌<◌, length};
 ghost use Rattle.std.specs.List.{All};
 ghost use Rattle.osek_base.specs.Tick.{flagged};
-ghost use Rattle.kept_state.specs.KeptTick.{arrival_phase_in, start_phase_in};
-ghost use Rattle.kept_state.specs.Quiet.{IsQuiet};
+ghost use Rattle.law_kept.specs.KeptTick.{arrival_phase_in, start_phase_in};
+ghost use Rattle.law_kept.specs.Quiet.{IsQuiet};
 ghost use Rattle.kernel.specs.Idle.{HasPassed};
 ghost use Rattle.kernel.specs.Processor.{picture, system_of};
 ghost use Rattle.kernel.specs.Does.{Becomes, Reschedules};

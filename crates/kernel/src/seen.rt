@@ -4,7 +4,7 @@
 ghost use Rattle.std.specs.Prelude.{◌≡◌, ◌<◌, false, slice_index_or, length};
 ghost use Rattle.std.specs.Option.{option_map};
 ghost use Rattle.osek_base.specs.State.{jobs_of};
-ghost use Rattle.kept_state.specs.Seen.{routine_of};
+ghost use Rattle.law_kept.specs.Seen.{routine_of};
 ghost use Rattle.kernel.specs.Stamping.{IsTask};
 ghost use Rattle.kernel.specs.Progress.{run_of};
 ghost use Rattle.seen_ticks.specs.Observed.{holders_seen};
@@ -15,10 +15,9 @@ use crate::blockers::Blockers;
 use crate::holders::see_holders;
 use crate::kernel::Kernel;
 use arrayvec::ArrayVec;
-use observations::{Holder, MAX_HELD};
 use osek_base::{IsrId, ResId, TaskId};
 use ready_queues::ReadyQueues;
-use seen_ticks::TaskAt;
+use seen_ticks::{Holder, MAX_HELD, TaskAt};
 
 impl<'s, Q: ReadyQueues, B: Blockers> Kernel<'s, Q, B> {
     /// How many jobs a task has: those that were activated and have not ended (task management,

@@ -2,7 +2,7 @@
 //! the standards.
 
 ghost use Rattle.std.specs.Prelude.{◌≡◌};
-ghost use Rattle.blocking_laws.specs.Restamping.{is_task};
+ghost use Rattle.law_blockers.specs.Restamping.{is_task};
 ghost use Rattle.kernel.specs.Stamping.{ended_since};
 
 use osek_base::TaskId;

@@ -4,7 +4,7 @@
 ghost use Rattle.std.specs.Prelude.{◌≡◌, ◌<◌, ◌≤◌, ◌+◌, [], IfOk, MatchOption, Some, true, map, slice_index, length};
 ghost use Rattle.osek_base.specs.Lists.{below};
 ghost use Rattle.osek_base.specs.State.{shared_window};
-ghost use Rattle.kept_state.specs.KeptTick.{before_execution_in};
+ghost use Rattle.law_kept.specs.KeptTick.{before_execution_in};
 ghost use Rattle.ready_queues.specs.LevelLists.{level_lists, by_level};
 ghost use Rattle.kernel.specs.Begun.{GoesOnBy, MayGoOn, NoneComes};
 ghost use Rattle.kernel.specs.Idle.{StaysIdle};

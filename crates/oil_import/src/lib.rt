@@ -1,11 +1,15 @@
-//! OIL as it is used, to the plain OIL that `oil_reader` takes: implementations' sections and
-//! attributes, descriptions, includes and objects of other standards are left out, defaults are
-//! set, and what can't be expressed is refused.
+//! Turns OIL of other kernels into the plain OIL that `oil_reader` takes, and tells what it left
+//! out, set or refused. Where `import` answers a text, that text means a file. That the file
+//! means what the user's files mean is tested, not proved.
+//!
+//! Sections and attributes of implementations, descriptions, includes and objects of other
+//! standards are left out, defaults are set, and what can't be expressed is refused. Nothing that
+//! is proved of runs depends on this crate.
 //!
 //! Files become tokens (`tokens`), in the order in which files include one another (`includes`),
 //! these become items by depth of braces (`items`). What is kept of them is written as a draft
-//! (`draft`, `settings`, `objects`, `files`), which is read and printed (`importing`). What is left
-//! out, set or refused is told by `messages`.
+//! (`draft`, `settings`, `objects`, `files`), which is read and printed (`importing`). `messages`
+//! tells what was left out, set or refused.
 #![tactic(auto)]
 
 mod attributes;

@@ -1,7 +1,9 @@
-//! Prints OIL, the configuration language of OSEK/VDX: the text of a file that was read.
+//! Prints OIL. `print_oil` writes exactly the printed form of a file, and that text means the
+//! file again. `reprint_oil` turns a draft into a text that means a file, so the reader takes it.
 //!
-//! A line or block is written by `layout`, an object's attributes by `attributes`, a list of
-//! objects by `printed_object`, and a whole file by `print`; `reprint` prints a draft anew.
+//! This holds of every file that the reader gives. A line or block is written by `layout`, an
+//! object's attributes by `attributes`, a list of objects by `printed_object`, a whole file by
+//! `print`; `reprint` prints a draft anew.
 #![tactic(auto)]
 
 mod attributes;

@@ -1,7 +1,13 @@
-//! Reads OIL, the configuration language of OSEK/VDX: a subset of OIL 2.5, and a PRIORITY for interrupt routines.
+//! Reads OIL: a subset of OIL 2.5, and a PRIORITY for interrupt routines. `read_oil` answers
+//! exactly the file that the text means, or the text's first fault at its place.
 //!
-//! Bytes become tokens (`tokens`), these a tree (`syntax`, made by `parser`), whose faults are sought (`object_faults`, by
-//! the attributes of `table`), and a tree without a fault becomes the file that it means (`object_values`).
+//! No text means two files, none has two first faults, and none has both a file and a fault
+//! (`one_meaning`). What had a meaning when priorities of tasks ended at 31 has the same meaning.
+//! An `OilFile` keeps by its type what the reader checks.
+//!
+//! Bytes become tokens (`tokens`), these a tree (`syntax`, made by `parser`), whose faults are
+//! sought (`object_faults`, by the attributes of `table`). A tree without a fault becomes the
+//! file that it means (`object_values`).
 #![tactic(auto)]
 
 mod fault;

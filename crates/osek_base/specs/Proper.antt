@@ -2,8 +2,7 @@
 use Rattle.std.specs.Prelude.{ℕ, ◌-◌, ◌^◌, Bool, true, false, not, ◌&&◌, ◌||◌, ◌==◌, nat_lt, nat_le, List, [], ◌∷◌, if◌then◌else◌, Option, Some, None, IsTrue, length, slice_get}
 use Rattle.std.specs.List.{list_all, list_any}
 use Rattle.std.specs.Option.{option_map_or}
-use Rattle.osek_base.specs.declared.limits.TheConstants.{MAX_TASKS, MAX_TASK_PRIORITY, MAX_ACTIVATION, MAX_ROUTINES, MAX_ROUTINE_PRIORITY, MAX_RESOURCES}
-use Rattle.osek_base.specs.declared.limits.TheConstants.{MAX_EVENTS, MAX_COUNTERS, MAX_COUNTS, MAX_ALARMS, MAX_MODES, MAX_INSTRUCTIONS, REGISTERS}
+use Rattle.osek_base.specs.declared.limits.TheConstants.{MAX_TASKS, MAX_TASK_PRIORITY, MAX_ACTIVATION, MAX_ROUTINES, MAX_ROUTINE_PRIORITY, MAX_RESOURCES, MAX_EVENTS, MAX_COUNTERS, MAX_COUNTS, MAX_ALARMS, MAX_MODES, MAX_INSTRUCTIONS, REGISTERS}
 use Rattle.osek_base.specs.Types.{ResId, Plain, PlainInstr, Service, ServiceCall, Control, Instr, Schedule, Counter, Action}
 use Rattle.osek_base.specs.Lists.{is_empty}
 use Rattle.osek_base.specs.Names.{Names, is_proper_name, are_distinct_names}

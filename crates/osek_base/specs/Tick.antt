@@ -1,6 +1,5 @@
 -- OSEK/VDX OS: interrupt processing; alarms; error handling, ErrorHook. One tick, in six phases.
-use Rattle.std.specs.Prelude.{ℕ, ◌+◌, Bool, true, false, if◌then◌else◌, List, [], ◌∷◌, ◌++◌, Option, Some, None, slice_index_or, slice_set}
-use Rattle.std.specs.Prelude.{length}
+use Rattle.std.specs.Prelude.{ℕ, ◌+◌, Bool, true, false, if◌then◌else◌, List, [], ◌∷◌, ◌++◌, Option, Some, None, slice_index_or, slice_set, length}
 use Rattle.std.specs.Option.{option_map}
 use Rattle.osek_base.specs.Types.{Owner, Status, PlainInstr, Service, ServiceCall, Control, Instr, Results, Outcome, Source, TraceEvent, Action}
 use Rattle.osek_base.specs.Lists.{below, foremost}

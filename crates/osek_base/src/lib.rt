@@ -1,4 +1,16 @@
-//! The ground of an OSEK/VDX kernel: types with their limits, configured systems, and the definitions that contracts cite.
+//! The ground of everything: types that keep their limits, a configured `System`, the words and
+//! tokens of texts, and in `specs/` all definitions that contracts cite. A `System` is proper by
+//! its type, and each of its readers answers exactly the word of the definitions.
+//!
+//! - Numbers of objects, registers and places keep their limits by their types.
+//! - A `System` is made only of parts that are shown to be proper. Its readers (`priority_of`,
+//!   `ceiling`, `instruction_at` and so on) answer exactly what the definitions say. Ceilings are
+//!   computed once.
+//! - `Names` gives exactly the name of an object. `task_order`: by falling priority, ties in
+//!   declaration order.
+//! - `Arrivals::new`: exactly the lists in order and within the limits.
+//! - `word_at`, `number_at`, `line_len`: exactly the word, the number and the line at the front
+//!   of a text. `lexing`: exactly its tokens.
 #![tactic(auto)]
 
 mod arrivals;

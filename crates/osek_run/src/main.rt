@@ -1,7 +1,9 @@
-//! `osek_run`: runs a system that an OIL file and programs describe, and prints its trace.
+//! The program `osek`: runs a system that an OIL file and programs describe, and prints its
+//! trace, or answers another command line. `main` hands the line, the files and the streams to
+//! `cli`.
 #![tactic(auto)]
 
-use command_line::{HostFiles, REFUSED, REFUSED_LINE, command};
+use cli::{HostFiles, REFUSED, REFUSED_LINE, command};
 use std::env;
 use std::io::{self, BufWriter, ErrorKind, IsTerminal, Write};
 use std::process::ExitCode;

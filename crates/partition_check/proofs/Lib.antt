@@ -43,3 +43,4 @@ mod PartTasks
 pub mod PartProper
 pub mod Whole
 pub mod PartAgrees
+pub mod KeptSteps

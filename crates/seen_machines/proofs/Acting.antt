@@ -5,11 +5,11 @@ use Rattle.osek_base.specs.declared.status.Status.{Status}
 use Rattle.osek_base.specs.Alarm.{due_alarms, is_due}
 use Rattle.osek_base.specs.Lists.{below}
 use Rattle.osek_base.specs.System.{System}
-use Rattle.run_laws.proofs.Known.{all_below}
-use Rattle.run_laws.proofs.Lists.{all_append, all_kept}
-use Rattle.kept_state.specs.Kept.{Kept}
-use Rattle.kept_state.specs.KeptService.{bare}
-use Rattle.kept_state.specs.KeptTick.{advanced_in}
+use Rattle.law_runs.proofs.Known.{all_below}
+use Rattle.law_runs.proofs.Lists.{all_append, all_kept}
+use Rattle.law_kept.specs.Kept.{Kept}
+use Rattle.law_kept.specs.KeptService.{bare}
+use Rattle.law_kept.specs.KeptTick.{advanced_in}
 use Rattle.seen_ticks.specs.Told.{acting_in, if_refused, refused_of_in}
 use Rattle.kernel.specs.Told.{acted_in}
 

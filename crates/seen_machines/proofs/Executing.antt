@@ -8,18 +8,18 @@ use Rattle.osek_base.specs.Executed.{idle_or_executed}
 use Rattle.osek_base.specs.System.{System}
 use Rattle.osek_base.specs.Tick.{tick}
 use Rattle.osek_base.specs.Trace.{Run, arriving, run}
-use Rattle.run_laws.specs.Arrived.{with_arrived}
-use Rattle.run_laws.proofs.Arriving.{earlier, present}
-use Rattle.run_laws.proofs.Further.{run_tick}
-use Rattle.kept_state.specs.Kept.{Kept}
-use Rattle.kept_state.specs.KeptTick.{KeptStep, tick_in}
-use Rattle.kept_state.proofs.Ticked.{ticks}
-use Rattle.blocking_laws.specs.Steps.{record_at}
+use Rattle.law_runs.specs.Arrived.{with_arrived}
+use Rattle.law_runs.proofs.Arriving.{earlier, present}
+use Rattle.law_runs.proofs.Further.{run_tick}
+use Rattle.law_kept.specs.Kept.{Kept}
+use Rattle.law_kept.specs.KeptTick.{KeptStep, tick_in}
+use Rattle.law_kept.proofs.Ticked.{ticks}
+use Rattle.law_blockers.specs.Steps.{record_at}
 use Rattle.kernel.specs.Machine.{IsAt, IsOfRun, Machine, next_tick, picture, system_of}
 use Rattle.kernel.proofs.PastLemmas.{at_past}
 use Rattle.seen_ticks.specs.Observed.{executed_in}
 use Rattle.seen_ticks.proofs.Telling.{executed_told}
-use Rattle.shown_ticks.proofs.Shown.{runs_show}
+use Rattle.law_seen.proofs.Shown.{runs_show}
 
 module _ (counted : Bool) (m : Machine) (arrived : List ℕ) (of_run : IsOfRun counted m)
     (on : (picture m).over ≡ false) where

@@ -7,18 +7,18 @@ use Rattle.osek_base.specs.declared.executed.Executed.{Executed}
 use Rattle.osek_base.specs.declared.ids.Owner.{Owner}
 use Rattle.osek_base.specs.Lists.{below}
 use Rattle.osek_base.specs.System.{System}
-use Rattle.kept_state.specs.Kept.{Kept}
-use Rattle.kept_state.specs.KeptService.{task_state_in}
-use Rattle.same_future.specs.Spans.{is_pending_in}
+use Rattle.law_kept.specs.Kept.{Kept}
+use Rattle.law_kept.specs.KeptService.{task_state_in}
+use Rattle.law_future.specs.Spans.{is_pending_in}
 use Rattle.kernel.specs.declared.acted.Acted.{Acted}
 use Rattle.kernel.specs.Told.{acted_in}
 use Rattle.seen_ticks.specs.Told.{task_at_in}
-use Rattle.observations.specs.declared.observation.Observation.{Observation}
-use Rattle.observations.specs.Seen.{seen_of}
+use Rattle.seen_ticks.specs.declared.observation.Observation.{Observation}
+use Rattle.seen_ticks.specs.Seen.{seen_of}
 use Rattle.seen_ticks.specs.Observed.{activations_by, answered, failure_of, is_by, is_number, is_waiting, lost_of, one_if, owner_of, state_seen, times}
 use Rattle.seen_ticks.proofs.SeenSteps.{read_at, seen_count}
-use Rattle.shown_ticks.specs.Seen.{answered_in, executor_in, failure_in, seen_in}
-use Rattle.shown_ticks.specs.Shown.{KeptTicked, alarm_seen_in, holders_seen_in, routine_seen_in, task_seen_in, ticked_in}
+use Rattle.law_seen.specs.Seen.{answered_in, executor_in, failure_in, seen_in}
+use Rattle.law_seen.specs.Shown.{KeptTicked, alarm_seen_in, holders_seen_in, routine_seen_in, task_seen_in, ticked_in}
 use Rattle.seen_machines.specs.declared.told.Told.{Told}
 use Rattle.seen_machines.specs.Told.{IsOfAll, IsTold, alarm_seen_by, jobs_told, pending_told, routine_seen_by, task_at_told, task_seen_by, without_job}
 

@@ -10,16 +10,16 @@ use Rattle.osek_base.specs.State.{State}
 use Rattle.osek_base.specs.System.{System}
 use Rattle.osek_base.specs.Tick.{before_execution, tick}
 use Rattle.osek_base.specs.Trace.{run}
-use Rattle.kept_state.specs.Kept.{Kept}
-use Rattle.kept_state.specs.KeptService.{holds_in}
-use Rattle.kept_state.specs.KeptTick.{KeptStep, before_execution_in, tick_in}
-use Rattle.kept_state.specs.Moves.{KeptRecorded}
-use Rattle.kept_state.proofs.InRuns.{before_alike}
-use Rattle.kept_state.proofs.Ticked.{ticks}
-use Rattle.kept_state.specs.Seen.{holder_in}
+use Rattle.law_kept.specs.Kept.{Kept}
+use Rattle.law_kept.specs.KeptService.{holds_in}
+use Rattle.law_kept.specs.KeptTick.{KeptStep, before_execution_in, tick_in}
+use Rattle.law_kept.specs.Moves.{KeptRecorded}
+use Rattle.law_kept.proofs.InRuns.{before_alike}
+use Rattle.law_kept.proofs.Ticked.{ticks}
+use Rattle.law_kept.specs.Seen.{holder_in}
 use Rattle.kernel.specs.Machine.{IsOfRun, Machine, next_tick, picture, system_of}
 use Rattle.seen_ticks.proofs.Staying.{before_same, pending_tick}
-use Rattle.shown_ticks.specs.Shown.{holders_seen_in}
+use Rattle.law_seen.specs.Shown.{holders_seen_in}
 
 module _ (S : System) (arrived : List ℕ) (o : Kept) where
   abbrev at : Kept

@@ -2,23 +2,23 @@
 -- behind it.
 use Rattle.std.specs.Prelude.{ℕ, ◌≡◌, ◌+◌, ◌-◌, Bool, false, not, ◌&&◌, List, [], map, Option, Some, None, length, slice_index_or}
 use Rattle.std.specs.Option.{option_map}
-use Rattle.observations.specs.declared.alarm_seen.AlarmSeen.{AlarmSeen}
-use Rattle.observations.specs.declared.routine_seen.RoutineSeen.{RoutineSeen}
-use Rattle.observations.specs.declared.task_seen.TaskSeen.{TaskSeen}
+use Rattle.seen_ticks.specs.declared.alarm_seen.AlarmSeen.{AlarmSeen}
+use Rattle.seen_ticks.specs.declared.routine_seen.RoutineSeen.{RoutineSeen}
+use Rattle.seen_ticks.specs.declared.task_seen.TaskSeen.{TaskSeen}
 use Rattle.osek_base.specs.declared.executed.Executed.{Executed}
 use Rattle.osek_base.specs.declared.ids.Owner.{Owner}
 use Rattle.osek_base.specs.declared.status.TaskState.{TaskState}
 use Rattle.osek_base.specs.Lists.{below}
 use Rattle.osek_base.specs.System.{System}
-use Rattle.kept_state.specs.Kept.{Kept}
-use Rattle.kept_state.specs.KeptService.{task_state_in}
-use Rattle.same_future.specs.Spans.{is_pending_in}
-use Rattle.kept_state.specs.Seen.{routine_of}
+use Rattle.law_kept.specs.Kept.{Kept}
+use Rattle.law_kept.specs.KeptService.{task_state_in}
+use Rattle.law_future.specs.Spans.{is_pending_in}
+use Rattle.law_kept.specs.Seen.{routine_of}
 use Rattle.kernel.specs.declared.acted.Acted.{Acted}
 use Rattle.seen_ticks.specs.declared.task_at.TaskAt.{TaskAt}
 use Rattle.seen_ticks.specs.Told.{task_at_in}
 use Rattle.seen_ticks.specs.Observed.{activations_by, ending, is_among, is_by, is_number, is_waiting, lost_of, one_if, refusing, state_seen, task_of, times}
-use Rattle.shown_ticks.specs.Shown.{KeptTicked}
+use Rattle.law_seen.specs.Shown.{KeptTicked}
 use Rattle.seen_machines.specs.declared.told.Told.{Told}
 
 -- what is known is that of a tick

@@ -9,10 +9,9 @@ use crate::places::give_places;
 use crate::readers::system;
 use arrayvec::ArrayVec;
 use kernel::{Blockers, Machine};
-use observations::AlarmSeen;
 use osek_base::{AlarmId, MAX_ALARMS};
 use ready_queues::ReadyQueues;
-use seen_ticks::is_among;
+use seen_ticks::{AlarmSeen, is_among};
 
 /// Whether no alarm was due in the tick that a machine did last, as in most ticks.
 #[inline(always)]

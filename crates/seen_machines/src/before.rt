@@ -3,8 +3,8 @@
 ghost use Rattle.std.specs.Prelude.{◌≡◌, map, length};
 ghost use Rattle.std.specs.Option.{option_map};
 ghost use Rattle.osek_base.specs.Lists.{below};
-ghost use Rattle.same_future.specs.Spans.{is_pending_in};
-ghost use Rattle.kept_state.specs.Seen.{routine_of};
+ghost use Rattle.law_future.specs.Spans.{is_pending_in};
+ghost use Rattle.law_kept.specs.Seen.{routine_of};
 ghost use Rattle.kernel.specs.Machine.{picture, system_of};
 
 use crate::places::give_places;

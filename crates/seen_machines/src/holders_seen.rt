@@ -2,12 +2,12 @@
 
 ghost use Rattle.std.specs.Prelude.{◌≡◌};
 ghost use Rattle.kernel.specs.Machine.{picture, system_of};
-ghost use Rattle.shown_ticks.specs.Shown.{holders_seen_in};
+ghost use Rattle.law_seen.specs.Shown.{holders_seen_in};
 
 use arrayvec::ArrayVec;
 use kernel::{Blockers, Machine};
-use observations::{Holder, MAX_HELD};
 use ready_queues::ReadyQueues;
+use seen_ticks::{Holder, MAX_HELD};
 
 /// Leaves who holds each declared resource, and behind them RES_SCHEDULER where the system has it.
 pub(crate) fn see_holders<Q: ReadyQueues, B: Blockers>(

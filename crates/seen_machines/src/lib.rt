@@ -1,4 +1,8 @@
-//! Machines that are watched: what is seen of a tick whose interrupts are given when it is done.
+//! A tick of a machine whose interrupts are given as it is done, beside what is seen of it. The
+//! tick is exactly the definitions', and the observation exactly what is seen of it.
+//!
+//! `Watcher::tick` says so task by task, routine by routine, resource by resource and alarm by
+//! alarm, and of who executes and what that is answered.
 #![tactic(auto)]
 
 mod alarms_seen;

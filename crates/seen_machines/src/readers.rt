@@ -2,9 +2,9 @@
 
 ghost use Rattle.std.specs.Prelude.{◌≡◌, ◌<◌, ◌≤◌, length};
 ghost use Rattle.std.specs.Option.{option_map};
-ghost use Rattle.kept_state.specs.KeptService.{task_state_in};
-ghost use Rattle.same_future.specs.Spans.{is_pending_in};
-ghost use Rattle.kept_state.specs.Seen.{routine_of};
+ghost use Rattle.law_kept.specs.KeptService.{task_state_in};
+ghost use Rattle.law_future.specs.Spans.{is_pending_in};
+ghost use Rattle.law_kept.specs.Seen.{routine_of};
 ghost use Rattle.kernel.specs.Machine.{picture, system_of};
 
 use kernel::{Blockers, Machine};

@@ -10,10 +10,9 @@ use crate::readers::{is_pending, system};
 use crate::told::Told;
 use arrayvec::ArrayVec;
 use kernel::{Blockers, Machine};
-use observations::RoutineSeen;
 use osek_base::{IsrId, MAX_ARRIVALS, MAX_ROUTINES, Owner};
 use ready_queues::ReadyQueues;
-use seen_ticks::{is_by, is_routine, lost_of, times};
+use seen_ticks::{RoutineSeen, is_by, is_routine, lost_of, times};
 
 impl Told {
     /// What is seen of a routine in the tick that a machine did last, in which some arrived.

@@ -13,10 +13,9 @@ use crate::readers::{job_count, system, task_state};
 use crate::told::Told;
 use arrayvec::ArrayVec;
 use kernel::{Blockers, Machine};
-use observations::TaskSeen;
 use osek_base::{Executed, MAX_TASKS, Owner, TaskId};
 use ready_queues::ReadyQueues;
-use seen_ticks::{TaskAt, activations_by, is_by, is_task, is_waiting, made, state_seen};
+use seen_ticks::{TaskAt, TaskSeen, activations_by, is_by, is_task, is_waiting, made, state_seen};
 
 /// The number of no task.
 const NOBODY: u8 = 255;

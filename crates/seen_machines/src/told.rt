@@ -2,10 +2,10 @@
 
 ghost use Rattle.std.specs.Prelude.{◌≡◌, ◌<◌, ◌+◌, false, length};
 ghost use Rattle.std.specs.List.{All};
-ghost use Rattle.kept_state.specs.KeptTick.{tick_in};
+ghost use Rattle.law_kept.specs.KeptTick.{tick_in};
 ghost use Rattle.kernel.specs.Machine.{IsOfRun, next_tick, picture, system_of};
 ghost use Rattle.kernel.specs.Told.{acted_in};
-ghost use Rattle.shown_ticks.specs.Shown.{ticked_in};
+ghost use Rattle.law_seen.specs.Shown.{ticked_in};
 ghost use Rattle.seen_machines.specs.Told.{IsTold, jobs_told, pending_told, task_at_told};
 
 use crate::before::Before;

@@ -4,21 +4,20 @@ ghost use Rattle.std.specs.Prelude.{◌≡◌, ◌<◌, ◌≤◌, ◌+◌, fals
 ghost use Rattle.std.specs.List.{All, AllByRecursion};
 ghost use Rattle.std.specs.Option.{option_map};
 ghost use Rattle.osek_base.specs.Lists.{below};
-ghost use Rattle.kept_state.specs.KeptTick.{tick_in};
+ghost use Rattle.law_kept.specs.KeptTick.{tick_in};
 ghost use Rattle.kernel.specs.Machine.{IsOfRun, next_tick, picture, system_of};
-ghost use Rattle.observations.specs.Seen.{seen_of};
+ghost use Rattle.seen_ticks.specs.Seen.{seen_of};
 ghost use Rattle.seen_ticks.specs.Observed.{answered, failure_of, owner_of};
-ghost use Rattle.shown_ticks.specs.Seen.{answered_in, executor_in, failure_in, seen_in};
+ghost use Rattle.law_seen.specs.Seen.{answered_in, executor_in, failure_in, seen_in};
 ghost use Rattle.seen_machines.specs.Told.{IsOfAll, alarm_seen_by, routine_seen_by, task_seen_by};
 
 use crate::alarms_seen::see_alarms;
 use crate::holders_seen::see_holders;
 use crate::told::Told;
 use kernel::{Blockers, Machine};
-use observations::Observation;
 use osek_base::{IsrId, MAX_ARRIVALS, MAX_ROUTINES, MAX_TICKS};
 use ready_queues::ReadyQueues;
-use seen_ticks::{answered, executor, failure};
+use seen_ticks::{Observation, answered, executor, failure};
 use std::marker::Model;
 
 /// What is seen of the ticks of machines, one at a time. Contracts see what is seen of the tick
@@ -30,7 +29,7 @@ pub struct Watcher {
 }
 
 impl Model for Watcher {
-    ghost use Rattle.observations.specs.declared.observation.Observation.{Observation as Seen};
+    ghost use Rattle.seen_ticks.specs.declared.observation.Observation.{Observation as Seen};
 
     ghost Value = { Seen };
 

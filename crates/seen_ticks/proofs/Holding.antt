@@ -21,17 +21,16 @@ use Rattle.osek_base.specs.System.{System, instruction_at}
 use Rattle.osek_base.specs.Tick.{at_values, before_execution, execute_phase, tick}
 use Rattle.osek_base.specs.Trace.{arriving, run}
 use Rattle.osek_base.specs.Types.{ServiceCall}
-use Rattle.run_laws.proofs.FormedPhases.{before_form}
-use Rattle.run_laws.proofs.FormedTick.{run_form}
-use Rattle.run_laws.proofs.RankedTick.{IsExecuting, before_executing, run_ordered}
-use Rattle.kept_state.specs.Kept.{Kept, kept, slot_of, unbegun}
-use Rattle.kept_state.specs.KeptService.{ByNobody, ByRoutine, ByTask, KeptCaller, bare, changed_in, effect_in, holds_in, is_full_in, is_outranked_in, is_own_in, refusals_in, service_in, slot_given_up, slot_moved, slot_waiting, with_caller_in}
-use Rattle.kept_state.specs.KeptTick.{KeptStep, before_execution_in, caller_executes_in, execute_phase_in, executed_in as done_in, last_phase_in, routine_executes, tick_in, with_context_in}
-use Rattle.kept_state.specs.KeptService.{caller_in}
-use Rattle.kept_state.specs.Moves.{KeptRecorded, activated_in, ended_in, one_more, rescheduled, slot_changed}
-use Rattle.kept_state.proofs.InRuns.{before_alike}
-use Rattle.kept_state.proofs.Ticked.{execute_kept, known_of, ticks}
-use Rattle.blocking_laws.specs.Steps.{record_at, step_at}
+use Rattle.law_runs.proofs.FormedPhases.{before_form}
+use Rattle.law_runs.proofs.FormedTick.{run_form}
+use Rattle.law_runs.proofs.RankedTick.{IsExecuting, before_executing, run_ordered}
+use Rattle.law_kept.specs.Kept.{Kept, kept, slot_of, unbegun}
+use Rattle.law_kept.specs.KeptService.{ByNobody, ByRoutine, ByTask, KeptCaller, bare, changed_in, effect_in, holds_in, is_full_in, is_outranked_in, is_own_in, refusals_in, service_in, slot_given_up, slot_moved, slot_waiting, with_caller_in, caller_in}
+use Rattle.law_kept.specs.KeptTick.{KeptStep, before_execution_in, caller_executes_in, execute_phase_in, executed_in as done_in, last_phase_in, routine_executes, tick_in, with_context_in}
+use Rattle.law_kept.specs.Moves.{KeptRecorded, activated_in, ended_in, one_more, rescheduled, slot_changed}
+use Rattle.law_kept.proofs.InRuns.{before_alike}
+use Rattle.law_kept.proofs.Ticked.{execute_kept, known_of, ticks}
+use Rattle.law_blockers.specs.Steps.{record_at, step_at}
 use Rattle.seen_ticks.specs.Observed.{executed_in, holders_seen, is_accepted, moved, moves}
 use Rattle.seen_ticks.specs.Shown.{holder, is_held_by, oldest_job}
 use Rattle.seen_ticks.proofs.Staying.{HoldSame, changed_same, holding, rescheduled_same, set_same, then_same}

@@ -14,14 +14,14 @@ use Rattle.osek_base.specs.State.{Job, State, jobs_of}
 use Rattle.osek_base.specs.Service.{state_number, task_state}
 use Rattle.osek_base.specs.Priority.{dynamic_priority}
 use Rattle.osek_base.specs.Separable.{first_of_list}
-use Rattle.run_laws.proofs.Lists.{all_any, all_filter, all_weaker}
-use Rattle.run_laws.proofs.Foremost.{equal}
-use Rattle.kept_state.specs.Kept.{kept, slot_of, slot_with}
-use Rattle.kept_state.specs.Moves.{dynamic_in}
-use Rattle.kept_state.specs.KeptService.{holds_in, task_state_in}
-use Rattle.kept_state.specs.Seen.{holder_in, priority_in}
-use Rattle.kept_state.proofs.Settled.{AreKnown, IsSettled}
-use Rattle.kept_state.proofs.Tests.{results_kept}
+use Rattle.law_runs.proofs.Lists.{all_any, all_filter, all_weaker}
+use Rattle.law_runs.proofs.Foremost.{equal}
+use Rattle.law_kept.specs.Kept.{kept, slot_of, slot_with}
+use Rattle.law_kept.specs.Moves.{dynamic_in}
+use Rattle.law_kept.specs.KeptService.{holds_in, task_state_in}
+use Rattle.law_kept.specs.Seen.{holder_in, priority_in}
+use Rattle.law_kept.proofs.Settled.{AreKnown, IsSettled}
+use Rattle.law_kept.proofs.Tests.{results_kept}
 use Rattle.seen_ticks.specs.Shown.{holder, is_held_by}
 use Rattle.seen_ticks.specs.Told.{task_at, task_at_in}
 

@@ -22,15 +22,15 @@ use Rattle.osek_base.specs.State.{Job, State, jobs_of}
 use Rattle.osek_base.specs.System.{System, alarm}
 use Rattle.osek_base.specs.Tick.{action_call, before_execution, caller_executes, execute_phase, executed, executor, routine_choice, tick}
 use Rattle.osek_base.specs.Trace.{arriving, run}
-use Rattle.run_laws.proofs.Foremost.{equal}
+use Rattle.law_runs.proofs.Foremost.{equal}
 use Rattle.ready_queues.specs.QueueMoves.{changed_at, first, highest, put_oldest}
-use Rattle.kept_state.specs.Kept.{Kept, Slot, kept, slot_of}
-use Rattle.kept_state.specs.KeptService.{ByNobody, bare, holds_in, refusals_in, reply_in, unasked_in, with_mask}
-use Rattle.kept_state.specs.KeptTick.{alarm_acts_in, alarm_phase_in, alarms_act_in, arrival_phase_in, before_execution_in, routine_started_in, start_phase_in}
-use Rattle.kept_state.specs.Moves.{KeptRecorded, chosen, contender, dispatched, dynamic_in, may_dispatch_in, one_more, released_in, rescheduled, slot_entered, slot_woken, stays}
-use Rattle.kept_state.proofs.InRuns.{before_alike}
+use Rattle.law_kept.specs.Kept.{Kept, Slot, kept, slot_of}
+use Rattle.law_kept.specs.KeptService.{ByNobody, bare, holds_in, refusals_in, reply_in, unasked_in, with_mask}
+use Rattle.law_kept.specs.KeptTick.{alarm_acts_in, alarm_phase_in, alarms_act_in, arrival_phase_in, before_execution_in, routine_started_in, start_phase_in}
+use Rattle.law_kept.specs.Moves.{KeptRecorded, chosen, contender, dispatched, dynamic_in, may_dispatch_in, one_more, released_in, rescheduled, slot_entered, slot_woken, stays}
+use Rattle.law_kept.proofs.InRuns.{before_alike}
 use Rattle.osek_base.specs.Ceiling.{top_priority}
-use Rattle.blocking_laws.specs.Steps.{step_at}
+use Rattle.law_blockers.specs.Steps.{step_at}
 use Rattle.seen_ticks.specs.Shown.{holder, is_held_by, oldest_job}
 use Rattle.seen_ticks.specs.Observed.{holders_seen}
 

@@ -24,8 +24,8 @@ use Rattle.osek_base.specs.Reschedule.{hooked, id_of, switch_records, left_recor
 use Rattle.osek_base.specs.Service.{Caller, JobCalls, RoutineCalls, NobodyCalls, service}
 use Rattle.osek_base.specs.Tick.{at_values, error_record, alarm_acts, alarms_act, alarm_phase, arrival_phase, shutdown_record, executor, executed, caller_executes, execute_phase, before_execution, last_phase, tick}
 use Rattle.osek_base.specs.Trace.{Run, all_activated, arriving, boot, one_more, run, starting_tasks}
-use Rattle.run_laws.proofs.RunSteps.{one_more-going, one_more-over, run_suc}
-use Rattle.blocking_laws.specs.Steps.{record_at}
+use Rattle.law_runs.proofs.RunSteps.{one_more-going, one_more-over, run_suc}
+use Rattle.law_blockers.specs.Steps.{record_at}
 use Rattle.seen_ticks.specs.Observed.{executed_in}
 
 -- what a record tells to be executed, or that nothing was

@@ -11,20 +11,20 @@ use Rattle.osek_base.specs.State.{State}
 use Rattle.osek_base.specs.System.{System, alarm}
 use Rattle.osek_base.specs.Tick.{action_call, before_execution}
 use Rattle.osek_base.specs.Trace.{arriving, run}
-use Rattle.run_laws.proofs.FormedPhases.{acts_form, advanced_form, before_form}
-use Rattle.run_laws.proofs.FormedTick.{run_form}
-use Rattle.run_laws.proofs.Formed.{HasForm}
-use Rattle.run_laws.proofs.Known.{all_below}
-use Rattle.run_laws.proofs.Lists.{all_kept}
-use Rattle.run_laws.proofs.RankedTick.{IsExecuting, IsRunState, action_run, before_executing, run_ordered}
-use Rattle.run_laws.proofs.SingleTick.{alarm_known}
-use Rattle.kept_state.specs.Kept.{kept}
-use Rattle.kept_state.specs.KeptService.{KeptReply}
-use Rattle.kept_state.proofs.Served.{acts}
-use Rattle.kept_state.proofs.Ticked.{known_of, settled_of}
-use Rattle.blocking_laws.specs.Steps.{step_at}
-use Rattle.blocking_laws.proofs.StampLemmas.{Going}
-use Rattle.blocking_laws.proofs.StepLemmas.{executing_is}
+use Rattle.law_runs.proofs.FormedPhases.{acts_form, advanced_form, before_form}
+use Rattle.law_runs.proofs.FormedTick.{run_form}
+use Rattle.law_runs.proofs.Formed.{HasForm}
+use Rattle.law_runs.proofs.Known.{all_below}
+use Rattle.law_runs.proofs.Lists.{all_kept}
+use Rattle.law_runs.proofs.RankedTick.{IsExecuting, IsRunState, action_run, before_executing, run_ordered}
+use Rattle.law_runs.proofs.SingleTick.{alarm_known}
+use Rattle.law_kept.specs.Kept.{kept}
+use Rattle.law_kept.specs.KeptService.{KeptReply}
+use Rattle.law_kept.proofs.Served.{acts}
+use Rattle.law_kept.proofs.Ticked.{known_of, settled_of}
+use Rattle.law_blockers.specs.Steps.{step_at}
+use Rattle.law_blockers.proofs.StampLemmas.{Going}
+use Rattle.law_blockers.proofs.StepLemmas.{executing_is}
 use Rattle.seen_ticks.specs.declared.task_at.TaskAt.{TaskAt}
 use Rattle.seen_ticks.specs.Told.{if_refused, refused_by, refused_in, refused_of, refused_of_in, task_at, task_at_in}
 use Rattle.seen_ticks.proofs.SeenLemmas.{task_is}

@@ -1,3 +1,4 @@
 pub mod Shown
 pub mod Told
 pub mod Observed
+pub mod Seen

@@ -2,11 +2,11 @@
 use Rattle.std.specs.Prelude.{ℕ, ◌≡◌, ◌+◌, ◌-◌, Bool, true, false, not, ◌&&◌, ◌==◌, nat_lt, if◌then◌else◌, List, [], ◌∷◌, ◌++◌, map, Option, Some, None, length, slice_index_or}
 use Rattle.std.specs.List.{filter, list_any}
 use Rattle.std.specs.Option.{option_map}
-use Rattle.observations.specs.declared.alarm_seen.AlarmSeen.{AlarmSeen}
-use Rattle.observations.specs.declared.failure.Failure.{Failure}
-use Rattle.observations.specs.declared.observation.Observation.{Observation}
-use Rattle.observations.specs.declared.routine_seen.RoutineSeen.{RoutineSeen}
-use Rattle.observations.specs.declared.task_seen.TaskSeen.{TaskSeen}
+use Rattle.seen_ticks.specs.declared.alarm_seen.AlarmSeen.{AlarmSeen}
+use Rattle.seen_ticks.specs.declared.failures.Failure.{Failure}
+use Rattle.seen_ticks.specs.declared.observation.Observation.{Observation}
+use Rattle.seen_ticks.specs.declared.routine_seen.RoutineSeen.{RoutineSeen}
+use Rattle.seen_ticks.specs.declared.task_seen.TaskSeen.{TaskSeen}
 use Rattle.osek_base.specs.declared.arrivals.Arrival.{Arrival}
 use Rattle.osek_base.specs.declared.executed.Executed.{Executed}
 use Rattle.osek_base.specs.declared.ids.Owner.{Owner}
@@ -25,8 +25,8 @@ use Rattle.osek_base.specs.State.{State, jobs_of}
 use Rattle.osek_base.specs.System.{System, alarm, instruction_at}
 use Rattle.osek_base.specs.Tick.{status_number}
 use Rattle.osek_base.specs.Trace.{arriving, run}
-use Rattle.blocking_laws.specs.Steps.{record_at, step_at}
-use Rattle.kept_state.specs.Seen.{routine_of}
+use Rattle.law_blockers.specs.Steps.{record_at, step_at}
+use Rattle.law_kept.specs.Seen.{routine_of}
 use Rattle.seen_ticks.specs.Shown.{holder}
 use Rattle.seen_ticks.specs.Told.{due_in, refused_in, task_at}
 

@@ -11,10 +11,10 @@ use Rattle.osek_base.specs.Priority.{dynamic_priority}
 use Rattle.osek_base.specs.Service.{NobodyCalls, Reply, task_state, unasked_service}
 use Rattle.osek_base.specs.Tick.{action_call}
 use Rattle.osek_base.specs.Trace.{run}
-use Rattle.kept_state.specs.Kept.{Kept}
-use Rattle.kept_state.specs.KeptTick.{advanced_in}
-use Rattle.kept_state.specs.KeptService.{ByNobody, KeptReply, bare, task_state_in, unasked_in}
-use Rattle.kept_state.specs.Seen.{priority_in}
+use Rattle.law_kept.specs.Kept.{Kept}
+use Rattle.law_kept.specs.KeptTick.{advanced_in}
+use Rattle.law_kept.specs.KeptService.{ByNobody, KeptReply, bare, task_state_in, unasked_in}
+use Rattle.law_kept.specs.Seen.{priority_in}
 use Rattle.seen_ticks.specs.declared.task_at.TaskAt.{TaskAt}
 use Rattle.seen_ticks.specs.Shown.{oldest_job}
 

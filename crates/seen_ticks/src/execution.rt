@@ -24,7 +24,7 @@ ghost use Rattle.seen_ticks.specs.Observed.{
   task_of,
 };
 
-use observations::Failure;
+use crate::failures::Failure;
 use osek_base::{Executed, Instr, IsrId, Outcome, Owner, Service, Status, System, TaskId};
 
 /// What a tick executed, and the tasks that it concerns.

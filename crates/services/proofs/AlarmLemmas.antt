@@ -7,7 +7,7 @@ use Rattle.osek_base.specs.declared.status.Status.{Status}
 use Rattle.osek_base.specs.State.{State}
 use Rattle.osek_base.specs.Service.{NobodyCalls, changed}
 use Rattle.alarms.specs.Alarms.{AlarmTable, HavePassed, IsTableOf, after_call, refusal, state_of, status_of}
-use Rattle.kept_state.specs.KeptService.{caller_in, changed_in, unasked_in}
+use Rattle.law_kept.specs.KeptService.{caller_in, changed_in, unasked_in}
 use Rattle.services.specs.Objects.{Objects, kept_in}
 use Rattle.services.specs.Calls.{unasked}
 use Rattle.services.specs.Quiet.{HasPassed}

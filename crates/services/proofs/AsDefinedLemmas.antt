@@ -8,12 +8,12 @@ use Rattle.osek_base.specs.declared.status.Status.{Status}
 use Rattle.osek_base.specs.State.{State}
 use Rattle.osek_base.specs.Service.{NobodyCalls, service, unasked_service}
 use Rattle.osek_base.specs.Tick.{executor}
-use Rattle.kept_state.specs.Kept.{kept}
-use Rattle.kept_state.specs.KeptService.{ByNobody, KeptReply, caller_in, kept_reply, unasked_in, service_in}
-use Rattle.kept_state.specs.KeptTick.{controlled_in}
-use Rattle.kept_state.specs.Standing.{MayServe, runner_waits}
-use Rattle.kept_state.proofs.Standing.{activate_stands, set_event_stands, service_stands}
-use Rattle.kept_state.proofs.Words.{reply_with, unasked_words, service_words}
+use Rattle.law_kept.specs.Kept.{kept}
+use Rattle.law_kept.specs.KeptService.{ByNobody, KeptReply, caller_in, kept_reply, unasked_in, service_in}
+use Rattle.law_kept.specs.KeptTick.{controlled_in}
+use Rattle.law_kept.specs.Standing.{MayServe, runner_waits}
+use Rattle.law_kept.proofs.Standing.{activate_stands, set_event_stands, service_stands}
+use Rattle.law_kept.proofs.Words.{reply_with, unasked_words, service_words}
 use Rattle.services.specs.declared.calls.Answer.{Answer}
 use Rattle.services.specs.Objects.{Objects, StandsFor, kept_in}
 use Rattle.services.specs.Calls.{IsKnown}

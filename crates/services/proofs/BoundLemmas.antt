@@ -10,17 +10,17 @@ use Rattle.osek_base.specs.System.{System, Task, task, priority_of, activation_o
 use Rattle.osek_base.specs.Ceiling.{top_priority}
 use Rattle.osek_base.specs.Proper.{IsProper, are_falling}
 use Rattle.osek_base.proofs.PlaceLemmas.{and_split}
-use Rattle.run_laws.proofs.Known.{proper_at}
+use Rattle.law_runs.proofs.Known.{proper_at}
 use Rattle.ready_queues.specs.Queues.{total, with_level}
-use Rattle.kept_state.specs.Kept.{Kept, unbegun}
+use Rattle.law_kept.specs.Kept.{Kept, unbegun}
 use Rattle.ready_queues.specs.QueueMoves.{highest, put_oldest, first, rest, without_first_at_level}
 use Rattle.ready_queues.proofs.MoveLemmas.{with_level-changed_at}
 use Rattle.ready_queues.proofs.Writes.{total_below-with_level}
-use Rattle.kept_state.specs.Moves.{contender, contender_of}
-use Rattle.kept_state.specs.KeptService.{KeptCaller, ByTask, ByRoutine, ByNobody, caller_in, caller_by, is_own_in, is_full_in, caller_ended_in}
-use Rattle.kept_state.specs.Standing.{Fits, room_for}
-use Rattle.kept_state.proofs.Rescheduled.{at_most}
-use Rattle.kept_state.proofs.Choose.{highest_has}
+use Rattle.law_kept.specs.Moves.{contender, contender_of}
+use Rattle.law_kept.specs.KeptService.{KeptCaller, ByTask, ByRoutine, ByNobody, caller_in, caller_by, is_own_in, is_full_in, caller_ended_in}
+use Rattle.law_kept.specs.Standing.{Fits, room_for}
+use Rattle.law_kept.proofs.Rescheduled.{at_most}
+use Rattle.law_kept.proofs.Choose.{highest_has}
 use Rattle.services.specs.Objects.{HasBounds}
 use Rattle.services.specs.Dispatched.{IsHighest}
 

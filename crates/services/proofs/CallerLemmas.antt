@@ -12,12 +12,12 @@ use Rattle.osek_base.specs.State.{Active, interrupts_off}
 use Rattle.osek_base.specs.declared.trace_event.Results.{Results}
 use Rattle.osek_base.specs.Tick.{answered, moved}
 use Rattle.osek_base.specs.Service.{first_refusal, is_met, meets}
-use Rattle.run_laws.proofs.Foremost.{equal}
-use Rattle.kept_state.specs.Kept.{Kept, Slot}
+use Rattle.law_runs.proofs.Foremost.{equal}
+use Rattle.law_kept.specs.Kept.{Kept, Slot}
 use Rattle.ready_queues.specs.QueueMoves.{changed_at}
-use Rattle.kept_state.specs.Moves.{activated_in, one_more, slot_changed, slot_woken, released_in}
-use Rattle.kept_state.specs.KeptService.{KeptCaller, ByTask, ByRoutine, ByNobody, bare, slot_moved, caller_by, caller_in, service_in, effect_in, changed_in, refusals_in, with_caller_in, caller_ended_in, slot_given_up, slot_gets, slot_releases, slot_waiting, with_mask, events_cleared_in, event_awaited_in, is_outranked_in}
-use Rattle.kept_state.specs.KeptTick.{controlled_in, with_context_in}
+use Rattle.law_kept.specs.Moves.{activated_in, one_more, slot_changed, slot_woken, released_in}
+use Rattle.law_kept.specs.KeptService.{KeptCaller, ByTask, ByRoutine, ByNobody, bare, slot_moved, caller_by, caller_in, service_in, effect_in, changed_in, refusals_in, with_caller_in, caller_ended_in, slot_given_up, slot_gets, slot_releases, slot_waiting, with_mask, events_cleared_in, event_awaited_in, is_outranked_in}
+use Rattle.law_kept.specs.KeptTick.{controlled_in, with_context_in}
 use Rattle.services.specs.Objects.{Objects, kept_in}
 use Rattle.services.specs.Calls.{IsExecuting, IsRoutineOrNone, IsSameActive, IsSameCaller, IsThere, MayGoOn, active_context, caller_as, context_in, served_in}
 

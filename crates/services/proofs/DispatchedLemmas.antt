@@ -11,12 +11,12 @@ use Rattle.osek_base.specs.Service.{answer, first_refusal}
 use Rattle.osek_base.specs.State.{interrupts_off}
 use Rattle.osek_base.specs.Tick.{routine_choice}
 use Rattle.osek_base.proofs.PlaceLemmas.{and_split}
-use Rattle.run_laws.proofs.Foremost.{equal}
-use Rattle.kept_state.specs.Kept.{Kept, Slot}
+use Rattle.law_runs.proofs.Foremost.{equal}
+use Rattle.law_kept.specs.Kept.{Kept, Slot}
 use Rattle.ready_queues.specs.QueueMoves.{changed_at, highest}
-use Rattle.kept_state.specs.Moves.{KeptRecorded, chosen, contender, contender_of, dynamic_in, left_in, may_dispatch_in, rescheduled, slot_changed, slot_entered, stays}
-use Rattle.kept_state.specs.KeptService.{KeptCaller, ByTask, ByRoutine, ByNobody, bare, caller_in, changed_in, is_above, refusals_in, service_in, slot_moved}
-use Rattle.kept_state.specs.KeptTick.{routine_started_in, silent_in, start_phase_in, with_context_in}
+use Rattle.law_kept.specs.Moves.{KeptRecorded, chosen, contender, contender_of, dynamic_in, left_in, may_dispatch_in, rescheduled, slot_changed, slot_entered, stays}
+use Rattle.law_kept.specs.KeptService.{KeptCaller, ByTask, ByRoutine, ByNobody, bare, caller_in, changed_in, is_above, refusals_in, service_in, slot_moved}
+use Rattle.law_kept.specs.KeptTick.{routine_started_in, silent_in, start_phase_in, with_context_in}
 use Rattle.services.specs.Calls.{served_in}
 use Rattle.services.specs.Objects.{Objects, kept_in}
 use Rattle.services.specs.Dispatched.{has_entered, is_dispatched_by, is_dispatched_in, is_refusal, runs_on}

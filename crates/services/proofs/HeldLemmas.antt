@@ -6,7 +6,7 @@ use Rattle.std.proofs.lemmas.List.Folds.{list_any-append}
 use Rattle.std.proofs.Math.Path.{fun_ext}
 use Rattle.std.proofs.Math.Seq.{take-length, take-suc}
 use Rattle.osek_base.specs.Lists.{below}
-use Rattle.kept_state.specs.Kept.{Slot, unbegun}
+use Rattle.law_kept.specs.Kept.{Slot, unbegun}
 use Rattle.services.specs.Objects.{by_task}
 
 any_taken : (p : Slot → Bool) (slots : List Slot) (n : ℕ) → n ≤ length slots → list_any (λ t. p (by_task slots t)) (below n) ≡ list_any p (take n slots)

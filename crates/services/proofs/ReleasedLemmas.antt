@@ -8,10 +8,10 @@ use Rattle.std.proofs.Math.Path.{fun_ext}
 use Rattle.osek_base.specs.declared.ids.ResId.{ResId}
 use Rattle.osek_base.specs.Lists.{last_of}
 use Rattle.osek_base.specs.Service.{is_resource}
-use Rattle.run_laws.proofs.Foremost.{equal, self_equal}
+use Rattle.law_runs.proofs.Foremost.{equal, self_equal}
 use Rattle.ready_queues.specs.QueueMoves.{changed_at}
-use Rattle.kept_state.specs.Kept.{Slot, unbegun}
-use Rattle.kept_state.specs.KeptService.{KeptCaller, ByTask, ByRoutine, ByNobody, caller_in, got_last_in, slot_releases, with_caller_in}
+use Rattle.law_kept.specs.Kept.{Slot, unbegun}
+use Rattle.law_kept.specs.KeptService.{KeptCaller, ByTask, ByRoutine, ByNobody, caller_in, got_last_in, slot_releases, with_caller_in}
 use Rattle.services.specs.Calls.{calling_task}
 use Rattle.services.specs.Objects.{Objects, by_task, kept_in}
 use Rattle.services.proofs.DispatchedLemmas.{put_again}

@@ -6,17 +6,17 @@ use Rattle.osek_base.specs.Ceiling.{internal_ceiling, top_priority}
 use Rattle.osek_base.specs.State.{State}
 use Rattle.osek_base.proofs.PlaceLemmas.{and_split}
 use Rattle.osek_base.specs.Reschedule.{reschedule}
-use Rattle.run_laws.proofs.Foremost.{self_equal}
-use Rattle.run_laws.proofs.RankedMoves.{IsAfterReschedule, reschedule_ordered}
-use Rattle.kept_state.specs.Kept.{Kept, Slot, kept}
+use Rattle.law_runs.proofs.Foremost.{self_equal}
+use Rattle.law_runs.proofs.RankedMoves.{IsAfterReschedule, reschedule_ordered}
+use Rattle.law_kept.specs.Kept.{Kept, Slot, kept}
 use Rattle.ready_queues.specs.QueueMoves.{changed_at, first, highest, put_oldest}
-use Rattle.kept_state.specs.Moves.{KeptRecorded, chosen, contender, contender_of, dispatched, dynamic_in, may_dispatch_in, rescheduled, slot_entered, stays}
-use Rattle.kept_state.specs.KeptService.{is_above}
-use Rattle.kept_state.specs.Standing.{IsStanding, is_overtaken, is_overtaken_by, runner_waits, waits_in}
-use Rattle.kept_state.proofs.Runner.{unwaiting}
-use Rattle.kept_state.proofs.Serving.{not_overtaken}
-use Rattle.kept_state.proofs.Standing.{reschedule_stands}
-use Rattle.kept_state.proofs.Words.{with_words, rescheduled_words}
+use Rattle.law_kept.specs.Moves.{KeptRecorded, chosen, contender, contender_of, dispatched, dynamic_in, may_dispatch_in, rescheduled, slot_entered, stays}
+use Rattle.law_kept.specs.KeptService.{is_above}
+use Rattle.law_kept.specs.Standing.{IsStanding, is_overtaken, is_overtaken_by, runner_waits, waits_in}
+use Rattle.law_kept.proofs.Runner.{unwaiting}
+use Rattle.law_kept.proofs.Serving.{not_overtaken}
+use Rattle.law_kept.proofs.Standing.{reschedule_stands}
+use Rattle.law_kept.proofs.Words.{with_words, rescheduled_words}
 use Rattle.services.specs.Objects.{Objects, Stands, kept_in}
 use Rattle.services.specs.Dispatched.{IsCore, has_entered, is_dispatched_by, is_dispatched_in}
 use Rattle.services.proofs.DispatchedLemmas.{rescheduled_again}

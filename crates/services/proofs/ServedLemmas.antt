@@ -14,11 +14,11 @@ use Rattle.osek_base.specs.System.{System, priority_of}
 use Rattle.osek_base.specs.Ceiling.{ceiling, top_priority}
 use Rattle.osek_base.specs.Tick.{at_values}
 use Rattle.osek_base.proofs.PlaceLemmas.{and_split}
-use Rattle.run_laws.proofs.Foremost.{equal}
-use Rattle.kept_state.specs.Kept.{Kept, Slot}
+use Rattle.law_runs.proofs.Foremost.{equal}
+use Rattle.law_kept.specs.Kept.{Kept, Slot}
 use Rattle.ready_queues.specs.QueueMoves.{changed_at, highest, put_newest}
-use Rattle.kept_state.specs.Moves.{activated_in, dynamic_in, one_more, released_in, slot_woken}
-use Rattle.kept_state.specs.KeptService.{KeptCaller, ByTask, ByRoutine, ByNobody, bare, caller_in, changed_in, effect_in, event_set_in, is_above, refusals_in, service_in, slot_gets, slot_releases, with_caller_in, with_mask}
+use Rattle.law_kept.specs.Moves.{activated_in, dynamic_in, one_more, released_in, slot_woken}
+use Rattle.law_kept.specs.KeptService.{KeptCaller, ByTask, ByRoutine, ByNobody, bare, caller_in, changed_in, effect_in, event_set_in, is_above, refusals_in, service_in, slot_gets, slot_releases, with_caller_in, with_mask}
 use Rattle.services.specs.Calls.{served_in}
 use Rattle.services.specs.declared.calls.Answer.{Answer}
 use Rattle.services.specs.Steps.{Answers}

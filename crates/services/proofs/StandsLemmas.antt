@@ -16,16 +16,16 @@ use Rattle.osek_base.specs.Service.{NobodyCalls, service, unasked_service, contr
 use Rattle.osek_base.specs.Reschedule.{reschedule}
 use Rattle.osek_base.specs.Tick.{executor, job_moved, moved, start_phase}
 use Rattle.osek_base.specs.Trace.{starting_alarms}
-use Rattle.run_laws.proofs.Known.{ActivatesKnown}
-use Rattle.run_laws.proofs.Formed.{IsPlaced}
-use Rattle.kept_state.specs.Kept.{Kept, kept, task_in}
-use Rattle.kept_state.specs.Moves.{slot_changed, KeptRecorded, contender, rescheduled}
-use Rattle.kept_state.specs.KeptService.{slot_moved, ByTask, ByRoutine, ByNobody, KeptReply, bare, caller_in, unasked_in, service_in, moved_in}
-use Rattle.kept_state.specs.KeptTick.{still_in, start_phase_in, controlled_in, with_context_in}
-use Rattle.kept_state.specs.Standing.{IsStanding, Fits, MayServe, IsRunnerPlaced, runner_waits, is_overtaken_by}
-use Rattle.kept_state.proofs.Fitting.{fits_where_standing}
-use Rattle.kept_state.proofs.Standing.{alarms_stand, still_stands, started_stands, activate_stands, set_event_stands, service_stands, control_stands, reschedule_stands, advance_stands, flag_stands, start_stands, job_move_stands, routine_move_stands}
-use Rattle.kept_state.proofs.Words.{with_words, unasked_words, service_words, control_words, context_words, start_phase_words, rescheduled_words}
+use Rattle.law_runs.proofs.Known.{ActivatesKnown}
+use Rattle.law_runs.proofs.Formed.{IsPlaced}
+use Rattle.law_kept.specs.Kept.{Kept, kept, task_in}
+use Rattle.law_kept.specs.Moves.{slot_changed, KeptRecorded, contender, rescheduled}
+use Rattle.law_kept.specs.KeptService.{slot_moved, ByTask, ByRoutine, ByNobody, KeptReply, bare, caller_in, unasked_in, service_in, moved_in}
+use Rattle.law_kept.specs.KeptTick.{still_in, start_phase_in, controlled_in, with_context_in}
+use Rattle.law_kept.specs.Standing.{IsStanding, Fits, MayServe, IsRunnerPlaced, runner_waits, is_overtaken_by}
+use Rattle.law_kept.proofs.Fitting.{fits_where_standing}
+use Rattle.law_kept.proofs.Standing.{alarms_stand, still_stands, started_stands, activate_stands, set_event_stands, service_stands, control_stands, reschedule_stands, advance_stands, flag_stands, start_stands, job_move_stands, routine_move_stands}
+use Rattle.law_kept.proofs.Words.{with_words, unasked_words, service_words, control_words, context_words, start_phase_words, rescheduled_words}
 use Rattle.services.specs.Objects.{Objects, StandsFor, Stands, AreFit, by_task, kept_in, kept_of}
 use Rattle.services.specs.Dispatched.{IsCore}
 use Rattle.services.proofs.BoundLemmas.{activation_few}

@@ -9,12 +9,12 @@ use Rattle.osek_base.proofs.PlaceLemmas.{and_split}
 use Rattle.osek_base.specs.Instruction.{Context}
 use Rattle.osek_base.specs.declared.ids.Owner.{Owner}
 use Rattle.osek_base.specs.Tick.{moved, routine_choice}
-use Rattle.run_laws.proofs.Formed.{IsPlaced}
-use Rattle.kept_state.specs.Kept.{Kept}
-use Rattle.kept_state.specs.Standing.{Fits, IsRunnerPlaced}
-use Rattle.kept_state.specs.Moves.{may_dispatch_in, slot_changed}
-use Rattle.kept_state.specs.KeptService.{KeptCaller, ByTask, ByRoutine, ByNobody, bare, slot_moved}
-use Rattle.kept_state.specs.KeptTick.{routine_started_in, start_phase_in, with_context_in}
+use Rattle.law_runs.proofs.Formed.{IsPlaced}
+use Rattle.law_kept.specs.Kept.{Kept}
+use Rattle.law_kept.specs.Standing.{Fits, IsRunnerPlaced}
+use Rattle.law_kept.specs.Moves.{may_dispatch_in, slot_changed}
+use Rattle.law_kept.specs.KeptService.{KeptCaller, ByTask, ByRoutine, ByNobody, bare, slot_moved}
+use Rattle.law_kept.specs.KeptTick.{routine_started_in, start_phase_in, with_context_in}
 use Rattle.services.specs.Objects.{Objects, kept_in}
 use Rattle.ready_queues.specs.QueueMoves.{highest}
 use Rattle.services.specs.Dispatched.{is_dispatched_by, is_dispatched_in, runs_on}

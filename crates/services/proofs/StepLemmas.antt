@@ -7,8 +7,8 @@ use Rattle.osek_base.specs.declared.trace_event.Results.{Results}
 use Rattle.osek_base.specs.Types.{ServiceCall}
 use Rattle.osek_base.specs.System.{System}
 use Rattle.osek_base.specs.Service.{first_refusal}
-use Rattle.kept_state.specs.Kept.{Kept}
-use Rattle.kept_state.specs.KeptService.{caller_in, refusals_in, results_in, results_told_in, unasked_in}
+use Rattle.law_kept.specs.Kept.{Kept}
+use Rattle.law_kept.specs.KeptService.{caller_in, refusals_in, results_in, results_told_in, unasked_in}
 use Rattle.services.specs.declared.calls.Answer.{Answer}
 use Rattle.services.specs.Objects.{Objects, kept_in}
 use Rattle.services.specs.Calls.{unasked}

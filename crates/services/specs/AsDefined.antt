@@ -7,8 +7,8 @@ use Rattle.osek_base.specs.declared.status.Status.{Status}
 use Rattle.osek_base.specs.State.{State}
 use Rattle.osek_base.specs.Service.{NobodyCalls, service, unasked_service, controlled}
 use Rattle.osek_base.specs.Tick.{executor}
-use Rattle.kept_state.specs.KeptService.{ByNobody, unasked_in}
-use Rattle.kept_state.specs.KeptTick.{controlled_in}
+use Rattle.law_kept.specs.KeptService.{ByNobody, unasked_in}
+use Rattle.law_kept.specs.KeptTick.{controlled_in}
 use Rattle.services.specs.declared.calls.Answer.{Answer}
 use Rattle.services.specs.Calls.{IsSameCaller, served_in}
 use Rattle.services.specs.Objects.{Objects, StandsFor, kept_in}

@@ -10,8 +10,8 @@ use Rattle.machine.specs.Packed.{instr_of, is_control, is_plain, service_of}
 use Rattle.osek_base.specs.System.{System}
 use Rattle.osek_base.specs.Instruction.{Context}
 use Rattle.osek_base.specs.State.{Active, fresh_context}
-use Rattle.kept_state.specs.Kept.{Kept}
-use Rattle.kept_state.specs.KeptService.{KeptCaller, ByTask, ByRoutine, KeptReply, caller_in, service_in, unasked_in}
+use Rattle.law_kept.specs.Kept.{Kept}
+use Rattle.law_kept.specs.KeptService.{KeptCaller, ByTask, ByRoutine, KeptReply, caller_in, service_in, unasked_in}
 use Rattle.services.specs.Objects.{Objects, kept_in}
 
 -- an operand names a task or an alarm of the system, or is INVALID

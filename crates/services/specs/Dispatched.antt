@@ -5,10 +5,10 @@ use Rattle.osek_base.specs.declared.instr.Service.{Service}
 use Rattle.osek_base.specs.Types.{ServiceCall}
 use Rattle.osek_base.specs.System.{System, priority_of}
 use Rattle.osek_base.specs.Ceiling.{internal_ceiling, top_priority}
-use Rattle.kept_state.specs.Kept.{Kept, Slot}
+use Rattle.law_kept.specs.Kept.{Kept, Slot}
 use Rattle.ready_queues.specs.QueueMoves.{first, highest}
-use Rattle.kept_state.specs.Moves.{dynamic_in}
-use Rattle.kept_state.specs.KeptService.{is_above}
+use Rattle.law_kept.specs.Moves.{dynamic_in}
+use Rattle.law_kept.specs.KeptService.{is_above}
 use Rattle.services.specs.Objects.{Objects, Stands, kept_in}
 use Rattle.services.specs.Quiet.{IsSettled}
 

@@ -8,8 +8,8 @@ use Rattle.osek_base.specs.Instruction.{Context}
 use Rattle.osek_base.specs.State.{Active}
 use Rattle.osek_base.specs.Tick.{moved}
 use Rattle.ready_queues.specs.declared.ready_queues.ReadyQueues.{Ghosts}
-use Rattle.kept_state.specs.Kept.{Slot}
-use Rattle.kept_state.specs.KeptService.{slot_moved}
+use Rattle.law_kept.specs.Kept.{Slot}
+use Rattle.law_kept.specs.KeptService.{slot_moved}
 use Rattle.machine.specs.contracts.cpu.Cpu.{the_row as cpu_row}
 use Rattle.services.specs.Objects.{Objects, by_task}
 use Rattle.services.specs.contracts.slot.Slot.{the_row as slot_row}

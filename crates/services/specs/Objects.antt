@@ -7,8 +7,8 @@ use Rattle.osek_base.specs.State.{State, Active, Expiry, Words}
 use Rattle.ready_queues.specs.declared.ready_queues.TheConstants.{LEVELS}
 use Rattle.ready_queues.specs.LevelLists.{by_level}
 use Rattle.alarms.specs.Alarms.{AlarmTable, IsTableOf}
-use Rattle.kept_state.specs.Kept.{Kept, Slot, unbegun, kept}
-use Rattle.kept_state.specs.Standing.{IsStanding, Fits, room_for}
+use Rattle.law_kept.specs.Kept.{Kept, Slot, unbegun, kept}
+use Rattle.law_kept.specs.Standing.{IsStanding, Fits, room_for}
 
 -- the queues by level, the slots by task, the running task, also where its job has ended, which gone says; the windows of
 -- resources; the system, and how many jobs there is room for

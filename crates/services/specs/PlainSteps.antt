@@ -5,7 +5,7 @@ use Rattle.osek_base.specs.declared.ids.Owner.{Owner}
 use Rattle.osek_base.specs.declared.trace_event.Effect.{Effect}
 use Rattle.osek_base.specs.Instruction.{Context, plain}
 use Rattle.osek_base.specs.State.{words_after}
-use Rattle.kept_state.specs.KeptTick.{with_context_in}
+use Rattle.law_kept.specs.KeptTick.{with_context_in}
 use Rattle.services.specs.Calls.{caller_as, context_in}
 use Rattle.services.specs.Objects.{Objects, kept_in}
 use Rattle.machine.specs.declared.packed_instr.PackedInstr.{PackedInstr}

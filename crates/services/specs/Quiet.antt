@@ -3,8 +3,8 @@ use Rattle.std.specs.Prelude.{ℕ, ◌+◌, ◌≡◌, ◌<◌, ◌≤◌, Bool,
 use Rattle.osek_base.specs.System.{System}
 use Rattle.osek_base.specs.Alarm.{due_alarms}
 use Rattle.osek_base.specs.Tick.{routine_choice}
-use Rattle.kept_state.specs.Kept.{Kept}
-use Rattle.kept_state.specs.KeptService.{bare}
+use Rattle.law_kept.specs.Kept.{Kept}
+use Rattle.law_kept.specs.KeptService.{bare}
 use Rattle.services.specs.Objects.{Objects, kept_in}
 
 -- quiet but for tasks that are ready: no ShutdownOS ended the run, no task runs, and no routine is active or pending

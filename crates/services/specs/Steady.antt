@@ -2,10 +2,10 @@
 use Rattle.std.specs.Prelude.{ℕ, ◌≡◌, true, false, Some, None}
 use Rattle.osek_base.specs.System.{System}
 use Rattle.osek_base.specs.Tick.{routine_choice}
-use Rattle.kept_state.specs.Kept.{Kept}
-use Rattle.kept_state.specs.KeptService.{bare}
-use Rattle.kept_state.specs.KeptTick.{silent_in}
-use Rattle.kept_state.specs.Moves.{rescheduled}
+use Rattle.law_kept.specs.Kept.{Kept}
+use Rattle.law_kept.specs.KeptService.{bare}
+use Rattle.law_kept.specs.KeptTick.{silent_in}
+use Rattle.law_kept.specs.Moves.{rescheduled}
 use Rattle.services.specs.Dispatched.{is_dispatched_in}
 
 -- a task executes next, where no alarm is due and no interrupt arrives: it is the one that is to run, so that a reschedule

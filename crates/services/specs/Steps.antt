@@ -9,9 +9,9 @@ use Rattle.osek_base.specs.Alarm.{alarms_advanced, due_alarms}
 use Rattle.ready_queues.specs.Levels.{Levels}
 use Rattle.ready_queues.specs.LevelLists.{by_level}
 use Rattle.ready_queues.specs.Queues.{Queues}
-use Rattle.kept_state.specs.Kept.{Kept}
-use Rattle.kept_state.specs.KeptService.{KeptCaller, bare, unasked_in}
-use Rattle.kept_state.specs.Moves.{KeptRecorded}
+use Rattle.law_kept.specs.Kept.{Kept}
+use Rattle.law_kept.specs.KeptService.{KeptCaller, bare, unasked_in}
+use Rattle.law_kept.specs.Moves.{KeptRecorded}
 use Rattle.services.specs.declared.calls.Answer.{Answer}
 use Rattle.services.specs.Objects.{Objects, kept_in}
 use Rattle.services.specs.Calls.{served_in, unasked}

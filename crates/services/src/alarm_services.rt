@@ -16,7 +16,7 @@ use ready_queues::ReadyQueues;
 impl<'s, Q: ReadyQueues> Objects<'s, Q> {
     /// An alarm expires `increment` counts from now, and each `cycle` counts after that, 0 for once. E_OS_STATE where it is
     /// on, E_OS_VALUE where a number is out of the counter's range.
-    #[tactic(auto, unfolding(kept_state::specs::KeptService::unasked_in))]
+    #[tactic(auto, unfolding(law_kept::specs::KeptService::unasked_in))]
     pub fn set_rel_alarm(&mut self, alarm: AlarmId, increment: u32, cycle: u32) -> Status
         requires alarm { alarm < length self.old.system.alarms }
         ensures { Serves (Service.SetRelAlarm (Some alarm) increment cycle) self.old self.new
@@ -27,7 +27,7 @@ impl<'s, Q: ReadyQueues> Objects<'s, Q> {
 
     /// An alarm expires when its counter next has the value `start`, and each `cycle` counts after that, 0 for once.
     /// E_OS_STATE where it is on, E_OS_VALUE where a number is out of the counter's range.
-    #[tactic(auto, unfolding(kept_state::specs::KeptService::unasked_in))]
+    #[tactic(auto, unfolding(law_kept::specs::KeptService::unasked_in))]
     pub fn set_abs_alarm(&mut self, alarm: AlarmId, start: u32, cycle: u32) -> Status
         requires alarm { alarm < length self.old.system.alarms }
         ensures { Serves (Service.SetAbsAlarm (Some alarm) start cycle) self.old self.new result }
@@ -36,7 +36,7 @@ impl<'s, Q: ReadyQueues> Objects<'s, Q> {
     }
 
     /// An alarm goes off. E_OS_NOFUNC where it is off.
-    #[tactic(auto, unfolding(kept_state::specs::KeptService::unasked_in))]
+    #[tactic(auto, unfolding(law_kept::specs::KeptService::unasked_in))]
     pub fn cancel_alarm(&mut self, alarm: AlarmId) -> Status
         requires alarm { alarm < length self.old.system.alarms }
         ensures { Serves (Service.CancelAlarm (Some alarm)) self.old self.new result }
@@ -45,7 +45,7 @@ impl<'s, Q: ReadyQueues> Objects<'s, Q> {
     }
 
     /// How many counts an alarm has before it expires. E_OS_NOFUNC where it is off.
-    #[tactic(auto, unfolding(kept_state::specs::KeptService::unasked_in))]
+    #[tactic(auto, unfolding(law_kept::specs::KeptService::unasked_in))]
     #[inline(always)]
     pub fn get_alarm(&self, alarm: AlarmId) -> Answer
         requires alarm { alarm < length self.now.system.alarms }

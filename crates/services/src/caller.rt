@@ -1,8 +1,8 @@
 //! OSEK/VDX OS: system services. Who calls: the active routine, or else the running task.
 
 ghost use Rattle.std.specs.Prelude.{◌≡◌, ◌<◌, MatchOption, IfSome, length};
-ghost use Rattle.run_laws.proofs.Formed.{IsPlaced};
-ghost use Rattle.kept_state.specs.KeptService.{ByNobody, by_routine_in, caller_in, holds_any_in, is_above_ceiling_in, is_basic_in, is_outranked_in, is_own_in, may_take_in, caller_holds_in, running_number, with_caller_in, caller_ended_in, slot_given_up};
+ghost use Rattle.law_runs.proofs.Formed.{IsPlaced};
+ghost use Rattle.law_kept.specs.KeptService.{ByNobody, by_routine_in, caller_in, holds_any_in, is_above_ceiling_in, is_basic_in, is_outranked_in, is_own_in, may_take_in, caller_holds_in, running_number, with_caller_in, caller_ended_in, slot_given_up};
 ghost use Rattle.services.specs.Objects.{kept_in, AreFit};
 ghost use Rattle.services.specs.Calls.{calling_task, context_in, IsExecuting};
 ghost use Rattle.services.specs.Steps.{Becomes};

@@ -64,7 +64,7 @@ impl<'s, Q: ReadyQueues> Objects<'s, Q> {
     /// A service of a program with a status, by who executes, with the values of its registers. It is refused with 32 while
     /// interrupts are off, and unpacked only where they are on. Answers the status, and leaves the results of those
     /// that have some.
-    #[tactic(auto, unfolding(kept_state::specs::KeptService::service_in, kept_state::specs::KeptService::unasked_in))]
+    #[tactic(auto, unfolding(law_kept::specs::KeptService::service_in, law_kept::specs::KeptService::unasked_in))]
     #[inline(always)]
     pub fn serve_program(
         &mut self,
@@ -89,7 +89,7 @@ impl<'s, Q: ReadyQueues> Objects<'s, Q> {
     }
 
     /// A service with a status, interrupts being off aside.
-    #[tactic(auto, unfolding(kept_state::specs::KeptService::unasked_in))]
+    #[tactic(auto, unfolding(law_kept::specs::KeptService::unasked_in))]
     #[inline(always)]
     fn serve(&mut self, service: &Service<u32>, results: &mut Results) -> Status
         requires fit { AreFit self.old }
@@ -141,7 +141,7 @@ impl<'s, Q: ReadyQueues> Objects<'s, Q> {
     }
 
     /// A service on alarms.
-    #[tactic(auto, unfolding(kept_state::specs::KeptService::unasked_in))]
+    #[tactic(auto, unfolding(law_kept::specs::KeptService::unasked_in))]
     #[inline(always)]
     fn serve_alarm(&mut self, service: &Service<u32>, results: &mut Results) -> Status
         requires known { IsKnown self.old.system service.now }

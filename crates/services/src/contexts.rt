@@ -4,7 +4,7 @@ ghost use Rattle.std.specs.Prelude.{◌≡◌, ◌<◌, ◌+◌, ◌↔◌, IsTr
 ghost use Rattle.std.specs.Borrow.{sem};
 ghost use Rattle.osek_base.specs.Instruction.{Context};
 ghost use Rattle.osek_base.specs.Tick.{answered};
-ghost use Rattle.kept_state.specs.KeptTick.{with_context_in};
+ghost use Rattle.law_kept.specs.KeptTick.{with_context_in};
 ghost use Rattle.services.specs.Objects.{kept_in};
 ghost use Rattle.services.specs.Calls.{caller_as, context_in, IsThere, MayGoOn};
 ghost use Rattle.services.specs.PlainSteps.{ExecutesPlain, IsPlainAt};

@@ -5,8 +5,8 @@ ghost use Rattle.osek_base.specs.System.{activation_of, priority_of};
 ghost use Rattle.osek_base.specs.Ceiling.{top_priority};
 ghost use Rattle.ready_queues.specs.Queues.{total};
 ghost use Rattle.ready_queues.specs.QueueMoves.{put_oldest, highest, changed_at, first, without_first_at_level};
-ghost use Rattle.kept_state.specs.Moves.{activated_in, released_in, contender, dynamic_in, may_dispatch_in, slot_entered, nobody, stays, dispatched, rescheduled, left_in, entered_in};
-ghost use Rattle.kept_state.specs.Standing.{room_for};
+ghost use Rattle.law_kept.specs.Moves.{activated_in, released_in, contender, dynamic_in, may_dispatch_in, slot_entered, nobody, stays, dispatched, rescheduled, left_in, entered_in};
+ghost use Rattle.law_kept.specs.Standing.{room_for};
 ghost use Rattle.ready_queues.specs.LevelLists.{by_level};
 ghost use Rattle.services.specs.Objects.{by_task, kept_in, AreFit};
 ghost use Rattle.services.specs.Dispatched.{IsHighest, is_runner_outranked};
@@ -199,7 +199,7 @@ impl<'s, Q: ReadyQueues> Objects<'s, Q> {
     /// level, where that is above the running task's dynamic priority. Where the running job changes, there is a Post record
     /// of the old one's task and a Pre record of the new one's. `runner` is the running task, if its job stands and doesn't
     /// wait. Answers whether it could dispatch.
-    #[tactic(auto, unfolding(kept_state::specs::Moves::rescheduled))]
+    #[tactic(auto, unfolding(law_kept::specs::Moves::rescheduled))]
     #[inline(always)]
     pub fn reschedule(&mut self, runner: &Option<TaskId>, record_of_tick: &mut TickRecord) -> bool
         requires fit { AreFit self.old }

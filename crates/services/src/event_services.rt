@@ -2,7 +2,7 @@
 
 ghost use Rattle.std.specs.Prelude.{◌≡◌, ◌<◌, Some, length};
 ghost use Rattle.osek_base.specs.declared.instr.Service.{Service};
-ghost use Rattle.kept_state.specs.KeptService.{caller_in, unasked_in, event_awaited_in};
+ghost use Rattle.law_kept.specs.KeptService.{caller_in, unasked_in, event_awaited_in};
 ghost use Rattle.services.specs.Objects.{AreFit};
 ghost use Rattle.services.specs.Steps.{Acts, Becomes, Serves, Tells};
 
@@ -14,7 +14,7 @@ use ready_queues::ReadyQueues;
 impl<'s, Q: ReadyQueues> Objects<'s, Q> {
     /// A task's events gain a mask, and a job that waits for one of them is released as the newest. E_OS_ACCESS where the
     /// task is basic, E_OS_STATE where it is suspended.
-    #[tactic(auto, unfolding(kept_state::specs::KeptService::unasked_in))]
+    #[tactic(auto, unfolding(law_kept::specs::KeptService::unasked_in))]
     pub fn set_event(&mut self, task: TaskId, mask: u32) -> Status
         requires fit { AreFit self.old }
         requires task { task < length self.old.system.tasks }
@@ -37,7 +37,7 @@ impl<'s, Q: ReadyQueues> Objects<'s, Q> {
     }
 
     /// The caller's events lose a mask. E_OS_CALLEVEL in a routine, E_OS_ACCESS where the caller is basic.
-    #[tactic(auto, unfolding(kept_state::specs::KeptService::unasked_in))]
+    #[tactic(auto, unfolding(law_kept::specs::KeptService::unasked_in))]
     pub fn clear_event(&mut self, mask: u32) -> Status
         ensures { Serves (Service.ClearEvent mask) self.old self.new result }
     {
@@ -55,7 +55,7 @@ impl<'s, Q: ReadyQueues> Objects<'s, Q> {
     }
 
     /// A task's events. E_OS_ACCESS where it is basic, E_OS_STATE where it is suspended.
-    #[tactic(auto, unfolding(kept_state::specs::KeptService::unasked_in))]
+    #[tactic(auto, unfolding(law_kept::specs::KeptService::unasked_in))]
     #[inline(always)]
     pub fn get_event(&self, task: TaskId) -> Answer
         requires task { task < length self.now.system.tasks }
@@ -72,7 +72,7 @@ impl<'s, Q: ReadyQueues> Objects<'s, Q> {
 
     /// Where none of the events of a mask is set, the caller waits for them and gives up its internal resource.
     /// E_OS_CALLEVEL in a routine, E_OS_ACCESS where the caller is basic, E_OS_RESOURCE where it holds a resource.
-    #[tactic(auto, unfolding(kept_state::specs::KeptService::unasked_in))]
+    #[tactic(auto, unfolding(law_kept::specs::KeptService::unasked_in))]
     pub fn wait_event(&mut self, mask: u32) -> Status
         ensures { Serves (Service.WaitEvent mask) self.old self.new result }
     {

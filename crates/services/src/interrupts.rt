@@ -4,9 +4,9 @@ ghost use Rattle.std.specs.Prelude.{◌≡◌, ◌<◌, ◌+◌, ◌^◌, IfSome
 ghost use Rattle.std.specs.Borrow.{sem};
 ghost use Rattle.osek_base.specs.State.{interrupts_off};
 ghost use Rattle.osek_base.specs.Tick.{routine_choice};
-ghost use Rattle.kept_state.specs.KeptService.{bare};
-ghost use Rattle.kept_state.specs.KeptTick.{controlled_in, routine_started_in, start_phase_in};
-ghost use Rattle.kept_state.specs.Moves.{may_dispatch_in};
+ghost use Rattle.law_kept.specs.KeptService.{bare};
+ghost use Rattle.law_kept.specs.KeptTick.{controlled_in, routine_started_in, start_phase_in};
+ghost use Rattle.law_kept.specs.Moves.{may_dispatch_in};
 ghost use Rattle.services.specs.Objects.{kept_in};
 ghost use Rattle.services.specs.Steps.{Becomes};
 
@@ -120,7 +120,7 @@ impl<'s, Q: ReadyQueues> Objects<'s, Q> {
 
     /// Where no routine is active and interrupts are on, the pending routine of greatest PRIORITY starts, of equals the
     /// first declared: its registers and its place are 0, and its flag is cleared.
-    #[tactic(auto, unfolding(kept_state::specs::KeptTick::start_phase_in))]
+    #[tactic(auto, unfolding(law_kept::specs::KeptTick::start_phase_in))]
     #[inline(always)]
     pub fn start_routine(&mut self)
         ensures { Becomes start_phase_in self.old self.new }

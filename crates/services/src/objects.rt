@@ -4,10 +4,10 @@ ghost use Rattle.std.specs.Prelude.{◌≡◌, ◌<◌, IfOk, replicate, slice_i
 ghost use Rattle.osek_base.specs.Proper.{IsProper};
 ghost use Rattle.osek_base.specs.State.{no_shared};
 ghost use Rattle.osek_base.specs.Trace.{starting_alarms};
-ghost use Rattle.kept_state.specs.Kept.{unbegun};
-ghost use Rattle.kept_state.specs.KeptService.{is_full_in, is_suspended_in};
-ghost use Rattle.kept_state.specs.KeptTick.{still_in};
-ghost use Rattle.kept_state.specs.Standing.{room_for};
+ghost use Rattle.law_kept.specs.Kept.{unbegun};
+ghost use Rattle.law_kept.specs.KeptService.{is_full_in, is_suspended_in};
+ghost use Rattle.law_kept.specs.KeptTick.{still_in};
+ghost use Rattle.law_kept.specs.Standing.{room_for};
 ghost use Rattle.services.specs.Objects.{by_task, kept_in};
 
 use crate::interrupts::Active;

@@ -2,8 +2,8 @@
 
 ghost use Rattle.std.specs.Prelude.{◌≡◌, ◌<◌, ◌+◌, true, is_some, Some, None, IfSome, length};
 ghost use Rattle.osek_base.specs.declared.ids.Owner.{Owner};
-ghost use Rattle.run_laws.proofs.Formed.{IsPlaced};
-ghost use Rattle.kept_state.specs.Quiet.{IsQuiet};
+ghost use Rattle.law_runs.proofs.Formed.{IsPlaced};
+ghost use Rattle.law_kept.specs.Quiet.{IsQuiet};
 ghost use Rattle.services.specs.Calls.{context_in};
 ghost use Rattle.services.specs.Objects.{kept_in};
 ghost use Rattle.services.specs.Quiet.{BeginsQuiet, IsIdle, IsSettled, PassesUpTo};

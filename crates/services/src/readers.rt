@@ -3,10 +3,10 @@
 ghost use Rattle.std.specs.Prelude.{◌≡◌, ◌<◌, IfSome, None, false, slice_index_or, length};
 ghost use Rattle.std.specs.Option.{option_map};
 ghost use Rattle.alarms.specs.Alarms.{cycle_of};
-ghost use Rattle.kept_state.specs.KeptService.{bare};
+ghost use Rattle.law_kept.specs.KeptService.{bare};
 ghost use Rattle.ready_queues.specs.LevelLists.{level_lists};
 ghost use Rattle.services.specs.Objects.{by_task, kept_in};
-ghost use Rattle.kept_state.specs.Seen.{counts_left, holder_in, priority_in, routine_of};
+ghost use Rattle.law_kept.specs.Seen.{counts_left, holder_in, priority_in, routine_of};
 
 use crate::interrupts::Active;
 use crate::objects::Objects;

@@ -4,7 +4,7 @@ ghost use Rattle.std.specs.Prelude.{if◌then◌else◌, ◌≡◌, Some, false}
 ghost use Rattle.std.specs.List.{list_any};
 ghost use Rattle.osek_base.specs.declared.instr.Service.{Service};
 ghost use Rattle.osek_base.specs.declared.status.Status.{Status};
-ghost use Rattle.kept_state.specs.KeptService.{caller_in, got_last_in, holds_in, is_held_in, slot_gets, slot_releases, with_caller_in};
+ghost use Rattle.law_kept.specs.KeptService.{caller_in, got_last_in, holds_in, is_held_in, slot_gets, slot_releases, with_caller_in};
 ghost use Rattle.services.specs.Objects.{kept_in};
 ghost use Rattle.services.specs.Steps.{Becomes, Serves};
 
@@ -16,7 +16,7 @@ use ready_queues::ReadyQueues;
 impl<'s, Q: ReadyQueues> Objects<'s, Q> {
     /// The caller holds a resource. E_OS_ACCESS in a routine, where the caller's task doesn't list it, or where a job holds
     /// it. RES_SCHEDULER needn't be listed.
-    #[tactic(auto, unfolding(kept_state::specs::KeptService::unasked_in))]
+    #[tactic(auto, unfolding(law_kept::specs::KeptService::unasked_in))]
     #[inline(always)]
     pub fn get_resource(&mut self, resource: &ResId) -> Status
         ensures { Serves (Service.GetResource (Some resource.now)) self.old self.new result }
@@ -36,7 +36,7 @@ impl<'s, Q: ReadyQueues> Objects<'s, Q> {
 
     /// The caller releases a resource. E_OS_ACCESS in a routine, or where the resource's ceiling is below the caller's static
     /// priority; E_OS_NOFUNC where it isn't the last that the caller got and still holds.
-    #[tactic(auto, unfolding(kept_state::specs::KeptService::unasked_in))]
+    #[tactic(auto, unfolding(law_kept::specs::KeptService::unasked_in))]
     #[inline(always)]
     pub fn release_resource(&mut self, resource: &ResId) -> Status
         ensures { Serves (Service.ReleaseResource (Some resource.now)) self.old self.new result }

@@ -17,7 +17,7 @@ use ready_queues::ReadyQueues;
 impl<'s, Q: ReadyQueues> Objects<'s, Q> {
     /// The word of a resource's window at an index, which counts mod [`SHARED_WORDS`](osek_base::SHARED_WORDS).
     /// E_OS_ACCESS in a routine, for RES_SCHEDULER, or where the caller doesn't hold the resource.
-    #[tactic(auto, unfolding(kept_state::specs::KeptService::unasked_in))]
+    #[tactic(auto, unfolding(law_kept::specs::KeptService::unasked_in))]
     #[inline(always)]
     pub fn load_shared(&self, resource: &ResId, index: u32) -> Answer
         requires known { IsSharedOperand self.now.system (Some resource.now) }
@@ -37,7 +37,7 @@ impl<'s, Q: ReadyQueues> Objects<'s, Q> {
 
     /// The word of a resource's window at an index, which counts mod [`SHARED_WORDS`](osek_base::SHARED_WORDS), gets a
     /// value. E_OS_ACCESS in a routine, for RES_SCHEDULER, or where the caller doesn't hold the resource.
-    #[tactic(auto, unfolding(kept_state::specs::KeptService::unasked_in))]
+    #[tactic(auto, unfolding(law_kept::specs::KeptService::unasked_in))]
     pub fn store_shared(&mut self, resource: &ResId, index: u32, new: u32) -> Status
         requires known { IsSharedOperand self.old.system (Some resource.now) }
         ensures { Serves (Service.StoreShared (Some resource.now) index new) self.old self.new

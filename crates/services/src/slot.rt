@@ -7,9 +7,9 @@ ghost use Rattle.osek_base.specs.Lists.{is_empty};
 ghost use Rattle.osek_base.specs.Service.{is_met, is_resource};
 ghost use Rattle.osek_base.specs.Lists.{last_of};
 ghost use Rattle.osek_base.specs.declared.status.Status.{Status};
-ghost use Rattle.kept_state.specs.Kept.{unbegun};
-ghost use Rattle.kept_state.specs.KeptService.{slot_given_up, slot_gets, slot_releases, slot_waiting, holds_in};
-ghost use Rattle.kept_state.specs.Moves.{one_more, slot_entered, slot_woken, dynamic_in};
+ghost use Rattle.law_kept.specs.Kept.{unbegun};
+ghost use Rattle.law_kept.specs.KeptService.{slot_given_up, slot_gets, slot_releases, slot_waiting, holds_in};
+ghost use Rattle.law_kept.specs.Moves.{one_more, slot_entered, slot_woken, dynamic_in};
 
 use machine::Cpu;
 use osek_base::{ResId, Status, System, TaskId};
@@ -28,7 +28,7 @@ pub struct Slot {
 }
 
 impl Model for Slot {
-    ghost use Rattle.kept_state.specs.Kept.{Slot as ControlBlock};
+    ghost use Rattle.law_kept.specs.Kept.{Slot as ControlBlock};
 
     ghost Value = { ControlBlock };
 

@@ -2,7 +2,7 @@
 
 ghost use Rattle.std.specs.Prelude.{◌≡◌, ◌<◌, ◌&&◌, not, Some, length};
 ghost use Rattle.osek_base.specs.declared.instr.Service.{Service};
-ghost use Rattle.kept_state.specs.KeptService.{caller_in, unasked_in, is_own_in, is_full_in, task_state_in};
+ghost use Rattle.law_kept.specs.KeptService.{caller_in, unasked_in, is_own_in, is_full_in, task_state_in};
 ghost use Rattle.services.specs.Objects.{kept_in, AreFit};
 ghost use Rattle.services.specs.Calls.{IsTaskOperand};
 ghost use Rattle.services.specs.Steps.{Acts, Serves};
@@ -13,7 +13,7 @@ use ready_queues::ReadyQueues;
 
 impl<'s, Q: ReadyQueues> Objects<'s, Q> {
     /// A new job of a task is the newest. E_OS_LIMIT where the task has as many as its ACTIVATION allows.
-    #[tactic(auto, unfolding(kept_state::specs::KeptService::unasked_in))]
+    #[tactic(auto, unfolding(law_kept::specs::KeptService::unasked_in))]
     #[inline(always)]
     pub fn activate(&mut self, task: TaskId) -> Status
         requires fit { AreFit self.old }
@@ -28,7 +28,7 @@ impl<'s, Q: ReadyQueues> Objects<'s, Q> {
     }
 
     /// The calling job ends. E_OS_CALLEVEL in a routine, E_OS_RESOURCE where the job holds a resource.
-    #[tactic(auto, unfolding(kept_state::specs::KeptService::unasked_in))]
+    #[tactic(auto, unfolding(law_kept::specs::KeptService::unasked_in))]
     #[inline(always)]
     pub fn terminate(&mut self) -> Status
         requires { AreFit self.old }
@@ -51,7 +51,7 @@ impl<'s, Q: ReadyQueues> Objects<'s, Q> {
     /// The calling job ends, and then a new job of a task is the newest. E_OS_CALLEVEL in a routine, E_OS_ID for INVALID,
     /// E_OS_RESOURCE where the job holds a resource, E_OS_LIMIT where the task is another one and has as many jobs as its
     /// ACTIVATION allows.
-    #[tactic(auto, unfolding(kept_state::specs::KeptService::unasked_in))]
+    #[tactic(auto, unfolding(law_kept::specs::KeptService::unasked_in))]
     #[inline(never)]
     pub fn chain(&mut self, task: Option<TaskId>) -> Status
         requires fit { AreFit self.old }
@@ -88,7 +88,7 @@ impl<'s, Q: ReadyQueues> Objects<'s, Q> {
 
     /// Where a task is ready above the caller's static priority, the caller gives up its internal resource.
     /// E_OS_CALLEVEL in a routine, E_OS_RESOURCE where the job holds a resource.
-    #[tactic(auto, unfolding(kept_state::specs::KeptService::unasked_in))]
+    #[tactic(auto, unfolding(law_kept::specs::KeptService::unasked_in))]
     #[inline(never)]
     pub fn schedule(&mut self) -> Status
         requires { AreFit self.old }

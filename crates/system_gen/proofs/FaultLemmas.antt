@@ -1,12 +1,11 @@
 -- No fault at all is none of each number.
 use Rattle.std.proofs.Common.{◌≡◌, List, Option, Some, None, Result, Ok, Err, refl, arith}
-use Rattle.std.specs.Option.{option_or}
+use Rattle.std.specs.Option.{option_or, option_map}
 use Rattle.std.specs.Result.{result_err, result_unwrap_or}
 use Rattle.oil_reader.specs.Configuration.{Configuration}
 use Rattle.task_asm.specs.Programs.{Program}
 use Rattle.system_gen.specs.declared.fault.GenFault.{GenFault}
 use Rattle.system_gen.specs.declared.fault.ObjectKind.{ObjectKind}
-use Rattle.std.specs.Option.{option_map}
 use Rattle.system_gen.specs.Masks.{all_masks}
 use Rattle.system_gen.specs.DeclaredNames.{declared_in}
 use Rattle.system_gen.specs.References.{reference_fault}

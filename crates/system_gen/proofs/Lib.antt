@@ -12,3 +12,4 @@ pub mod NamesProper
 pub mod DistinctNames
 pub mod ProgramsProper
 pub mod GeneratedProper
+pub mod Lookups

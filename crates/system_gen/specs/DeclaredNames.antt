@@ -1,5 +1,5 @@
 -- OIL: names of objects. What is declared, kind by kind, and the numbers of what is declared.
-pub use Rattle.name_tables.specs.Numbers.{number}
+pub use Rattle.system_gen.specs.Numbers.{number}
 use Rattle.std.specs.Prelude.{ℕ, List, IsTrue, map}
 use Rattle.osek_base.specs.Names.{Names, are_distinct_names}
 use Rattle.oil_reader.specs.Configuration.{Configuration, CounterRecord}

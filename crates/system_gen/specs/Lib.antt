@@ -9,3 +9,4 @@ pub mod References
 pub mod Typed
 pub mod Generated
 pub mod Faults
+pub mod Numbers

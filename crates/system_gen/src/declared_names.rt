@@ -4,7 +4,7 @@ ghost use Rattle.std.specs.Prelude.{◌≡◌, ◌≤◌, IfOk, length};
 ghost use Rattle.system_gen.specs.DeclaredNames.{AreDistinct, declared_by, number};
 ghost use Rattle.system_gen.specs.References.{is_res_scheduler};
 
-use name_tables::NameTable;
+use crate::table::NameTable;
 use osek_base::{
     AlarmId, CounterId, MAX_ALARMS, MAX_COUNTERS, MAX_MODES, MAX_RESOURCES, MAX_TASKS, ModeId,
     Name, Names, ResourceNumber, TaskId,

@@ -33,7 +33,7 @@ ghost use Rattle.system_gen.specs.Typed.{
 use crate::declared_names::{Declared, is_res_scheduler};
 use crate::fault::GenFault;
 use crate::object_checks::is_internal;
-use name_tables::NameTable;
+use crate::table::NameTable;
 use oil_reader::{ActionObject, AlarmObject, AlarmStartObject, OilFile, TaskObject};
 use osek_base::{Control, Name, Plain, REGISTERS, Register, Service};
 use task_asm::{NamedInstr, NamedLine, NamedProgram, NamedService, ProgramKind};

@@ -2,7 +2,7 @@
 use Rattle.std.proofs.Common.{◌≡◌, ℕ, zero, suc, ◌+◌, ◌<◌, List, [], ◌∷◌, ◌++◌, length, get_or, refl, sym, subst, ap, ◌∙◌, arith}
 use Rattle.std.proofs.lemmas.List.{length-append}
 use Rattle.std.specs.List.{AllByRecursion}
-use Rattle.run_laws.proofs.Lists.{some_inside}
+use Rattle.law_runs.proofs.Lists.{some_inside}
 use Rattle.trace_lines.specs.Programs.{EachAt}
 
 module _ {X : Type 0} where

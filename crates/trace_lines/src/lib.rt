@@ -1,5 +1,11 @@
-//! The lines of a trace: their text, the view of a tick's records, and how they reach a sink by way
-//! of a block.
+//! The lines of a trace: their text, the view of a tick's records, and how they reach a sink by a
+//! block of 4,096 bytes. `line_text` is exactly the line of a record. A tick's lines reach the
+//! sink, or it failed after a beginning of them.
+//!
+//! - `write_tick`, of records whose instructions are their programs'; `write_tick_parts`, of a
+//!   tick in parts; `write_idle_ticks`, of ticks in which nothing happens: the sink and the block
+//!   gained exactly their lines, or the sink has failed after a beginning of them.
+//! - `upper_view`: exactly the view's records.
 #![tactic(auto)]
 
 mod block;

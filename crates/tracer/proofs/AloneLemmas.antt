@@ -9,12 +9,12 @@ use Rattle.osek_base.specs.Laws.{HaveOneView}
 use Rattle.osek_base.specs.View.{Sight}
 use Rattle.kernel.specs.declared.boot.BootFault.{BootFault}
 use Rattle.trace_lines.specs.Lines.{ended}
-use Rattle.arrival_lists.specs.ArrivalText.{lines_of}
+use Rattle.arrival_reader.specs.ArrivalText.{lines_of}
 use Rattle.tracer.specs.WholeRuns.{Input, IsShown, RefusesStart}
 use Rattle.tracer.specs.declared.run_fault.RunFault.{RunFault}
 use Rattle.tracer.specs.declared.shown.Shown.{Shown}
 use Rattle.tracer.proofs.RunTextLemmas.{view_shown}
-use Rattle.arrival_lists.proofs.ArrivalLemmas.{number_below, are_read_same, first_fault_same}
+use Rattle.arrival_reader.proofs.ArrivalLemmas.{number_below, are_read_same, first_fault_same}
 
 module _ (S : System) (p : ℕ) (i : Input) where
   -- the same is shown

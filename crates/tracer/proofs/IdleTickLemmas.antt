@@ -8,7 +8,7 @@ use Rattle.osek_base.specs.System.{System}
 use Rattle.osek_base.specs.Trace.{run}
 use Rattle.osek_base.specs.View.{view_records}
 use Rattle.kernel.specs.Progress.{Progress, is_over, run_of}
-use Rattle.blocking_laws.specs.Steps.{record_at}
+use Rattle.law_blockers.specs.Steps.{record_at}
 use Rattle.trace_lines.specs.Lines.{event_of, same_ticks_text, tick_text}
 use Rattle.sinks.specs.Sinks.{AppendsSome, Passes}
 use Rattle.trace_lines.proofs.IdleLemmas.{same_texts}

@@ -12,9 +12,9 @@ use Rattle.osek_base.specs.Service.{Caller, JobCalls, RoutineCalls, NobodyCalls,
 use Rattle.osek_base.specs.System.{System, instruction_at}
 use Rattle.osek_base.specs.Tick.{at_values, executor, executed, caller_executes, execute_phase, error_record, shutdown_record, before_execution, from_execution, last_phase, tick}
 use Rattle.osek_base.specs.Trace.{Run, run, arriving, step_added}
-use Rattle.run_laws.proofs.Lists.{clash, some_inside, all_weaker, all_append}
-use Rattle.run_laws.proofs.Records.{is_executed, NoneExecuted, none_error, none_shutdown, none_before, none_last, none_boot}
-use Rattle.blocking_laws.specs.Steps.{record_at}
+use Rattle.law_runs.proofs.Lists.{clash, some_inside, all_weaker, all_append}
+use Rattle.law_runs.proofs.Records.{is_executed, NoneExecuted, none_error, none_shutdown, none_before, none_last, none_boot}
+use Rattle.law_blockers.specs.Steps.{record_at}
 use Rattle.osek_base.specs.Upper.{is_upper_task, is_upper_owner}
 use Rattle.osek_base.specs.View.{is_upper_source, shown, view_records}
 use Rattle.tracer.specs.declared.shown.Shown.{Shown}

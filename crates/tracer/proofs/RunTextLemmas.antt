@@ -14,9 +14,9 @@ use Rattle.osek_base.specs.Trace.{Run, run}
 use Rattle.osek_base.specs.Text.{line, text}
 use Rattle.osek_base.specs.View.{Sight, sight}
 use Rattle.kernel.specs.Progress.{is_over}
-use Rattle.blocking_laws.specs.Steps.{step_at, record_at}
+use Rattle.law_blockers.specs.Steps.{step_at, record_at}
 use Rattle.kernel.proofs.RunLemmas.{going}
-use Rattle.blocking_laws.proofs.StepLemmas.{run_over, run_stays, steps_more, step_number}
+use Rattle.law_blockers.proofs.StepLemmas.{run_over, run_stays, steps_more, step_number}
 use Rattle.tracer.specs.declared.shown.Shown.{Shown}
 use Rattle.trace_lines.specs.Lines.{ended, numbered_line, tick_text}
 use Rattle.tracer.specs.Shown.{records_shown, lines_shown, text_shown, view_text}

@@ -10,7 +10,7 @@ use Rattle.osek_base.specs.System.{System}
 use Rattle.osek_base.specs.View.{view_records}
 use Rattle.kernel.specs.Progress.{HasRunApart, Progress}
 use Rattle.kernel.specs.Stamping.{IsNumber}
-use Rattle.blocking_laws.specs.Steps.{record_at}
+use Rattle.law_blockers.specs.Steps.{record_at}
 use Rattle.trace_lines.specs.Lines.{tick_text}
 use Rattle.trace_lines.specs.Programs.{IsOfProgram}
 use Rattle.trace_lines.proofs.EachLemmas.{all_split}

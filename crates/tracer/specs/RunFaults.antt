@@ -3,7 +3,7 @@ use Rattle.oil_reader.specs.declared.fault.OilFault.{OilFault}
 use Rattle.task_asm.specs.declared.fault.AsmFault.{AsmFault}
 use Rattle.system_gen.specs.declared.fault.GenFault.{GenFault}
 use Rattle.kernel.specs.declared.boot.BootFault.{BootFault}
-use Rattle.arrival_lists.specs.declared.irq_fault.IrqFault.{IrqFault}
+use Rattle.arrival_reader.specs.declared.irq_fault.IrqFault.{IrqFault}
 use Rattle.tracer.specs.declared.run_fault.RunFault.{RunFault}
 
 abbrev pub of_oil : OilFault → RunFault

@@ -9,7 +9,7 @@ use Rattle.osek_base.specs.Tick.{Step}
 use Rattle.osek_base.specs.Trace.{Run}
 use Rattle.osek_base.specs.View.{view_records, view_lines}
 use Rattle.osek_base.specs.BlockingText.{blockers_at}
-use Rattle.blocking_laws.specs.Steps.{record_at}
+use Rattle.law_blockers.specs.Steps.{record_at}
 use Rattle.kernel.specs.Progress.{Progress}
 use Rattle.tracer.specs.declared.shown.Shown.{Shown}
 use Rattle.trace_lines.specs.Lines.{ended, numbered_line, tick_text}

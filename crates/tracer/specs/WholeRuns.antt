@@ -18,7 +18,7 @@ use Rattle.osek_base.specs.BlockingText.{blocking_text}
 use Rattle.osek_base.specs.Trace.{run}
 use Rattle.kernel.specs.declared.boot.BootFault.{BootFault}
 use Rattle.kernel.specs.Progress.{Progress}
-use Rattle.arrival_lists.specs.ArrivalText.{IsArrivalList, IsFirstFault}
+use Rattle.arrival_reader.specs.ArrivalText.{IsArrivalList, IsFirstFault}
 use Rattle.tracer.specs.Shown.{numbers_shown, text_shown}
 use Rattle.tracer.specs.declared.run_fault.RunFault.{RunFault}
 use Rattle.tracer.specs.declared.shown.Shown.{Shown}

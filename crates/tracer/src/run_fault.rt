@@ -2,7 +2,7 @@
 
 ghost use Rattle.std.specs.Prelude.{◌≡◌};
 
-use arrival_lists::IrqFault;
+use arrival_reader::IrqFault;
 use kernel::BootFault;
 use oil_reader::OilFault;
 use partition_check::NamedDenial;

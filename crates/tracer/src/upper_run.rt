@@ -13,10 +13,9 @@ use crate::system_texts::read_system;
 use crate::trace_input::TraceInput;
 use crate::whole_run::write_run;
 use osek_base::System;
-use partition_check::check_partition;
+use partition_check::{check_partition, upper_only};
 use sinks::Sink;
 use std::alloc::Global;
-use upper_only::upper_only;
 
 /// Checks that the upper part of a system at p is separable. A refusal is the first denial, with
 /// its subject's name.

@@ -12,7 +12,7 @@ use crate::shown::Shown;
 use crate::system_texts::read_system;
 use crate::trace_input::TraceInput;
 use crate::written_ticks::write_ticks;
-use arrival_lists::read_arrivals;
+use arrival_reader::read_arrivals;
 use kernel::{Blockers, Counted, Kernel, NotCounted};
 use osek_base::System;
 use ready_queues::LevelQueues;

@@ -1,6 +1,6 @@
 use Rattle.std.proofs.Common.{ℕ, ◌≡◌, false, length, replicate}
 use Rattle.std.specs.Prelude.{◌==◌, Some, None}
-use Rattle.blocking_laws.specs.Restamping.{stamps_at}
+use Rattle.law_blockers.specs.Restamping.{stamps_at}
 use Rattle.kernel.proofs.boot.add_jobs.Given as goal
 
 -- the jobs so far stand in the task's list, and the other lists are as they were

@@ -4,10 +4,10 @@ use Rattle.std.specs.List.{filter}
 use Rattle.osek_base.specs.declared.instr.Service.{Service}
 use Rattle.osek_base.specs.Lists.{below}
 use Rattle.osek_base.specs.System.{starts_in}
-use Rattle.kept_state.specs.KeptService.{ByNobody, unasked_in}
+use Rattle.law_kept.specs.KeptService.{ByNobody, unasked_in}
 use Rattle.osek_base.specs.Trace.{starting_alarms}
-use Rattle.kept_state.specs.Kept.{Kept}
-use Rattle.kept_state.specs.KeptTick.{all_activated_in, begun_in, still_in}
+use Rattle.law_kept.specs.Kept.{Kept}
+use Rattle.law_kept.specs.KeptTick.{all_activated_in, begun_in, still_in}
 use Rattle.services.specs.Objects.{Objects, kept_in}
 use Rattle.kernel.proofs.StartLemmas.{AreStarting, starting_none, starting_more, starting_same}
 use Rattle.kernel.proofs.boot.started.Goals as goal

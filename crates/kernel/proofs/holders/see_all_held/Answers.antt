@@ -2,7 +2,7 @@ use Rattle.std.proofs.Common.{◌≡◌, ◌<◌, ◌-◌, ◌+◌, true, List, 
 use Rattle.osek_base.specs.declared.ids.ResId.{ResId}
 use Rattle.osek_base.specs.Lists.{below, is_empty}
 use Rattle.std.proofs.lemmas.List.{get_or_default}
-use Rattle.kept_state.specs.Kept.{Slot}
+use Rattle.law_kept.specs.Kept.{Slot}
 use Rattle.services.specs.Objects.{by_task}
 use Rattle.seen_ticks.proofs.SeenSteps.{seen_count}
 use Rattle.kernel.specs.Holders.{all_noted, holder_from}

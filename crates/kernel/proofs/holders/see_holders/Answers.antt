@@ -3,7 +3,7 @@ use Rattle.osek_base.specs.Lists.{below}
 use Rattle.osek_base.specs.System.{System}
 use Rattle.services.specs.Objects.{Objects, by_task, kept_in}
 use Rattle.seen_ticks.proofs.SeenSteps.{seen_count}
-use Rattle.observations.specs.declared.holder.Holder.{Holder}
+use Rattle.seen_ticks.specs.declared.holder.Holder.{Holder}
 use Rattle.kernel.specs.Holders.{holder_from}
 use Rattle.kernel.proofs.Filled.{filled_anew}
 use Rattle.kernel.proofs.HolderLemmas.{held_in}

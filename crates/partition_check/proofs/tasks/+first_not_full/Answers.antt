@@ -1,8 +1,7 @@
 use Rattle.std.proofs.Common.{ℕ, not, length, sym, ◌∙◌, ap, arith}
 use Rattle.std.specs.Prelude.{Some}
 use Rattle.osek_base.specs.Upper.{is_upper_task}
-use Rattle.partition_check.specs.Partition.{denial_of, is_not_full}
-use Rattle.partition_check.specs.Partition.{Told, denial_of}
+use Rattle.partition_check.specs.Partition.{denial_of, is_not_full, Told}
 use Rattle.partition_check.proofs.Firsts.{task_here, task_later, task_end}
 use Rattle.partition_check.proofs.tasks.+first_not_full.Goals as goal
 

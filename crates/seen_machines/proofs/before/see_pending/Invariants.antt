@@ -1,6 +1,6 @@
 use Rattle.std.proofs.Common.{◌≡◌, length, map, take}
 use Rattle.osek_base.specs.Lists.{below}
-use Rattle.same_future.specs.Spans.{is_pending_in}
+use Rattle.law_future.specs.Spans.{is_pending_in}
 use Rattle.kernel.specs.Machine.{picture, system_of}
 use Rattle.seen_machines.proofs.before.see_pending.Given as goal
 

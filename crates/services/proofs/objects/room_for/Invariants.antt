@@ -1,6 +1,6 @@
 use Rattle.std.proofs.Common.{◌≡◌, ◌≤◌, ◌*◌}
 use Rattle.osek_base.specs.System.{activation_of}
-use Rattle.kept_state.specs.Standing.{sum_to}
+use Rattle.law_kept.specs.Standing.{sum_to}
 use Rattle.services.proofs.objects.room_for.Given as goal
 
 -- the ACTIVATION values of the tasks so far, each of which fits a byte

@@ -1,5 +1,5 @@
 use Rattle.std.proofs.Common.{◌≡◌, replicate}
-use Rattle.kept_state.specs.Kept.{unbegun}
+use Rattle.law_kept.specs.Kept.{unbegun}
 use Rattle.services.proofs.objects.slots_of.Given as goal
 
 -- a slot for each task so far

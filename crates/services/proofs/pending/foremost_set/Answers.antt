@@ -2,8 +2,7 @@ use Rattle.std.proofs.Common.{◌≡◌, ◌≤◌, ◌<◌, ◌-◌, ℕ, true,
 use Rattle.std.specs.Prelude.{Some, None}
 use Rattle.osek_base.specs.Lists.{below}
 use Rattle.osek_base.specs.System.{routine}
-use Rattle.services.proofs.RoutineLemmas.{IsBest, best_none, best_same, best_worse, best_better, best_all}
-use Rattle.services.proofs.RoutineLemmas.{drop_before, below_none}
+use Rattle.services.proofs.RoutineLemmas.{IsBest, best_none, best_same, best_worse, best_better, best_all, drop_before, below_none}
 use Rattle.services.proofs.pending.foremost_set.Goals as goal
 
 pub loop-number-init : goal.loop-number-init

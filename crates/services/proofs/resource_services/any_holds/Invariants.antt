@@ -1,6 +1,6 @@
 use Rattle.std.proofs.Common.{◌≡◌, take, false}
 use Rattle.std.specs.List.{list_any}
-use Rattle.kept_state.specs.KeptService.{holds_in}
+use Rattle.law_kept.specs.KeptService.{holds_in}
 use Rattle.services.proofs.resource_services.any_holds.Given as goal
 
 -- none of those so far holds it

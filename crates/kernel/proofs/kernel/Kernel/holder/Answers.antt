@@ -2,7 +2,7 @@ use Rattle.std.proofs.Common.{◌<◌, length, ◌∙◌, ap, subst}
 use Rattle.std.specs.Prelude.{IfSome}
 use Rattle.osek_base.specs.System.{System}
 use Rattle.services.specs.Objects.{Objects, kept_in}
-use Rattle.kept_state.specs.Seen.{holder_in}
+use Rattle.law_kept.specs.Seen.{holder_in}
 use Rattle.kernel.specs.Progress.{Progress, run_of}
 use Rattle.seen_ticks.specs.Shown.{holder}
 use Rattle.kernel.proofs.SeenLemmas.{holder_seen}

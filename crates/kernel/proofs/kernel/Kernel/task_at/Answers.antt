@@ -1,6 +1,6 @@
 use Rattle.std.proofs.Common.{◌≡◌, ◌∙◌, ap}
-use Rattle.kept_state.specs.KeptService.{task_state_in}
-use Rattle.kept_state.specs.Seen.{priority_in}
+use Rattle.law_kept.specs.KeptService.{task_state_in}
+use Rattle.law_kept.specs.Seen.{priority_in}
 use Rattle.seen_ticks.specs.declared.task_at.TaskAt.{TaskAt}
 use Rattle.seen_ticks.specs.Told.{task_at, task_at_in}
 use Rattle.services.specs.Objects.{Objects, kept_in}

@@ -4,8 +4,8 @@ use Rattle.std.specs.List.{All}
 use Rattle.osek_base.specs.Executed.{StandsIn, idle_or_executed}
 use Rattle.osek_base.specs.System.{System}
 use Rattle.osek_base.specs.Trace.{arriving}
-use Rattle.blocking_laws.specs.Steps.{step_at}
-use Rattle.kept_state.specs.Kept.{Kept, kept}
+use Rattle.law_blockers.specs.Steps.{step_at}
+use Rattle.law_kept.specs.Kept.{Kept, kept}
 use Rattle.kernel.specs.Machine.{next_tick, system_of}
 use Rattle.kernel.specs.Progress.{HasRunApart, Progress, is_over}
 use Rattle.kernel.proofs.ArrivalLemmas.{arriving_known}

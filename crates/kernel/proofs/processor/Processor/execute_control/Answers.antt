@@ -4,7 +4,7 @@ use Rattle.osek_base.specs.declared.trace_event.Outcome.{Outcome}
 use Rattle.osek_base.specs.declared.trace_event.TraceEvent.{TraceEvent}
 use Rattle.osek_base.specs.Instruction.{Context}
 use Rattle.osek_base.specs.Tick.{shutdown_record}
-use Rattle.run_laws.proofs.Formed.{IsPlaced}
+use Rattle.law_runs.proofs.Formed.{IsPlaced}
 use Rattle.machine.specs.Packed.{instr_of}
 use Rattle.machine.specs.Windows.{word}
 use Rattle.kernel.specs.Controls.{control_context}

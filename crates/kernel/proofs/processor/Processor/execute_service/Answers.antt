@@ -5,7 +5,7 @@ use Rattle.osek_base.specs.declared.trace_event.Source.{Source}
 use Rattle.osek_base.specs.declared.trace_event.TraceEvent.{TraceEvent}
 use Rattle.osek_base.specs.Instruction.{Context}
 use Rattle.osek_base.specs.Tick.{answered, error_record}
-use Rattle.run_laws.proofs.Formed.{IsPlaced}
+use Rattle.law_runs.proofs.Formed.{IsPlaced}
 use Rattle.machine.specs.Packed.{instr_of, service_of}
 use Rattle.machine.specs.Windows.{word}
 use Rattle.services.specs.Calls.{context_in}

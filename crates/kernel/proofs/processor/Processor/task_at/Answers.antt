@@ -1,7 +1,7 @@
 use Rattle.std.proofs.Common.{◌∙◌, ap}
-use Rattle.kept_state.specs.KeptService.{task_state_in}
+use Rattle.law_kept.specs.KeptService.{task_state_in}
 use Rattle.services.specs.Objects.{Objects, by_task, kept_in}
-use Rattle.kept_state.specs.Seen.{priority_in}
+use Rattle.law_kept.specs.Seen.{priority_in}
 use Rattle.kernel.specs.Processor.{Processor, picture, system_of}
 use Rattle.seen_ticks.specs.Told.{task_at_in}
 use Rattle.kernel.proofs.processor.Processor.task_at.Goals as goal

@@ -1,6 +1,6 @@
 use Rattle.std.proofs.Common.{◌≤◌, sym, ◌∙◌, ap₂, subst, arith}
 use Rattle.osek_base.specs.declared.limits.TheConstants.{MAX_ALARMS}
-use Rattle.kept_state.specs.KeptService.{bare}
+use Rattle.law_kept.specs.KeptService.{bare}
 use Rattle.kernel.specs.Processor.{IsBefore, clocked, picture, system_of}
 use Rattle.kernel.specs.Watches.{MayAct, Starts, Watched, phase_of_alarms}
 use Rattle.kernel.proofs.ActLemmas.{due_known}

@@ -1,6 +1,6 @@
 use Rattle.std.proofs.Common.{◌≡◌, List, length, sym, ◌∙◌, ap, arith}
 use Rattle.osek_base.specs.declared.trace_event.TraceEvent.{TraceEvent}
-use Rattle.kept_state.specs.KeptService.{caller_in}
+use Rattle.law_kept.specs.KeptService.{caller_in}
 use Rattle.kernel.specs.Processor.{picture}
 use Rattle.kernel.specs.Watches.{Watched}
 use Rattle.kernel.proofs.ExecutedStamps.{idle_watched}

@@ -4,7 +4,7 @@ use Rattle.osek_base.specs.declared.instr.Instr.{Instr}
 use Rattle.osek_base.specs.declared.trace_event.Outcome.{Outcome}
 use Rattle.osek_base.specs.declared.trace_event.TraceEvent.{TraceEvent}
 use Rattle.machine.specs.Packed.{instr_of}
-use Rattle.blocking_laws.specs.Restamping.{stamps_at}
+use Rattle.law_blockers.specs.Restamping.{stamps_at}
 use Rattle.kernel.specs.declared.stamping.Stand.{Stand}
 use Rattle.kernel.specs.Processor.{IsNext, picture, system_of}
 use Rattle.kernel.specs.Watches.{HasBegun, Watched, WatchesWithin, executing}

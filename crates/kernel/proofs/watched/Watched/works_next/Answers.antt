@@ -1,8 +1,8 @@
 use Rattle.std.proofs.Common.{not, sym, ◌∙◌, ap}
 use Rattle.std.specs.Prelude.{is_none}
 use Rattle.std.proofs.lemmas.Bool.{false≢true}
-use Rattle.readiness.specs.Stamps.{stamp_of_oldest}
-use Rattle.blocking_laws.specs.Restamping.{stamps_at}
+use Rattle.kernel_stamps.specs.Stamps.{stamp_of_oldest}
+use Rattle.law_blockers.specs.Restamping.{stamps_at}
 use Rattle.kernel.specs.Watches.{Watched}
 use Rattle.kernel.proofs.WatchLemmas.{watched_of}
 use Rattle.kernel.proofs.WorkRuns.{works_so}

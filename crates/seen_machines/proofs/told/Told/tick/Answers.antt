@@ -1,6 +1,6 @@
 use Rattle.std.proofs.Common.{◌≡◌, ◌∙◌, ap₂}
 use Rattle.osek_base.specs.System.{System}
-use Rattle.kept_state.specs.KeptTick.{tick_in}
+use Rattle.law_kept.specs.KeptTick.{tick_in}
 use Rattle.kernel.specs.Machine.{picture, system_of}
 use Rattle.seen_ticks.specs.Observed.{ending, executed_in, refusing}
 use Rattle.seen_machines.proofs.Executing.{executed_is}

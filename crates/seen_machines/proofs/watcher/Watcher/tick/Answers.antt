@@ -2,10 +2,10 @@ use Rattle.std.proofs.Common.{◌≡◌, ◌<◌, ℕ, List, false, map, length,
 use Rattle.std.specs.List.{AllByRecursion}
 use Rattle.osek_base.specs.Lists.{below}
 use Rattle.osek_base.specs.System.{System}
-use Rattle.kept_state.specs.Kept.{Kept}
+use Rattle.law_kept.specs.Kept.{Kept}
 use Rattle.kernel.specs.Machine.{picture, system_of}
 use Rattle.kernel.specs.declared.acted.Acted.{Acted}
-use Rattle.shown_ticks.specs.Shown.{KeptTicked, ticked_in}
+use Rattle.law_seen.specs.Shown.{KeptTicked, ticked_in}
 use Rattle.seen_machines.specs.Told.{IsOfAll, alarm_seen_by, routine_seen_by, task_seen_by}
 use Rattle.seen_machines.proofs.Acting.{refused_known}
 use Rattle.seen_machines.proofs.Shows.{alarms_are, answered_is, executor_is, failure_is, of_all, routines_are, seen_is, tasks_are}

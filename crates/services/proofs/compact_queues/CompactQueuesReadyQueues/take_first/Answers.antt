@@ -1,10 +1,9 @@
-use Rattle.std.proofs.Common.{◌≡◌, ◌≤◌, ◌-◌, ◌∙◌, ap, length, drop, subst, sym, arith}
+use Rattle.std.proofs.Common.{◌≡◌, ◌≤◌, ◌-◌, ◌∙◌, ap, length, drop, subst, sym, arith, List}
 use Rattle.ready_queues.specs.declared.ready_queues.TheConstants.{LEVELS}
 use Rattle.services.specs.declared.ready_entry.ReadyEntry.{ReadyEntry}
 use Rattle.services.specs.CompactQueues.{AreFalling, first_ready, tasks_at}
 use Rattle.services.proofs.CompactLemmas.{first_is, rest_is, rest_falling, rest_few}
 use Rattle.services.proofs.compact_queues.CompactQueuesReadyQueues.take_first.Goals as goal
-use Rattle.std.proofs.Common.{List}
 
 pub invariant_of-self : goal.invariant_of-self
 invariant_of-self c =

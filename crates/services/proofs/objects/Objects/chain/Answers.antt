@@ -1,9 +1,9 @@
 use Rattle.std.proofs.Common.{ℕ, ◌≡◌, ◌<◌, ◌≤◌, List, ◌∙◌, sym, ap, subst, arith}
 use Rattle.osek_base.specs.System.{System, activation_of}
 use Rattle.ready_queues.specs.Queues.{total}
-use Rattle.kept_state.specs.Kept.{Kept}
-use Rattle.kept_state.specs.KeptService.{caller_in}
-use Rattle.kept_state.specs.Standing.{room_for}
+use Rattle.law_kept.specs.Kept.{Kept}
+use Rattle.law_kept.specs.KeptService.{caller_in}
+use Rattle.law_kept.specs.Standing.{room_for}
 use Rattle.services.specs.Objects.{kept_in}
 use Rattle.services.specs.Calls.{IsTaskOperand}
 use Rattle.services.proofs.BoundLemmas.{chain_room, ended_queues, ended_count}

@@ -3,7 +3,7 @@ use Rattle.osek_base.specs.Ceiling.{top_priority}
 use Rattle.ready_queues.specs.Queues.{total}
 use Rattle.ready_queues.specs.QueueMoves.{put_oldest, without_first_at_level}
 use Rattle.ready_queues.specs.LevelLists.{by_level}
-use Rattle.kept_state.specs.Standing.{room_for}
+use Rattle.law_kept.specs.Standing.{room_for}
 use Rattle.services.specs.Objects.{Objects}
 use Rattle.services.proofs.BoundLemmas.{put_behind_take, take_frees}
 use Rattle.services.proofs.objects.Objects.change_places.Goals as goal

@@ -1,7 +1,7 @@
 use Rattle.std.proofs.Common.{◌≡◌, ◌<◌, ◌∙◌, ap, sym, subst, length, arith}
 use Rattle.std.specs.Bool.{IsFalse}
-use Rattle.kept_state.specs.Kept.{Slot}
-use Rattle.kept_state.specs.KeptService.{holds_in}
+use Rattle.law_kept.specs.Kept.{Slot}
+use Rattle.law_kept.specs.KeptService.{holds_in}
 use Rattle.services.specs.Objects.{Objects, kept_in, by_task}
 use Rattle.services.proofs.HeldLemmas.{none_below, at_task}
 use Rattle.services.proofs.objects.Objects.get_held.Goals as goal

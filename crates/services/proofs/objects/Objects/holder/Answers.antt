@@ -1,6 +1,6 @@
 use Rattle.std.proofs.Common.{◌≡◌, ◌<◌, ℕ, true, false, length, sym, ◌∙◌, ap, arith}
 use Rattle.std.specs.Prelude.{Some}
-use Rattle.kept_state.specs.KeptService.{holds_in}
+use Rattle.law_kept.specs.KeptService.{holds_in}
 use Rattle.services.specs.Objects.{Objects, by_task}
 use Rattle.services.proofs.RoutineLemmas.{first_here, first_later, first_nowhere}
 use Rattle.services.proofs.objects.Objects.holder.Goals as goal

@@ -1,9 +1,9 @@
 use Rattle.std.proofs.Common.{◌≡◌, drop, length}
 use Rattle.std.specs.List.{find}
 use Rattle.osek_base.specs.Lists.{below}
-use Rattle.kept_state.specs.KeptService.{holds_in}
+use Rattle.law_kept.specs.KeptService.{holds_in}
 use Rattle.services.specs.Objects.{by_task, kept_in}
-use Rattle.kept_state.specs.Seen.{holder_in}
+use Rattle.law_kept.specs.Seen.{holder_in}
 use Rattle.services.proofs.objects.Objects.holder.Given as goal
 
 -- the first holder is the first of those that are left

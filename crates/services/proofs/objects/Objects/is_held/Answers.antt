@@ -1,6 +1,6 @@
 use Rattle.std.proofs.Common.{◌∙◌, ap, length}
 use Rattle.std.specs.List.{list_any}
-use Rattle.kept_state.specs.KeptService.{holds_in, is_held_in}
+use Rattle.law_kept.specs.KeptService.{holds_in, is_held_in}
 use Rattle.services.specs.Objects.{Objects, kept_in}
 use Rattle.services.proofs.HeldLemmas.{any_slot}
 use Rattle.services.proofs.objects.Objects.is_held.Goals as goal

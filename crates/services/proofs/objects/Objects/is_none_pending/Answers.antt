@@ -3,7 +3,7 @@ use Rattle.std.specs.Prelude.{None}
 use Rattle.osek_base.specs.Lists.{below}
 use Rattle.osek_base.specs.System.{routine}
 use Rattle.osek_base.specs.Tick.{routine_choice}
-use Rattle.kept_state.specs.KeptService.{bare}
+use Rattle.law_kept.specs.KeptService.{bare}
 use Rattle.services.specs.Objects.{Objects, kept_in}
 use Rattle.services.proofs.RoutineLemmas.{foremost_nowhere}
 use Rattle.services.proofs.objects.Objects.is_none_pending.Goals as goal

@@ -1,7 +1,7 @@
 use Rattle.std.proofs.Common.{rules, ◌≡◌, ◌∙◌, None, false, ap, length, replicate}
 use Rattle.std.proofs.lemmas.List.{length-replicate}
 use Rattle.osek_base.specs.State.{no_shared}
-use Rattle.kept_state.specs.Kept.{unbegun}
+use Rattle.law_kept.specs.Kept.{unbegun}
 use Rattle.services.specs.Objects.{by_task, no_words}
 use Rattle.services.proofs.BoundLemmas.{bounds_of}
 use Rattle.services.proofs.HeldLemmas.{no_slots}

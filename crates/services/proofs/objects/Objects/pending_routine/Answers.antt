@@ -1,6 +1,6 @@
 use Rattle.std.proofs.Common.{◌∙◌, ap}
 use Rattle.osek_base.specs.Tick.{routine_choice}
-use Rattle.kept_state.specs.KeptService.{bare}
+use Rattle.law_kept.specs.KeptService.{bare}
 use Rattle.services.specs.Objects.{Objects, kept_in}
 use Rattle.services.proofs.objects.Objects.pending_routine.Goals as goal
 

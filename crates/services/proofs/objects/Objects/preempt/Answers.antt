@@ -3,8 +3,8 @@ use Rattle.std.specs.Prelude.{Some, false}
 use Rattle.osek_base.specs.System.{System}
 use Rattle.ready_queues.specs.QueueMoves.{changed_at, first, put_oldest, without_first_at_level}
 use Rattle.ready_queues.specs.LevelLists.{by_level}
-use Rattle.kept_state.specs.Kept.{Kept}
-use Rattle.kept_state.specs.Moves.{entered_in, left_in, slot_entered}
+use Rattle.law_kept.specs.Kept.{Kept}
+use Rattle.law_kept.specs.Moves.{entered_in, left_in, slot_entered}
 use Rattle.services.specs.Objects.{Objects, kept_in}
 use Rattle.services.proofs.BoundLemmas.{put_below}
 use Rattle.services.proofs.objects.Objects.preempt.Goals as goal

@@ -1,8 +1,8 @@
 use Rattle.std.proofs.Common.{◌≡◌, ◌<◌, ◌∙◌, cond, set, ap, sym, subst, length, arith}
 use Rattle.osek_base.specs.Lists.{last_of}
 use Rattle.osek_base.specs.Service.{is_resource}
-use Rattle.kept_state.specs.Kept.{Slot}
-use Rattle.kept_state.specs.KeptService.{slot_releases}
+use Rattle.law_kept.specs.Kept.{Slot}
+use Rattle.law_kept.specs.KeptService.{slot_releases}
 use Rattle.services.specs.Objects.{Objects, by_task, kept_in}
 use Rattle.services.proofs.HeldLemmas.{at_task}
 use Rattle.services.proofs.ReleasedLemmas.{released}

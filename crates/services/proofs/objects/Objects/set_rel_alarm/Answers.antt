@@ -2,7 +2,7 @@ use Rattle.std.proofs.Common.{rules, ◌≡◌, ◌∙◌, Some, ap, subst}
 use Rattle.osek_base.specs.declared.instr.Service.{Service}
 use Rattle.alarms.specs.Alarms.{after_call}
 use Rattle.services.specs.Objects.{Objects, kept_in}
-use Rattle.kept_state.specs.KeptService.{unasked_in}
+use Rattle.law_kept.specs.KeptService.{unasked_in}
 use Rattle.services.proofs.AlarmLemmas.{table, set_kept}
 use Rattle.services.proofs.objects.Objects.set_rel_alarm.Goals as goal
 

@@ -1,6 +1,6 @@
 use Rattle.std.proofs.Common.{◌<◌, Some, length, sym, subst}
 use Rattle.osek_base.specs.declared.instr.Service.{Service}
-use Rattle.kept_state.specs.KeptService.{ByNobody}
+use Rattle.law_kept.specs.KeptService.{ByNobody}
 use Rattle.services.specs.AsDefined.{HasActed}
 use Rattle.services.specs.Objects.{Objects}
 use Rattle.services.proofs.AsDefinedLemmas.{activated_as_defined}

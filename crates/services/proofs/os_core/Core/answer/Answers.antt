@@ -1,7 +1,7 @@
 use Rattle.std.proofs.Common.{◌+◌, ◌<◌, sym, subst}
 use Rattle.osek_base.specs.Tick.{answered}
-use Rattle.run_laws.proofs.Formed.{IsPlaced}
-use Rattle.kept_state.specs.KeptTick.{with_context_in}
+use Rattle.law_runs.proofs.Formed.{IsPlaced}
+use Rattle.law_kept.specs.KeptTick.{with_context_in}
 use Rattle.services.specs.Objects.{Objects, kept_in}
 use Rattle.services.specs.Calls.{IsThere, MayGoOn, caller_as, context_in}
 use Rattle.services.proofs.DispatchedLemmas.{gone_on_dispatched, still_dispatched}

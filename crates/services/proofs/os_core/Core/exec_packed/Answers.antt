@@ -1,6 +1,6 @@
 use Rattle.std.proofs.Common.{sym, subst}
-use Rattle.run_laws.proofs.Formed.{IsPlaced}
-use Rattle.kept_state.specs.KeptTick.{with_context_in}
+use Rattle.law_runs.proofs.Formed.{IsPlaced}
+use Rattle.law_kept.specs.KeptTick.{with_context_in}
 use Rattle.services.specs.Objects.{Objects, kept_in}
 use Rattle.services.specs.Calls.{IsExecuting, caller_as, context_in}
 use Rattle.services.specs.PlainSteps.{IsPlainAt, plain_context}

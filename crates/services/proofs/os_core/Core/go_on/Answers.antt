@@ -2,12 +2,10 @@ use Rattle.services.proofs.StandsLemmas.{stands_gone_on}
 use Rattle.services.proofs.SteadyLemmas.{gone_on_settled, still_settled}
 use Rattle.services.proofs.os_core.Core.go_on.Goals as goal
 use Rattle.std.proofs.Common.{sym, subst}
-use Rattle.run_laws.proofs.Formed.{IsPlaced}
-use Rattle.services.specs.Objects.{Objects}
-use Rattle.services.specs.Calls.{MayGoOn}
-use Rattle.kept_state.specs.KeptTick.{with_context_in}
-use Rattle.services.specs.Objects.{kept_in}
-use Rattle.services.specs.Calls.{caller_as}
+use Rattle.law_runs.proofs.Formed.{IsPlaced}
+use Rattle.services.specs.Objects.{Objects, kept_in}
+use Rattle.services.specs.Calls.{MayGoOn, caller_as}
+use Rattle.law_kept.specs.KeptTick.{with_context_in}
 use Rattle.services.proofs.DispatchedLemmas.{gone_on_dispatched, still_dispatched}
 
 pub invariant_of-self : goal.invariant_of-self

@@ -1,6 +1,6 @@
 use Rattle.std.proofs.Common.{◌≡◌, subst}
-use Rattle.kept_state.specs.KeptTick.{silent_in}
-use Rattle.kept_state.specs.Moves.{rescheduled}
+use Rattle.law_kept.specs.KeptTick.{silent_in}
+use Rattle.law_kept.specs.Moves.{rescheduled}
 use Rattle.services.specs.Objects.{Objects, kept_in}
 use Rattle.services.proofs.DispatchedLemmas.{rescheduled_again}
 use Rattle.services.proofs.os_core.Core.is_dispatched.Goals as goal

@@ -1,5 +1,5 @@
 use Rattle.std.proofs.Common.{◌<◌, ◌∙◌, ap, length, subst, sym, arith}
-use Rattle.kept_state.specs.Kept.{Slot}
+use Rattle.law_kept.specs.Kept.{Slot}
 use Rattle.services.specs.Objects.{Objects}
 use Rattle.services.proofs.StandsLemmas.{few_jobs}
 use Rattle.services.proofs.os_core.Core.job_count.Goals as goal

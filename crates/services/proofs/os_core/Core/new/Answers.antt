@@ -1,6 +1,5 @@
-use Rattle.services.proofs.StandsLemmas.{stands_new}
+use Rattle.services.proofs.StandsLemmas.{stands_new, known_to_stand}
 use Rattle.services.proofs.os_core.Core.new.Goals as goal
-use Rattle.services.proofs.StandsLemmas.{known_to_stand}
 
 pub invariant_of-result : goal.invariant_of-result
 invariant_of-result g c =

@@ -1,6 +1,6 @@
 use Rattle.std.proofs.Common.{◌≡◌, ◌<◌, ◌||◌, Bool, true, false, length, refl, subst, sym, ◌∙◌, ap}
 use Rattle.std.proofs.lemmas.Bool.{false≢true}
-use Rattle.kept_state.specs.Kept.{Kept}
+use Rattle.law_kept.specs.Kept.{Kept}
 use Rattle.std.specs.Prelude.{ℕ, Option, IfSome}
 use Rattle.services.specs.Objects.{Objects, kept_in}
 use Rattle.services.proofs.BoundLemmas.{contender_known}

@@ -1,7 +1,7 @@
 use Rattle.std.proofs.Common.{◌&&◌, sym, ◌∙◌, ap, ap₂, subst}
 use Rattle.osek_base.proofs.PlaceLemmas.{and_split}
 use Rattle.osek_base.specs.Types.{ServiceCall}
-use Rattle.kept_state.specs.Standing.{MayServe}
+use Rattle.law_kept.specs.Standing.{MayServe}
 use Rattle.services.specs.AsDefined.{IsServed}
 use Rattle.services.specs.Objects.{Objects, kept_in}
 use Rattle.services.specs.Steps.{answer_of}

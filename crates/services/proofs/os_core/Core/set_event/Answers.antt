@@ -1,7 +1,7 @@
 use Rattle.std.proofs.Common.{◌≡◌, ◌<◌, Some, false, length, sym, subst}
 use Rattle.osek_base.specs.declared.instr.Service.{Service}
-use Rattle.kept_state.specs.KeptService.{ByNobody}
-use Rattle.kept_state.specs.Standing.{runner_waits}
+use Rattle.law_kept.specs.KeptService.{ByNobody}
+use Rattle.law_kept.specs.Standing.{runner_waits}
 use Rattle.services.specs.AsDefined.{HasActed}
 use Rattle.services.specs.Objects.{Objects, kept_in}
 use Rattle.services.proofs.AsDefinedLemmas.{set_as_defined}

@@ -1,7 +1,7 @@
 use Rattle.services.proofs.StandsLemmas.{stands_routine}
 use Rattle.services.proofs.SteadyLemmas.{started_settled, still_settled}
 use Rattle.services.proofs.os_core.Core.start_routine.Goals as goal
-use Rattle.kept_state.specs.KeptTick.{start_phase_in}
+use Rattle.law_kept.specs.KeptTick.{start_phase_in}
 use Rattle.services.specs.Objects.{Objects, kept_in}
 use Rattle.services.proofs.DispatchedLemmas.{started_dispatched, still_dispatched}
 

@@ -1,7 +1,7 @@
 use Rattle.std.proofs.Common.{◌<◌, length, subst, sym}
 use Rattle.std.specs.Prelude.{IfSome, Some}
 use Rattle.osek_base.specs.declared.ids.Owner.{Owner}
-use Rattle.run_laws.proofs.Formed.{IsPlaced}
+use Rattle.law_runs.proofs.Formed.{IsPlaced}
 use Rattle.services.specs.Calls.{context_in}
 use Rattle.services.specs.Objects.{Objects, kept_in}
 use Rattle.services.specs.Steady.{IsSteady}

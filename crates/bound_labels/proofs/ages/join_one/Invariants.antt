@@ -1,6 +1,0 @@
-use Rattle.std.proofs.Common.{◌≡◌, take}
-use Rattle.figure_laws.specs.Merging.{merged_ages}
-use Rattle.bound_labels.proofs.ages.join_one.Given as goal
-
-abbrev pub invariant-loop-job : goal.invariant-loop-job
-invariant-loop-job l = l.ages.items ≡ merged_ages l.initial.ages.items (take l.job l.others)

@@ -1,6 +1,0 @@
-use Rattle.std.proofs.Common.{max}
-use Rattle.bound_labels.proofs.PairLemmas.{AreMadeBelow}
-use Rattle.bound_labels.proofs.blocked.join_blocked.Given as goal
-
-abbrev pub invariant-loop-task : goal.invariant-loop-task
-invariant-loop-task l = AreMadeBelow max 0 l.task l.initial.blocked l.others l.blocked

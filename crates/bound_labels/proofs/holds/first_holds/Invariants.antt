@@ -1,6 +1,0 @@
-use Rattle.std.proofs.Common.{◌≡◌, replicate}
-use Rattle.bound_labels.specs.Labels.{no_hold}
-use Rattle.bound_labels.proofs.holds.first_holds.Given as goal
-
-abbrev pub invariant-loop-made : goal.invariant-loop-made
-invariant-loop-made l = l.holds.items ≡ replicate l._made no_hold

@@ -1,8 +1,0 @@
-use Rattle.std.proofs.Common.{None}
-use Rattle.figure_laws.specs.Merging.{merged_age}
-use Rattle.bound_labels.proofs.PairLemmas.{AreMadeBelow}
-use Rattle.bound_labels.proofs.pending.join_pending.Given as goal
-
-abbrev pub invariant-loop-routine : goal.invariant-loop-routine
-invariant-loop-routine l =
-    AreMadeBelow merged_age None l.routine l.initial.pending l.others l.pending

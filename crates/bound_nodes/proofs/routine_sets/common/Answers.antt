@@ -1,5 +1,0 @@
-use Rattle.bound_nodes.proofs.SetLemmas.{in_both}
-use Rattle.bound_nodes.proofs.routine_sets.common.Goals as goal
-
-pub returns : goal.returns
-returns c = in_both c.args.set c.args.other

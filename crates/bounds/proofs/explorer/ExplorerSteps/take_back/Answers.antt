@@ -1,5 +1,0 @@
-use Rattle.bounds.proofs.Exploring.{same_stay}
-use Rattle.bounds.proofs.explorer.ExplorerSteps.take_back.Goals as goal
-
-pub returns-clause-notes : goal.returns-clause-notes
-returns-clause-notes g c = same_stay c.args.self.now _ c.self.view_is

@@ -1,8 +1,0 @@
-use Rattle.bounds_above.proofs.Holding.{hold_above}
-use Rattle.bounds_above.proofs.above.find_upper_bounds.Goals as goal
-
-pub returns-clause-found : goal.returns-clause-found
-returns-clause-found g c =
-    hold_above c.bounds_of_the_part_hold.ensures c.args.system.now c.in_ok-part.part c.args.p c.args.mode c.args.distances.now
-    c.in_ok-bounds.bounds.cap c.in_ok-bounds.bounds.peaks c.in_ok-bounds.bounds.outcome c.shows_proper.ensures
-    c.requires c.in_ok-part.ensures.made c.in_ok-bounds.ensures.found

@@ -1,0 +1,100 @@
+//! What is written of all runs of a system: bounds, or how far the search for them came.
+
+use cli_answers::{Texts, Verdict, system_of, write_denial};
+use cli_requests::{BoundsLine, Distance};
+use cli_tables::{
+    BoundsAsked, SearchWatch, all_distances, distance_fault, mode_id, unknown_figure, write_found,
+};
+use osek_base::System;
+use partition_isolation::check_isolation;
+use search_bounds::{find_bounds, find_upper_bounds};
+use search_nodes::Extent;
+use std::alloc::Global;
+use std::io::Write;
+use tracer::RunFault;
+
+/// How many visits may be made for each state that may be kept.
+const VISITS_OF_STATE: u64 = 100;
+
+/// How far a search goes.
+fn extent_of(line: BoundsLine<'_>) -> Extent {
+    Extent {
+        nodes: line.states as usize,
+        visits: VISITS_OF_STATE * u64::from(line.states),
+        cap: line.longest,
+    }
+}
+
+/// Writes the bounds of the part from a priority upward by itself, or the denial.
+fn write_upper<'v, O: Write, E: Write>(
+    alloc: Global,
+    texts: &Texts,
+    system: &System,
+    priority: u8,
+    asked: BoundsAsked<'v>,
+    distances: &[Distance<'_>],
+    watch: &mut SearchWatch<'_, '_, E>,
+    out: &mut O,
+) -> Result<Verdict<'v>, RunFault> {
+    if let Err(denial) = check_isolation(system, priority) {
+        return write_denial(priority, denial.named(system), out);
+    }
+    let mode = mode_id(alloc, texts, system, asked.line.mode)?;
+    let distances = all_distances(alloc, system, distances)?;
+    let extent = extent_of(asked.line);
+    let found = find_upper_bounds(alloc, system, priority, mode, &distances, extent, watch)?;
+    let (part, bounds) = (&found.part, &found.bounds);
+    write_found(alloc, part, mode, &distances, bounds, asked, out)
+}
+
+/// Writes the bounds of all runs in a mode.
+fn write_whole<'v, O: Write, E: Write>(
+    alloc: Global,
+    texts: &Texts,
+    system: &System,
+    asked: BoundsAsked<'v>,
+    distances: &[Distance<'_>],
+    watch: &mut SearchWatch<'_, '_, E>,
+    out: &mut O,
+) -> Result<Verdict<'v>, RunFault> {
+    let mode = mode_id(alloc, texts, system, asked.line.mode)?;
+    let distances = all_distances(alloc, system, distances)?;
+    let extent = extent_of(asked.line);
+    let found = find_bounds(alloc, system, mode, &distances, extent, watch)?;
+    write_found(alloc, system, mode, &distances, &found, asked, out)
+}
+
+/// Writes the bounds that are asked for, or what names nothing of the system.
+fn write_asked<'v, O: Write, E: Write>(
+    alloc: Global,
+    texts: &Texts,
+    system: &System,
+    asked: BoundsAsked<'v>,
+    distances: &[Distance<'v>],
+    watch: &mut SearchWatch<'_, '_, E>,
+    out: &mut O,
+) -> Result<Verdict<'v>, RunFault> {
+    if let Some(fault) = distance_fault(system, distances) {
+        return Ok(Verdict::NoDistance(fault));
+    }
+    if let Some(wanted) = unknown_figure(system, asked.line) {
+        return Ok(Verdict::NoFigure(wanted));
+    }
+    match asked.line.upper {
+        Some(priority) => write_upper(alloc, texts, system, priority, asked, distances, watch, out),
+        None => write_whole(alloc, texts, system, asked, distances, watch, out),
+    }
+}
+
+/// Writes the bounds of all runs in a mode, or how far the search for them came.
+pub fn write_searched<'v, O: Write, E: Write>(
+    alloc: Global,
+    texts: &Texts,
+    asked: BoundsAsked<'v>,
+    distances: &[Distance<'v>],
+    watch: &mut SearchWatch<'_, '_, E>,
+    out: &mut O,
+) -> Result<Verdict<'v>, RunFault> {
+    let system = system_of(alloc, texts)?;
+    write_asked(alloc, texts, &system, asked, distances, watch, out)
+}

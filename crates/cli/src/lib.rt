@@ -1,0 +1,13 @@
+//! The command line of `osek`: answers lines over any files and streams, and has every run
+//! searched for `bounds`. No contract but safety: it is tested.
+#![tactic(auto)]
+
+mod answering;
+mod bounding;
+
+pub use answering::command;
+pub use bounding::write_searched;
+pub use cli_requests::{
+    BROKEN, DENIED, DONE, FileFault, Files, HostFiles, REFUSED, REFUSED_LINE, Refusal, UNDECIDED,
+    WRITE_FAILED,
+};

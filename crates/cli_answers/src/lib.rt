@@ -1,0 +1,26 @@
+//! Answers to command lines of `osek` on one run, on partitions, on the texts of a system, and on
+//! what makes or imports these. No contract but safety: it is tested.
+//!
+//! It reads the texts that a request names, has them run, checked, listed or made, and writes
+//! what becomes of it.
+#![tactic(auto)]
+
+mod explaining;
+mod imports;
+mod inputs;
+mod line_watch;
+mod lines_from;
+mod making;
+mod partitions;
+mod runs;
+mod showing;
+mod verdict;
+
+pub use explaining::{explain_fault, explain_verdict};
+pub use imports::answer_import;
+pub use inputs::{Texts, mode_of, read_texts, system_of};
+pub use making::make_files;
+pub use partitions::{Stretch, stretches, write_cut, write_cuts, write_denial};
+pub use runs::{write_lines, write_view};
+pub use showing::write_shown;
+pub use verdict::{DistanceFault, Verdict, status_of};

@@ -1,0 +1,96 @@
+//! What becomes of a request, and its exit status.
+
+use cli_requests::{BROKEN, DENIED, DONE, REFUSED, UNDECIDED, WRITE_FAILED, Wanted};
+use partition_check::NamedDenial;
+use std::fmt;
+use std::io::{self, Write};
+use tracer::RunFault;
+
+/// What is wrong with a distance.
+#[derive(Clone, Copy)]
+pub enum DistanceFault<'a> {
+    /// No routine has the name.
+    Unknown(&'a str),
+    /// The routine of that name has another one.
+    Twice(&'a str),
+}
+
+impl fmt::Display for DistanceFault<'_> {
+    fn fmt<W: fmt::Write>(&self, f: &mut fmt::Formatter<W>) -> fmt::Result {
+        match self {
+            DistanceFault::Unknown(name) => write!(f, "apart: {name}"),
+            DistanceFault::Twice(name) => write!(f, "apart: {name} twice"),
+        }
+    }
+}
+
+/// What becomes of a request whose texts and run aren't refused.
+#[derive(Drop)]
+pub enum Verdict<'a> {
+    Done,
+    /// A row of that name is asked for, and no task or routine has it: nothing is written.
+    NoRow(&'a str),
+    /// A partition is denied at a priority.
+    Denied(u8, NamedDenial),
+    /// The same, with all denials.
+    AllDenied(u8, Vec<NamedDenial>),
+    /// The figures are written, and limits are broken: a line for each.
+    Broken(String),
+    /// A limit is on a task or a routine of that name, and there is none: nothing is written.
+    NoLimit(&'a str),
+    /// The system is shown: a line for each mistake.
+    Warned(Vec<u8>),
+    /// A distance is wrong: nothing is written.
+    NoDistance(DistanceFault<'a>),
+    /// What a search found is written, and whether it has come to its end: a line for each remark.
+    Searched { is_decided: bool, remarks: Vec<u8> },
+    /// The arrivals of a run that shows a figure are written: a line tells its ticks and the
+    /// figure, and where it has no bound another one which ticks can come again.
+    Witnessed(String),
+    /// A run is wanted of a figure that no thing has: nothing is written.
+    NoFigure(Wanted<'a>),
+    /// No run is known that shows the figure that is wanted: nothing is written.
+    NoWitness(Wanted<'a>),
+}
+
+impl Verdict<'_> {
+    /// Writes what stands on standard error. An error is a failed write.
+    pub fn write_lines<E: Write>(&self, err: &mut E) -> io::Result<()> {
+        match self {
+            Verdict::NoRow(name) => writeln!(err, "row: {name}"),
+            Verdict::NoLimit(name) => writeln!(err, "limit: {name}"),
+            Verdict::Broken(lines) => err.write_all(lines.as_bytes()),
+            Verdict::Warned(lines) => err.write_all(lines),
+            Verdict::NoDistance(fault) => writeln!(err, "{fault}"),
+            Verdict::Witnessed(lines) => err.write_all(lines.as_bytes()),
+            Verdict::NoFigure(wanted) => writeln!(err, "witness: {wanted}"),
+            Verdict::NoWitness(wanted) => writeln!(err, "witness: {wanted}: no run is known"),
+            Verdict::Searched { remarks, .. } => err.write_all(remarks),
+            Verdict::Done | Verdict::Denied(..) | Verdict::AllDenied(..) => Ok(()),
+        }
+    }
+
+    pub fn status(&self) -> u8 {
+        match self {
+            Verdict::Done | Verdict::Warned(_) | Verdict::Witnessed(_) => DONE,
+            Verdict::NoRow(_) => REFUSED,
+            Verdict::Denied(..) | Verdict::AllDenied(..) => DENIED,
+            Verdict::Broken(_) => BROKEN,
+            Verdict::NoLimit(_) | Verdict::NoDistance(_) => REFUSED,
+            Verdict::NoFigure(_) | Verdict::NoWitness(_) => REFUSED,
+            Verdict::Searched {
+                is_decided: true,
+                ..
+            } => DONE,
+            Verdict::Searched { .. } => UNDECIDED,
+        }
+    }
+}
+
+/// The status behind a fault.
+pub fn status_of(fault: &RunFault) -> u8 {
+    match fault {
+        RunFault::Write => WRITE_FAILED,
+        _ => REFUSED,
+    }
+}

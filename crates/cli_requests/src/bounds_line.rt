@@ -1,0 +1,128 @@
+//! The line of `bounds`.
+
+use crate::fault::Fault;
+use crate::help;
+use crate::reading::form;
+use clap::ArgMatches;
+use clap::error::ErrorKind;
+use osek_base::MAX_TICKS;
+use std::alloc::Global;
+use std::fmt;
+use view_figure_texts::{Form, is_column, place_of};
+
+/// How many states may be kept at most, and how many where nothing is said.
+pub(crate) const MAX_STATES: u32 = 100_000_000;
+
+const USUAL_STATES: u32 = 1_000_000;
+
+/// The greatest time from which on none is told, in ticks, and the one where nothing is said.
+pub(crate) const MAX_LONGEST: u32 = 65_535;
+
+const USUAL_LONGEST: u32 = 10_000;
+
+/// The bounds that are asked for.
+#[derive(Clone, Copy)]
+pub struct BoundsLine<'a> {
+    /// None for the only one.
+    pub mode: Option<&'a str>,
+    /// How many states may be kept, 1 to 100,000,000.
+    pub states: u32,
+    /// The time from which on none is told, 1 to 65,535 ticks.
+    pub longest: u32,
+    /// The priority from which on the part by itself is searched; None for the whole system.
+    pub upper: Option<u8>,
+    pub form: Form,
+    /// The figure of which a run is wanted in place of the tables, if one is.
+    pub witness: Option<Wanted<'a>>,
+}
+
+/// A figure of which a run is wanted that shows it.
+#[derive(Clone, Copy)]
+pub struct Wanted<'a> {
+    /// The name of a task, routine, resource or alarm.
+    pub name: &'a str,
+    /// The word of its column, or the place of a service; None for the first column.
+    pub column: Option<&'a str>,
+}
+
+impl<'a> Wanted<'a> {
+    /// That of a text, NAME or NAME=FIGURE.
+    fn of(text: &'a str) -> Self {
+        match text.split_once('=') {
+            Some((name, column)) => Wanted {
+                name,
+                column: Some(column),
+            },
+            None => Wanted {
+                name: text,
+                column: None,
+            },
+        }
+    }
+}
+
+impl fmt::Display for Wanted<'_> {
+    fn fmt<W: fmt::Write>(&self, f: &mut fmt::Formatter<W>) -> fmt::Result {
+        match self.column {
+            Some(column) => write!(f, "{}={column}", self.name),
+            None => write!(f, "{}", self.name),
+        }
+    }
+}
+
+/// How many ticks apart the interrupts of the routine of a name come at least, 1 to 1,000,000.
+#[derive(Clone, Copy)]
+pub struct Distance<'a> {
+    pub routine: &'a str,
+    pub ticks: u32,
+}
+
+pub(crate) fn searched<'a>(matches: &ArgMatches<'a>) -> BoundsLine<'a> {
+    BoundsLine {
+        mode: matches.get_str("MODE"),
+        states: matches.get_one::<u32>("states").unwrap_or(USUAL_STATES),
+        longest: matches.get_one::<u32>("longest").unwrap_or(USUAL_LONGEST),
+        upper: matches.get_one::<u8>("upper"),
+        form: form(matches),
+        witness: figure_wanted(matches),
+    }
+}
+
+/// The figure of which a run is wanted.
+fn figure_wanted<'a>(matches: &ArgMatches<'a>) -> Option<Wanted<'a>> {
+    match matches.get_str("witness") {
+        Some(text) => Some(Wanted::of(text)),
+        None => None,
+    }
+}
+
+/// Why a line is refused that wants a run of a figure: no column has it, and it is no place of a
+/// service.
+pub(crate) fn figure_fault(matches: &ArgMatches<'_>) -> Option<&'static str> {
+    let word = figure_wanted(matches)?.column?;
+    (!is_column(word) && place_of(word).is_none()).then_some(help::NO_FIGURE)
+}
+
+/// A distance of that text, ROUTINE=TICKS.
+fn distance_of(text: &str) -> Option<Distance<'_>> {
+    let (routine, ticks) = text.split_once('=')?;
+    let ticks = ticks.parse::<u32>().ok()?;
+    (1 <= ticks && ticks <= MAX_TICKS).then_some(Distance { routine, ticks })
+}
+
+/// The distances of a line; none where its subcommand takes none.
+pub(crate) fn distances<'a>(
+    alloc: Global,
+    matches: &ArgMatches<'a>,
+) -> Result<Vec<Distance<'a>>, Fault> {
+    let mut distances = Vec::new(alloc);
+    if let Some(texts) = matches.get_strs("apart") {
+        for text in texts {
+            match distance_of(text) {
+                Some(distance) => distances.push(distance)?,
+                None => return Err(Fault::Refused(ErrorKind::ValueValidation, help::NO_DISTANCE)),
+            }
+        }
+    }
+    Ok(distances)
+}

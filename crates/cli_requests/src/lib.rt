@@ -1,0 +1,30 @@
+//! Reads what a command line of `osek` asks for, has the texts of the help, and reads and writes
+//! the files. No contract but safety: it is tested.
+//!
+//! The files of a line, the folder that may be named in their place, the streams and the exit
+//! statuses are here.
+#![tactic(auto)]
+
+mod argument;
+mod bash_completions;
+mod bounds_line;
+mod fault;
+mod folder;
+mod help;
+mod host_files;
+mod lines;
+mod man_page;
+mod reading;
+mod request;
+mod status;
+mod subcommand;
+mod unread;
+mod zsh_completions;
+
+pub use bounds_line::{BoundsLine, Distance, Wanted};
+pub use folder::{Folder, NAMES, folder_of, with_files};
+pub use host_files::{FileFault, Files, HostFiles, Refusal};
+pub use reading::read_line;
+pub use request::{Asked, Lines, MakeLine, Question, Request, RunLine, StatsLine, View};
+pub use status::{BROKEN, DENIED, DONE, REFUSED, REFUSED_LINE, UNDECIDED, WRITE_FAILED};
+pub use unread::{Unread, explain_unread, read_file};

@@ -1,0 +1,187 @@
+//! What a command line asks for.
+
+use crate::bounds_line::{BoundsLine, Distance};
+use crate::help;
+use view_figure_texts::{Form, Limit};
+use view_timelines::MAX_DRAWN;
+
+/// What a run is of besides its system: the name of its arrival list, the mode, and how many ticks,
+/// 0 to 1,000,000.
+#[derive(Clone, Copy)]
+pub struct RunLine<'a> {
+    pub irq: &'a str,
+    /// None for the only one.
+    pub mode: Option<&'a str>,
+    pub ticks: u32,
+}
+
+/// Which lines of a run's trace are shown.
+#[derive(Clone, Copy)]
+pub enum Lines {
+    All,
+    /// All, with the numbers of blockers.
+    Blocking,
+    /// The view at a priority: of the system, or of its upper part by itself.
+    Upper { priority: u8, alone: bool },
+}
+
+/// The figures that are asked for.
+#[derive(Clone, Copy)]
+pub struct StatsLine {
+    pub form: Form,
+    /// The first tick that counts.
+    pub from: u32,
+    /// Whether a lost interrupt is told by the exit status.
+    pub no_loss: bool,
+    /// Whether a refused activation or action is.
+    pub no_refusal: bool,
+}
+
+/// What is shown of a run besides its trace.
+#[derive(Clone, Copy)]
+pub enum View<'a> {
+    /// The value change dump of the ticks from that one on.
+    Vcd { from: u32 },
+    /// The picture of the ticks from that one on: of all rows, or of those in a list with commas
+    /// between its names.
+    Timeline { from: u32, rows: Option<&'a str> },
+    /// The figures.
+    Stats(StatsLine),
+}
+
+impl View<'_> {
+    /// The first tick that is shown.
+    fn first_tick(&self) -> u32 {
+        match *self {
+            View::Vcd { from } | View::Timeline { from, .. } => from,
+            View::Stats(StatsLine { from, .. }) => from,
+        }
+    }
+}
+
+/// What is asked of a system.
+#[derive(Clone, Copy)]
+pub enum Question<'a> {
+    /// Lines of the trace of a run, of the ticks from one on.
+    Lines {
+        line: RunLine<'a>,
+        lines: Lines,
+        from: u32,
+    },
+    /// What else is shown of a run.
+    View {
+        line: RunLine<'a>,
+        view: View<'a>,
+    },
+    /// Whether the part from a priority upward is separable from what is below; the first denial,
+    /// or all.
+    Check {
+        priority: u8,
+        is_whole: bool,
+    },
+    /// At which priorities that is so, each by itself or joined where they have one verdict.
+    Partitions {
+        are_joined: bool,
+    },
+    /// The conformance class.
+    Class,
+    /// What generation made, and what is surely a mistake.
+    Show,
+    /// The greatest times of all runs.
+    Bounds(BoundsLine<'a>),
+}
+
+impl<'a> Question<'a> {
+    /// Whether a picture is asked for.
+    fn is_drawn(&self) -> bool {
+        match *self {
+            Question::View { view, .. } => matches!(view, View::Timeline { .. }),
+            _ => false,
+        }
+    }
+
+    /// What the run is of, where one is asked for.
+    pub fn run_line(&self) -> Option<RunLine<'a>> {
+        match *self {
+            Question::Lines { line, .. } | Question::View { line, .. } => Some(line),
+            Question::Check { .. }
+            | Question::Partitions { .. }
+            | Question::Class
+            | Question::Show
+            | Question::Bounds(_) => None,
+        }
+    }
+
+    /// The mode that is named, where runs are asked for; None for the only one.
+    pub fn mode(&self) -> Option<&'a str> {
+        match *self {
+            Question::Bounds(line) => line.mode,
+            _ => self.run_line()?.mode,
+        }
+    }
+
+    /// Why nothing is shown, where the first tick lies behind the last, or a picture has too many.
+    pub(crate) fn shown_fault(&self) -> Option<&'static str> {
+        let (line, from) = match self {
+            Question::Lines { line, from, .. } => (line, *from),
+            Question::View { line, view } => (line, view.first_tick()),
+            Question::Check { .. }
+            | Question::Partitions { .. }
+            | Question::Class
+            | Question::Show
+            | Question::Bounds(_) => return None,
+        };
+        let Some(shown) = line.ticks.checked_sub(from) else {
+            return Some(help::NO_TICK_SHOWN);
+        };
+        (self.is_drawn() && shown > MAX_DRAWN).then_some(help::TOO_MANY_DRAWN)
+    }
+
+    /// Takes its mode away: the word in its place stands for the only one.
+    pub(crate) fn without_mode(self) -> Self {
+        match self {
+            Question::Lines { line, lines, from } => Question::Lines {
+                line: RunLine { mode: None, ..line },
+                lines,
+                from,
+            },
+            Question::View { line, view } => Question::View {
+                line: RunLine { mode: None, ..line },
+                view,
+            },
+            Question::Bounds(line) => Question::Bounds(BoundsLine { mode: None, ..line }),
+            question => question,
+        }
+    }
+}
+
+/// A command line: the names of the two files that a system is made of, what is asked of it, and
+/// whether a refusal or a denial is explained.
+#[derive(Drop)]
+pub struct Request<'a> {
+    pub oil: &'a str,
+    pub asm: &'a str,
+    pub question: Question<'a>,
+    /// The limits that figures are held to.
+    pub limits: Vec<Limit<'a>>,
+    /// The distances that interrupts keep.
+    pub distances: Vec<Distance<'a>>,
+    pub is_explained: bool,
+}
+
+/// A system to be made: the name of its description, and of the folder that its files go to.
+#[derive(Clone, Copy)]
+pub struct MakeLine<'a> {
+    pub file: &'a str,
+    pub folder: &'a str,
+}
+
+/// What a command line asks for: something of a system, the files of a description, the import of
+/// files of these names, or a text that is printed as it is.
+#[derive(Drop)]
+pub enum Asked<'a> {
+    System(Request<'a>),
+    Make(MakeLine<'a>),
+    Import(Vec<&'a str>),
+    Text(String),
+}

@@ -1,0 +1,40 @@
+//! What is asked of bounds.
+
+use crate::naming::is_known;
+use cli_answers::{Texts, mode_of};
+use cli_requests::{BoundsLine, Wanted};
+use kernel::BootFault;
+use osek_base::{ModeId, System};
+use std::alloc::Global;
+use tracer::RunFault;
+
+/// What is asked of bounds, and whether it is said what the figures mean.
+#[derive(Clone, Copy)]
+pub struct BoundsAsked<'v> {
+    pub line: BoundsLine<'v>,
+    pub is_explained: bool,
+}
+
+/// The mode that a line names, or else the only one.
+pub fn mode_id(
+    alloc: Global,
+    texts: &Texts,
+    system: &System,
+    mode: Option<&str>,
+) -> Result<ModeId, RunFault> {
+    let name = mode_of(alloc, texts, mode)?;
+    match system.names().mode(name.as_str()) {
+        Some(mode) => Ok(mode),
+        None => Err(RunFault::Boot(BootFault::UnknownMode)),
+    }
+}
+
+/// The figure of which a run is wanted, where nothing of the system has it.
+pub fn unknown_figure<'v>(system: &System, line: BoundsLine<'v>) -> Option<Wanted<'v>> {
+    let wanted = line.witness?;
+    if is_known(system, wanted.name, wanted.column) {
+        None
+    } else {
+        Some(wanted)
+    }
+}

@@ -1,0 +1,103 @@
+//! What is written of what a search has found: bounds, the run that is wanted, or how far it came.
+
+use crate::asked::BoundsAsked;
+use crate::csv_text::write_lines;
+use crate::json_text::json_of;
+use crate::remarks::write_remarks;
+use crate::told::Told;
+use crate::witnessing::write_witness;
+use crate::writing::{write_decided, write_undecided, write_up_to};
+use cli_answers::Verdict;
+use osek_base::{ModeId, System};
+use search::{Outcome, Progress};
+use search_nodes::Bounds;
+use search_witnesses::{endless_tasks, failing_services, reached_figures};
+use std::alloc::Global;
+use std::io::Write;
+use tracer::RunFault;
+use view_figure_texts::Form;
+
+/// Writes the bounds of a system in a form.
+fn write_bounds<O: Write>(
+    alloc: Global,
+    system: &System,
+    told: Told<'_, '_>,
+    progress: Progress,
+    form: Form,
+    out: &mut O,
+) -> Result<(), RunFault> {
+    match form {
+        Form::Table => write_decided(system, told, progress, out)?,
+        Form::Csv => write_lines(system, told, out)?,
+        Form::Json => out.write_all(json_of(alloc, system, told)?.as_slice())?,
+    }
+    Ok(())
+}
+
+/// What is said of figures where it is asked for. The only write that can fail there is for want of
+/// memory.
+fn remarks_of(
+    alloc: Global,
+    system: &System,
+    told: Told<'_, '_>,
+    is_explained: bool,
+) -> Result<Vec<u8>, RunFault> {
+    let mut remarks = Vec::new(alloc);
+    if is_explained {
+        match write_remarks(system, told, &mut remarks) {
+            Ok(()) => {}
+            Err(_) => return Err(RunFault::Memory),
+        }
+    }
+    Ok(remarks)
+}
+
+/// Writes what was found of a system: its bounds, or the run that is wanted, or how far the search
+/// came.
+pub fn write_found<'v, O: Write>(
+    alloc: Global,
+    system: &System,
+    mode: ModeId,
+    distances: &[u32],
+    found: &Bounds,
+    asked: BoundsAsked<'v>,
+    out: &mut O,
+) -> Result<Verdict<'v>, RunFault> {
+    let BoundsAsked { line, is_explained } = asked;
+    let progress = match found.outcome {
+        Outcome::Decided(progress) => progress,
+        Outcome::Undecided(obstacle, progress) => {
+            let told = Told {
+                bounds: found,
+                reached: &[],
+                endless: &[],
+                failing: &[],
+            };
+            write_undecided(obstacle, progress, out)?;
+            if line.form == Form::Table && line.witness.is_none() {
+                write_up_to(system, told, progress, out)?;
+            }
+            return Ok(Verdict::Searched {
+                is_decided: false,
+                remarks: remarks_of(alloc, system, told, is_explained)?,
+            });
+        }
+    };
+    if let Some(wanted) = line.witness {
+        return write_witness(alloc, system, mode, distances, found, wanted, out);
+    }
+    let reached = reached_figures(alloc, system, mode, distances, found)?;
+    let endless = endless_tasks(alloc, system, mode, distances, found)?;
+    let failing = failing_services(alloc, system, mode, distances, found)?;
+    let told = Told {
+        bounds: found,
+        reached: &reached,
+        endless: &endless,
+        failing: &failing,
+    };
+    write_bounds(alloc, system, told, progress, line.form, out)?;
+    Ok(Verdict::Searched {
+        is_decided: true,
+        remarks: remarks_of(alloc, system, told, is_explained)?,
+    })
+}

@@ -1,0 +1,70 @@
+//! Figures by the names of objects and the words of columns.
+
+use crate::failed_service::name_of;
+use crate::told::figure_of;
+use osek_base::System;
+use search_nodes::{Bounds, Figure};
+use view_figure_texts::{KINDS, Kind, column_of, place_of};
+
+/// A figure, with the words of its kind and of its column.
+#[derive(Clone, Copy)]
+pub struct NamedFigure {
+    pub figure: Figure,
+    pub kind: &'static str,
+    pub column: &'static str,
+}
+
+/// The number of the object of a kind that has that name.
+fn number_of(system: &System, kind: Kind, name: &str) -> Option<usize> {
+    for number in 0..kind.count(system) {
+        if kind.name(system, number) == name {
+            return Some(number);
+        }
+    }
+    None
+}
+
+/// The figure of that name and word, of the first kind that has them, in the order of the tables;
+/// where no word is said, of the first column.
+pub fn figure_named(system: &System, name: &str, word: Option<&str>) -> Option<NamedFigure> {
+    for kind in &KINDS {
+        if let Some(number) = number_of(system, *kind, name) {
+            if let Some(column) = column_of(*kind, word) {
+                return Some(NamedFigure {
+                    figure: figure_of(column, number),
+                    kind: kind.word(),
+                    column: column.word(),
+                });
+            }
+        }
+    }
+    None
+}
+
+/// Whether a word may be asked for of the thing of a name: that of a column, or of a task or
+/// routine the place of a service.
+pub fn is_known(system: &System, name: &str, word: Option<&str>) -> bool {
+    if figure_named(system, name, word).is_some() {
+        return true;
+    }
+    let is_owner = number_of(system, Kind::Task, name).is_some()
+        || number_of(system, Kind::Routine, name).is_some();
+    is_owner && word.and_then(place_of).is_some()
+}
+
+/// The number of the first service that may be answered other than E_OK, of the task or routine of
+/// that name, at the place that a word tells.
+pub fn service_named(
+    system: &System,
+    found: &Bounds,
+    name: &str,
+    word: Option<&str>,
+) -> Option<usize> {
+    let place = place_of(word?)?;
+    for (number, failure) in found.peaks.failures().iter().enumerate() {
+        if name_of(system, failure.owner) == name && failure.place.number() == place {
+            return Some(number);
+        }
+    }
+    None
+}

@@ -1,0 +1,113 @@
+//! What figures mean that aren't times that a run shows, and what would change them.
+
+use crate::cells::Cell;
+use crate::told::Told;
+use osek_base::System;
+use search::{Obstacle, Outcome};
+use std::io::{self, Write};
+use view_figure_texts::{Column, KINDS, Kind};
+
+/// What it means where a figure of a column may come, and what would change it.
+fn meaning(column: Column) -> &'static str {
+    match column {
+        Column::Refusal =>
+            "an activation finds as many jobs as ACTIVATION allows; a greater ACTIVATION or greater distances may change it",
+        Column::Loss => "an interrupt finds one pending; a greater distance may change it",
+        Column::RefusedAction =>
+            "its task has as many jobs as ACTIVATION allows, or none that its event could be set for",
+        Column::Errors | Column::RoutineErrors =>
+            "a service is answered other than E_OK; --witness shows a run in which one is",
+        Column::Shutdown => "some run ends by a ShutdownOS",
+        Column::Response
+        | Column::Blocked
+        | Column::Blockers
+        | Column::Jobs
+        | Column::Latency
+        | Column::Hold => "it lasts",
+    }
+}
+
+/// What a number of a column bounds.
+fn limited(column: Column) -> &'static str {
+    match column {
+        Column::Blockers => "no job has more",
+        _ => "no run has more at once",
+    }
+}
+
+/// Writes what is told of a figure, and what it means.
+fn write_meaning<W: Write>(cell: Cell, column: Column, cap: u32, out: &mut W) -> io::Result<()> {
+    match cell {
+        Cell::Above => writeln!(
+            out,
+            "above: some run may take {cap} ticks or more; what can be put off for ever has no bound"
+        ),
+        Cell::Unbounded => writeln!(
+            out,
+            "unbounded: a job can be kept from ending for ever; --witness shows the ticks that come again"
+        ),
+        Cell::Time { ticks, .. } => writeln!(
+            out,
+            "<={ticks}: no run takes longer, and none is known that takes as long"
+        ),
+        Cell::Count { value, .. } => writeln!(
+            out,
+            "<={value}: {}, and none is known that has as many",
+            limited(column)
+        ),
+        Cell::Coming {
+            is_reached: true,
+            ..
+        } => writeln!(out, "1: {}", meaning(column)),
+        Cell::Coming { .. } => writeln!(
+            out,
+            "<=1: it may be, though no run is known: {}",
+            meaning(column)
+        ),
+    }
+}
+
+/// Writes what a figure means, unless it is a time that a run shows, or 0.
+fn write_remark<W: Write>(
+    system: &System,
+    told: Told<'_, '_>,
+    kind: Kind,
+    column: Column,
+    number: usize,
+    out: &mut W,
+) -> io::Result<()> {
+    let cell = told.cell(column, number);
+    if cell.is_plain() {
+        return Ok(());
+    }
+    let name = kind.name(system, number);
+    write!(out, "{} {name}: {} ", kind.word(), column.word())?;
+    write_meaning(cell, column, told.bounds.cap, out)
+}
+
+/// What a search stopped at.
+fn why(obstacle: Obstacle) -> &'static str {
+    match obstacle {
+        Obstacle::Nodes => "as many states are kept as --states allows",
+        Obstacle::Visits => "100 times as many visits were made as --states allows to be kept",
+        Obstacle::NoPlace => "there is no place for a state that comes",
+    }
+}
+
+/// Writes a line for each figure that isn't a time that a run shows, or 0; or, where a search
+/// stopped before its end, at what it did. An error is a failed write.
+pub fn write_remarks<W: Write>(system: &System, told: Told<'_, '_>, out: &mut W) -> io::Result<()> {
+    if let Outcome::Undecided(obstacle, _) = told.bounds.outcome {
+        writeln!(out, "undecided: {}", why(obstacle))?;
+        let hint = b" more --states, greater distances or a shorter --longest may let it end\n";
+        return out.write_all(hint);
+    }
+    for kind in &KINDS {
+        for number in 0..kind.count(system) {
+            for column in kind.columns() {
+                write_remark(system, told, *kind, *column, number, out)?;
+            }
+        }
+    }
+    Ok(())
+}

@@ -1,4 +1,0 @@
-pub mod Arriving
-pub mod Known
-pub mod Spacing
-pub mod Rounds

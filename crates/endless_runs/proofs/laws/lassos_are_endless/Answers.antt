@@ -1,5 +1,0 @@
-use Rattle.endless_runs.proofs.Rounds.{lassos_are_endless}
-use Rattle.endless_runs.proofs.laws.lassos_are_endless.Goals as goal
-
-pub returns : goal.returns
-returns c = lassos_are_endless c.keys_tell_futures.ensures

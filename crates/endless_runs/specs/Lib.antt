@@ -1,2 +1,0 @@
-pub mod Unending
-pub mod Lassos

@@ -1,0 +1,380 @@
+-- Interrupts of routines that are pending already are lost, and change nothing else.
+use Rattle.std.proofs.Common.{ℕ, ◌≡◌, ◌<◌, ◌≤◌, ◌-◌, inl, inr, Bool, true, false, cond, ◌||◌, ◌&&◌, List, ◌++◌, map, length, get_or, Option, Some, None, refl, sym, ◌∙◌, ap, subst, arith, true≢false}
+use Rattle.std.proofs.Math.Path.{fun_ext}
+use Rattle.std.specs.Prelude.{min}
+use Rattle.std.specs.Int.{bit_at}
+use Rattle.std.specs.Option.{option_map}
+use Rattle.std.proofs.lemmas.Bool.{cases_lt, eqb-true}
+use Rattle.std.proofs.lemmas.List.{ext_get_or, get_or_past}
+use Rattle.std.proofs.lemmas.Nat.Bits.{bit_at_above}
+use Rattle.osek_base.specs.Alarm.{due_alarms}
+use Rattle.osek_base.specs.Lists.{below, is_in}
+use Rattle.osek_base.specs.Tick.{flagged}
+use Rattle.law_kept.specs.Kept.{Kept}
+use Rattle.law_kept.specs.KeptService.{bare}
+use Rattle.law_kept.specs.KeptTick.{KeptStep, alarm_phase_in, before_execution_in, start_phase_in, tick_in}
+use Rattle.law_kept.specs.Moves.{rescheduled}
+use Rattle.law_future.specs.Shown.{chosen_of}
+use Rattle.law_future.specs.Spans.{is_pending_in}
+use Rattle.law_future.proofs.Arrivals.{below_low, flag_at, flagged_length, in_chosen, in_filter, phase_pending, tick_by_flags}
+use Rattle.law_future.proofs.Tables.{length-table, table_at}
+use Rattle.seen_ticks.specs.declared.routine_seen.RoutineSeen.{RoutineSeen}
+use Rattle.seen_ticks.specs.Observed.{executed_in, failure_of, lost_of, one_if, owner_of, times}
+use Rattle.seen_ticks.specs.Told.{refused_by}
+use Rattle.law_seen.specs.Seen.{executor_in, failure_in, seen_by, seen_in}
+use Rattle.law_seen.specs.Shown.{KeptTicked, routine_seen_in, ticked_in}
+use Rattle.view_figures.specs.declared.routine_figures.RoutineTick.{RoutineTick}
+use Rattle.seen_ticks.specs.Seen.{unseen_routine}
+use Rattle.view_figures.specs.FigureSums.{levels_of, lower_executes}
+use Rattle.law_figures.specs.Pending.{IsOlder, pending_in, pending_next}
+use Rattle.law_figures.specs.Labels.{IsAtMost}
+use Rattle.law_figures.specs.Times.{waited}
+use Rattle.search_keys.specs.Key.{key}
+use Rattle.search_labels.specs.Ticks.{routine_in, routine_tick}
+use Rattle.search_labels.specs.Labels.{IsAtLeast, Labels, arrives_in, distance_of, next_labels, next_pending, next_wait, pending_of, wait_of}
+use Rattle.search_peaks.specs.Peaks.{IsNoted, Peaks, TickShown, has_come, peak}
+use Rattle.law_bounds.specs.Lost.{IsWithoutLost, LostChangeNothing}
+use Rattle.law_bounds.specs.Nodes.{IsAfter, May, Node, Setting, routines_of, tick_shown_from}
+use Rattle.law_bounds.proofs.Counted.{times_of}
+use Rattle.law_bounds.proofs.Ordered.{at_least_itself, at_least_joined}
+use Rattle.law_bounds.proofs.Seen.{seen_routines}
+
+-- ---- a test that passes less often
+
+raised_alike : (b c flag : Bool) → (c ≡ true → b ≡ true) → (b ≡ true → c ≡ false → flag ≡ true)
+    → (b || flag) ≡ (c || flag)
+raised_alike true true flag less lost = refl
+raised_alike true false flag less lost = sym (lost refl refl)
+raised_alike false true flag less lost = absurd (true≢false (sym (less refl)))
+raised_alike false false flag less lost = refl
+
+same_unlost : (b c come : Bool) → (c ≡ true → b ≡ true) → (b ≡ true → c ≡ false → come ≡ true)
+    → come ≡ false → b ≡ c
+same_unlost true true come less lost none = refl
+same_unlost true false come less lost none = absurd (true≢false (sym (lost refl refl) ∙ none))
+same_unlost false true come less lost none = less refl
+same_unlost false false come less lost none = refl
+
+sooner_by : (b c : Bool) (distance wait : ℕ) → (c ≡ true → b ≡ true)
+    → (b ≡ true → c ≡ false → wait ≡ 0) → cond c distance wait - 1 ≤ cond b distance wait - 1
+sooner_by true true distance wait less free = omega arith
+sooner_by true false distance wait less free = let none = free refl refl in omega (arith, none)
+sooner_by false true distance wait less free = absurd (true≢false (sym (less refl)))
+sooner_by false false distance wait less free = omega arith
+
+-- ---- the tick
+
+module _ (s : Setting) (set fewer : ℕ) (o : Kept) (without : IsWithoutLost s set fewer o) where
+  abbrev many : List ℕ
+  many = routines_of s set
+
+  abbrev few : List ℕ
+  few = routines_of s fewer
+
+  flag_same : (i : ℕ) (b : Bool) → is_in i (below (length s.system.routines)) ≡ b
+      → (is_in i many || get_or o.pending i false) ≡ (is_in i few || get_or o.pending i false)
+  flag_same i true is =
+      let low = below_low (length s.system.routines) i is in
+      ap (λ b. b || get_or o.pending i false) (in_chosen s.system (arrives_in set) i low)
+      ∙ raised_alike (arrives_in set i) (arrives_in fewer i) (get_or o.pending i false)
+      (without.less i) (without.pend i low)
+      ∙ sym (ap (λ b. b || get_or o.pending i false) (in_chosen s.system (arrives_in fewer) i low))
+  flag_same i false is =
+      ap (λ b. b || get_or o.pending i false) (none (arrives_in set))
+      ∙ sym (ap (λ b. b || get_or o.pending i false) (none (arrives_in fewer)))
+    where
+      none : (test : ℕ → Bool) → is_in i (chosen_of s.system test) ≡ false
+      none test =
+          in_filter test i (below (length s.system.routines)) ∙ ap (λ b. b && test i) is
+
+  flags_same : flagged many o.pending ≡ flagged few o.pending
+  flags_same =
+      let long = flagged_length many o.pending in
+      ext_get_or false (flagged many o.pending) (flagged few o.pending)
+      (long ∙ sym (flagged_length few o.pending))
+      (λ i low.
+      let inside : i < length o.pending = omega (arith, low, long) in
+      flag_at many o.pending i inside
+      ∙ flag_same i (is_in i (below (length s.system.routines))) refl
+      ∙ sym (flag_at few o.pending i inside))
+
+  abbrev flags_left : List ℕ → List Bool
+  flags_left arrived = flagged arrived (alarm_phase_in s.system o).state.pending
+
+  same_left : flags_left many ≡ flags_left few
+  same_left =
+      ap (flagged many) (phase_pending s.system o) ∙ flags_same
+      ∙ sym (ap (flagged few) (phase_pending s.system o))
+
+  before_same : before_execution_in s.system many o ≡ before_execution_in s.system few o
+  before_same =
+      ap
+      (λ (flags : List Bool).
+      let alarmed = alarm_phase_in s.system o in
+      let dispatched = rescheduled s.system (record alarmed.state { pending = flags }) in
+      record {
+        events = alarmed.events ++ dispatched.events;
+        state = start_phase_in s.system dispatched.state;
+      })
+      same_left
+
+  tick_same : tick_in s.system many o ≡ tick_in s.system few o
+  tick_same = tick_by_flags s.system many few o same_left
+
+  -- what is seen of the tick, but that just the smaller set arrives
+  abbrev as_few : KeptTicked
+  as_few = record (ticked_in s.system false many o) { arrived = few }
+
+  ticked_same : as_few ≡ ticked_in s.system false few o
+  ticked_same = λ i. record {
+    first = false;
+    before = o;
+    at = (before_same i).state;
+    after = (tick_same i).after;
+    executed = executed_in (tick_same i).events;
+    due = due_alarms s.system (bare o);
+    refused = refused_by s.system o;
+    arrived = few;
+  }
+
+  abbrev seen_few : List RoutineSeen
+  seen_few = map (routine_seen_in as_few) (below (length s.system.routines))
+
+  abbrev shown_few : TickShown
+  shown_few =
+      let shown = tick_shown_from s set o in
+      record shown { seen = record shown.seen { routines = seen_few } }
+
+  shown_same : shown_few ≡ tick_shown_from s fewer o
+  unfolding executor_in failure_in seen_in
+  shown_same = λ i. record {
+    executor = option_map owner_of (ticked_same i).executed;
+    seen = seen_by s.system (ticked_same i);
+    failure = failure_of (ticked_same i).executed;
+    over = (ticked_same i).after.over;
+  }
+
+  -- ---- routines, one by one
+
+  module _ (i : ℕ) where
+    abbrev of_many : RoutineSeen
+    of_many = routine_in (tick_shown_from s set o).seen i
+
+    abbrev of_few : RoutineSeen
+    of_few = routine_in shown_few.seen i
+
+    many_at : i < length s.system.routines
+        → of_many ≡ routine_seen_in (ticked_in s.system false many o) i
+    unfolding seen_in
+    many_at low =
+        table_at (routine_seen_in (ticked_in s.system false many o)) (length s.system.routines) i
+        unseen_routine low
+
+    few_at : i < length s.system.routines → of_few ≡ routine_seen_in as_few i
+    few_at low = table_at (routine_seen_in as_few) (length s.system.routines) i unseen_routine low
+
+    many_past : length s.system.routines ≤ i → of_many ≡ unseen_routine
+    unfolding seen_in
+    many_past high =
+        let many_seen = routine_seen_in (ticked_in s.system false many o) in
+        let long = length-table many_seen (length s.system.routines) in
+        get_or_past (map many_seen (below (length s.system.routines))) i unseen_routine
+        (omega (arith, high, long))
+
+    few_past : length s.system.routines ≤ i → of_few ≡ unseen_routine
+    few_past high =
+        let long = length-table (routine_seen_in as_few) (length s.system.routines) in
+        get_or_past seen_few i unseen_routine (omega (arith, high, long))
+
+    pending_same : of_few.is_pending ≡ of_many.is_pending
+    pending_same = elim (cases_lt i (length s.system.routines)) [
+      | inl low ↦
+          ap (λ (r : RoutineSeen). r.is_pending) (few_at low)
+          ∙ sym (ap (λ (r : RoutineSeen). r.is_pending) (many_at low))
+      | inr high ↦
+          ap (λ (r : RoutineSeen). r.is_pending) (few_past high ∙ sym (many_past high))
+    ]
+
+    started_same : of_few.is_started ≡ of_many.is_started
+    started_same = elim (cases_lt i (length s.system.routines)) [
+      | inl low ↦
+          ap (λ (r : RoutineSeen). r.is_started) (few_at low)
+          ∙ sym (ap (λ (r : RoutineSeen). r.is_started) (many_at low))
+      | inr high ↦
+          ap (λ (r : RoutineSeen). r.is_started) (few_past high ∙ sym (many_past high))
+    ]
+
+    lost_same : i < length s.system.routines → arrives_in set i ≡ arrives_in fewer i
+        → of_few.lost ≡ of_many.lost
+    lost_same low same =
+        let arrived : times i few ≡ times i many =
+        times_of s.system (arrives_in fewer) i low ∙ ap one_if (sym same)
+        ∙ sym (times_of s.system (arrives_in set) i low) in
+        ap (λ (r : RoutineSeen). r.lost) (few_at low)
+        ∙ ap (lost_of (is_pending_in o i)) arrived
+        ∙ sym (ap (λ (r : RoutineSeen). r.lost) (many_at low))
+
+-- ---- labels and notes by other routines
+
+module _ (r u : RoutineTick) (pend : r.seen.is_pending ≡ u.seen.is_pending)
+    (start : r.seen.is_started ≡ u.seen.is_started) where
+  ages_alike : (age : Option ℕ) → pending_in r age ≡ pending_in u age
+  ages_alike None = λ i. cond (pend i || start i) (Some 1) None
+  ages_alike (Some n) = refl
+
+  next_alike : (age : Option ℕ) → pending_next r age ≡ pending_next u age
+  next_alike age = λ i. cond (start i) None (ages_alike age i)
+
+  waits_alike : (age : Option ℕ) → waited r age ≡ waited u age
+  waits_alike age =
+      λ i. cond (start i) (option_map (λ n. n - 1) (ages_alike age i)) (ages_alike age i)
+
+-- ticks show the same but for what is seen of routines, and of these the same pend and start
+module _ (shown : TickShown) (others : List RoutineSeen) where
+  abbrev with_others : TickShown
+  with_others = record shown { seen = record shown.seen { routines = others } }
+
+  module _ (pend : (i : ℕ) → (routine_in with_others.seen i).is_pending
+      ≡ (routine_in shown.seen i).is_pending)
+      (start : (i : ℕ) → (routine_in with_others.seen i).is_started
+      ≡ (routine_in shown.seen i).is_started) where
+    notes_alike : (levels : List ℕ) (cap : ℕ) (peaks : Peaks) (l : Labels)
+        → length others ≡ length shown.seen.routines
+        → ((i : ℕ) → i < length others → has_come peaks.losses i ≡ false
+        → (routine_in with_others.seen i).lost ≡ (routine_in shown.seen i).lost)
+        → IsNoted levels cap peaks with_others l → IsNoted levels cap peaks shown l
+    notes_alike levels cap peaks l long lost noted = record {
+      responses = noted.responses;
+      blocked = noted.blocked;
+      jobs = noted.jobs;
+      latencies = λ i low.
+          subst (λ (age : Option ℕ). IsAtMost (peak peaks.latencies i) (option_map (min cap) age))
+          (waits_alike (routine_tick with_others.seen i) (routine_tick shown.seen i) (pend i)
+          (start i) (pending_of l i))
+          (noted.latencies i (omega (arith, low, long)));
+      holds = noted.holds;
+      losses = λ i low none.
+          let inside : i < length others = omega (arith, low, long) in
+          sym (lost i inside none) ∙ noted.losses i inside none;
+      refusals = noted.refusals;
+      actions = noted.actions;
+      failures = noted.failures;
+      shutdown = noted.shutdown;
+    }
+
+    pending_alike : (cap : ℕ) (l : Labels) (i : ℕ)
+        → next_pending cap with_others.seen l i ≡ next_pending cap shown.seen l i
+    pending_alike cap l i =
+        ap (option_map (min cap))
+        (next_alike (routine_tick with_others.seen i) (routine_tick shown.seen i) (pend i)
+        (start i) (pending_of l i))
+
+    -- where fewer routines arrive, none has to wait for longer
+    labels_alike : (lower : ℕ → Bool) (cap : ℕ) (distances : List ℕ) (set fewer : ℕ) (l : Labels)
+        → ((i : ℕ) → next_wait distances fewer l i ≤ next_wait distances set l i)
+        → IsAtLeast (next_labels lower cap distances fewer with_others.seen l)
+        (next_labels lower cap distances set shown.seen l)
+    labels_alike lower cap distances set fewer l sooner =
+        let count = length l.waits in
+        let mine : Labels = next_labels lower cap distances fewer with_others.seen l in
+        let theirs : Labels = next_labels lower cap distances set shown.seen l in
+        let long = length-table (next_wait distances fewer l) count in
+        let wide = length-table (next_wait distances set l) count in
+        let itself = at_least_itself mine in
+        let same : mine.pending ≡ theirs.pending =
+        ap (λ (next : ℕ → Option ℕ). map next (below (length l.pending)))
+        (fun_ext (pending_alike cap l)) in
+        record {
+          routines = long ∙ sym wide;
+          tasks = itself.tasks;
+          interrupts = ap length same;
+          resources = itself.resources;
+          blockable = itself.blockable;
+          sooner = λ i. elim (cases_lt i count) [
+            | inl low ↦
+                let here = table_at (next_wait distances fewer l) count i 0 low in
+                let there = table_at (next_wait distances set l) count i 0 low in
+                let less = sooner i in
+                omega (arith, here, there, less)
+            | inr high ↦
+                let none : wait_of mine i ≡ 0 =
+                get_or_past mine.waits i 0 (omega (arith, high, long)) in
+                omega (arith, none)
+          ];
+          ages = itself.ages;
+          pending = λ i.
+              subst (λ (ages : List (Option ℕ)). IsOlder (pending_of mine i) (get_or ages i None))
+              same (itself.pending i);
+          holds = itself.holds;
+          blocked = itself.blocked;
+        }
+
+-- ---- the law
+
+module _ (s : Setting) (x : Node) (set fewer : ℕ) (o : Kept) (may : May s x set)
+    (without : IsWithoutLost s set fewer o) where
+  -- no bit is set beyond the routines
+  is_low : (i : ℕ) → arrives_in set i ≡ true → i < length s.system.routines
+  is_low i here = elim (cases_lt i (length s.system.routines)) [
+    | inl low ↦ low
+    | inr high ↦
+        let one : bit_at set i ≡ 1 = eqb-true (bit_at set i) 1 here in
+        let none = bit_at_above set (length s.system.routines) i may.low high in
+        absurd (omega (arith, one, none))
+  ]
+
+  sooner_without : (i : ℕ)
+      → next_wait s.distances fewer x.labels i ≤ next_wait s.distances set x.labels i
+  sooner_without i =
+      sooner_by (arrives_in set i) (arrives_in fewer i) (distance_of s.distances i)
+      (wait_of x.labels i) (without.less i) (λ here gone. may.free i (is_low i here) here)
+
+  abbrev all_shown : TickShown
+  all_shown = tick_shown_from s set o
+
+  abbrev fewer_seen : List RoutineSeen
+  fewer_seen = seen_few s set fewer o without
+
+  next_without : (y : Node) → IsAfter s x fewer y o → IsAfter s x set y o
+  next_without y after =
+      let ticks = tick_same s set fewer o without in
+      let behind = λ (t : TickShown) (arrived : ℕ). next_labels
+      (lower_executes (levels_of s.system) t.executor) s.cap s.distances arrived t.seen x.labels in
+      record {
+        key = ap (λ (t : KeptStep). key s.system s.need t.after) ticks ∙ after.key;
+        over = ap (λ (t : KeptStep). t.after.over) ticks ∙ after.over;
+        labels =
+            at_least_joined y.labels (behind (shown_few s set fewer o without) fewer)
+            (behind all_shown set)
+            (subst (λ (t : TickShown). IsAtLeast y.labels (behind t fewer))
+            (sym (shown_same s set fewer o without)) after.labels)
+            (labels_alike all_shown fewer_seen (pending_same s set fewer o without)
+            (started_same s set fewer o without)
+            (lower_executes (levels_of s.system) all_shown.executor) s.cap s.distances set fewer
+            x.labels sooner_without);
+      }
+
+  noted_without : (peaks : Peaks)
+      → IsNoted (levels_of s.system) s.cap peaks (tick_shown_from s fewer o) x.labels
+      → ((i : ℕ) → i < length s.system.routines → arrives_in set i ≡ true
+      → arrives_in fewer i ≡ false → has_come peaks.losses i ≡ true)
+      → IsNoted (levels_of s.system) s.cap peaks (tick_shown_from s set o) x.labels
+  noted_without peaks noted come =
+      let seen = routine_seen_in (as_few s set fewer o without) in
+      let long = length-table seen (length s.system.routines) in
+      notes_alike all_shown fewer_seen (pending_same s set fewer o without)
+      (started_same s set fewer o without) (levels_of s.system) s.cap peaks x.labels
+      (long ∙ sym (seen_routines s.system (routines_of s set) o))
+      (λ i inside none.
+      let low : i < length s.system.routines = omega (arith, inside, long) in
+      lost_same s set fewer o without i low
+      (same_unlost (arrives_in set i) (arrives_in fewer i) (has_come peaks.losses i)
+      (without.less i) (come i low) none))
+      (subst (λ (t : TickShown). IsNoted (levels_of s.system) s.cap peaks t x.labels)
+      (sym (shown_same s set fewer o without)) noted)
+
+pub lost_change_nothing : LostChangeNothing
+lost_change_nothing s x set fewer o may without = record {
+  next = next_without s x set fewer o may without;
+  noted = noted_without s x set fewer o may without;
+}

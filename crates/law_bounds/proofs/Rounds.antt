@@ -1,0 +1,216 @@
+-- A run that comes twice to one state while a job stands can be gone on so, round by round.
+use Rattle.std.proofs.Common.{ℕ, zero, suc, ◌≡◌, ◌<◌, ◌≤◌, ◌+◌, ◌-◌, ◌⊎◌, inl, inr, false, List, length, refl, sym, ◌∙◌, ap, subst, subst₂, arith}
+use Rattle.std.proofs.lemmas.Bool.{cases_lt}
+use Rattle.osek_base.specs.declared.arrivals.Arrival.{Arrival}
+use Rattle.osek_base.specs.Proper.{IsProper}
+use Rattle.osek_base.specs.System.{System}
+use Rattle.osek_base.specs.Trace.{Run, arriving, run}
+use Rattle.law_runs.proofs.Arriving.{depends_on_the_past}
+use Rattle.law_kept.specs.Kept.{Kept, kept}
+use Rattle.law_kept.specs.KeptTick.{tick_in}
+use Rattle.law_future.specs.Need.{Need, Suffices}
+use Rattle.seen_ticks.specs.Seen.{Seen}
+use Rattle.law_future.specs.Alike.{kept_after}
+use Rattle.law_future.proofs.Futures.{kept_more}
+use Rattle.law_seen.specs.Seen.{seen_in}
+use Rattle.view_figures.specs.ResponseSums.{standing}
+use Rattle.view_figures.specs.StateSums.{leaves}
+use Rattle.search_labels.specs.Ticks.{task_tick}
+use Rattle.search_keys.specs.InRange.{NeedsOwnWords}
+use Rattle.search_keys.specs.Key.{key}
+use Rattle.law_bounds.specs.Going.{GoOnAlike, HaveOneFuture, KeysTellFutures}
+use Rattle.law_bounds.specs.Nodes.{Comes}
+use Rattle.law_bounds.specs.Unending.{StandsSoLong, Stands, StandsBetween}
+use Rattle.law_bounds.specs.Lassos.{IsLasso, LassosAreEndless, again}
+use Rattle.law_bounds.proofs.Arriving.{first_round, second_round}
+use Rattle.law_bounds.proofs.Known.{known_in}
+use Rattle.law_bounds.proofs.Spacing.{again_before, keep_twice}
+
+-- a tick that shows what another one shows, from a state that is over as that one is
+stands_as : (S : System) (mode : ℕ) (xs ys : List Arrival) (t u k : ℕ)
+    → (run S mode xs t).state.over ≡ (run S mode ys u).state.over
+    → seen_in S (arriving xs t) (kept_after S mode xs t)
+    ≡ seen_in S (arriving ys u) (kept_after S mode ys u)
+    → Stands S mode xs t k → Stands S mode ys u k
+stands_as S mode xs ys t u k over seen stands = record {
+  going = sym over ∙ stands.going;
+  stands = subst (λ (x : Seen). 1 ≤ standing (task_tick x k)) seen stands.stands;
+  stays = ap (λ (x : Seen). leaves (task_tick x k)) (sym seen) ∙ stands.stays;
+}
+
+module _ (futures : KeysTellFutures) (S : System) (mode : ℕ) (distances : List ℕ) (need : Need)
+    (k : ℕ) (proper : IsProper S) (enough : Suffices S need) (own : NeedsOwnWords S need) where
+  abbrev Lasso : List Arrival → ℕ → ℕ → Type 0
+  Lasso arrivals from until = IsLasso S mode distances need arrivals from until k
+
+  module _ (xs : List Arrival) (from until : ℕ) (lasso : Lasso xs from until) where
+    abbrev ys : List Arrival
+    ys = again from until xs
+
+    abbrev ticks : ℕ
+    ticks = until - from
+
+    abbrev after : ℕ → Kept
+    after t = kept_after S mode ys t
+
+    -- ---- up to the end of the first round
+
+    one_past : (t : ℕ) → t < until → arriving ys t ≡ arriving xs t
+    one_past t low = first_round from until xs lasso.less lasso.before t low
+
+    one_run : (n : ℕ) → n ≤ until → run S mode ys n ≡ run S mode xs n
+    one_run n most =
+        depends_on_the_past S mode ys xs n (λ t low. one_past t (omega (arith, low, most)))
+
+    one_state : (n : ℕ) → n ≤ until → after n ≡ kept_after S mode xs n
+    one_state n most = ap (λ (r : Run). kept S r.state) (one_run n most)
+
+    pub stands_still : (t : ℕ) → t < until → Stands S mode xs t k → Stands S mode ys t k
+    stands_still t low stands =
+        let most : t ≤ until = omega (arith, low) in
+        stands_as S mode xs ys t t k
+        (ap (λ (r : Run). r.state.over) (sym (one_run t most)))
+        (λ i. seen_in S (sym (one_past t low) i) (sym (one_state t most) i)) stands
+
+    -- ---- the second
+
+    abbrev Equal : ℕ → ℕ → Type 0
+    Equal t u = key S need (after t) ≡ key S need (after u)
+
+    comes : (t : ℕ) → Comes S (after t)
+    comes t = record { mode = mode; arrivals = ys; ticks = t; same = refl }
+
+    module _ (t u : ℕ) (high : from ≤ t) (low : t < until) (is : u ≡ t + ticks)
+        (equal : Equal t u) where
+      arrive_alike : arriving ys u ≡ arriving ys t
+      arrive_alike =
+          second_round from until xs lasso.less lasso.before t u high is ∙ sym (one_past t low)
+
+      first_stands : Stands S mode ys t k
+      first_stands = stands_still t low (lasso.stands t high low)
+
+      future : HaveOneFuture S need (after t) (after u)
+      future = futures S need (after t) (after u) proper enough own (comes t) (comes u) equal
+
+      alike : GoOnAlike S need (arriving ys t) (after t) (after u)
+      alike =
+          future.next (arriving ys t) (known_in (length S.routines) t ys lasso.keep.known)
+          first_stands.going
+
+      going_too : (run S mode ys u).state.over ≡ false
+      going_too = sym future.over ∙ first_stands.going
+
+      stands_again : Stands S mode ys u k
+      stands_again =
+          stands_as S mode ys ys t u k future.over
+          (alike.seen ∙ ap (λ (v : List ℕ). seen_in S v (after u)) (sym arrive_alike))
+          first_stands
+
+      equal_next : Equal (suc t) (suc u)
+      equal_next =
+          ap (key S need) (kept_more S mode ys proper t first_stands.going) ∙ alike.key
+          ∙ ap (λ (v : List ℕ). key S need (tick_in S v (after u)).after) (sym arrive_alike)
+          ∙ ap (key S need) (sym (kept_more S mode ys proper u going_too))
+
+    equal_first : Equal from until
+    equal_first =
+        ap (key S need) (one_state from (let less = lasso.less in omega (arith, less)))
+        ∙ lasso.key ∙ ap (key S need) (sym (one_state until (omega arith)))
+
+    equal_at : (i t u : ℕ) → t ≡ from + i → u ≡ until + i → i ≤ ticks → Equal t u
+    equal_at zero t u is is_too most =
+        let one : from ≡ t = omega (arith, is) in
+        let other : until ≡ u = omega (arith, is_too) in
+        subst₂ Equal one other equal_first
+    equal_at (suc i) t u is is_too most =
+        let less = lasso.less in
+        let one : suc (from + i) ≡ t = omega (arith, is) in
+        let other : suc (until + i) ≡ u = omega (arith, is_too) in
+        subst₂ Equal one other
+        (equal_next (from + i) (until + i) (omega arith) (omega (arith, most)) (omega (arith, less))
+        (equal_at i (from + i) (until + i) refl refl (omega (arith, most))))
+
+    stands_on : StandsBetween S mode ys until (until + ticks) k
+    stands_on u high low =
+        let less = lasso.less in
+        let i : ℕ = u - until in
+        let is : u ≡ until + i = omega (arith, high) in
+        stands_again (from + i) u (omega arith) (omega (arith, high, low, less))
+        (omega (arith, high, less))
+        (equal_at i (from + i) u refl is (omega (arith, high, low)))
+
+    -- ---- so it can be gone on
+
+    pub next_lasso : Lasso ys until (until + ticks)
+    next_lasso =
+        let less = lasso.less in
+        record {
+          less = omega (arith, less);
+          before = again_before from until xs lasso.before;
+          key = equal_at ticks until (until + ticks) (omega (arith, less)) refl (omega arith);
+          stands = stands_on;
+          keep = keep_twice S distances from until xs lasso.less lasso.before lasso.keep;
+        }
+
+  -- the arrivals of some rounds, of which the last is a lasso
+  record HasRounds (from n : ℕ) : Type 0 where
+    arrivals : List Arrival
+    start : ℕ
+    end : ℕ
+    lasso : Lasso arrivals start end
+    long : from + n ≤ end
+    stands : StandsBetween S mode arrivals from end k
+
+  one_round : (xs : List Arrival) (from until : ℕ) → Lasso xs from until → HasRounds from 0
+  one_round xs from until lasso = record {
+    arrivals = xs;
+    start = from;
+    end = until;
+    lasso = lasso;
+    long = (let less = lasso.less in omega (arith, less));
+    stands = lasso.stands;
+  }
+
+  one_round_more : (from n : ℕ) → HasRounds from n → HasRounds from (suc n)
+  one_round_more from n has =
+      let less = has.lasso.less in
+      let long = has.long in
+      let next = next_lasso has.arrivals has.start has.end has.lasso in
+      record {
+        arrivals = again has.start has.end has.arrivals;
+        start = has.end;
+        end = has.end + (has.end - has.start);
+        lasso = next;
+        long = omega (arith, less, long);
+        stands = λ t high low. go t high low (cases_lt t has.end);
+      }
+    where
+      go : (t : ℕ) → from ≤ t → t < has.end + (has.end - has.start)
+          → (t < has.end) ⊎ (has.end ≤ t) → Stands S mode (again has.start has.end has.arrivals) t k
+      go t high low (inl soon) =
+          stands_still has.arrivals has.start has.end has.lasso t soon (has.stands t high soon)
+      go t high low (inr far) =
+          (next_lasso has.arrivals has.start has.end has.lasso).stands t far low
+
+  rounds : (xs : List Arrival) (from until : ℕ) → Lasso xs from until → (n : ℕ)
+      → HasRounds from n
+  rounds xs from until lasso zero = one_round xs from until lasso
+  rounds xs from until lasso (suc n) =
+      one_round_more from n (rounds xs from until lasso n)
+
+  is_kept : (from n : ℕ) → HasRounds from n → StandsSoLong S mode distances k n
+  is_kept from n has = record {
+    arrivals = again has.start has.end has.arrivals;
+    from = from;
+    keep = has.lasso.keep;
+    stands = λ t high low.
+        let long = has.long in
+        let soon : t < has.end = omega (arith, low, long) in
+        stands_still has.arrivals has.start has.end has.lasso t soon (has.stands t high soon);
+  }
+
+pub lassos_are_endless : KeysTellFutures → LassosAreEndless
+lassos_are_endless futures S mode distances need arrivals from until k proper enough own lasso
+    count =
+    is_kept futures S mode distances need k proper enough own from count
+    (rounds futures S mode distances need k proper enough own arrivals from until lasso count)

@@ -1,0 +1,43 @@
+-- Runs that come twice to one state while a job stands, and that they can be gone on without end.
+use Rattle.std.specs.Prelude.{ℕ, ◌+◌, ◌-◌, ◌≡◌, ◌<◌, List, ◌++◌, map, nat_le}
+use Rattle.std.specs.List.{AllByRecursion, filter}
+use Rattle.osek_base.specs.declared.arrivals.Arrival.{Arrival}
+use Rattle.osek_base.specs.Proper.{IsProper}
+use Rattle.osek_base.specs.System.{System}
+use Rattle.law_future.specs.Need.{Need, Suffices}
+use Rattle.law_future.specs.Alike.{kept_after}
+use Rattle.search_keys.specs.InRange.{NeedsOwnWords}
+use Rattle.search_keys.specs.Key.{key}
+use Rattle.law_bounds.specs.Unending.{NeedNotEnd, Keep, StandsBetween}
+
+-- an arrival so many ticks later
+abbrev pub later : ℕ → Arrival → Arrival
+later ticks a = record { tick = a.tick + ticks; routine = a.routine }
+
+-- the arrivals from a tick on, each so many ticks later
+abbrev pub repeated : ℕ → ℕ → List Arrival → List Arrival
+repeated from ticks arrivals =
+    map (later ticks) (filter (λ (a : Arrival). nat_le from a.tick) arrivals)
+
+-- arrivals before a tick, and behind them those from an earlier one on once more
+abbrev pub again : ℕ → ℕ → List Arrival → List Arrival
+again from until arrivals = arrivals ++ repeated from (until - from) arrivals
+
+-- all arrivals come before tick `until`; the states before ticks `from` and `until` have one key;
+-- a job of the task stands in each tick between; and the arrivals from `from` on may come again
+pub record IsLasso (S : System) (mode : ℕ) (distances : List ℕ) (need : Need)
+    (arrivals : List Arrival) (from until k : ℕ) : Type 0 where
+  pub less : from < until
+  pub before : AllByRecursion (λ (a : Arrival). a.tick < until) arrivals
+  pub key : key S need (kept_after S mode arrivals from)
+      ≡ key S need (kept_after S mode arrivals until)
+  pub stands : StandsBetween S mode arrivals from until k
+  pub keep : Keep S distances (again from until arrivals)
+
+-- ---- the law
+
+abbrev pub LassosAreEndless : Type 0
+LassosAreEndless =
+    (S : System) (mode : ℕ) (distances : List ℕ) (need : Need) (arrivals : List Arrival)
+    (from until k : ℕ) → IsProper S → Suffices S need → NeedsOwnWords S need
+    → IsLasso S mode distances need arrivals from until k → NeedNotEnd S mode distances k

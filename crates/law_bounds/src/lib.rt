@@ -1,0 +1,27 @@
+//! No code: where a search over keys of states has visited all that can come, what it noted
+//! bounds the figures of every run whose interrupts keep their distances, after every number of
+//! ticks. And which runs can be gone on without end.
+//!
+//! - States of runs with one key have one future, and show the same (`keys_tell_futures`). So
+//!   what comes of one state of a node comes of each (`one_state_tells`).
+//! - An interrupt of a routine that is pending already is lost and changes nothing else
+//!   (`lost_change_nothing`).
+//! - Where a search has visited all that can come, its peaks bound the figures and each tick of
+//!   every run whose interrupts keep their distances, after every number of ticks
+//!   (`searches_bound`). Where lists of nodes stand for all that can come in so many ticks, after
+//!   at most so many (`levels_bound`).
+//! - A run that comes twice to states of one key can be gone on so, if in each tick between a job
+//!   of a task is ready or runs, the oldest neither ends nor begins to wait, and the arrivals
+//!   between keep their distances once more. For each number of ticks there is then a run whose
+//!   interrupts keep their distances and in which one job of the task is there for so many
+//!   (`lassos_are_endless`).
+#![tactic(auto)]
+
+mod endless;
+mod laws;
+
+pub use endless::lassos_are_endless;
+pub use laws::{
+    keys_tell_futures, labels_are_ordered, levels_bound, lost_change_nothing, nodes_are_kept,
+    notes_stay, one_state_tells, searches_bound, subsets_may,
+};

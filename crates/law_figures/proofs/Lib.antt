@@ -1,0 +1,13 @@
+pub mod Greatest
+pub mod Ages
+pub mod AgeOrder
+pub mod Pending
+pub mod Holding
+pub mod Blocking
+pub mod Counts
+pub mod Times
+pub mod Merging
+pub mod Seen
+pub mod Running
+pub mod RunTimes
+pub mod Nothing

@@ -1,0 +1,10 @@
+pub mod Labels
+pub mod Ages
+pub mod Pending
+pub mod Holding
+pub mod Blocking
+pub mod Counts
+pub mod Times
+pub mod Merging
+pub mod Seen
+pub mod RunFigures

@@ -1,0 +1,12 @@
+pub mod Need
+pub mod Same
+pub mod Laws
+pub mod Meaning
+pub mod Alike
+pub mod AlikeIn
+pub mod Relative
+pub mod Shown
+pub mod Spans
+pub mod Covering
+pub mod Incidents
+pub mod Masks

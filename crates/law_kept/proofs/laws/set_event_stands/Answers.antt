@@ -1,0 +1,5 @@
+use Rattle.law_kept.proofs.Standing.{set_event_stands}
+use Rattle.law_kept.proofs.laws.set_event_stands.Goals as goal
+
+pub returns : goal.returns
+returns c = set_event_stands

@@ -1,0 +1,5 @@
+use Rattle.law_runs.proofs.Protection.{protects}
+use Rattle.law_runs.proofs.runs.protects.Goals as goal
+
+pub returns : goal.returns
+returns c = protects

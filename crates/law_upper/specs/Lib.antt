@@ -1,0 +1,6 @@
+pub mod Above
+pub mod StatesAbove
+pub mod ExecutedAbove
+pub mod AlarmsAbove
+pub mod ShownAbove
+pub mod FiguresAbove

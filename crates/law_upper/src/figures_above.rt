@@ -1,0 +1,19 @@
+//! The laws, one function each. The functions are empty: the clause is the law.
+
+ghost use Rattle.law_upper.specs.FiguresAbove.{BoundsOfThePartHold};
+ghost use Rattle.law_upper.specs.ShownAbove.{UpperPartsShowTheSame};
+
+/// Each tick shows the same of upper tasks, of routines, of upper resources and alarms, and of the
+/// services of upper tasks and routines that fail, and blocks the same upper tasks, in each system
+/// that agrees with a proper and separable one, and in its upper part by itself.
+pub fn upper_parts_show_the_same()
+    ensures { UpperPartsShowTheSame }
+{}
+
+/// Peaks that bound the figures of every run of the upper part by itself whose interrupts keep
+/// their distances bound those of its tasks, routines, resources and alarms in every such run of
+/// the whole system, and of each that agrees with it from that priority upward. How many blockers
+/// upper tasks have is no part of it. Those of runs of so many ticks bound those of as many.
+pub fn bounds_of_the_part_hold()
+    ensures { BoundsOfThePartHold }
+{}

@@ -1,5 +1,0 @@
-use Rattle.line_lengths.proofs.Lines.{numbered_lines_are_short}
-use Rattle.line_lengths.proofs.laws.numbered_lines_are_short.Goals as goal
-
-pub returns : goal.returns
-returns c = numbered_lines_are_short

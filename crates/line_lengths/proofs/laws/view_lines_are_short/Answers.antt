@@ -1,5 +1,0 @@
-use Rattle.line_lengths.proofs.Lines.{view_lines_are_short}
-use Rattle.line_lengths.proofs.laws.view_lines_are_short.Goals as goal
-
-pub returns : goal.returns
-returns c = view_lines_are_short

@@ -1,0 +1,167 @@
+//! What is wrong in a body, step by step: what its caller may not do, and resources that aren't got
+//! and released in pairs.
+
+use crate::description::{Body, Does, Step};
+use crate::fault::{Fault, Wrong, tell};
+use crate::names::is_among;
+use crate::work::Work;
+use osek_base::MAX_INSTRUCTIONS;
+use std::alloc::{AllocError, Global};
+
+/// What is held at a step, and how much of it was held where each open repeat began.
+#[derive(Drop)]
+struct Holding<'a> {
+    held: Vec<&'a str>,
+    marks: Vec<usize>,
+}
+
+impl<'a> Holding<'a> {
+    fn new(alloc: Global) -> Self {
+        Holding {
+            held: Vec::new(alloc),
+            marks: Vec::new(alloc),
+        }
+    }
+
+    fn get(&mut self, name: &'a str) -> Result<Option<Wrong<'a>>, AllocError> {
+        if is_among(self.held.as_slice(), name) {
+            return Ok(Some(Wrong::HeldAlready(name)));
+        }
+        self.held.push(name)?;
+        Ok(None)
+    }
+
+    fn release(&mut self, name: &'a str) -> Option<Wrong<'a>> {
+        let outside = self.marks.last().copied().unwrap_or(0);
+        let is_last = match self.held.last() {
+            Some(last) => *last == name && self.held.len() > outside,
+            None => false,
+        };
+        if !is_last {
+            return Some(Wrong::NotGotLast(name));
+        }
+        let _ = self.held.pop();
+        None
+    }
+
+    /// What is held more than where the repeat began that ends here.
+    fn end(&mut self) -> Option<Wrong<'a>> {
+        let outside = self.marks.pop().unwrap_or(0);
+        let left = self.held.get(outside).copied()?;
+        self.held.truncate(outside);
+        Some(Wrong::StillHeld(left))
+    }
+
+    fn any(&self) -> Option<Wrong<'a>> {
+        let last = self.held.last().copied()?;
+        Some(Wrong::Holds(last))
+    }
+
+    /// What is wrong with a step of a task.
+    fn step(&mut self, does: Does<'a>) -> Result<Option<Wrong<'a>>, AllocError> {
+        match does {
+            Does::Get(name) => self.get(name),
+            Does::Release(name) => Ok(self.release(name)),
+            Does::Wait(_) | Does::Chain(_) => Ok(self.any()),
+            Does::Repeat(_) => {
+                self.marks.push(self.held.len())?;
+                Ok(None)
+            }
+            Does::End => Ok(self.end()),
+            _ => Ok(None),
+        }
+    }
+}
+
+/// What a routine can't do.
+fn barred(does: Does<'_>) -> Option<&'static str> {
+    match does {
+        Does::Get(_) => Some("get"),
+        Does::Release(_) => Some("release"),
+        Does::Wait(_) => Some("wait"),
+        Does::Clear(_) => Some("clear"),
+        Does::Chain(_) => Some("chain"),
+        _ => None,
+    }
+}
+
+/// Tells what is wrong in the body of a routine.
+pub(crate) fn tell_routine<'a>(
+    body: &Body<'a>,
+    faults: &mut Vec<Fault<'a>>,
+) -> Result<(), AllocError> {
+    for step in &body.steps {
+        if let Some(what) = barred(step.does) {
+            tell(faults, step.place, Wrong::ByRoutine(what))?;
+        }
+    }
+    tell_length(body, faults)
+}
+
+/// Tells of what is held at the end of a body, and of a loop without a step.
+fn tell_end<'a>(
+    body: &Body<'a>,
+    holding: &Holding<'a>,
+    faults: &mut Vec<Fault<'a>>,
+) -> Result<(), AllocError> {
+    let place = body.place;
+    if let Some(first) = holding.held.first() {
+        tell(faults, place, Wrong::StillHeld(*first))?;
+    }
+    if body.is_looped && body.steps.is_empty() {
+        tell(faults, place, Wrong::EmptyLoop)?;
+    }
+    Ok(())
+}
+
+/// Tells what is wrong in the body of a task.
+pub(crate) fn tell_task<'a>(
+    alloc: Global,
+    body: &Body<'a>,
+    faults: &mut Vec<Fault<'a>>,
+) -> Result<(), AllocError> {
+    let mut holding = Holding::new(alloc);
+    let mut has_chained = false;
+    for step in &body.steps {
+        let place = step.place;
+        if has_chained {
+            tell(faults, place, Wrong::BehindChain)?;
+        }
+        has_chained = is_chain(step);
+        if let Some(wrong) = holding.step(step.does)? {
+            tell(faults, place, wrong)?;
+        }
+    }
+    tell_end(body, &holding, faults)?;
+    tell_length(body, faults)
+}
+
+fn is_chain(step: &Step<'_>) -> bool {
+    match step.does {
+        Does::Chain(_) => true,
+        _ => false,
+    }
+}
+
+/// How many instructions a step is.
+fn instructions(does: Does<'_>) -> usize {
+    match does {
+        Does::Work(ticks) => Work::of(ticks).instructions(),
+        Does::Repeat(_) | Does::End => 2,
+        _ => 1,
+    }
+}
+
+/// Tells of a body whose program would be too long: behind the steps stand one or two instructions.
+fn tell_length<'a>(body: &Body<'a>, faults: &mut Vec<Fault<'a>>) -> Result<(), AllocError> {
+    let mut count: usize = if body.is_looped { 1 } else { 2 };
+    for step in &body.steps {
+        count = count.saturating_add(instructions(step.does));
+    }
+    if count > MAX_INSTRUCTIONS {
+        let wrong = Wrong::TooLong;
+        let place = body.place;
+        tell(faults, place, wrong)?;
+    }
+    Ok(())
+}

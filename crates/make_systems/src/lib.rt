@@ -1,0 +1,17 @@
+//! Reads the TOML of a description and makes its OIL, programs and arrival list, or tells all
+//! that is wrong with it. No contract but safety: it is tested.
+//!
+//! `nodes` reads the text, with the place of each key and value. What is described and what is
+//! wrong with it is in `make_descriptions`. Nothing that runs a system depends on this crate.
+#![tactic(auto)]
+
+mod answer;
+mod arrival_text;
+mod nodes;
+mod oil_text;
+mod program_text;
+
+pub use answer::{Answer, Made, Remark, make};
+pub use arrival_text::{Arrivals, arrivals, write_arrivals};
+pub use oil_text::write_oil;
+pub use program_text::write_programs;

@@ -1,6 +1,0 @@
-use Rattle.std.proofs.Common.{◌∙◌}
-use Rattle.name_tables.proofs.Lookups.{named}
-use Rattle.name_tables.proofs.table.NameTable.has.Goals as goal
-
-pub returns : goal.returns
-returns c = c.contains.ensures ∙ named c.as_str.result.now c.self.inside.names.keys ∙ cc

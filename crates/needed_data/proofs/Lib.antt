@@ -1,9 +1,0 @@
-pub mod Steps
-pub mod Cleaning
-pub mod Contexts
-pub mod Indices
-pub mod AllowedSteps
-pub mod Executed
-pub mod Ticks
-pub mod Runs
-pub mod Meanings

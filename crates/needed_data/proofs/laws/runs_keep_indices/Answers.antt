@@ -1,5 +1,0 @@
-use Rattle.needed_data.proofs.Runs.{runs_keep_indices}
-use Rattle.needed_data.proofs.laws.runs_keep_indices.Goals as goal
-
-pub returns : goal.returns
-returns c = runs_keep_indices

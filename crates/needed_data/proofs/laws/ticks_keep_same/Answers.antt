@@ -1,5 +1,0 @@
-use Rattle.needed_data.proofs.Ticks.{ticks_keep_same}
-use Rattle.needed_data.proofs.laws.ticks_keep_same.Goals as goal
-
-pub returns : goal.returns
-returns c = ticks_keep_same

@@ -1,4 +1,0 @@
-pub mod Need
-pub mod Same
-pub mod Laws
-pub mod Meaning

@@ -1,5 +1,0 @@
-use Rattle.needs.specs.Entries.{PlacesRespect}
-use Rattle.needs.proofs.closed.places_respected.Given as goal
-
-abbrev pub invariant-loop-place : goal.invariant-loop-place
-invariant-loop-place l = PlacesRespect l.own l.shared l.lines l.place

@@ -1,8 +1,0 @@
-use Rattle.needs.specs.Entries.{RoutineRespects}
-use Rattle.needs.proofs.EntryLemmas.{below_more}
-use Rattle.needs.proofs.closed.routines_respect.Goals as goal
-
-pub loop-number-preserved : goal.loop-number-preserved
-loop-number-preserved c =
-    below_more (RoutineRespects c.args.system.now c.args.needs.now) c.loop-number.number c.loop-number.invariant
-    (c.routine_respects.ensures c.if-not-routine_respects.false)

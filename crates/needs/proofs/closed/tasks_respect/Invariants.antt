@@ -1,5 +1,0 @@
-use Rattle.needs.specs.Entries.{TasksRespect}
-use Rattle.needs.proofs.closed.tasks_respect.Given as goal
-
-abbrev pub invariant-loop-number : goal.invariant-loop-number
-invariant-loop-number l = TasksRespect l.system l.needs l.number

@@ -1,6 +1,0 @@
-use Rattle.needs.specs.Table.{has}
-use Rattle.needs.specs.Asked.{TasksAsk}
-use Rattle.needs.proofs.counters.tasks_among.Given as goal
-
-abbrev pub invariant-loop-number : goal.invariant-loop-number
-invariant-loop-number l = TasksAsk l.system (has l.counters) l.number

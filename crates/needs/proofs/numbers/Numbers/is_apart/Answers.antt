@@ -1,9 +1,0 @@
-use Rattle.std.proofs.Common.{IsTrue, sym, subst}
-use Rattle.needs.specs.Table.{has}
-use Rattle.needs.proofs.NumberLemmas.{apart}
-use Rattle.needs.proofs.numbers.Numbers.is_apart.Goals as goal
-
-pub returns : goal.returns
-returns c none n h k =
-    apart c.self.inside.word c.other.inside.word n none (subst (λ w. IsTrue (has w n)) (sym c.self.view_is) h)
-    (subst (λ w. IsTrue (has w n)) (sym c.other.view_is) k)

@@ -1,5 +1,0 @@
-use Rattle.std.proofs.Common.{length}
-use Rattle.number_bytes.proofs.equality.+are_equal.Given as goal
-
-abbrev pub decreases-are_equal : goal.decreases-are_equal
-decreases-are_equal l = length l.one.now

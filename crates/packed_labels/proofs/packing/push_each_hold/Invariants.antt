@@ -1,8 +1,0 @@
-use Rattle.std.proofs.Common.{◌≡◌, ◌++◌, take}
-use Rattle.std.specs.List.{flat_map}
-use Rattle.packed_labels.specs.Packed.{hold_bytes}
-use Rattle.packed_labels.proofs.packing.push_each_hold.Given as goal
-
-abbrev pub invariant-loop-hold : goal.invariant-loop-hold
-invariant-loop-hold l =
-    l.out.items ≡ l.fn.out.items ++ flat_map hold_bytes (take l.hold-index l.holds)

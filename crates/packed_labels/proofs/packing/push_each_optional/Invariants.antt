@@ -1,8 +1,0 @@
-use Rattle.std.proofs.Common.{◌≡◌, ◌++◌, take}
-use Rattle.std.specs.List.{flat_map}
-use Rattle.state_keys.specs.Bytes.{number, optional}
-use Rattle.packed_labels.proofs.packing.push_each_optional.Given as goal
-
-abbrev pub invariant-loop-age : goal.invariant-loop-age
-invariant-loop-age l =
-    l.out.items ≡ l.fn.out.items ++ flat_map (optional number) (take l.age-index l.ages)

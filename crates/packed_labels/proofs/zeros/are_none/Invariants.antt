@@ -1,8 +1,0 @@
-use Rattle.std.proofs.Common.{◌≡◌, [], take}
-use Rattle.std.specs.List.{flat_map}
-use Rattle.state_keys.specs.Bytes.{number, optional}
-use Rattle.packed_labels.specs.Packed.{bare}
-use Rattle.packed_labels.proofs.zeros.are_none.Given as goal
-
-abbrev pub invariant-loop-n : goal.invariant-loop-n
-invariant-loop-n l = bare (flat_map (optional number) (take l.n-index l.numbers)) ≡ []

@@ -1,5 +1,0 @@
-use Rattle.run_bounds.proofs.Lost.{lost_change_nothing}
-use Rattle.run_bounds.proofs.laws.lost_change_nothing.Goals as goal
-
-pub returns : goal.returns
-returns c = lost_change_nothing

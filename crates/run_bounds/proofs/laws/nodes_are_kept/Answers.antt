@@ -1,5 +1,0 @@
-use Rattle.run_bounds.proofs.Covering.{nodes_are_kept}
-use Rattle.run_bounds.proofs.laws.nodes_are_kept.Goals as goal
-
-pub returns : goal.returns
-returns c = nodes_are_kept

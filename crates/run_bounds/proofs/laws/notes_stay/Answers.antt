@@ -1,5 +1,0 @@
-use Rattle.run_bounds.proofs.Notes.{notes_stay}
-use Rattle.run_bounds.proofs.laws.notes_stay.Goals as goal
-
-pub returns : goal.returns
-returns c = notes_stay

@@ -1,5 +1,0 @@
-use Rattle.run_bounds.proofs.Trying.{one_state_tells}
-use Rattle.run_bounds.proofs.laws.one_state_tells.Goals as goal
-
-pub returns : goal.returns
-returns c = one_state_tells c.keys_tell_futures.ensures

@@ -1,5 +1,0 @@
-use Rattle.run_bounds.proofs.Bounding.{searches_bound}
-use Rattle.run_bounds.proofs.laws.searches_bound.Goals as goal
-
-pub returns : goal.returns
-returns c = searches_bound

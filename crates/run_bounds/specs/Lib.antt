@@ -1,5 +1,0 @@
-pub mod Nodes
-pub mod Going
-pub mod Bounds
-pub mod Trying
-pub mod Lost

@@ -1,3 +1,0 @@
-pub mod Running
-pub mod Times
-pub mod Nothing

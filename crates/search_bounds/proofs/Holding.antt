@@ -1,0 +1,31 @@
+-- Bounds of the upper part by itself hold above.
+use Rattle.std.proofs.Common.{ℕ, ◌≡◌, List, subst}
+use Rattle.osek_base.specs.System.{System}
+use Rattle.osek_base.specs.Proper.{IsProper}
+use Rattle.osek_base.specs.Separable.{Separable}
+use Rattle.osek_base.specs.Agree.{upper_part}
+use Rattle.search.specs.declared.outcome.Outcome.{Outcome}
+use Rattle.search.specs.declared.outcome.Outcome.TheVariants.{Decided, Undecided}
+use Rattle.search_peaks.specs.Peaks.{Peaks}
+use Rattle.law_bounds.specs.Bounds.{AreBounds, AreBoundsUpTo}
+use Rattle.law_upper.specs.FiguresAbove.{BoundsOfThePartHold}
+use Rattle.search_nodes.specs.Found.{Says}
+use Rattle.search_bounds.specs.Above.{BoundAll, BoundAllUpTo}
+
+pub hold_above : BoundsOfThePartHold → (S part : System) (p mode : ℕ) (distances : List ℕ) (cap : ℕ) (peaks : Peaks)
+    (outcome : Outcome) → IsProper S → Separable S p → part ≡ upper_part S p
+    → Says outcome (AreBounds part mode distances cap peaks) (AreBoundsUpTo part mode distances cap peaks)
+    → Says outcome (BoundAll S p mode distances cap peaks) (BoundAllUpTo S p mode distances cap peaks)
+hold_above hold S part p mode distances cap peaks (Decided progress) proper separable same are =
+    let bounds = subst (λ (T : System). AreBounds T mode distances cap peaks) same are in
+    record {
+      whole = (hold.whole S p proper separable).ever mode distances cap peaks bounds;
+      others = λ B one. (hold.others S B p one).ever mode distances cap peaks bounds;
+    }
+hold_above hold S part p mode distances cap peaks (Undecided obstacle progress) proper separable same are =
+    let count = progress.levels in
+    let bounds = subst (λ (T : System). AreBoundsUpTo T mode distances cap peaks count) same are in
+    record {
+      whole = (hold.whole S p proper separable).up_to mode distances cap peaks count bounds;
+      others = λ B one. (hold.others S B p one).up_to mode distances cap peaks count bounds;
+    }

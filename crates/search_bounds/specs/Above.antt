@@ -1,0 +1,27 @@
+-- Partitions. Bounds of an upper part that hold in every system that has it.
+use Rattle.std.specs.Prelude.{ℕ, List}
+use Rattle.osek_base.specs.System.{System}
+use Rattle.search_nodes.specs.declared.found.Bounds.{Bounds}
+use Rattle.search_nodes.specs.Found.{Says}
+use Rattle.search_peaks.specs.Peaks.{Peaks}
+use Rattle.law_upper.specs.Above.{AreOneAbove}
+use Rattle.law_upper.specs.FiguresAbove.{AreBoundsAbove, AreBoundsAboveUpTo}
+
+-- in the system itself, and in each that is separable at p and agrees with it from p upward
+pub record BoundAll (S : System) (p mode : ℕ) (distances : List ℕ) (cap : ℕ)
+    (peaks : Peaks) : Type 0 where
+  pub whole : AreBoundsAbove S p mode distances cap peaks
+  pub others : (B : System) → AreOneAbove S B p → AreBoundsAbove B p mode distances cap peaks
+
+-- for so many ticks at most
+pub record BoundAllUpTo (S : System) (p mode : ℕ) (distances : List ℕ) (cap : ℕ) (peaks : Peaks)
+    (count : ℕ) : Type 0 where
+  pub whole : AreBoundsAboveUpTo S p mode distances cap peaks count
+  pub others : (B : System) → AreOneAbove S B p
+      → AreBoundsAboveUpTo B p mode distances cap peaks count
+
+-- where the search is decided for ever, else for as many ticks as all that can come was tried in
+abbrev pub HoldAbove : System → ℕ → ℕ → List ℕ → Bounds → Type 0
+HoldAbove S p mode distances found =
+    Says found.outcome (BoundAll S p mode distances found.cap found.peaks)
+    (BoundAllUpTo S p mode distances found.cap found.peaks)

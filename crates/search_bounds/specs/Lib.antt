@@ -1,0 +1,4 @@
+pub mod Held
+pub mod Exploring
+pub mod Invariant
+pub mod Above

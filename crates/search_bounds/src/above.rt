@@ -1,0 +1,51 @@
+//! The search through all states of an upper part by itself.
+
+ghost use Rattle.std.specs.Prelude.{◌≡◌, IfOk};
+ghost use Rattle.osek_base.specs.Separable.{Separable};
+ghost use Rattle.osek_base.specs.Agree.{upper_part};
+ghost use Rattle.search_bounds.specs.Above.{HoldAbove};
+
+use crate::finding::find_bounds;
+use law_upper::bounds_of_the_part_hold;
+use osek_base::{ModeId, System};
+use partition_check::upper_only;
+use search_nodes::{Bounds, Extent, Watch};
+use std::alloc::{AllocError, Global};
+
+/// An upper part by itself, and its bounds.
+#[derive(Drop)]
+pub struct UpperBounds {
+    /// The part, with names, numbers and modes of its own objects.
+    pub part: System,
+    /// What a search through all its states has come to.
+    pub bounds: Bounds,
+}
+
+/// Searches all states that the upper part of a system at p comes to by itself in a mode, whatever
+/// interrupts arrive whose distances, in ticks by routine, are kept; 1 where none is given.
+///
+/// Where the search is decided, the bounds hold inside the system, and inside every system that is
+/// separable at p and agrees with it from p upward, whatever runs below: of upper tasks, all
+/// routines, and upper resources and alarms. Where it isn't, they hold there after as many ticks at
+/// most as the levels that the search has done. How long upper tasks are blocked from below is no
+/// part of them. Who watches is told how far the search has come. An error is want of memory.
+pub fn find_upper_bounds<W: Watch>(
+    alloc: Global,
+    system: &System,
+    p: u8,
+    mode: ModeId,
+    distances: &[u32],
+    extent: Extent,
+    watch: &mut W,
+) -> Result<UpperBounds, AllocError>
+    requires { Separable system.now p }
+    ensures part { IfOk result (λ upper. upper.part ≡ upper_part system.now p) }
+    ensures found { IfOk result (λ upper.
+        HoldAbove system.now p mode distances.now upper.bounds) }
+{
+    system.shows_proper();
+    bounds_of_the_part_hold();
+    let part = upper_only(alloc, system, p)?;
+    let bounds = find_bounds(alloc, &part, mode, distances, extent, watch)?;
+    Ok(UpperBounds { part, bounds })
+}

@@ -1,0 +1,43 @@
+//! The bounds of all runs of a system.
+
+ghost use Rattle.std.specs.Prelude.{◌≡◌, IfOk};
+ghost use Rattle.search_nodes.specs.Found.{AreFound};
+
+use crate::explorer::Explorer;
+use law_bounds::{levels_bound, searches_bound};
+use osek_base::{ModeId, System};
+use search::{Limits, search};
+use search_needs::needed_data;
+use search_nodes::{Bounds, Extent, Watch};
+use std::alloc::{AllocError, Global};
+
+/// Searches all states that a system comes to in a mode, whatever interrupts arrive that come at
+/// least as many ticks apart as their routine's distance, 1 where none is given.
+///
+/// Where the search is decided, no run does worse than what it tells: after each number of ticks,
+/// each figure of it is at most the peak, where that is below the cap, and nothing is lost or
+/// refused that hasn't come. Where it isn't, this holds after as many ticks at most as the levels
+/// that the search has done. Who watches is told how far it has come. An error is want of memory.
+pub fn find_bounds<W: Watch>(
+    alloc: Global,
+    system: &System,
+    mode: ModeId,
+    distances: &[u32],
+    extent: Extent,
+    watch: &mut W,
+) -> Result<Bounds, AllocError>
+    ensures found { IfOk result (AreFound system.now mode distances.now) }
+    ensures cap { IfOk result (λ found. found.cap ≡ extent.cap) }
+{
+    system.shows_proper();
+    let needs = needed_data(alloc, system)?;
+    let mut explorer = Explorer::new(alloc, system, &needs, mode, distances, extent.cap, watch)?;
+    let limits = Limits {
+        nodes: extent.nodes,
+        visits: extent.visits,
+    };
+    searches_bound();
+    levels_bound();
+    let searched = search(alloc, &mut explorer, limits);
+    explorer.into_bounds(searched)
+}

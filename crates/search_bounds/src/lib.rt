@@ -1,0 +1,40 @@
+//! Bounds over every run. Where `find_bounds` decides, no run whose interrupts keep the given
+//! distances has longer responses, latencies or holds than it tells, and nothing goes wrong that
+//! it doesn't tell. `find_upper_bounds` says this of an upper part inside every accepted system.
+//!
+//! - `find_bounds`: where the search is decided, for every list of arrivals that keeps the
+//!   distances and after every number of ticks, the figures of the run (as defined in
+//!   `view_figures`) are within the peaks that lie below the cap.
+//! - Nothing is lost, refused or answered other than E_OK that no tick of the search has shown. A
+//!   service that is answered other than E_OK is one of those told.
+//! - In each tick no task has more jobs than the peaks tell. No task's oldest job has been
+//!   blocked for more ticks, where that is below the cap. Where a run's observations tell
+//!   blockers, no job has more than they tell (`AreBoundsUpTo.blockers`).
+//! - A run ends by a ShutdownOS only where the peaks say so.
+//! - Where the search is undecided, all this holds after as many ticks at most as it tells.
+//! - `find_upper_bounds`, which asks for a separable system, searches through the upper part by
+//!   itself. The part is exactly the upper part. Where its search is decided, its peaks bound
+//!   every run of the system and of every one that is separable at p and agrees from p upward;
+//!   where it is undecided, after as many ticks at most as it tells.
+//! - A `Watch` is told of each visit how far the search has come. An error is want of memory.
+//!
+//! A bound is of programs that take exactly these ticks: a job that ends earlier can make another
+//! one later.
+#![tactic(auto)]
+
+mod above;
+mod bases;
+mod current;
+mod explorer;
+mod finding;
+mod noted;
+mod origin;
+mod room;
+mod routines;
+mod ruling;
+mod states;
+mod stops;
+mod way;
+
+pub use above::{UpperBounds, find_upper_bounds};
+pub use finding::find_bounds;

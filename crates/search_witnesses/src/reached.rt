@@ -1,0 +1,75 @@
+//! The figures that are told as some run shows them.
+
+ghost use Rattle.std.specs.Prelude.{IfOk, IsTrue};
+ghost use Rattle.std.specs.List.{All};
+ghost use Rattle.search_witnesses.specs.Shown.{IsBelow, IsReached};
+
+use crate::witness::find_witness;
+use osek_base::{ModeId, System};
+use search_nodes::{Bounds, Figure, figures_of};
+use std::alloc::{AllocError, Global};
+
+/// Whether a figure is told below the cap; so is all that isn't a time, and blockers where the cap
+/// isn't 0.
+fn is_below(found: &Bounds, figure: Figure) -> bool
+    ensures { IsTrue result → IsBelow found.now.cap found.now.peaks figure }
+{
+    match figure {
+        Figure::Response(_) | Figure::Blocked(_) | Figure::Latency(_) | Figure::Hold(_) => {
+            figure.told(&found.peaks) < found.cap
+        }
+        Figure::Blockers(_) => found.cap > 0,
+        Figure::Jobs(_)
+        | Figure::Refusal(_)
+        | Figure::Loss(_)
+        | Figure::RefusedAction(_)
+        | Figure::Errors(_)
+        | Figure::RoutineErrors(_)
+        | Figure::Shutdown => true,
+    }
+}
+
+/// Whether a figure is told below the cap and a run shows it so; at true one does.
+fn is_reached(
+    alloc: Global,
+    system: &System,
+    mode: ModeId,
+    distances: &[u32],
+    found: &Bounds,
+    figure: Figure,
+) -> Result<bool, AllocError>
+    ensures { IfOk result (λ reached. IsTrue reached →
+        IsReached system.now mode distances.now found.now figure) }
+{
+    if !is_below(found, figure) {
+        return Ok(false);
+    }
+    match find_witness(alloc, system, mode, distances, found, figure)? {
+        Some(_run) => Ok(true),
+        None => Ok(false),
+    }
+}
+
+/// The figures of a system that are told below the cap and that a run shows as they are told, where
+/// one is found by which a search has come to them. The interrupts of that run keep the distances,
+/// in ticks by routine, 1 where none is given. An error is want of memory.
+pub fn reached_figures(
+    alloc: Global,
+    system: &System,
+    mode: ModeId,
+    distances: &[u32],
+    found: &Bounds,
+) -> Result<Vec<Figure>, AllocError>
+    ensures { IfOk result (λ figures.
+        All (IsReached system.now mode distances.now found.now) figures.items) }
+{
+    let all = figures_of(alloc, system)?;
+    let mut reached = Vec::new(alloc);
+    for place in 0..all.len() {
+        let figure = all[place];
+        if is_reached(alloc, system, mode, distances, found, figure)? {
+            reached.push(figure)?;
+        }
+    }
+    Ok(reached)
+}

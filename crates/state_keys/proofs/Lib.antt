@@ -1,8 +1,0 @@
-mod Codes
-mod Parts
-mod Ready
-mod Data
-mod Told
-mod Windows
-mod Runs
-mod Equal

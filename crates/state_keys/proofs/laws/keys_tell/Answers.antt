@@ -1,5 +1,0 @@
-use Rattle.state_keys.proofs.Told.{keys_tell}
-use Rattle.state_keys.proofs.laws.keys_tell.Goals as goal
-
-pub returns : goal.returns
-returns c = keys_tell

@@ -1,5 +1,0 @@
-use Rattle.state_keys.proofs.Runs.{runs_are_in_range}
-use Rattle.state_keys.proofs.laws.runs_are_in_range.Goals as goal
-
-pub returns : goal.returns
-returns c = runs_are_in_range

@@ -1,0 +1,22 @@
+-- Each run, by computation.
+use Rattle.std.proofs.Common.{refl}
+use Rattle.std.specs.Fmt.{digits}
+use Rattle.osek_base.specs.Reschedule.{reschedule}
+use Rattle.osek_base.specs.Activation.{activated, released}
+use Rattle.osek_base.specs.Service.{service, unasked_service}
+use Rattle.osek_base.specs.Tick.{alarm_phase, start_phase, execute_phase, tick}
+use Rattle.osek_base.specs.Trace.{boot, run}
+use Rattle.test_runs.proofs.Computed.{worked}
+use Rattle.test_runs.proofs.alarms.Goals as goal
+
+pub returns : goal.returns
+unfolding digits reschedule activated released service unasked_service alarm_phase start_phase execute_phase tick boot run
+returns c =
+    record {
+      run_dispatch_at_end_of_tick = worked refl refl;
+      run_two_alarms_due = worked refl refl;
+      run_absolute_start_now = worked refl refl;
+      run_refused_alarms = worked refl refl;
+      run_refused_action = worked refl refl;
+      run_large_counter = worked refl refl;
+    }

@@ -1,5 +1,0 @@
-use Rattle.std.proofs.Common.{length}
-use Rattle.timelines.proofs.held.+held_bits.Given as goal
-
-abbrev pub decreases-held_bits : goal.decreases-held_bits
-decreases-held_bits l = length l.holders.now

@@ -1,7 +1,0 @@
-use Rattle.timelines.specs.RowSteps.{task_met}
-use Rattle.timelines.proofs.RowLemmas.{AreChangedBelow}
-use Rattle.timelines.proofs.rows.draw_tasks.Given as goal
-
--- the first ones are done, the others aren't
-abbrev pub invariant-loop-number : goal.invariant-loop-number
-invariant-loop-number l = AreChangedBelow l.number (task_met l.system l.observation l.tick) l.initial.tracks l.tracks

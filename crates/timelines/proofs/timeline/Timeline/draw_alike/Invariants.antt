@@ -1,5 +1,0 @@
-use Rattle.timelines.proofs.AlikeLemmas.{AreDrawnBelow}
-use Rattle.timelines.proofs.timeline.Timeline.draw_alike.Given as goal
-
-abbrev pub invariant-loop-tick : goal.invariant-loop-tick
-invariant-loop-tick l = AreDrawnBelow l.system l.observation l.first l.tick l.initial.self l.self

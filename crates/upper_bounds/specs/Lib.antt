@@ -1,4 +1,0 @@
-pub mod Above
-pub mod StatesAbove
-pub mod ExecutedAbove
-pub mod AlarmsAbove

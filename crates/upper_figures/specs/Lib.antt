@@ -1,2 +1,0 @@
-pub mod ShownAbove
-pub mod FiguresAbove

@@ -1,0 +1,12 @@
+use Rattle.std.proofs.Common.{arith}
+use Rattle.view_dumps.specs.Declarations.{task_scope}
+use Rattle.view_dumps.proofs.DeclarationLemmas.{each_more}
+use Rattle.view_dumps.proofs.declarations.push_each_task.Goals as goal
+
+pub loop-number-preserved : goal.loop-number-preserved
+loop-number-preserved c =
+    record {
+      same =
+          each_more (task_scope c.args.system.now.names) c.args.text.now c.loop-number.text c.push_task.new.text c.loop-number.number c.loop-number.invariant.same c.push_task.ensures.same;
+      short = omega (arith, c.push_task.ensures.short, c.loop-number.invariant.short);
+    }

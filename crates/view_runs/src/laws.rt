@@ -1,0 +1,10 @@
+//! What holds of the figures of whole runs.
+
+ghost use Rattle.view_runs.specs.Law.{CountedAreRunFigures};
+
+/// What [`counted_figures`](crate::counted_figures) counts from tick 0 on are the figures of a run
+/// of which the laws speak: those that stay within the bounds of all runs, and those that are the
+/// same whatever stands below a separable upper part.
+pub fn counted_are_run_figures()
+    ensures { CountedAreRunFigures }
+{}

@@ -1,5 +1,0 @@
-use Rattle.witnesses.specs.Running.{IsWatched}
-use Rattle.witnesses.proofs.running.watch_ticks.Given as goal
-
-abbrev pub invariant-loop-tick : goal.invariant-loop-tick
-invariant-loop-tick l = IsWatched l.fn.run l.run l._tick l.number l.watched
