@@ -1,25 +1,26 @@
-# Completions of the command osek, for bash.
+# Completions of the command osek, for bash, as `osek --completions bash` prints them.
 
 # The options of a subcommand, or of the command itself where none is given.
 _osek_options() {
-  local system='--help --in --explain'
   case $1 in
-    '') echo '--help --version' ;;
-    trace) echo "$system --from --to --blocking" ;;
-    upper) echo "$system --alone" ;;
-    vcd) echo "$system --from --to" ;;
-    timeline) echo "$system --from --to --rows" ;;
-    stats) echo "$system --csv --json --from --to --limit --no-loss --no-refusal" ;;
-    bounds) echo "$system --apart --states --longest --upper --csv --json --witness" ;;
-    check) echo "$system --all" ;;
-    partitions) echo "$system --joined" ;;
-    class | show) echo "$system" ;;
+    '') echo '--help --version --man --completions' ;;
+    trace) echo '--help --in --explain --from --to --blocking' ;;
+    upper) echo '--help --in --explain --alone' ;;
+    vcd) echo '--help --in --explain --from --to' ;;
+    timeline) echo '--help --in --explain --from --to --rows' ;;
+    stats) echo '--help --in --explain --csv --json --from --to --limit --no-loss --no-refusal' ;;
+    check) echo '--help --in --explain --all' ;;
+    partitions) echo '--help --in --explain --joined' ;;
+    class) echo '--help --in --explain' ;;
+    show) echo '--help --in --explain' ;;
+    bounds) echo '--help --in --explain --apart --witness --states --longest --upper --csv --json' ;;
     make) echo '--help --output' ;;
     import) echo '--help' ;;
   esac
 }
 
-# Offers, for the word at the cursor, subcommands, options, folders behind options that take one, or names of files.
+# Offers, for the word at the cursor, subcommands, options, folders behind options that take one,
+# or names of files.
 _osek() {
   local word=${COMP_WORDS[COMP_CWORD]} before=${COMP_WORDS[COMP_CWORD - 1]} subcommand='' at
   local subcommands='trace upper vcd timeline stats check partitions class show bounds make import help'
@@ -37,12 +38,16 @@ _osek() {
   done
   COMPREPLY=()
   case $before in
+    --completions)
+      mapfile -t COMPREPLY < <(compgen -W 'bash zsh' -- "$word")
+      return
+      ;;
     --in | -o | --output)
       compopt -o filenames 2> /dev/null
       mapfile -t COMPREPLY < <(compgen -d -- "$word")
       return
       ;;
-    --from | --to | --rows | --limit | --apart | --states | --longest | --upper | --witness) return ;;
+    --from | --to | --rows | --limit | --apart | --witness | --states | --longest | --upper) return ;;
   esac
   case $subcommand,$word in
     *,-*) mapfile -t COMPREPLY < <(compgen -W "$(_osek_options "$subcommand")" -- "$word") ;;
