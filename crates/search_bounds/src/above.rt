@@ -27,8 +27,8 @@ pub struct UpperBounds {
 /// Where the search is decided, the bounds hold inside the system, and inside every system that is
 /// separable at p and agrees with it from p upward, whatever runs below: of upper tasks, all
 /// routines, and upper resources and alarms. Where it isn't, they hold there after as many ticks at
-/// most as the levels that the search has done. How long upper tasks are blocked from below is no
-/// part of them. Who watches is told how far the search has come. An error is want of memory.
+/// most as the levels that the search has done. Who watches is told how far the search has come. An
+/// error is want of memory.
 pub fn find_upper_bounds<W: Watch>(
     alloc: Global,
     system: &System,
