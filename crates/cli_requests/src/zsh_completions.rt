@@ -43,7 +43,7 @@ const TAIL: &str = "        help) _describe subcommand subcommands ;;
 _osek \"$@\"
 ";
 
-/// Adds a text between quotes, in brackets where it is an explanation.
+/// Adds an explanation, which stands between quotes, mostly in brackets.
 fn push_text(script: &mut String, text: &str) -> Result<(), AllocError> {
     for sign in text.chars() {
         match sign {
@@ -123,7 +123,7 @@ fn push_option(
     script.push_str("]")?;
     if let Some(value) = argument.value() {
         script.push_str(":")?;
-        push_text(script, value)?;
+        script.push_str(value)?;
         script.push_str(if value == "FOLDER" { ":_files -/" } else { ":" })?;
     }
     script.push_str("'")

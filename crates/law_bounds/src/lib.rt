@@ -9,12 +9,12 @@
 //! - Where a search has visited all that can come, its peaks bound the figures and each tick of
 //!   every run whose interrupts keep their distances, after every number of ticks
 //!   (`searches_bound`). Where lists of nodes stand for all that can come in so many ticks, after
-//!   at most so many (`levels_bound`).
+//!   at most so many (`levels_bound`). These lists of interrupts end before tick 1,000,000.
 //! - A run that comes twice to states of one key can be gone on so, if in each tick between a job
 //!   of a task is ready or runs, the oldest neither ends nor begins to wait, and the arrivals
 //!   between keep their distances once more. For each number of ticks there is then a run whose
-//!   interrupts keep their distances and in which one job of the task is there for so many
-//!   (`lassos_are_endless`).
+//!   interrupts keep their distances, at any ticks, and in which one job of the task is there for
+//!   so many (`lassos_are_endless`).
 #![tactic(auto)]
 
 mod endless;

@@ -19,7 +19,7 @@
 //! - A `Watch` is told of each visit how far the search has come. An error is want of memory.
 //!
 //! A bound is of programs that take exactly these ticks: a job that ends earlier can make another
-//! one later.
+//! one later. It is of lists of interrupts that end before tick 1,000,000.
 #![tactic(auto)]
 
 mod above;

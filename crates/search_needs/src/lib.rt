@@ -1,6 +1,6 @@
 //! Works out which data of a system's programs is needed, by passes over them. The need that it
-//! answers is closed: states that have the same needed data do the same in each tick
-//! (`law_future`). That it needs no more than it has to isn't proved.
+//! answers is closed: states that have the same needed data record the same in each tick but for
+//! values (`law_future`). That it needs no more than it has to isn't proved.
 //!
 //! `needed_data` goes over the programs until its table is closed: what a jump compares and an
 //! alarm is set to is needed, and whatever a needed register or word is worked out from. That the
