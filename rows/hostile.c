@@ -233,7 +233,7 @@ __attribute__((constructor)) static void begin(void)
         return;
     runs = 0;
     role = JUDGE;
-    if (usual->status > 5 || usual->live != 0) {
+    if (usual->status > 6 || usual->live != 0) {
         wrong++;
         complain("%s: status %d, kept %ld\n", name, usual->status, usual->live);
     }

@@ -13,7 +13,7 @@ _osek_options() {
     partitions) echo '--help --in --explain --joined' ;;
     class) echo '--help --in --explain' ;;
     show) echo '--help --in --explain' ;;
-    bounds) echo '--help --in --explain --apart --witness --states --longest --upper --csv --json' ;;
+    bounds) echo '--help --in --explain --apart --witness --states --longest --upper --csv --json --limit --no-loss --no-refusal' ;;
     make) echo '--help --output' ;;
     import) echo '--help' ;;
   esac

@@ -43,8 +43,7 @@ fn write_answer<'q, O: Write, E: Write>(
             write_lines(alloc, texts, line, lines, from, progress, out)
         }
         Question::View { line, view } => {
-            let limits = request.limits.as_slice();
-            write_view(alloc, texts, line, view, limits, progress, out)
+            write_view(alloc, texts, line, view, request.limits(), progress, out)
         }
         Question::Check { priority, is_whole } => {
             write_cut(alloc, &system_of(alloc, texts)?, priority, is_whole, out)
@@ -57,6 +56,7 @@ fn write_answer<'q, O: Write, E: Write>(
         Question::Bounds(line) => {
             let asked = BoundsAsked {
                 line,
+                limits: request.limits(),
                 is_explained: request.is_explained,
             };
             let mut watch = SearchWatch::new(progress);
@@ -216,8 +216,8 @@ fn is_short(asked: &Result<Asked<'_>, LineError>) -> bool {
 /// Answers a command line, of which the first word is the program's name, and gives the exit
 /// status: 0, also after help; 1 for a refused input, an unreadable file or want of memory; 2 for a
 /// refused line; 3 for a denied partition; 4 for a failed write; 5 for an undecided search; 6 where
-/// a run breaks a limit. For 1 and 4 one line says on `err` what it was, for 6 and of a refused
-/// import a line for each limit and refusal. Where the line asks for it, an explanation of the
+/// a limit is broken. For 1 and 4 one line says on `err` what it was, for 6 and of a refused import
+/// a line for each limit and refusal. Where the line asks for it, an explanation of the
 /// refusal, of the denial or of what is undecided follows on `err`. With `shows_progress` a long
 /// run says on `err`, on one line that is written over and taken away, how far it is.
 pub fn command<S: AsStr, F: Files, O: Write, E: Write>(

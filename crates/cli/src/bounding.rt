@@ -1,17 +1,21 @@
 //! What is written of all runs of a system: bounds, or how far the search for them came.
 
+ghost use Rattle.osek_base.specs.Separable.{Separable};
+
 use cli_answers::{Texts, Verdict, system_of, write_denial};
 use cli_requests::{BoundsLine, Distance};
 use cli_tables::{
     BoundsAsked, SearchWatch, all_distances, distance_fault, mode_id, unknown_figure, write_found,
 };
 use osek_base::System;
+use partition_check::upper_only;
 use partition_isolation::check_isolation;
 use search_bounds::{find_bounds, find_upper_bounds};
 use search_nodes::Extent;
-use std::alloc::Global;
+use std::alloc::{AllocError, Global};
 use std::io::Write;
 use tracer::RunFault;
+use view_runs::{Limit, unknown_limit};
 
 /// How many visits may be made for each state that may be kept.
 const VISITS_OF_STATE: u64 = 100;
@@ -23,6 +27,20 @@ fn extent_of(line: BoundsLine<'_>) -> Extent {
         visits: VISITS_OF_STATE * u64::from(line.states),
         cap: line.longest,
     }
+}
+
+/// The name of the first limit that is of nothing in the part from a priority upward. An error is
+/// want of memory.
+fn unknown_above<'v>(
+    alloc: Global,
+    system: &System,
+    priority: u8,
+    times: &'v [Limit<'v>],
+) -> Result<Option<&'v str>, AllocError>
+    requires { Separable system.now priority }
+{
+    let part = upper_only(alloc, system, priority)?;
+    Ok(unknown_limit(&part, times))
 }
 
 /// Writes the bounds of the part from a priority upward by itself, or the denial.
@@ -38,6 +56,9 @@ fn write_upper<'v, O: Write, E: Write>(
 ) -> Result<Verdict<'v>, RunFault> {
     if let Err(denial) = check_isolation(system, priority) {
         return write_denial(priority, denial.named(system), out);
+    }
+    if let Some(name) = unknown_above(alloc, system, priority, asked.limits.times)? {
+        return Ok(Verdict::NoLimit(name));
     }
     let mode = mode_id(alloc, texts, system, asked.line.mode)?;
     let distances = all_distances(alloc, system, distances)?;
@@ -57,6 +78,9 @@ fn write_whole<'v, O: Write, E: Write>(
     watch: &mut SearchWatch<'_, '_, E>,
     out: &mut O,
 ) -> Result<Verdict<'v>, RunFault> {
+    if let Some(name) = unknown_limit(system, asked.limits.times) {
+        return Ok(Verdict::NoLimit(name));
+    }
     let mode = mode_id(alloc, texts, system, asked.line.mode)?;
     let distances = all_distances(alloc, system, distances)?;
     let extent = extent_of(asked.line);

@@ -11,7 +11,7 @@ use std::alloc::Global;
 use std::io::Write;
 use tracer::{RunFault, StdSink, TraceInput, run, run_blocking, run_upper};
 use view_runs::{
-    Limit, Limits, Progress, RunInput, StatsInput, unknown_limit, unknown_row, write_stats,
+    Limits, Progress, RunInput, StatsInput, unknown_limit, unknown_row, write_stats,
     write_timeline, write_vcd,
 };
 
@@ -75,7 +75,7 @@ fn write_view_of<'v, O: Write, E: Write>(
     system: &System,
     input: RunInput<'_>,
     view: View<'v>,
-    limits: &'v [Limit<'v>],
+    limits: Limits<'v>,
     progress: &mut Progress<'_, E>,
     out: &mut O,
 ) -> Result<Verdict<'v>, RunFault> {
@@ -94,11 +94,7 @@ fn write_view_of<'v, O: Write, E: Write>(
             let asked = StatsInput {
                 form: stats.form,
                 from: stats.from,
-                limits: Limits {
-                    times: limits,
-                    no_loss: stats.no_loss,
-                    no_refusal: stats.no_refusal,
-                },
+                limits,
             };
             return write_held(alloc, system, input, asked, progress, out);
         }
@@ -112,7 +108,7 @@ pub fn write_view<'v, O: Write, E: Write>(
     texts: &Texts,
     line: RunLine<'_>,
     view: View<'v>,
-    limits: &'v [Limit<'v>],
+    limits: Limits<'v>,
     progress: &mut Progress<'_, E>,
     out: &mut O,
 ) -> Result<Verdict<'v>, RunFault> {

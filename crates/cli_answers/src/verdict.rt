@@ -44,6 +44,8 @@ pub enum Verdict<'a> {
     NoDistance(DistanceFault<'a>),
     /// What a search found is written, and whether it has come to its end: a line for each remark.
     Searched { is_decided: bool, remarks: Vec<u8> },
+    /// Bounds are written, and limits are broken: a line for each remark, and then for each limit.
+    Exceeded { remarks: Vec<u8>, broken: String },
     /// The arrivals of a run that shows a figure are written: a line tells its ticks and the
     /// figure, and where it has no bound another one which ticks can come again.
     Witnessed(String),
@@ -66,6 +68,10 @@ impl Verdict<'_> {
             Verdict::NoFigure(wanted) => writeln!(err, "witness: {wanted}"),
             Verdict::NoWitness(wanted) => writeln!(err, "witness: {wanted}: no run is known"),
             Verdict::Searched { remarks, .. } => err.write_all(remarks),
+            Verdict::Exceeded { remarks, broken } => {
+                err.write_all(remarks)?;
+                err.write_all(broken.as_bytes())
+            }
             Verdict::Done | Verdict::Denied(..) | Verdict::AllDenied(..) => Ok(()),
         }
     }
@@ -75,7 +81,7 @@ impl Verdict<'_> {
             Verdict::Done | Verdict::Warned(_) | Verdict::Witnessed(_) => DONE,
             Verdict::NoRow(_) => REFUSED,
             Verdict::Denied(..) | Verdict::AllDenied(..) => DENIED,
-            Verdict::Broken(_) => BROKEN,
+            Verdict::Broken(_) | Verdict::Exceeded { .. } => BROKEN,
             Verdict::NoLimit(_) | Verdict::NoDistance(_) => REFUSED,
             Verdict::NoFigure(_) | Verdict::NoWitness(_) => REFUSED,
             Verdict::Searched {

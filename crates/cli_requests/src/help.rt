@@ -138,6 +138,14 @@ pub(crate) const BOUNDS_CSV: &str =
 pub(crate) const BOUNDS_JSON: &str =
     "Prints JSON: an object by kinds, in each one by names, and in each of these one by columns";
 
+pub(crate) const BOUNDS_LIMIT: &str =
+    "Exits with 6 where some response of the task, or the latency of the routine, may take more ticks";
+
+pub(crate) const BOUNDS_NO_LOSS: &str = "Exits with 6 where an interrupt may be lost";
+
+pub(crate) const BOUNDS_NO_REFUSAL: &str =
+    "Exits with 6 where an activation or an alarm's action may be refused";
+
 pub(crate) const WITNESS: &str =
     "In place of the tables: the arrival list of a run that shows the figure; FIGURE greatest, blocked, blockers, jobs, refused, errors, latency, losses, longest, comes or the place of a service";
 
@@ -152,6 +160,9 @@ would have to be kept, `undecided:` is printed, and the exit status is 5.
 
 Example, interrupts of Crank at least 20 ticks apart:
   osek bounds system.oil programs.asm Normal --apart Crank=20
+
+Held to limits, for scripts:
+  osek bounds system.oil programs.asm Normal --apart Crank=20 --limit Inject=30 --no-loss
 
 A run in which a response of the task Inject takes as many ticks; their number stands on standard error:
   osek bounds system.oil programs.asm Normal --apart Crank=20 --witness Inject > longest.irq";
@@ -191,7 +202,7 @@ pub(crate) const STATUSES: &str = "Exit status:
   3  a denied partition; standard output has the denial
   4  a failed write
   5  an undecided search of `bounds`; standard output has how far it came
-  6  a limit of `stats` is broken; standard error has a line for each
+  6  a limit of `stats` or `bounds` is broken; standard error has a line for each
 
 `osek SUBCOMMAND --help` tells the words of a subcommand.";
 

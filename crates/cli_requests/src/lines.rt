@@ -3,7 +3,7 @@
 use crate::argument::{Argument, Takes};
 use crate::bounds_line::{MAX_LONGEST, MAX_STATES};
 use crate::help;
-use crate::subcommand::Subcommand;
+use crate::subcommand::{Exclusion, Subcommand};
 use clap::builder::ValueParser;
 use clap::{Arg, ArgAction, Command};
 use osek_base::{MAX_TASK_PRIORITY, MAX_TICKS};
@@ -40,6 +40,18 @@ const PART: [Argument; 2] = [
     Argument::Option("to", "TICK", TICKS, help::TO),
 ];
 
+/// Figures are written in one form.
+const ONE_FORM: Exclusion = Exclusion {
+    name: "json",
+    others: &["csv"],
+};
+
+/// A run stands in place of tables, whose figures are held to limits.
+const NO_TABLES: Exclusion = Exclusion {
+    name: "witness",
+    others: &["csv", "json", "limit", "no-loss", "no-refusal"],
+};
+
 fn trace() -> Subcommand {
     Subcommand {
         name: "trace",
@@ -51,7 +63,7 @@ fn trace() -> Subcommand {
             &PART,
             &[Argument::Flag("blocking", help::BLOCKING)],
         ],
-        alternatives: &[],
+        exclusions: &[],
     }
 }
 
@@ -61,7 +73,7 @@ fn upper() -> Subcommand {
         about: "Prints the part of the trace from priority P upward",
         example: help::UPPER_EXAMPLE,
         arguments: &[&SYSTEM, &RUN, &[P, Argument::Flag("alone", help::ALONE)]],
-        alternatives: &[],
+        exclusions: &[],
     }
 }
 
@@ -71,7 +83,7 @@ fn vcd() -> Subcommand {
         about: "Prints a run as a value change dump, for waveform viewers",
         example: help::VCD_EXAMPLE,
         arguments: &[&SYSTEM, &RUN, &PART],
-        alternatives: &[],
+        exclusions: &[],
     }
 }
 
@@ -86,7 +98,7 @@ fn timeline() -> Subcommand {
             &PART,
             &[Argument::Option("rows", "NAMES", Takes::Text, help::ROWS)],
         ],
-        alternatives: &[],
+        exclusions: &[],
     }
 }
 
@@ -108,7 +120,7 @@ fn stats() -> Subcommand {
                 Argument::Flag("no-refusal", help::NO_REFUSAL),
             ],
         ],
-        alternatives: &["csv", "json"],
+        exclusions: &[ONE_FORM],
     }
 }
 
@@ -118,7 +130,7 @@ fn check() -> Subcommand {
         about: "Checks that the part from priority P upward is separable from the part below",
         example: help::CHECK_EXAMPLE,
         arguments: &[&SYSTEM, &[P, Argument::Flag("all", help::ALL)]],
-        alternatives: &[],
+        exclusions: &[],
     }
 }
 
@@ -128,7 +140,7 @@ fn partitions() -> Subcommand {
         about: "Checks that at each priority, from 0 to the greatest of a task",
         example: help::PARTITIONS_EXAMPLE,
         arguments: &[&SYSTEM, &[Argument::Flag("joined", help::JOINED)]],
-        alternatives: &[],
+        exclusions: &[],
     }
 }
 
@@ -138,7 +150,7 @@ fn class() -> Subcommand {
         about: "Prints the conformance class of a system",
         example: help::CLASS_EXAMPLE,
         arguments: &[&SYSTEM],
-        alternatives: &[],
+        exclusions: &[],
     }
 }
 
@@ -148,7 +160,7 @@ fn show() -> Subcommand {
         about: "Prints what a system consists of, and warns of mistakes",
         example: help::SHOW_EXAMPLE,
         arguments: &[&SYSTEM],
-        alternatives: &[],
+        exclusions: &[],
     }
 }
 
@@ -173,9 +185,12 @@ fn bounds() -> Subcommand {
                 Argument::Option("upper", "P", PRIORITY, help::BOUNDS_UPPER),
                 Argument::Flag("csv", help::BOUNDS_CSV),
                 Argument::Flag("json", help::BOUNDS_JSON),
+                Argument::Option("limit", "NAME=TICKS", Takes::Texts, help::BOUNDS_LIMIT),
+                Argument::Flag("no-loss", help::BOUNDS_NO_LOSS),
+                Argument::Flag("no-refusal", help::BOUNDS_NO_REFUSAL),
             ],
         ],
-        alternatives: &["csv", "json", "witness"],
+        exclusions: &[ONE_FORM, NO_TABLES],
     }
 }
 
@@ -188,7 +203,7 @@ fn make() -> Subcommand {
             Argument::Word("FILE", Takes::Text, help::FILE),
             Argument::Required('o', "output", "FOLDER", help::FOLDER),
         ]],
-        alternatives: &[],
+        exclusions: &[],
     }
 }
 
@@ -198,7 +213,7 @@ fn import() -> Subcommand {
         about: "Prints OIL as other kernels use it as the OIL that is read here",
         example: help::IMPORT_EXAMPLE,
         arguments: &[&[Argument::Words("FILE", help::IMPORTED)]],
-        alternatives: &[],
+        exclusions: &[],
     }
 }
 

@@ -76,8 +76,6 @@ fn stats<'a>(matches: &ArgMatches<'a>) -> Question<'a> {
     let stats = StatsLine {
         form: form(matches),
         from,
-        no_loss: matches.get_flag("no-loss"),
-        no_refusal: matches.get_flag("no-refusal"),
     };
     Question::View {
         line,
@@ -92,18 +90,18 @@ fn limit_of(text: &str) -> Option<Limit<'_>> {
     (ticks <= MAX_TICKS).then_some(Limit { name, ticks })
 }
 
-/// The limits of a line; none where its subcommand takes none.
-fn limits<'a>(alloc: Global, matches: &ArgMatches<'a>) -> Result<Vec<Limit<'a>>, Fault> {
-    let mut limits = Vec::new(alloc);
+/// The limits on times of a line; none where its subcommand takes none.
+fn times<'a>(alloc: Global, matches: &ArgMatches<'a>) -> Result<Vec<Limit<'a>>, Fault> {
+    let mut times = Vec::new(alloc);
     if let Some(texts) = matches.get_strs("limit") {
         for text in texts {
             match limit_of(text) {
-                Some(limit) => limits.push(limit)?,
+                Some(limit) => times.push(limit)?,
                 None => return Err(Fault::Refused(ErrorKind::ValueValidation, help::NO_LIMIT)),
             }
         }
     }
-    Ok(limits)
+    Ok(times)
 }
 
 /// Why a line that names a folder is refused: it was taken for the files already, so this is a
@@ -189,7 +187,9 @@ fn request_of<'a>(
         } else {
             question.without_mode()
         },
-        limits: limits(alloc, matches)?,
+        times: times(alloc, matches)?,
+        no_loss: matches.get_flag("no-loss"),
+        no_refusal: matches.get_flag("no-refusal"),
         distances: distances(alloc, matches)?,
         is_explained: matches.get_flag("explain"),
     })

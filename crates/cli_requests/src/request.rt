@@ -2,7 +2,7 @@
 
 use crate::bounds_line::{BoundsLine, Distance};
 use crate::help;
-use view_figure_texts::{Form, Limit};
+use view_figure_texts::{Form, Limit, Limits};
 use view_timelines::MAX_DRAWN;
 
 /// What a run is of besides its system: the name of its arrival list, the mode, and how many ticks,
@@ -31,10 +31,6 @@ pub struct StatsLine {
     pub form: Form,
     /// The first tick that counts.
     pub from: u32,
-    /// Whether a lost interrupt is told by the exit status.
-    pub no_loss: bool,
-    /// Whether a refused activation or action is.
-    pub no_refusal: bool,
 }
 
 /// What is shown of a run besides its trace.
@@ -162,11 +158,26 @@ pub struct Request<'a> {
     pub oil: &'a str,
     pub asm: &'a str,
     pub question: Question<'a>,
-    /// The limits that figures are held to.
-    pub limits: Vec<Limit<'a>>,
+    /// The limits on times that figures are held to.
+    pub times: Vec<Limit<'a>>,
+    /// Whether a lost interrupt is told by the exit status.
+    pub no_loss: bool,
+    /// Whether a refused activation or action is.
+    pub no_refusal: bool,
     /// The distances that interrupts keep.
     pub distances: Vec<Distance<'a>>,
     pub is_explained: bool,
+}
+
+impl<'a> Request<'a> {
+    /// What figures are held to.
+    pub fn limits(&'a self) -> Limits<'a> {
+        Limits {
+            times: self.times.as_slice(),
+            no_loss: self.no_loss,
+            no_refusal: self.no_refusal,
+        }
+    }
 }
 
 /// A system to be made: the name of its description, and of the folder that its files go to.

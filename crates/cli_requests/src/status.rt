@@ -18,5 +18,5 @@ pub const WRITE_FAILED: u8 = 4;
 /// Exit status: a search for bounds stopped before its end.
 pub const UNDECIDED: u8 = 5;
 
-/// Exit status: a run breaks a limit.
+/// Exit status: a limit on a run, or on all runs, is broken.
 pub const BROKEN: u8 = 6;

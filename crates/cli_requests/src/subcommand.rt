@@ -4,6 +4,13 @@ use crate::argument::Argument;
 use clap::{Arg, Command};
 use std::alloc::{AllocError, Global};
 
+/// An option of a subcommand, and others beside which it can't stand.
+#[derive(Clone, Copy)]
+pub(crate) struct Exclusion {
+    pub name: &'static str,
+    pub others: &'static [&'static str],
+}
+
 /// A subcommand, with what its help says of it.
 #[derive(Clone, Copy)]
 pub(crate) struct Subcommand {
@@ -13,17 +20,19 @@ pub(crate) struct Subcommand {
     pub example: &'static str,
     /// Its words and options, in the order of its help.
     pub arguments: &'static [&'static [Argument]],
-    /// Options of which a line has at most one.
-    pub alternatives: &'static [&'static str],
+    /// The options that don't go together, each two of them once.
+    pub exclusions: &'static [Exclusion],
 }
 
 impl Subcommand {
-    /// Of the alternatives those before a name, with which it conflicts; none where it isn't one.
+    /// The options beside which that of a name is told not to stand.
     fn conflicts(&self, name: &str) -> &'static [&'static str] {
-        match self.alternatives.iter().position(|other| *other == name) {
-            Some(place) => &self.alternatives[..place],
-            None => &[],
+        for exclusion in self.exclusions {
+            if exclusion.name == name {
+                return exclusion.others;
+            }
         }
+        &[]
     }
 
     fn args<'a>(&self, alloc: Global) -> Result<Vec<Arg<'a>>, AllocError> {

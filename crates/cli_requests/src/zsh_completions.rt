@@ -64,25 +64,31 @@ fn push_name(script: &mut String, name: &str) -> Result<(), AllocError> {
     script.push_str(name)
 }
 
-/// Adds the options beside which this one can't stand: its alternatives.
+/// Adds an option beside which another one can't stand, behind those before it.
+fn push_other(script: &mut String, name: &str, is_first: bool) -> Result<(), AllocError> {
+    script.push_str(if is_first { "(" } else { " " })?;
+    push_name(script, name)
+}
+
+/// Adds the options beside which this one can't stand.
 fn push_excluded(
     script: &mut String,
     subcommand: &Subcommand,
     name: &str,
 ) -> Result<(), AllocError> {
-    if !subcommand.alternatives.contains(&name) {
-        return Ok(());
-    }
     let mut is_first = true;
-    script.push_str("(")?;
-    for other in subcommand.alternatives {
-        if *other != name {
-            script.push_str(if is_first { "" } else { " " })?;
-            push_name(script, other)?;
+    for exclusion in subcommand.exclusions {
+        if exclusion.name == name {
+            for other in exclusion.others {
+                push_other(script, other, is_first)?;
+                is_first = false;
+            }
+        } else if exclusion.others.contains(&name) {
+            push_other(script, exclusion.name, is_first)?;
             is_first = false;
         }
     }
-    script.push_str(")")
+    script.push_str(if is_first { "" } else { ")" })
 }
 
 /// Adds how often an option may stand, beside which others, and how it is written.
@@ -104,8 +110,8 @@ fn push_written(
         script.push_str(name)?;
         return script.push_str("=}'");
     }
-    script.push_str(if argument.is_many() { "*" } else { "" })?;
     push_excluded(script, subcommand, name)?;
+    script.push_str(if argument.is_many() { "*" } else { "" })?;
     push_name(script, name)?;
     script.push_str(if argument.value().is_some() { "=" } else { "" })
 }

@@ -7,11 +7,13 @@ use kernel::BootFault;
 use osek_base::{ModeId, System};
 use std::alloc::Global;
 use tracer::RunFault;
+use view_figure_texts::Limits;
 
-/// What is asked of bounds, and whether it is said what the figures mean.
+/// What is asked of bounds, what they are held to, and whether it is said what the figures mean.
 #[derive(Clone, Copy)]
 pub struct BoundsAsked<'v> {
     pub line: BoundsLine<'v>,
+    pub limits: Limits<'v>,
     pub is_explained: bool,
 }
 

@@ -76,3 +76,21 @@ impl fmt::Display for Cell {
         }
     }
 }
+
+/// A figure as a table prints it, without the spaces before it.
+#[derive(Clone, Copy)]
+pub struct Shown(pub Cell);
+
+impl fmt::Display for Shown {
+    fn fmt<W: fmt::Write>(&self, f: &mut fmt::Formatter<W>) -> fmt::Result {
+        let cell = self.0;
+        match cell {
+            Cell::Time { is_reached, .. }
+            | Cell::Count { is_reached, .. }
+            | Cell::Coming { is_reached, .. } => {
+                write!(f, "{}{cell}", if is_reached { "" } else { "<=" })
+            }
+            Cell::Above | Cell::Unbounded => f.write_str(cell.standing()),
+        }
+    }
+}

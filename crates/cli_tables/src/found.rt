@@ -1,6 +1,7 @@
 //! What is written of what a search has found: bounds, the run that is wanted, or how far it came.
 
 use crate::asked::BoundsAsked;
+use crate::broken::broken_bounds;
 use crate::csv_text::write_lines;
 use crate::json_text::json_of;
 use crate::remarks::write_remarks;
@@ -9,7 +10,7 @@ use crate::witnessing::write_witness;
 use crate::writing::{write_decided, write_undecided, write_up_to};
 use cli_answers::Verdict;
 use osek_base::{ModeId, System};
-use search::{Outcome, Progress};
+use search::{Obstacle, Outcome, Progress};
 use search_nodes::Bounds;
 use search_witnesses::{endless_tasks, failing_services, reached_figures};
 use std::alloc::Global;
@@ -52,6 +53,55 @@ fn remarks_of(
     Ok(remarks)
 }
 
+/// Writes how far a search came that stopped before its end, and at what. Nothing is promised of
+/// its figures, so no limit is told to be broken.
+fn write_open<'v, O: Write>(
+    alloc: Global,
+    system: &System,
+    found: &Bounds,
+    obstacle: Obstacle,
+    progress: Progress,
+    asked: BoundsAsked<'v>,
+    out: &mut O,
+) -> Result<Verdict<'v>, RunFault> {
+    let told = Told {
+        bounds: found,
+        reached: &[],
+        endless: &[],
+        failing: &[],
+    };
+    write_undecided(obstacle, progress, out)?;
+    if asked.line.form == Form::Table && asked.line.witness.is_none() {
+        write_up_to(system, told, progress, out)?;
+    }
+    Ok(Verdict::Searched {
+        is_decided: false,
+        remarks: remarks_of(alloc, system, told, asked.is_explained)?,
+    })
+}
+
+/// Writes bounds, and tells which limits they break.
+fn write_held<'v, O: Write>(
+    alloc: Global,
+    system: &System,
+    told: Told<'_, '_>,
+    progress: Progress,
+    asked: BoundsAsked<'v>,
+    out: &mut O,
+) -> Result<Verdict<'v>, RunFault> {
+    let remarks = remarks_of(alloc, system, told, asked.is_explained)?;
+    let broken = broken_bounds(alloc, system, told, asked.limits)?;
+    write_bounds(alloc, system, told, progress, asked.line.form, out)?;
+    if broken.is_empty() {
+        Ok(Verdict::Searched {
+            is_decided: true,
+            remarks,
+        })
+    } else {
+        Ok(Verdict::Exceeded { remarks, broken })
+    }
+}
+
 /// Writes what was found of a system: its bounds, or the run that is wanted, or how far the search
 /// came.
 pub fn write_found<'v, O: Write>(
@@ -63,27 +113,13 @@ pub fn write_found<'v, O: Write>(
     asked: BoundsAsked<'v>,
     out: &mut O,
 ) -> Result<Verdict<'v>, RunFault> {
-    let BoundsAsked { line, is_explained } = asked;
     let progress = match found.outcome {
         Outcome::Decided(progress) => progress,
         Outcome::Undecided(obstacle, progress) => {
-            let told = Told {
-                bounds: found,
-                reached: &[],
-                endless: &[],
-                failing: &[],
-            };
-            write_undecided(obstacle, progress, out)?;
-            if line.form == Form::Table && line.witness.is_none() {
-                write_up_to(system, told, progress, out)?;
-            }
-            return Ok(Verdict::Searched {
-                is_decided: false,
-                remarks: remarks_of(alloc, system, told, is_explained)?,
-            });
+            return write_open(alloc, system, found, obstacle, progress, asked, out);
         }
     };
-    if let Some(wanted) = line.witness {
+    if let Some(wanted) = asked.line.witness {
         return write_witness(alloc, system, mode, distances, found, wanted, out);
     }
     let reached = reached_figures(alloc, system, mode, distances, found)?;
@@ -95,9 +131,5 @@ pub fn write_found<'v, O: Write>(
         endless: &endless,
         failing: &failing,
     };
-    write_bounds(alloc, system, told, progress, line.form, out)?;
-    Ok(Verdict::Searched {
-        is_decided: true,
-        remarks: remarks_of(alloc, system, told, is_explained)?,
-    })
+    write_held(alloc, system, told, progress, asked, out)
 }

@@ -1,9 +1,10 @@
 //! Writes what a search through every run has found: bounds as tables, comma-separated values and
-//! JSON, what they mean, or a run that shows one. No contract but on its own helpers: it is
-//! tested.
+//! JSON, what they mean, which limits they break, or a run that shows one. No contract but on its
+//! own helpers: it is tested.
 #![tactic(auto)]
 
 mod asked;
+mod broken;
 mod cells;
 mod csv_text;
 mod distances;
@@ -20,6 +21,7 @@ mod witnessing;
 mod writing;
 
 pub use asked::{BoundsAsked, mode_id, unknown_figure};
+pub use broken::broken_bounds;
 pub use csv_text::write_lines;
 pub use distances::{all_distances, distance_fault};
 pub use failed_service::service_text;

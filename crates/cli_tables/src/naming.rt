@@ -15,7 +15,7 @@ pub struct NamedFigure {
 }
 
 /// The number of the object of a kind that has that name.
-fn number_of(system: &System, kind: Kind, name: &str) -> Option<usize> {
+pub(crate) fn number_of(system: &System, kind: Kind, name: &str) -> Option<usize> {
     for number in 0..kind.count(system) {
         if kind.name(system, number) == name {
             return Some(number);

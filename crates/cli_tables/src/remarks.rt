@@ -90,7 +90,16 @@ fn why(obstacle: Obstacle) -> &'static str {
     match obstacle {
         Obstacle::Nodes => "as many states are kept as --states allows",
         Obstacle::Visits => "100 times as many visits were made as --states allows to be kept",
-        Obstacle::NoPlace => "there is no place for a state that comes",
+        Obstacle::NoPlace => "a state that comes can't be kept, or lies 1000000 ticks behind boot",
+    }
+}
+
+/// What may let a search end that stopped at it.
+fn help(obstacle: Obstacle) -> &'static str {
+    match obstacle {
+        Obstacle::Nodes | Obstacle::Visits =>
+            "more --states, greater distances or a shorter --longest",
+        Obstacle::NoPlace => "a coarser tick, or counters and cycles that come round sooner,",
     }
 }
 
@@ -99,8 +108,7 @@ fn why(obstacle: Obstacle) -> &'static str {
 pub fn write_remarks<W: Write>(system: &System, told: Told<'_, '_>, out: &mut W) -> io::Result<()> {
     if let Outcome::Undecided(obstacle, _) = told.bounds.outcome {
         writeln!(out, "undecided: {}", why(obstacle))?;
-        let hint = b" more --states, greater distances or a shorter --longest may let it end\n";
-        return out.write_all(hint);
+        return writeln!(out, " {} may let it end", help(obstacle));
     }
     for kind in &KINDS {
         for number in 0..kind.count(system) {

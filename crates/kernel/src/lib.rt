@@ -29,6 +29,8 @@
 //! - `is_over`: exactly after a ShutdownOS (`is_shut_down`) or at the last tick.
 //! - `blockers`: exactly the number of blockers of the tick done last, in a kernel that counts
 //!   them (`Counted`, the usual one). One that doesn't (`NotCounted`) answers none.
+//! - `word`, `shared_word`: exactly the word that the run's state has. `queues`: for each level
+//!   exactly the tasks that are ready there in it and don't run.
 //! - `task_at`, `job_count`, `holder`, `active_routine`, `is_pending`: exactly what the run's
 //!   state has. `see_holders`: exactly who holds each resource, the first task whose oldest job
 //!   does, in one pass over the tasks. `last_arrived`: the routines whose interrupts arrived in
@@ -67,6 +69,7 @@ mod copying;
 mod execute_phase;
 mod executing;
 mod holders;
+mod kept_state;
 mod kernel;
 mod last_tick;
 mod looker;

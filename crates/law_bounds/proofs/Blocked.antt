@@ -15,7 +15,7 @@ use Rattle.law_figures.specs.Blocking.{blocked_in, blocked_next, blocking}
 use Rattle.law_figures.specs.RunFigures.{label_before, task_ticks}
 use Rattle.search_labels.specs.Labels.{Labels, blocked_of}
 use Rattle.search_labels.specs.Ticks.{blocked_tick}
-use Rattle.law_bounds.specs.Bounds.{blocked_at, run_tick}
+use Rattle.law_bounds.specs.RunTicks.{blocked_at, run_tick}
 use Rattle.law_bounds.specs.Nodes.{Setting, lower_from, routines_of, seen_from}
 use Rattle.law_bounds.proofs.Arrived.{StandFor, set_at}
 use Rattle.law_bounds.proofs.Capped.{blocked_within}

@@ -33,7 +33,8 @@ use Rattle.view_figures.specs.TaskSums.{task_counts}
 use Rattle.law_figures.specs.Blocking.{blocking, is_blocked_in}
 use Rattle.law_figures.proofs.Counts.{counts_tell}
 use Rattle.law_figures.specs.RunFigures.{AreRunFigures, AreTicksOf, label_before}
-use Rattle.law_bounds.specs.Bounds.{TellBlockers, blocked_at, run_tick}
+use Rattle.law_figures.specs.Telling.{TellBlockers}
+use Rattle.law_bounds.specs.RunTicks.{blocked_at, run_tick}
 use Rattle.law_bounds.proofs.Lower.{executor_told, lower_blocks}
 
 -- ---- parts of a list

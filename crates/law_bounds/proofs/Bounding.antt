@@ -37,7 +37,8 @@ use Rattle.search_labels.specs.Labels.{ages_of, distance_of, hold_of, pending_of
 use Rattle.search_peaks.specs.Peaks.{IsNoted, Peaks, TickShown, has_come, peak, routine_fails, task_fails}
 use Rattle.search_labels.specs.Ticks.{holder_tick, routine_tick, task_in, task_tick}
 use Rattle.search_keys.specs.Key.{key}
-use Rattle.law_bounds.specs.Bounds.{AreWithin, IsTickWithin, KeepDistances, LevelsBound, SearchesBound}
+use Rattle.law_bounds.specs.Bounds.{AreWithin, IsTickWithin, LevelsBound, SearchesBound}
+use Rattle.law_bounds.specs.Distances.{KeepDistances}
 use Rattle.law_bounds.specs.Nodes.{AreNoted, IsAfter, May, Node, Setting, StandsFor, routines_of, rules_of, tick_shown_from}
 use Rattle.law_bounds.proofs.Arrived.{StandFor, in_set, set_at, set_is_low, set_stands}
 use Rattle.law_bounds.proofs.Blocked.{blocked_low}
@@ -45,6 +46,7 @@ use Rattle.law_bounds.proofs.Blockers.{figures_low}
 use Rattle.law_bounds.proofs.Capped.{held_within, latency_within, leaving_within, oldest_within, waited_within}
 use Rattle.law_bounds.proofs.Failing.{failure_same, no_routine_error, no_task_error}
 use Rattle.law_bounds.proofs.Going.{boot_state}
+use Rattle.law_bounds.proofs.RunTicks.{age_low, hold_low, waits_low}
 use Rattle.law_bounds.proofs.Seen.{ages_agree, alarm_same, holds_agree, jobs_same, lost_same, pending_agrees, refused_same, seen_alarms, seen_holders, seen_routines, seen_tasks}
 use Rattle.law_bounds.proofs.Standing.{AreBoundsAt, ages_at, at_least, boot_bounds, hold_at, pending_at, tick_bounds}
 
@@ -272,9 +274,12 @@ module _ (s : Setting) (peaks : Peaks) (count : ℕ) (levels : ℕ → List Node
               ap (λ (t : TaskSeen). t.jobs) (told.tasks k)
               ∙ jobs_same S s.mode arrivals n (routines_of s (set n)) (arrived n) k low in
               omega (arith, few, same);
+          ages = λ k is few. age_low S s.mode arrivals proper k n _ going (oldest_low k is few);
           blocked = λ k low below_cap.
               blocked_low s arrivals n has.node.labels proper going (arrived n) has.bounds k
               (peak peaks.blocked k) low below_cap (noted.blocked k (omega (arith, low, size)));
+          waits = λ i is few. waits_low S s.mode arrivals proper i n _ going (waited_low i is few);
+          holds = λ r is few. hold_low S s.mode arrivals proper r n _ going (held_low r is few);
           shutdown = λ none.
               ap (λ (o : Kept). o.over) (sym (after_tick n going)) ∙ noted.shutdown none;
         }
@@ -386,8 +391,7 @@ as_levels : (s : Setting) (peaks : Peaks) (nodes : List Node)
     → (count : ℕ) → AreLevels (rules_of s) (AreNoted s peaks) count (λ _. nodes)
 as_levels s peaks nodes all count = record {
   first = λ _. all.first;
-  visited =
-      λ k low x there. record { node = x; above = inl refl; visited = all.visited x there };
+  visited = λ k low x at. record { node = x; above = inl refl; visited = all.visited x at };
 }
 
 pub searches_bound : SearchesBound

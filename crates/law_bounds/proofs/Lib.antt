@@ -11,6 +11,8 @@ pub mod Standing
 pub mod Blocked
 pub mod Lower
 pub mod Blockers
+pub mod OneLabel
+pub mod RunTicks
 pub mod Bounding
 pub mod Trying
 pub mod Lost
@@ -18,3 +20,4 @@ pub mod Arriving
 pub mod Known
 pub mod Spacing
 pub mod Rounds
+pub mod Ending

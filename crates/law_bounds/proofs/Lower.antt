@@ -40,7 +40,7 @@ use Rattle.seen_ticks.specs.Observed.{executed_in, is_by, owner_of, state_seen, 
 use Rattle.law_seen.proofs.Shown.{runs_show}
 use Rattle.view_figures.specs.FigureSums.{levels_of, lower_executes}
 use Rattle.law_figures.specs.Blocking.{is_blocked_in, stands_ready}
-use Rattle.law_bounds.specs.Bounds.{run_tick}
+use Rattle.law_bounds.specs.RunTicks.{run_tick}
 
 -- ---- a task of which a job is ready doesn't wait
 

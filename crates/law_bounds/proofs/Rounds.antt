@@ -1,5 +1,5 @@
 -- A run that comes twice to one state while a job stands can be gone on so, round by round.
-use Rattle.std.proofs.Common.{ℕ, zero, suc, ◌≡◌, ◌<◌, ◌≤◌, ◌+◌, ◌-◌, ◌⊎◌, inl, inr, false, List, length, refl, sym, ◌∙◌, ap, subst, subst₂, arith}
+use Rattle.std.proofs.Common.{ℕ, zero, suc, ◌≡◌, ◌<◌, ◌≤◌, ◌+◌, ◌*◌, ◌-◌, inl, inr, false, List, length, refl, sym, ◌∙◌, ap, subst, subst₂, arith}
 use Rattle.std.proofs.lemmas.Bool.{cases_lt}
 use Rattle.osek_base.specs.declared.arrivals.Arrival.{Arrival}
 use Rattle.osek_base.specs.Proper.{IsProper}
@@ -21,7 +21,8 @@ use Rattle.search_keys.specs.Key.{key}
 use Rattle.law_bounds.specs.Going.{GoOnAlike, HaveOneFuture, KeysTellFutures}
 use Rattle.law_bounds.specs.Nodes.{Comes}
 use Rattle.law_bounds.specs.Unending.{StandsSoLong, Stands, StandsBetween}
-use Rattle.law_bounds.specs.Lassos.{IsLasso, LassosAreEndless, again}
+use Rattle.law_bounds.specs.Distances.{KeepDistances}
+use Rattle.law_bounds.specs.Lassos.{GoesOn, IsLasso, LassosAreEndless, again, rounds}
 use Rattle.law_bounds.proofs.Arriving.{first_round, second_round}
 use Rattle.law_bounds.proofs.Known.{known_in}
 use Rattle.law_bounds.proofs.Spacing.{again_before, keep_twice}
@@ -94,7 +95,7 @@ module _ (futures : KeysTellFutures) (S : System) (mode : ℕ) (distances : List
 
       alike : GoOnAlike S need (arriving ys t) (after t) (after u)
       alike =
-          future.next (arriving ys t) (known_in (length S.routines) t ys lasso.keep.known)
+          future.next (arriving ys t) (known_in (length S.routines) t ys lasso.again.known)
           first_stands.going
 
       going_too : (run S mode ys u).state.over ≡ false
@@ -149,68 +150,77 @@ module _ (futures : KeysTellFutures) (S : System) (mode : ℕ) (distances : List
           before = again_before from until xs lasso.before;
           key = equal_at ticks until (until + ticks) (omega (arith, less)) refl (omega arith);
           stands = stands_on;
-          keep = keep_twice S distances from until xs lasso.less lasso.before lasso.keep;
+          keep = lasso.again;
+          again = keep_twice S distances from until xs lasso.less lasso.before lasso.again;
         }
 
-  -- the arrivals of some rounds, of which the last is a lasso
-  record HasRounds (from n : ℕ) : Type 0 where
-    arrivals : List Arrival
-    start : ℕ
-    end : ℕ
-    lasso : Lasso arrivals start end
-    long : from + n ≤ end
-    stands : StandsBetween S mode arrivals from end k
+  -- ---- round by round
 
-  one_round : (xs : List Arrival) (from until : ℕ) → Lasso xs from until → HasRounds from 0
-  one_round xs from until lasso = record {
-    arrivals = xs;
-    start = from;
-    end = until;
-    lasso = lasso;
-    long = (let less = lasso.less in omega (arith, less));
-    stands = lasso.stands;
+  keeps : (n from until : ℕ) (xs : List Arrival) → Lasso xs from until
+      → KeepDistances S distances (rounds n from until xs)
+  keeps zero from until xs lasso = lasso.keep
+  keeps (suc n) from until xs lasso =
+      keeps n until (until + (until - from)) (again from until xs)
+      (next_lasso xs from until lasso)
+
+  -- a round more ends a round later
+  later_end : (n from until : ℕ) → from < until
+      → until + (until - from) + n * (until + (until - from) - until)
+      ≡ until + suc n * (until - from)
+  later_end n from until less =
+      let ticks : ℕ = until - from in
+      let same : until + ticks - until ≡ ticks = omega (arith, less) in
+      ap (λ m. until + ticks + n * m) same ∙ grind arith
+
+  stands_longer : (xs : List Arrival) (from until start : ℕ) → Lasso xs from until
+      → StandsBetween S mode xs start until k
+      → StandsBetween S mode (again from until xs) start (until + (until - from)) k
+  stands_longer xs from until start lasso stands t high low = elim (cases_lt t until) [
+    | inl soon ↦ stands_still xs from until lasso t soon (stands t high soon)
+    | inr far ↦ (next_lasso xs from until lasso).stands t far low
+  ]
+
+  stand_on : (n from until start : ℕ) (xs : List Arrival) → Lasso xs from until
+      → StandsBetween S mode xs start until k
+      → StandsBetween S mode (rounds n from until xs) start (until + n * (until - from)) k
+  stand_on zero from until start xs lasso stands = λ t high low. stands t high (omega (arith, low))
+  stand_on (suc n) from until start xs lasso stands =
+      subst (λ m. StandsBetween S mode (rounds (suc n) from until xs) start m k)
+      (later_end n from until lasso.less)
+      (stand_on n until (until + (until - from)) start (again from until xs)
+      (next_lasso xs from until lasso) (stands_longer xs from until start lasso stands))
+
+  goes_on : (xs : List Arrival) (from until : ℕ) → Lasso xs from until
+      → GoesOn S mode distances xs from until k
+  goes_on xs from until lasso = record {
+    keep = λ n. keeps n from until xs lasso;
+    stands = λ n. stand_on n from until from xs lasso lasso.stands;
   }
 
-  one_round_more : (from n : ℕ) → HasRounds from n → HasRounds from (suc n)
-  one_round_more from n has =
-      let less = has.lasso.less in
-      let long = has.long in
-      let next = next_lasso has.arrivals has.start has.end has.lasso in
-      record {
-        arrivals = again has.start has.end has.arrivals;
-        start = has.end;
-        end = has.end + (has.end - has.start);
-        lasso = next;
-        long = omega (arith, less, long);
-        stands = λ t high low. go t high low (cases_lt t has.end);
-      }
-    where
-      go : (t : ℕ) → from ≤ t → t < has.end + (has.end - has.start)
-          → (t < has.end) ⊎ (has.end ≤ t) → Stands S mode (again has.start has.end has.arrivals) t k
-      go t high low (inl soon) =
-          stands_still has.arrivals has.start has.end has.lasso t soon (has.stands t high soon)
-      go t high low (inr far) =
-          (next_lasso has.arrivals has.start has.end has.lasso).stands t far low
+  -- each has at least a tick
+  no_shorter : (n from until : ℕ) → from < until → from + n ≤ until + n * (until - from)
+  no_shorter zero from until less = omega (arith, less)
+  no_shorter (suc n) from until less =
+      let before = no_shorter n from until less in
+      let more : suc n * (until - from) ≡ n * (until - from) + (until - from) = grind arith in
+      omega (arith, less, before, more)
 
-  rounds : (xs : List Arrival) (from until : ℕ) → Lasso xs from until → (n : ℕ)
-      → HasRounds from n
-  rounds xs from until lasso zero = one_round xs from until lasso
-  rounds xs from until lasso (suc n) =
-      one_round_more from n (rounds xs from until lasso n)
-
-  is_kept : (from n : ℕ) → HasRounds from n → StandsSoLong S mode distances k n
-  is_kept from n has = record {
-    arrivals = again has.start has.end has.arrivals;
+  is_kept : (from until n : ℕ) (xs : List Arrival) → Lasso xs from until
+      → StandsSoLong S mode distances k n
+  is_kept from until n xs lasso = record {
+    arrivals = rounds n from until xs;
     from = from;
-    keep = has.lasso.keep;
+    keep = keeps n from until xs lasso;
     stands = λ t high low.
-        let long = has.long in
-        let soon : t < has.end = omega (arith, low, long) in
-        stands_still has.arrivals has.start has.end has.lasso t soon (has.stands t high soon);
+        let long = no_shorter n from until lasso.less in
+        stand_on n from until from xs lasso lasso.stands t high (omega (arith, low, long));
   }
 
 pub lassos_are_endless : KeysTellFutures → LassosAreEndless
-lassos_are_endless futures S mode distances need arrivals from until k proper enough own lasso
-    count =
-    is_kept futures S mode distances need k proper enough own from count
-    (rounds futures S mode distances need k proper enough own arrivals from until lasso count)
+lassos_are_endless futures S mode distances need arrivals from until k proper enough own lasso =
+    record {
+      goes_on =
+          goes_on futures S mode distances need k proper enough own arrivals from until lasso;
+      ever = λ n.
+          is_kept futures S mode distances need k proper enough own from until n arrivals lasso;
+    }

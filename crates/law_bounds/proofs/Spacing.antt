@@ -11,7 +11,7 @@ use Rattle.seen_ticks.specs.Observed.{times}
 use Rattle.law_runs.proofs.Lists.{all_append, all_kept, all_map, all_weaker}
 use Rattle.law_future.specs.Shown.{arrives}
 use Rattle.search_labels.specs.Labels.{distance_of}
-use Rattle.law_bounds.specs.Unending.{Keep}
+use Rattle.law_bounds.specs.Distances.{KeepDistances}
 use Rattle.law_bounds.specs.Lassos.{again, later, repeated}
 use Rattle.law_bounds.proofs.Arriving.{first_round, second_round}
 
@@ -46,7 +46,7 @@ again_before from until xs before =
 
 module _ (S : System) (distances : List ℕ) (from until : ℕ) (xs : List Arrival)
     (less : from < until) (before : AllByRecursion (λ (a : Arrival). a.tick < until) xs)
-    (keep : Keep S distances (again from until xs)) where
+    (keep : KeepDistances S distances (again from until xs)) where
   abbrev ticks : ℕ
   ticks = until - from
 
@@ -143,7 +143,7 @@ module _ (S : System) (distances : List ℕ) (from until : ℕ) (xs : List Arriv
         subst (λ (v : List ℕ). times i v ≤ 1) (sym (late back t high is)) (keep.once i back)
   ]
 
-  pub keep_twice : Keep S distances twice_more
+  pub keep_twice : KeepDistances S distances twice_more
   keep_twice = record {
     known =
         all_append (λ (a : Arrival). a.routine < length S.routines) once_more

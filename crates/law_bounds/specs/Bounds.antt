@@ -1,39 +1,27 @@
 -- Peaks that bound the figures of every run whose interrupts keep distances.
-use Rattle.std.specs.Prelude.{ℕ, suc, ◌≡◌, ◌<◌, ◌≤◌, false, List, [], Contains, IfSome, Some, None, length, slice_index_or}
-use Rattle.std.specs.List.{AllByRecursion}
-use Rattle.std.specs.Option.{option_map}
+use Rattle.std.specs.Prelude.{ℕ, suc, ◌≡◌, ◌<◌, ◌≤◌, false, List, [], Contains, IfSome, length, slice_index_or}
 use Rattle.osek_base.specs.declared.arrivals.Arrival.{Arrival}
-use Rattle.osek_base.specs.BlockingText.{blockers_at}
 use Rattle.osek_base.specs.Proper.{IsProper}
 use Rattle.osek_base.specs.System.{System}
-use Rattle.osek_base.specs.Trace.{arriving, run}
-use Rattle.law_runs.specs.Arrived.{AreArrivals}
+use Rattle.osek_base.specs.Trace.{run}
 use Rattle.law_future.specs.Need.{Suffices}
-use Rattle.law_future.specs.Covering.{AreSpaced}
-use Rattle.seen_ticks.specs.declared.observation.Observation.{Observation}
-use Rattle.seen_ticks.specs.Observed.{failure_of, owner_of, task_seen, tick_at, times}
-use Rattle.view_figures.specs.declared.task_tick.TaskTick.{TaskTick}
+use Rattle.seen_ticks.specs.Observed.{failure_of, task_seen, tick_at}
 use Rattle.view_figures.specs.AlarmSums.{alarm_figures}
-use Rattle.view_figures.specs.FigureSums.{RunFigures, held_count, levels_of, lower_executes, task_figures}
+use Rattle.view_figures.specs.FigureSums.{RunFigures, held_count, task_figures}
 use Rattle.view_figures.specs.ResourceSums.{resource_figures}
 use Rattle.view_figures.specs.RoutineSums.{routine_figures}
-use Rattle.law_figures.specs.Blocking.{blocked_in, blocking}
-use Rattle.law_figures.specs.Labels.{IsWithin}
+use Rattle.law_figures.specs.Labels.{IsAtMost, IsWithin}
 use Rattle.law_figures.specs.Times.{response_time, routine_time}
-use Rattle.law_figures.specs.RunFigures.{AreRunFigures, label_before}
+use Rattle.law_figures.specs.RunFigures.{AreRunFigures}
+use Rattle.law_figures.specs.Telling.{TellBlockers}
 use Rattle.search_keys.specs.InRange.{NeedsOwnWords}
 use Rattle.search.specs.Searched.{AreAll}
 use Rattle.search.specs.Levels.{AreLevels}
 use Rattle.search.specs.Rules.{AreKept}
-use Rattle.search_labels.specs.Labels.{distance_of}
 use Rattle.search_peaks.specs.Peaks.{Peaks, has_come, most_blockers, peak, routine_fails, task_fails}
+use Rattle.law_bounds.specs.Distances.{KeepDistances}
+use Rattle.law_bounds.specs.RunTicks.{age_at, blocked_at, held_at, waited_at}
 use Rattle.law_bounds.specs.Nodes.{AreNoted, Node, Setting, rules_of}
-
--- interrupts of a routine come at least so many ticks apart, and one of it at most in a tick
-pub record KeepDistances (S : System) (distances : List ℕ) (arrivals : List Arrival) : Type 0 where
-  pub arrive : AreArrivals S arrivals
-  pub spaced : AreSpaced S (distance_of distances) arrivals
-  pub once : (i t : ℕ) → times i (arriving arrivals t) ≤ 1
 
 -- the figures of a run are within peaks that are below a cap, and what hasn't come isn't counted.
 -- The time of a task or routine counts what hasn't ended or started behind the last tick too
@@ -63,26 +51,9 @@ pub record AreWithin (S : System) (cap : ℕ) (peaks : Peaks) (f : RunFigures) :
   pub routine_errors : (i : ℕ) → i < length S.routines → routine_fails peaks.failures i ≡ false
       → (slice_index_or f.routines i (routine_figures [])).errors ≡ 0
 
--- what tick i of a run is for task k: what is seen of it, and whether a lower task executes
-abbrev pub run_tick : System → ℕ → List Arrival → ℕ → ℕ → TaskTick
-run_tick S mode arrivals k i =
-    record {
-      tick = i;
-      seen = task_seen S (tick_at S mode arrivals i) k;
-      lower_executes =
-          lower_executes (levels_of S) (option_map owner_of (tick_at S mode arrivals i).executed) k;
-      has_failed = false;
-      blockers = None;
-    }
-
--- for how many ticks its oldest job has been blocked, tick n counted
-abbrev pub blocked_at : System → ℕ → List Arrival → ℕ → ℕ → ℕ
-blocked_at S mode arrivals k n =
-    blocked_in (run_tick S mode arrivals k n)
-    (label_before blocking (run_tick S mode arrivals k) n)
-
 -- tick n of a run is within peaks: a service that is answered other than E_OK is one of theirs, no
--- task has more jobs, none has been blocked for longer where that is below a cap, and the run is
+-- task has more jobs, the oldest job of none has stood, or has been blocked, for longer, no interrupt
+-- has waited and no resource has been held for longer, each where that is below a cap; and the run is
 -- over behind it only where they say so
 pub record IsTickWithin (S : System) (mode cap : ℕ) (peaks : Peaks) (arrivals : List Arrival)
     (n : ℕ) : Type 0 where
@@ -90,15 +61,15 @@ pub record IsTickWithin (S : System) (mode cap : ℕ) (peaks : Peaks) (arrivals 
       (λ x. Contains peaks.failures x)
   pub jobs : (k : ℕ) → k < length S.tasks
       → (task_seen S (tick_at S mode arrivals n) k).jobs ≤ peak peaks.jobs k
+  pub ages : (k : ℕ) → k < length S.tasks → peak peaks.responses k < cap
+      → IsAtMost (peak peaks.responses k) (age_at S mode arrivals k n)
   pub blocked : (k : ℕ) → k < length S.tasks → peak peaks.blocked k < cap
       → blocked_at S mode arrivals k n ≤ peak peaks.blocked k
+  pub waits : (i : ℕ) → i < length S.routines → peak peaks.latencies i < cap
+      → IsAtMost (peak peaks.latencies i) (waited_at S mode arrivals i n)
+  pub holds : (r : ℕ) → r < held_count S → peak peaks.holds r < cap
+      → IsAtMost (peak peaks.holds r) (held_at S mode arrivals r n)
   pub shutdown : peaks.shuts_down ≡ false → (run S mode arrivals (suc n)).state.over ≡ false
-
--- where an observation of a run tells a number of blockers, it is that of its tick
-abbrev pub TellBlockers : System → ℕ → List Arrival → List Observation → Type 0
-TellBlockers S mode arrivals seen =
-    AllByRecursion
-    (λ (o : Observation). IfSome o.blockers (λ m. blockers_at S mode arrivals o.tick ≡ Some m)) seen
 
 -- whatever arrives that keeps the distances, for so many ticks at most. The numbers of blockers are
 -- within peaks where observations tell them

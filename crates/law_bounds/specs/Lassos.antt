@@ -1,5 +1,5 @@
 -- Runs that come twice to one state while a job stands, and that they can be gone on without end.
-use Rattle.std.specs.Prelude.{ℕ, ◌+◌, ◌-◌, ◌≡◌, ◌<◌, List, ◌++◌, map, nat_le}
+use Rattle.std.specs.Prelude.{ℕ, zero, suc, ◌+◌, ◌*◌, ◌-◌, ◌≡◌, ◌<◌, List, ◌++◌, map, nat_le}
 use Rattle.std.specs.List.{AllByRecursion, filter}
 use Rattle.osek_base.specs.declared.arrivals.Arrival.{Arrival}
 use Rattle.osek_base.specs.Proper.{IsProper}
@@ -8,7 +8,8 @@ use Rattle.law_future.specs.Need.{Need, Suffices}
 use Rattle.law_future.specs.Alike.{kept_after}
 use Rattle.search_keys.specs.InRange.{NeedsOwnWords}
 use Rattle.search_keys.specs.Key.{key}
-use Rattle.law_bounds.specs.Unending.{NeedNotEnd, Keep, StandsBetween}
+use Rattle.law_bounds.specs.Distances.{KeepDistances}
+use Rattle.law_bounds.specs.Unending.{NeedNotEnd, StandsBetween}
 
 -- an arrival so many ticks later
 abbrev pub later : ℕ → Arrival → Arrival
@@ -23,8 +24,23 @@ repeated from ticks arrivals =
 abbrev pub again : ℕ → ℕ → List Arrival → List Arrival
 again from until arrivals = arrivals ++ repeated from (until - from) arrivals
 
+-- and those so many times more, each time behind the last
+abbrev pub rounds : ℕ → ℕ → ℕ → List Arrival → List Arrival
+rounds zero from until arrivals = arrivals
+rounds (suc n) from until arrivals =
+    rounds n until (until + (until - from)) (again from until arrivals)
+
+-- however often they come again, they keep the distances, and a job of the task stands in each tick
+-- from the first of them on until their end
+pub record GoesOn (S : System) (mode : ℕ) (distances : List ℕ) (arrivals : List Arrival)
+    (from until k : ℕ) : Type 0 where
+  pub keep : (n : ℕ) → KeepDistances S distances (rounds n from until arrivals)
+  pub stands : (n : ℕ)
+      → StandsBetween S mode (rounds n from until arrivals) from (until + n * (until - from)) k
+
 -- all arrivals come before tick `until`; the states before ticks `from` and `until` have one key;
--- a job of the task stands in each tick between; and the arrivals from `from` on may come again
+-- a job of the task stands in each tick between; and the arrivals keep the distances, also where
+-- those from `from` on come once more
 pub record IsLasso (S : System) (mode : ℕ) (distances : List ℕ) (need : Need)
     (arrivals : List Arrival) (from until k : ℕ) : Type 0 where
   pub less : from < until
@@ -32,12 +48,19 @@ pub record IsLasso (S : System) (mode : ℕ) (distances : List ℕ) (need : Need
   pub key : key S need (kept_after S mode arrivals from)
       ≡ key S need (kept_after S mode arrivals until)
   pub stands : StandsBetween S mode arrivals from until k
-  pub keep : Keep S distances (again from until arrivals)
+  pub keep : KeepDistances S distances arrivals
+  pub again : KeepDistances S distances (again from until arrivals)
 
 -- ---- the law
+
+pub record IsUnending (S : System) (mode : ℕ) (distances : List ℕ) (arrivals : List Arrival)
+    (from until k : ℕ) : Type 0 where
+  pub goes_on : GoesOn S mode distances arrivals from until k
+  pub ever : NeedNotEnd S mode distances k
 
 abbrev pub LassosAreEndless : Type 0
 LassosAreEndless =
     (S : System) (mode : ℕ) (distances : List ℕ) (need : Need) (arrivals : List Arrival)
     (from until k : ℕ) → IsProper S → Suffices S need → NeedsOwnWords S need
-    → IsLasso S mode distances need arrivals from until k → NeedNotEnd S mode distances k
+    → IsLasso S mode distances need arrivals from until k
+    → IsUnending S mode distances arrivals from until k

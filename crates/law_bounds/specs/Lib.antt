@@ -1,7 +1,10 @@
+pub mod Distances
 pub mod Nodes
 pub mod Going
+pub mod RunTicks
 pub mod Bounds
 pub mod Trying
 pub mod Lost
 pub mod Unending
+pub mod Ending
 pub mod Lassos

@@ -1,25 +1,15 @@
 -- Tasks that can be kept from ending.
-use Rattle.std.specs.Prelude.{ℕ, ◌+◌, ◌≡◌, ◌<◌, ◌≤◌, false, List, length}
-use Rattle.std.specs.List.{AllByRecursion}
+use Rattle.std.specs.Prelude.{ℕ, ◌+◌, ◌≡◌, ◌<◌, ◌≤◌, false, List}
 use Rattle.osek_base.specs.declared.arrivals.Arrival.{Arrival}
 use Rattle.osek_base.specs.System.{System}
 use Rattle.osek_base.specs.Trace.{arriving, run}
-use Rattle.seen_ticks.specs.Observed.{times}
 use Rattle.law_future.specs.Alike.{kept_after}
-use Rattle.law_future.specs.Covering.{AreSpaced}
 use Rattle.law_seen.specs.Seen.{seen_in}
 use Rattle.view_figures.specs.declared.task_tick.TaskTick.{TaskTick}
 use Rattle.view_figures.specs.ResponseSums.{standing}
 use Rattle.view_figures.specs.StateSums.{leaves}
-use Rattle.search_labels.specs.Labels.{distance_of}
 use Rattle.search_labels.specs.Ticks.{task_tick}
-
--- interrupts come of routines of the system, those of a routine at least so many ticks apart, and
--- one of it at most in a tick; there may be any number of them, at any ticks
-pub record Keep (S : System) (distances : List ℕ) (arrivals : List Arrival) : Type 0 where
-  pub known : AllByRecursion (λ (a : Arrival). a.routine < length S.routines) arrivals
-  pub spaced : AreSpaced S (distance_of distances) arrivals
-  pub once : (i t : ℕ) → times i (arriving arrivals t) ≤ 1
+use Rattle.law_bounds.specs.Distances.{KeepDistances}
 
 -- what is seen of a task in tick t of a run
 abbrev pub tick_seen : System → ℕ → List Arrival → ℕ → ℕ → TaskTick
@@ -43,7 +33,7 @@ StandsBetween S mode arrivals from until k =
 pub record StandsSoLong (S : System) (mode : ℕ) (distances : List ℕ) (k count : ℕ) : Type 0 where
   pub arrivals : List Arrival
   pub from : ℕ
-  pub keep : Keep S distances arrivals
+  pub keep : KeepDistances S distances arrivals
   pub stands : StandsBetween S mode arrivals from (from + count) k
 
 -- for as many ticks as one likes

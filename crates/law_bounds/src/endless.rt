@@ -1,11 +1,21 @@
-//! The law. It does nothing: the clause is the law.
+//! The laws of jobs that end, and of those that can be kept from it. They do nothing: the clause is
+//! the law.
 
+ghost use Rattle.law_bounds.specs.Ending.{BoundedJobsEnd};
 ghost use Rattle.law_bounds.specs.Lassos.{LassosAreEndless};
 
 use crate::laws::keys_tell_futures;
 
+/// Where the greatest response of a task is bounded by so many ticks below the cap, no job of it that
+/// is ready since a tick is READY or RUNNING as many ticks later: it has ended or begun to wait by
+/// then, unless the run has ended.
+pub fn bounded_jobs_end()
+    ensures { BoundedJobsEnd }
+{}
+
 /// A run that comes twice to states of one key while a job of a task stands, and whose arrivals
-/// between can come once more, can be gone on so for as many ticks as one likes.
+/// between can come once more, can be gone on so for as many ticks as one likes: they may come
+/// again and again.
 pub fn lassos_are_endless()
     ensures { LassosAreEndless }
 {

@@ -9,18 +9,19 @@
 //! - Where a search has visited all that can come, its peaks bound the figures and each tick of
 //!   every run whose interrupts keep their distances, after every number of ticks
 //!   (`searches_bound`). Where lists of nodes stand for all that can come in so many ticks, after
-//!   at most so many (`levels_bound`). These lists of interrupts end before tick 1,000,000.
+//!   at most so many (`levels_bound`). Interrupts may come at any ticks, and without an end.
+//! - Where a task's greatest response is bounded, each job ends or begins to wait within as many
+//!   ticks of being ready, unless the run ends (`bounded_jobs_end`).
 //! - A run that comes twice to states of one key can be gone on so, if in each tick between a job
 //!   of a task is ready or runs, the oldest neither ends nor begins to wait, and the arrivals
-//!   between keep their distances once more. For each number of ticks there is then a run whose
-//!   interrupts keep their distances, at any ticks, and in which one job of the task is there for
-//!   so many (`lassos_are_endless`).
+//!   between keep their distances once more. However often these come again, they keep them, and
+//!   the job is there (`lassos_are_endless`).
 #![tactic(auto)]
 
 mod endless;
 mod laws;
 
-pub use endless::lassos_are_endless;
+pub use endless::{bounded_jobs_end, lassos_are_endless};
 pub use laws::{
     keys_tell_futures, labels_are_ordered, levels_bound, lost_change_nothing, nodes_are_kept,
     notes_stay, one_state_tells, searches_bound, subsets_may,

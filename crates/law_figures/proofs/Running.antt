@@ -40,7 +40,7 @@ module _ (S : System) (mode : ℕ) (arrivals : List Arrival) where
       → label.next (tick o) l ≡ label.next (ticks n) l)
       (shown : (n : ℕ) (o : Observation) → IsTickOf S mode arrivals n o → (l : L)
       → show (tick o) l ≡ show (ticks n) l) where
-    same_label : (n : ℕ) (seen : List Observation) → AreTicksOf S mode arrivals n seen
+    pub same_label : (n : ℕ) (seen : List Observation) → AreTicksOf S mode arrivals n seen
         → label_after label (map tick seen) ≡ label_before label ticks n
     same_label zero [] are = refl
     same_label zero (o ∷ before) are = absurd are

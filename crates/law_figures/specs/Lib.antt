@@ -8,3 +8,4 @@ pub mod Times
 pub mod Merging
 pub mod Seen
 pub mod RunFigures
+pub mod Telling

@@ -32,7 +32,7 @@ use Rattle.law_figures.specs.Blocking.{stands_ready}
 
 -- ---- where nothing is chosen all jobs wait
 
-abbrev AllWait : List Job → Type 0
+abbrev pub AllWait : List Job → Type 0
 AllWait jobs = AllByRecursion (λ j. waits j ≡ true) jobs
 
 none_better : (rank : Job → ℕ) (j : Job) (b : Bool) (o : Option Job)
@@ -226,6 +226,14 @@ module _ (S : System) (p : ℕ) (proper : IsProper S) (separable : Separable S p
   known u here =
       let run = run_of ready.active ready.running ready.jobs u here in
       subst (λ n. n < length S.tasks) run.task (ready_layered.running run.job run.runs)
+
+  -- where it is a lower task, all upper jobs wait
+  pub all_wait_above : (u : ℕ) → executes (tick S arrived s).executing (Owner.Task u) ≡ true
+      → is_upper_task S p u ≡ false → AllWait (up S p (tick S arrived s).executing).jobs
+  unfolding tick
+  all_wait_above u here is_low =
+      let run = run_of ready.active ready.running ready.jobs u here in
+      waiting run.job run.idle run.runs (ap (is_upper_task S p) run.task ∙ is_low)
 
   pub none_ready : (u t : ℕ) → executes (tick S arrived s).executing (Owner.Task u) ≡ true
       → is_upper_task S p u ≡ false → t < length S.tasks → is_upper_task S p t ≡ true → (b : Bool)

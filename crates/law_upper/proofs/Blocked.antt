@@ -7,7 +7,7 @@ use Rattle.seen_ticks.specs.declared.task_seen.TaskSeen.{TaskSeen}
 use Rattle.law_runs.proofs.RunSteps.{going_before}
 use Rattle.law_figures.specs.Blocking.{blocked_in, blocked_next, blocking}
 use Rattle.law_figures.specs.RunFigures.{label_before}
-use Rattle.law_bounds.specs.Bounds.{blocked_at, run_tick}
+use Rattle.law_bounds.specs.RunTicks.{blocked_at, run_tick}
 use Rattle.law_upper.specs.Above.{IsUpperTask}
 use Rattle.law_upper.specs.ShownAbove.{TicksShowTheSame}
 

@@ -25,7 +25,7 @@ use Rattle.law_upper.proofs.Observed.{observed_at, observed_before}
 
 -- ---- holders by number
 
-declared_seen : (S : System) (s : State) (r : ℕ) → r < length S.resources
+pub declared_seen : (S : System) (s : State) (r : ℕ) → r < length S.resources
     → slice_index_or (holders_seen S s) r None ≡ holder S s (ResId.Declared r)
 declared_seen S s r inside =
     let table = map (λ r. holder S s (ResId.Declared r)) (below (length S.resources)) in
@@ -34,7 +34,7 @@ declared_seen S s r inside =
     get_or_append_left table (scheduler_seen S s) None r (omega (arith, inside, size))
     ∙ table_at (λ r. holder S s (ResId.Declared r)) (length S.resources) r None inside
 
-scheduler_is : (S : System) (s : State) → S.use_res_scheduler ≡ true
+pub scheduler_is : (S : System) (s : State) → S.use_res_scheduler ≡ true
     → slice_index_or (holders_seen S s) (length S.resources) None ≡ holder S s ResId.Scheduler
 scheduler_is S s used =
     let table = map (λ r. holder S s (ResId.Declared r)) (below (length S.resources)) in

@@ -19,5 +19,14 @@ pub mod Bare
 pub mod Observed
 pub mod Carried
 pub mod Blocked
+pub mod ShownAlike
 pub mod Within
 pub mod Part
+pub mod Ending
+pub mod SightsAbove
+pub mod StepsAbove
+pub mod BlockersAbove
+pub mod FailingAbove
+pub mod StandingAbove
+pub mod ObservedAs
+pub mod RunsAbove

@@ -23,7 +23,7 @@ use Rattle.law_upper.proofs.Within.{AreNumbered, bounds_there, bounds_there_up_t
 
 -- ---- what ticks show
 
-ticks_show : (S B : System) (p : ℕ) → AreOneAbove S B p → TicksShowTheSame S B p
+pub ticks_show : (S B : System) (p : ℕ) → AreOneAbove S B p → TicksShowTheSame S B p
 ticks_show S B p pair mode arrivals n going =
     tick_shows_the_same S B p pair (states_are_seen_the_same.states.others S B p pair)
     (executions_are_the_same.others S B p pair) (alarms_act_the_same.others S B p pair)
@@ -47,7 +47,7 @@ itself S p = record {
   use_res_scheduler = refl;
 }
 
-over_there : (A B C : System) (p : ℕ) → Agree A B p → Agree A C p → Agree B C p
+pub over_there : (A B C : System) (p : ℕ) → Agree A B p → Agree A C p → Agree B C p
 over_there A B C p h k = record {
   names = sym h.names ∙ k.names;
   tasks = sym h.tasks ∙ k.tasks;
@@ -126,7 +126,7 @@ module _ (S B : System) (p : ℕ) (pair : AreOneAbove S B p) where
             (omega (arith, there)));
       }
 
-  numbered : AreNumbered B part p
+  pub numbered : AreNumbered B part p
   numbered = record {
     tasks = upper_there B part p with_that_part;
     routines = routine_count B part p with_that_part;

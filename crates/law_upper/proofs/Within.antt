@@ -21,11 +21,13 @@ use Rattle.view_figures.specs.FigureSums.{AreFigures, RunFigures, held_count, ho
 use Rattle.view_figures.specs.ResourceSums.{resource_figures}
 use Rattle.view_figures.specs.ResponseSums.{Responses}
 use Rattle.view_figures.specs.RoutineSums.{routine_figures}
-use Rattle.law_figures.specs.Labels.{IsWithin}
+use Rattle.law_figures.specs.Labels.{IsAtMost, IsWithin}
 use Rattle.law_figures.specs.Times.{response_time, routine_time}
 use Rattle.law_figures.specs.RunFigures.{AreRunFigures}
 use Rattle.search_peaks.specs.Peaks.{Peaks, peak}
-use Rattle.law_bounds.specs.Bounds.{AreBounds, AreBoundsUpTo, AreWithin, IsTickWithin, KeepDistances}
+use Rattle.law_bounds.specs.Bounds.{AreBounds, AreBoundsUpTo, AreWithin, IsTickWithin}
+use Rattle.law_bounds.specs.Distances.{KeepDistances}
+use Rattle.law_bounds.specs.RunTicks.{held_at}
 use Rattle.law_bounds.proofs.Blockers.{figures_low}
 use Rattle.law_bounds.proofs.Bounding.{going_at}
 use Rattle.law_upper.specs.Above.{IsTheSameAlarm, IsTheSameResource, IsUpperTask}
@@ -35,6 +37,7 @@ use Rattle.law_upper.proofs.Bare.{bare_task, task_errors_bare, task_refused_bare
 use Rattle.law_upper.proofs.Blocked.{blocked_at_same}
 use Rattle.law_upper.proofs.Carried.{alarms_same, declared_same, last_same, routines_same, scheduler_same, tasks_same}
 use Rattle.law_upper.proofs.Observed.{are_figures, are_run_figures, figures_of, observed_before}
+use Rattle.law_upper.proofs.ShownAlike.{ages_same, holds_same, scheduler_same as scheduler_held_same, waits_same}
 
 -- the things of one system's upper part have these numbers in the other, which is that part alone
 pub record AreNumbered (S B : System) (p : ℕ) : Type 0 where
@@ -51,22 +54,18 @@ pub distances_there : (S B : System) (distances : List ℕ) (arrivals : List Arr
     → length S.routines ≡ length B.routines → KeepDistances S distances arrivals
     → KeepDistances B distances arrivals
 distances_there S B distances arrivals routines keep = record {
-  arrive = record {
-    known =
-        subst (λ m. AllByRecursion (λ (a : Arrival). a.routine < m) arrivals) routines
-        keep.arrive.known;
-    ordered = keep.arrive.ordered;
-  };
+  known =
+      subst (λ m. AllByRecursion (λ (a : Arrival). a.routine < m) arrivals) routines keep.known;
   spaced = λ i u v known. keep.spaced i u v (subst (λ m. i < m) (sym routines) known);
   once = keep.once;
 }
 
 -- ---- what can be held
 
-declared_held : (S : System) (r : ℕ) → r < length S.resources → r < held_count S
+pub declared_held : (S : System) (r : ℕ) → r < length S.resources → r < held_count S
 declared_held S r low = omega (arith, low)
 
-scheduler_held : (S : System) → S.use_res_scheduler ≡ true → length S.resources < held_count S
+pub scheduler_held : (S : System) → S.use_res_scheduler ≡ true → length S.resources < held_count S
 scheduler_held S used = rw used (omega arith)
 
 -- ---- two runs
@@ -275,10 +274,32 @@ bounds_there_up_to S B p numbers proper shown over mode distances cap peaks coun
             ≡ (task_seen B (tick_at B mode arrivals n) t).jobs =
             ap (λ (x : TaskSeen). x.jobs) (same.tasks t is) in
             omega (arith, few, alike);
+        ages = λ t is below_cap.
+            subst (IsAtMost (peak peaks.responses t))
+            (sym (ages_same S B p mode arrivals shown t is n going))
+            (there.ages t (numbers.tasks t is).known below_cap);
         blocked = λ t is below_cap.
             subst (λ k. k ≤ peak peaks.blocked t)
             (sym (blocked_at_same S B p mode arrivals shown t is n going))
             (there.blocked t (numbers.tasks t is).known below_cap);
+        waits = λ i low below_cap.
+            subst (IsAtMost (peak peaks.latencies i))
+            (sym (waits_same S B p mode arrivals shown i n going))
+            (there.waits i (subst (λ m. i < m) numbers.routines low) below_cap);
+        holds = λ r low high below_cap.
+            let q : ℕ = resource_in_part S p r in
+            let one = numbers.resources r low high in
+            subst (IsAtMost (peak peaks.holds q))
+            (sym (holds_same S B p mode arrivals shown r q one n going))
+            (there.holds q (declared_held B q one.known_there) below_cap);
+        scheduler = λ used below_cap.
+            let q : ℕ = resource_in_part S p (length S.resources) in
+            let used_there : B.use_res_scheduler ≡ true = sym numbers.scheduler ∙ used in
+            subst (IsAtMost (peak peaks.holds q))
+            (sym (scheduler_held_same S B p mode arrivals shown used used_there n going))
+            (subst (λ m. IsAtMost (peak peaks.holds q) (held_at B mode arrivals m n)) numbers.held
+            (there.holds q (subst (λ m. m < held_count B) (sym numbers.held)
+            (scheduler_held B used_there)) below_cap));
         shutdown = λ none. over mode arrivals (suc n) ∙ there.shutdown none;
       };
   blockers = λ arrivals n f few keep are told t is some.

@@ -13,11 +13,15 @@ use Rattle.view_figures.specs.AlarmSums.{alarm_figures}
 use Rattle.view_figures.specs.FigureSums.{RunFigures, task_figures}
 use Rattle.view_figures.specs.ResourceSums.{resource_figures}
 use Rattle.view_figures.specs.RoutineSums.{routine_figures}
-use Rattle.law_figures.specs.Labels.{IsWithin}
+use Rattle.law_figures.specs.Labels.{IsAtMost, IsWithin}
 use Rattle.law_figures.specs.Times.{response_time, routine_time}
 use Rattle.law_figures.specs.RunFigures.{AreRunFigures}
+use Rattle.law_figures.specs.Telling.{TellBlockers}
 use Rattle.search_peaks.specs.Peaks.{Peaks, has_come, most_blockers, peak, routine_fails, task_fails}
-use Rattle.law_bounds.specs.Bounds.{AreBounds, AreBoundsUpTo, KeepDistances, TellBlockers, blocked_at}
+use Rattle.law_bounds.specs.Bounds.{AreBounds, AreBoundsUpTo}
+use Rattle.law_bounds.specs.Ending.{EndsWithin}
+use Rattle.law_bounds.specs.RunTicks.{age_at, blocked_at, held_at, waited_at}
+use Rattle.law_bounds.specs.Distances.{KeepDistances}
 use Rattle.law_upper.specs.Above.{AreOneAbove, IsUpperTask}
 use Rattle.law_upper.specs.ShownAbove.{if_upper}
 
@@ -65,16 +69,28 @@ pub record AreWithinAbove (S : System) (p cap : ℕ) (peaks : Peaks) (f : RunFig
       → (slice_index_or f.routines i (routine_figures [])).errors ≡ 0
 
 -- of tick n of a run what the upper part shows is within them: a service of it that is answered
--- other than E_OK is one of theirs, no upper task has more jobs, none has been blocked for longer
--- where that is below a cap, and the run is over behind it only where they say so
+-- other than E_OK is one of theirs, no upper task has more jobs, the oldest job of none has stood,
+-- or has been blocked, for longer, no interrupt has waited and no upper resource has been held for
+-- longer, each where that is below a cap; and the run is over behind it only where they say so
 pub record IsTickWithinAbove (S : System) (p mode cap : ℕ) (peaks : Peaks)
     (arrivals : List Arrival) (n : ℕ) : Type 0 where
   pub failures : IfSome (if_upper S p (failure_of (tick_at S mode arrivals n).executed))
       (λ x. Contains peaks.failures x)
   pub jobs : (t : ℕ) → IsUpperTask S p t
       → (task_seen S (tick_at S mode arrivals n) t).jobs ≤ peak peaks.jobs t
+  pub ages : (t : ℕ) → IsUpperTask S p t → peak peaks.responses t < cap
+      → IsAtMost (peak peaks.responses t) (age_at S mode arrivals t n)
   pub blocked : (t : ℕ) → IsUpperTask S p t → peak peaks.blocked t < cap
       → blocked_at S mode arrivals t n ≤ peak peaks.blocked t
+  pub waits : (i : ℕ) → i < length S.routines → peak peaks.latencies i < cap
+      → IsAtMost (peak peaks.latencies i) (waited_at S mode arrivals i n)
+  pub holds : (r : ℕ) → r < length S.resources → IsTrue (is_upper_declared S p r)
+      → peak peaks.holds (resource_in_part S p r) < cap
+      → IsAtMost (peak peaks.holds (resource_in_part S p r)) (held_at S mode arrivals r n)
+  pub scheduler : IsTrue S.use_res_scheduler
+      → peak peaks.holds (resource_in_part S p (length S.resources)) < cap
+      → IsAtMost (peak peaks.holds (resource_in_part S p (length S.resources)))
+      (held_at S mode arrivals (length S.resources) n)
   pub shutdown : peaks.shuts_down ≡ false → (run S mode arrivals (suc n)).state.over ≡ false
 
 -- whatever arrives that keeps the distances, for so many ticks at most
@@ -96,6 +112,18 @@ pub record AreBoundsAboveUpTo (S : System) (p mode : ℕ) (distances : List ℕ)
 abbrev pub AreBoundsAbove : System → ℕ → ℕ → List ℕ → ℕ → Peaks → Type 0
 AreBoundsAbove S p mode distances cap peaks =
     (count : ℕ) → AreBoundsAboveUpTo S p mode distances cap peaks count
+
+-- so each job of an upper task whose greatest response is bounded below the cap ends or begins to
+-- wait within as many ticks of being ready
+abbrev pub UpperJobsEnd : System → ℕ → ℕ → List ℕ → ℕ → Peaks → Type 0
+UpperJobsEnd S p mode distances cap peaks =
+    (t : ℕ) → IsUpperTask S p t → peak peaks.responses t < cap
+    → EndsWithin S mode distances (peak peaks.responses t) t
+
+abbrev pub BoundedUpperJobsEnd : Type 0
+BoundedUpperJobsEnd =
+    (S : System) (p mode : ℕ) (distances : List ℕ) (cap : ℕ) (peaks : Peaks) → IsProper S
+    → AreBoundsAbove S p mode distances cap peaks → UpperJobsEnd S p mode distances cap peaks
 
 -- bounds of the upper part of a system by itself hold in another one, for as many ticks
 pub record BoundsHoldIn (S B : System) (p : ℕ) : Type 0 where

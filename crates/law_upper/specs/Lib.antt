@@ -4,3 +4,4 @@ pub mod ExecutedAbove
 pub mod AlarmsAbove
 pub mod ShownAbove
 pub mod FiguresAbove
+pub mod RunsAbove

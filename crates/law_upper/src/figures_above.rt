@@ -1,6 +1,6 @@
 //! The laws, one function each. The functions are empty: the clause is the law.
 
-ghost use Rattle.law_upper.specs.FiguresAbove.{BoundsOfThePartHold};
+ghost use Rattle.law_upper.specs.FiguresAbove.{BoundedUpperJobsEnd, BoundsOfThePartHold};
 ghost use Rattle.law_upper.specs.ShownAbove.{UpperPartsShowTheSame};
 
 /// Each tick shows the same of upper tasks, of routines, of upper resources and alarms, and of the
@@ -17,4 +17,10 @@ pub fn upper_parts_show_the_same()
 /// of runs of so many ticks bound those of as many.
 pub fn bounds_of_the_part_hold()
     ensures { BoundsOfThePartHold }
+{}
+
+/// Where the greatest response of an upper task is bounded by so many ticks below the cap, no job of
+/// it that is ready since a tick is READY or RUNNING as many ticks later, unless the run has ended.
+pub fn bounded_upper_jobs_end()
+    ensures { BoundedUpperJobsEnd }
 {}

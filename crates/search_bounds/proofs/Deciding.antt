@@ -1,62 +1,94 @@
--- A search that is decided bounds all runs, and another one those of so many ticks.
+-- What a search has come to, and what that says of runs: where it is decided of all, else of those of
+-- so many ticks.
 use Rattle.std.proofs.Common.{ℕ, ◌≡◌, List, sym, ◌∙◌, ap, subst}
 use Rattle.std.specs.Prelude.{Result, Ok, Err, IfOk}
+use Rattle.osek_base.specs.Proper.{IsProper}
+use Rattle.osek_base.specs.System.{System}
+use Rattle.law_future.specs.Need.{Need, Suffices}
 use Rattle.search_needs.specs.Table.{need_of}
-use Rattle.search.specs.declared.outcome.Limits.{Limits}
 use Rattle.search.specs.declared.outcome.Outcome.{Outcome}
 use Rattle.search.specs.declared.outcome.Outcome.TheVariants.{Decided, Undecided}
 use Rattle.search.specs.Outcomes.{IsOutcome}
+use Rattle.search_keys.specs.InRange.{NeedsOwnWords}
 use Rattle.search_peaks.specs.Peaks.{Peaks}
 use Rattle.law_bounds.specs.Bounds.{AreBounds, AreBoundsUpTo, LevelsBound, SearchesBound}
+use Rattle.law_bounds.specs.Ending.{BoundedJobsEnd}
 use Rattle.law_bounds.specs.Nodes.{AreNoted, Setting, rules_of}
 use Rattle.search_bounds.specs.Exploring.{AreNotedIn, Explorer, setting_of}
 use Rattle.search_nodes.specs.declared.found.Bounds.{Bounds}
-use Rattle.search_nodes.specs.Found.{AreFound, Says}
+use Rattle.search_nodes.specs.declared.found.Extent.{Extent}
+use Rattle.search_nodes.specs.Found.{AreFound, IsOfSearch, JobsEnd, Says, limits_of, setting_by}
 use Rattle.search_nodes.specs.Ground.{Ground, IsGround}
+use Rattle.search_bounds.proofs.Fallible.{if_ok}
+
+-- ---- by an explorer of a setting
 
 abbrev pub setting_on : Ground → ℕ → List ℕ → ℕ → Setting
-setting_on g mode distances cap =
+setting_on g mode distances cap = setting_by g.system mode (need_of g.needs) distances cap
+
+pub all_are_searched : {E : Type 0} (g : Ground) (mode : ℕ) (distances : List ℕ) (extent : Extent)
+    (e f : Explorer) (searched : Result Outcome E) (r : Result Bounds E) → IsGround g
+    → setting_of f ≡ setting_of e → setting_of e ≡ setting_on g mode distances extent.cap
+    → IfOk searched (IsOutcome (rules_of (setting_of e)) (AreNotedIn f) (limits_of extent))
+    → IfOk r (λ b. searched ≡ Ok b.outcome) → IfOk r (λ b. b.peaks ≡ f.peaks)
+    → IfOk r (λ b. b.cap ≡ f.cap) → IfOk r (IsOfSearch g.system mode distances extent)
+all_are_searched g mode distances extent e f q (Err d) ground same made is a b c = tt
+all_are_searched g mode distances extent e f q (Ok x) ground same made is a b c =
+    let limits = limits_of extent in
+    let s = setting_on g mode distances extent.cap in
     record {
-      system = g.system;
-      mode = mode;
       need = need_of g.needs;
-      distances = distances;
-      cap = cap;
+      suffices = ground.suffices;
+      own = ground.own;
+      outcome =
+          subst
+          (λ k. IsOutcome (rules_of (setting_on g mode distances k))
+          (AreNoted (setting_on g mode distances k) x.peaks) limits x.outcome)
+          (sym (c ∙ ap (λ (t : Setting). t.cap) (same ∙ made)))
+          (subst (λ p. IsOutcome (rules_of s) (AreNoted s p) limits x.outcome) (sym b)
+          (subst (λ (t : Setting). IsOutcome (rules_of t) (AreNoted s f.peaks) limits x.outcome) made
+          (subst (λ (t : Setting).
+          IsOutcome (rules_of (setting_of e)) (AreNoted t f.peaks) limits x.outcome) (same ∙ made)
+          (subst (λ o. IfOk o (IsOutcome (rules_of (setting_of e)) (AreNotedIn f) limits)) a is))));
     }
 
-found : SearchesBound → LevelsBound → (g : Ground) (mode : ℕ) (distances : List ℕ) (cap : ℕ)
-    (peaks : Peaks) (limits : Limits) (outcome : Outcome) → IsGround g
-    → IsOutcome (rules_of (setting_on g mode distances cap))
-    (AreNoted (setting_on g mode distances cap) peaks) limits outcome
-    → Says outcome (AreBounds g.system mode distances cap peaks)
-    (AreBoundsUpTo g.system mode distances cap peaks)
-found bound up_to g mode distances cap peaks limits (Decided p) ground is =
-    bound (setting_on g mode distances cap) peaks is.1.nodes ground.proper ground.suffices
-    ground.own is.1.all
-found bound up_to g mode distances cap peaks limits (Undecided obstacle p) ground is =
-    up_to (setting_on g mode distances cap) peaks p.levels is.1.levels ground.proper
-    ground.suffices ground.own is.1.are
+-- ---- of runs
 
--- of what a search has come to, by an explorer of a setting
-pub all_are_found : {E : Type 0} (g : Ground) (mode : ℕ) (distances : List ℕ) (cap : ℕ)
-    (e f : Explorer) (limits : Limits) (searched : Result Outcome E) (r : Result Bounds E)
-    → SearchesBound → LevelsBound → IsGround g
-    → setting_of f ≡ setting_of e → setting_of e ≡ setting_on g mode distances cap
-    → IfOk searched (IsOutcome (rules_of (setting_of e)) (AreNotedIn f) limits)
-    → IfOk r (λ b. searched ≡ Ok b.outcome) → IfOk r (λ b. b.peaks ≡ f.peaks)
-    → IfOk r (λ b. b.cap ≡ f.cap) → IfOk r (AreFound g.system mode distances)
-all_are_found g mode distances cap e f limits q (Err d) bound up_to ground same made is a b c = tt
-all_are_found g mode distances cap e f limits q (Ok x) bound up_to ground same made is a b c =
-    let s = setting_on g mode distances cap in
-    subst
-    (λ k. Says x.outcome (AreBounds g.system mode distances k x.peaks)
-    (AreBoundsUpTo g.system mode distances k x.peaks))
-    (sym (c ∙ ap (λ (t : Setting). t.cap) (same ∙ made)))
-    (subst
-    (λ p. Says x.outcome (AreBounds g.system mode distances cap p)
-    (AreBoundsUpTo g.system mode distances cap p)) (sym b)
-    (found bound up_to g mode distances cap f.peaks limits x.outcome ground
-    (subst (λ (t : Setting). IsOutcome (rules_of t) (AreNoted s f.peaks) limits x.outcome) made
-    (subst (λ (t : Setting).
-    IsOutcome (rules_of (setting_of e)) (AreNoted t f.peaks) limits x.outcome) (same ∙ made)
-    (subst (λ o. IfOk o (IsOutcome (rules_of (setting_of e)) (AreNotedIn f) limits)) a is)))))
+module _ (S : System) (mode : ℕ) (distances : List ℕ) (proper : IsProper S) where
+  module _ (bound : SearchesBound) (up_to : LevelsBound) (extent : Extent) where
+    found_by : (need : Need) (cap : ℕ) (peaks : Peaks) (outcome : Outcome) → Suffices S need
+        → NeedsOwnWords S need
+        → IsOutcome (rules_of (setting_by S mode need distances cap))
+        (AreNoted (setting_by S mode need distances cap) peaks) (limits_of extent) outcome
+        → Says outcome (AreBounds S mode distances cap peaks)
+        (AreBoundsUpTo S mode distances cap peaks)
+    found_by need cap peaks (Decided p) enough own is =
+        bound (setting_by S mode need distances cap) peaks is.1.nodes proper enough own is.1.all
+    found_by need cap peaks (Undecided obstacle p) enough own is =
+        up_to (setting_by S mode need distances cap) peaks p.levels is.1.levels proper enough own
+        is.1.are
+
+    one_found : (found : Bounds) → IsOfSearch S mode distances extent found
+        → AreFound S mode distances found
+    one_found found is =
+        found_by is.need found.cap found.peaks found.outcome is.suffices is.own is.outcome
+
+    pub are_found : {E : Type 0} (found : Result Bounds E)
+        → IfOk found (IsOfSearch S mode distances extent) → IfOk found (AreFound S mode distances)
+    are_found found is =
+        if_ok (IsOfSearch S mode distances extent) (AreFound S mode distances) found one_found is
+
+  module _ (law : BoundedJobsEnd) where
+    ends_by : (found : Bounds) (outcome : Outcome)
+        → Says outcome (AreBounds S mode distances found.cap found.peaks)
+        (AreBoundsUpTo S mode distances found.cap found.peaks)
+        → JobsEnd S mode distances (record found { outcome = outcome })
+    ends_by found (Decided p) bounds = λ k low below.
+        law S mode distances found.cap found.peaks k proper bounds low below
+    ends_by found (Undecided obstacle p) bounds = tt
+
+    pub jobs_end : {E : Type 0} (found : Result Bounds E) → IfOk found (AreFound S mode distances)
+        → IfOk found (JobsEnd S mode distances)
+    jobs_end found are =
+        if_ok (AreFound S mode distances) (JobsEnd S mode distances) found
+        (λ b is. ends_by b b.outcome is) are

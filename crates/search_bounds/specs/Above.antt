@@ -5,7 +5,7 @@ use Rattle.search_nodes.specs.declared.found.Bounds.{Bounds}
 use Rattle.search_nodes.specs.Found.{Says}
 use Rattle.search_peaks.specs.Peaks.{Peaks}
 use Rattle.law_upper.specs.Above.{AreOneAbove}
-use Rattle.law_upper.specs.FiguresAbove.{AreBoundsAbove, AreBoundsAboveUpTo}
+use Rattle.law_upper.specs.FiguresAbove.{AreBoundsAbove, AreBoundsAboveUpTo, UpperJobsEnd}
 
 -- in the system itself, and in each that is separable at p and agrees with it from p upward
 pub record BoundAll (S : System) (p mode : ℕ) (distances : List ℕ) (cap : ℕ)
@@ -25,3 +25,15 @@ abbrev pub HoldAbove : System → ℕ → ℕ → List ℕ → Bounds → Type 0
 HoldAbove S p mode distances found =
     Says found.outcome (BoundAll S p mode distances found.cap found.peaks)
     (BoundAllUpTo S p mode distances found.cap found.peaks)
+
+-- in all of them jobs of upper tasks whose greatest response is below the cap end or begin to wait
+-- within as many ticks of being ready
+pub record EndAll (S : System) (p mode : ℕ) (distances : List ℕ) (cap : ℕ)
+    (peaks : Peaks) : Type 0 where
+  pub whole : UpperJobsEnd S p mode distances cap peaks
+  pub others : (B : System) → AreOneAbove S B p → UpperJobsEnd B p mode distances cap peaks
+
+-- where the search is decided
+abbrev pub JobsEndAbove : System → ℕ → ℕ → List ℕ → Bounds → Type 0
+JobsEndAbove S p mode distances found =
+    Says found.outcome (EndAll S p mode distances found.cap found.peaks) (λ levels. Unit {0})

@@ -3,10 +3,10 @@
 ghost use Rattle.std.specs.Prelude.{◌≡◌, IfOk};
 ghost use Rattle.osek_base.specs.Separable.{Separable};
 ghost use Rattle.osek_base.specs.Agree.{upper_part};
-ghost use Rattle.search_bounds.specs.Above.{HoldAbove};
+ghost use Rattle.search_bounds.specs.Above.{HoldAbove, JobsEndAbove};
 
 use crate::finding::find_bounds;
-use law_upper::bounds_of_the_part_hold;
+use law_upper::{bounded_upper_jobs_end, bounds_of_the_part_hold};
 use osek_base::{ModeId, System};
 use partition_check::upper_only;
 use search_nodes::{Bounds, Extent, Watch};
@@ -27,7 +27,8 @@ pub struct UpperBounds {
 /// Where the search is decided, the bounds hold inside the system, and inside every system that is
 /// separable at p and agrees with it from p upward, whatever runs below: of upper tasks, all
 /// routines, and upper resources and alarms. Where it isn't, they hold there after as many ticks at
-/// most as the levels that the search has done. Who watches is told how far the search has come. An
+/// most as the levels that the search has done. So each job of an upper task that is bounded by a
+/// decided search ends or begins to wait within as many ticks in all of them. Who watches is told how far the search has come. An
 /// error is want of memory.
 pub fn find_upper_bounds<W: Watch>(
     alloc: Global,
@@ -42,9 +43,12 @@ pub fn find_upper_bounds<W: Watch>(
     ensures part { IfOk result (λ upper. upper.part ≡ upper_part system.now p) }
     ensures found { IfOk result (λ upper.
         HoldAbove system.now p mode distances.now upper.bounds) }
+    ensures ends { IfOk result (λ upper.
+        JobsEndAbove system.now p mode distances.now upper.bounds) }
 {
     system.shows_proper();
     bounds_of_the_part_hold();
+    bounded_upper_jobs_end();
     let part = upper_only(alloc, system, p)?;
     let bounds = find_bounds(alloc, &part, mode, distances, extent, watch)?;
     Ok(UpperBounds { part, bounds })

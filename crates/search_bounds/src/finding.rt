@@ -1,10 +1,10 @@
 //! The bounds of all runs of a system.
 
 ghost use Rattle.std.specs.Prelude.{◌≡◌, IfOk};
-ghost use Rattle.search_nodes.specs.Found.{AreFound};
+ghost use Rattle.search_nodes.specs.Found.{AreFound, IsOfSearch, JobsEnd};
 
 use crate::explorer::Explorer;
-use law_bounds::{levels_bound, searches_bound};
+use law_bounds::{bounded_jobs_end, levels_bound, searches_bound};
 use osek_base::{ModeId, System};
 use search::{Limits, search};
 use search_needs::needed_data;
@@ -18,6 +18,10 @@ use std::alloc::{AllocError, Global};
 /// each figure of it is at most the peak, where that is below the cap, and nothing is lost or
 /// refused that hasn't come. Where it isn't, this holds after as many ticks at most as the levels
 /// that the search has done. Who watches is told how far it has come. An error is want of memory.
+///
+/// So where it is decided, each job of a task whose peak of responses is below the cap ends or
+/// begins to wait within as many ticks of being ready, unless the run ends before. And the outcome
+/// tells how many nodes stand for all that can come, or why the search stopped.
 pub fn find_bounds<W: Watch>(
     alloc: Global,
     system: &System,
@@ -27,6 +31,27 @@ pub fn find_bounds<W: Watch>(
     watch: &mut W,
 ) -> Result<Bounds, AllocError>
     ensures found { IfOk result (AreFound system.now mode distances.now) }
+    ensures ends { IfOk result (JobsEnd system.now mode distances.now) }
+    ensures searched { IfOk result (IsOfSearch system.now mode distances.now extent) }
+    ensures cap { IfOk result (λ found. found.cap ≡ extent.cap) }
+{
+    system.shows_proper();
+    searches_bound();
+    levels_bound();
+    bounded_jobs_end();
+    searched_bounds(alloc, system, mode, distances, extent, watch)
+}
+
+/// What a search comes to, as [`find_bounds`] says of it.
+fn searched_bounds<W: Watch>(
+    alloc: Global,
+    system: &System,
+    mode: ModeId,
+    distances: &[u32],
+    extent: Extent,
+    watch: &mut W,
+) -> Result<Bounds, AllocError>
+    ensures searched { IfOk result (IsOfSearch system.now mode distances.now extent) }
     ensures cap { IfOk result (λ found. found.cap ≡ extent.cap) }
 {
     system.shows_proper();
@@ -36,8 +61,6 @@ pub fn find_bounds<W: Watch>(
         nodes: extent.nodes,
         visits: extent.visits,
     };
-    searches_bound();
-    levels_bound();
     let searched = search(alloc, &mut explorer, limits);
     explorer.into_bounds(searched)
 }

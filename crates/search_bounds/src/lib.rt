@@ -7,19 +7,25 @@
 //!   `view_figures`) are within the peaks that lie below the cap.
 //! - Nothing is lost, refused or answered other than E_OK that no tick of the search has shown. A
 //!   service that is answered other than E_OK is one of those told.
-//! - In each tick no task has more jobs than the peaks tell. No task's oldest job has been
-//!   blocked for more ticks, where that is below the cap. Where a run's observations tell
-//!   blockers, no job has more than they tell (`AreBoundsUpTo.blockers`).
+//! - In each tick no task has more jobs than the peaks tell. No task's oldest job has stood, or
+//!   has been blocked, for more ticks, no interrupt has waited and no resource has been held for
+//!   more, each where that is below the cap. Where a run's observations tell blockers, no job has
+//!   more than they tell (`AreBoundsUpTo.blockers`).
+//! - So where a task's greatest response is below the cap, each of its jobs ends or begins to wait
+//!   within as many ticks of being ready, unless the run ends (`JobsEnd`).
 //! - A run ends by a ShutdownOS only where the peaks say so.
 //! - Where the search is undecided, all this holds after as many ticks at most as it tells.
+//! - Where the search is decided, as many nodes as its outcome tells stand for all that can come;
+//!   where it isn't, the outcome tells why it stopped (`IsOfSearch`).
 //! - `find_upper_bounds`, which asks for a separable system, searches through the upper part by
 //!   itself. The part is exactly the upper part. Where its search is decided, its peaks bound
 //!   every run of the system and of every one that is separable at p and agrees from p upward;
-//!   where it is undecided, after as many ticks at most as it tells.
+//!   where it is undecided, after as many ticks at most as it tells. Jobs of upper tasks end in
+//!   all of them within their bounds (`JobsEndAbove`).
 //! - A `Watch` is told of each visit how far the search has come. An error is want of memory.
 //!
 //! A bound is of programs that take exactly these ticks: a job that ends earlier can make another
-//! one later. It is of lists of interrupts that end before tick 1,000,000.
+//! one later.
 #![tactic(auto)]
 
 mod above;

@@ -1,10 +1,18 @@
 -- What a search through all runs of a system finds.
-use Rattle.std.specs.Prelude.{ℕ, List}
+use Rattle.std.specs.Prelude.{ℕ, ◌<◌, List, length}
 use Rattle.osek_base.specs.System.{System}
+use Rattle.law_future.specs.Need.{Need, Suffices}
+use Rattle.search.specs.declared.outcome.Limits.{Limits}
 use Rattle.search.specs.declared.outcome.Outcome.{Outcome}
 use Rattle.search.specs.declared.outcome.Outcome.TheVariants.{Decided, Undecided}
+use Rattle.search.specs.Outcomes.{IsOutcome}
+use Rattle.search_keys.specs.InRange.{NeedsOwnWords}
+use Rattle.search_peaks.specs.Peaks.{peak}
 use Rattle.law_bounds.specs.Bounds.{AreBounds, AreBoundsUpTo}
+use Rattle.law_bounds.specs.Ending.{EndsWithin}
+use Rattle.law_bounds.specs.Nodes.{AreNoted, Setting, rules_of}
 use Rattle.search_nodes.specs.declared.found.Bounds.{Bounds}
+use Rattle.search_nodes.specs.declared.found.Extent.{Extent}
 
 -- what holds for ever, where the search is decided; else what holds for so many ticks, for as many
 -- as it has done levels
@@ -17,3 +25,32 @@ abbrev pub AreFound : System → ℕ → List ℕ → Bounds → Type 0
 AreFound S mode distances found =
     Says found.outcome (AreBounds S mode distances found.cap found.peaks)
     (AreBoundsUpTo S mode distances found.cap found.peaks)
+
+-- where the search is decided, each job ends or begins to wait within its task's greatest response, if
+-- that is below the cap
+abbrev pub JobsEnd : System → ℕ → List ℕ → Bounds → Type 0
+JobsEnd S mode distances found =
+    Says found.outcome
+    ((k : ℕ) → k < length S.tasks → peak found.peaks.responses k < found.cap
+    → EndsWithin S mode distances (peak found.peaks.responses k) k)
+    (λ levels. Unit {0})
+
+-- ---- the search
+
+abbrev pub limits_of : Extent → Limits
+limits_of extent = record { nodes = extent.nodes; visits = extent.visits }
+
+abbrev pub setting_by : System → ℕ → Need → List ℕ → ℕ → Setting
+setting_by S mode need distances cap =
+    record { system = S; mode = mode; need = need; distances = distances; cap = cap }
+
+-- it is what a search by some need that suffices has come to: where it is decided, no node is open,
+-- and as many as are told stand for all that can come; else it is told why it stopped
+pub record IsOfSearch (S : System) (mode : ℕ) (distances : List ℕ) (extent : Extent)
+    (found : Bounds) : Type 0 where
+  pub need : Need
+  pub suffices : Suffices S need
+  pub own : NeedsOwnWords S need
+  pub outcome : IsOutcome (rules_of (setting_by S mode need distances found.cap))
+      (AreNoted (setting_by S mode need distances found.cap) found.peaks) (limits_of extent)
+      found.outcome

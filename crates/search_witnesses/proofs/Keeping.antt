@@ -9,8 +9,8 @@ use Rattle.osek_base.specs.declared.limits.TheConstants.{MAX_ARRIVALS}
 use Rattle.osek_base.specs.ArrivalList.{are_in_order, is_arrival_list}
 use Rattle.osek_base.specs.System.{System}
 use Rattle.kernel.specs.Progress.{AreKnown}
-use Rattle.law_bounds.specs.Bounds.{KeepDistances}
 use Rattle.search_witnesses.specs.Apart.{are_apart}
+use Rattle.search_witnesses.specs.Listed.{IsListApart}
 use Rattle.search_witnesses.proofs.Spacing.{both_of, once, spaced}
 
 known : (count : ℕ) (xs : List Arrival)
@@ -42,15 +42,15 @@ are_known S xs count b many are is =
 pub keep : (S : System) (distances : List ℕ) (xs : List Arrival) (count : ℕ) (b c : Bool)
     → is_arrival_list xs ≡ true → count ≡ length S.routines
     → b ≡ list_all (λ (a : Arrival). nat_lt a.routine count) xs → c ≡ are_apart distances xs
-    → b ≡ true → c ≡ true → KeepDistances S distances xs
+    → b ≡ true → c ≡ true → IsListApart S distances xs
 keep S distances xs count b c list many all_are apart first second = record {
-  arrive = record {
+  list = list;
+  keep = record {
     known =
         subst (λ n. AllByRecursion (λ (a : Arrival). a.routine < n) xs) many
         (known count xs (sym all_are ∙ first));
-    ordered = in_order xs list;
+    spaced = λ i t u low earlier one other.
+        spaced distances xs (sym apart ∙ second) i t u earlier one other;
+    once = λ i t. once distances xs (sym apart ∙ second) i t;
   };
-  spaced = λ i t u low earlier one other.
-      spaced distances xs (sym apart ∙ second) i t u earlier one other;
-  once = λ i t. once distances xs (sym apart ∙ second) i t;
 }

@@ -6,3 +6,5 @@ pub mod Watching
 pub mod Walking
 pub mod Stood
 pub mod Lassoing
+pub mod SeenInBoth
+pub mod AboveCuts

@@ -5,9 +5,9 @@ use Rattle.osek_base.specs.System.{System}
 use Rattle.seen_ticks.specs.declared.failures.Failure.{Failure}
 use Rattle.seen_ticks.specs.declared.observation.Observation.{Observation}
 use Rattle.law_figures.specs.RunFigures.{AreTicksOf}
-use Rattle.law_bounds.specs.Bounds.{KeepDistances}
 use Rattle.search_peaks.specs.Peaks.{Peaks}
 use Rattle.search_witnesses.specs.declared.witness.Witness.{Witness}
+use Rattle.search_witnesses.specs.Listed.{IsListApart}
 
 -- the service that is answered so in the last tick that was seen, if one is
 abbrev pub last_failure : List Observation → Option Failure
@@ -21,13 +21,13 @@ pub record FailsAtEnd (S : System) (mode : ℕ) (arrivals : List Arrival) (n : �
   pub ticks : AreTicksOf S mode arrivals n seen
   pub fails : last_failure seen ≡ Some failure
 
--- the arrivals of a witness keep distances, and its last tick has the service of a number among
--- those of peaks
+-- the arrivals of a witness are a list that keeps distances, and its last tick has the service of a
+-- number among those of peaks
 pub record IsFailing (S : System) (mode : ℕ) (distances : List ℕ) (peaks : Peaks) (number : ℕ)
     (w : Witness) : Type 0 where
   pub failure : Failure
   pub is : slice_get peaks.failures number ≡ Some failure
-  pub keep : KeepDistances S distances w.arrivals
+  pub arrivals : IsListApart S distances w.arrivals
   pub fails : FailsAtEnd S mode w.arrivals w.ticks failure
 
 -- some run does

@@ -1,4 +1,5 @@
 pub mod Apart
+pub mod Listed
 pub mod Blocked
 pub mod Watched
 pub mod Running
@@ -6,3 +7,4 @@ pub mod Shown
 pub mod Failing
 pub mod Walks
 pub mod Endless
+pub mod AboveCuts

@@ -7,7 +7,7 @@ use Rattle.kernel.specs.Progress.{Progress}
 use Rattle.seen_ticks.specs.declared.observation.Observation.{Observation}
 use Rattle.view_figures.specs.FigureSums.{levels_of}
 use Rattle.law_figures.specs.RunFigures.{AreTicksOf}
-use Rattle.law_bounds.specs.Bounds.{TellBlockers}
+use Rattle.law_figures.specs.Telling.{TellBlockers}
 use Rattle.search_nodes.specs.declared.figure.Figure.{Figure}
 use Rattle.search_nodes.specs.declared.figure.Figure.TheVariants.{Blocked, Blockers, Errors, Hold, Jobs, Latency, Loss, Refusal, RefusedAction, Response, RoutineErrors, Shutdown}
 use Rattle.search_witnesses.specs.declared.watched.Watched.{Watched}

@@ -10,13 +10,14 @@ use Rattle.view_figures.specs.ResourceSums.{resource_figures}
 use Rattle.view_figures.specs.RoutineSums.{routine_figures}
 use Rattle.law_figures.specs.Times.{response_time, routine_time}
 use Rattle.law_figures.specs.RunFigures.{AreRunFigures}
-use Rattle.law_bounds.specs.Bounds.{KeepDistances, TellBlockers}
+use Rattle.law_figures.specs.Telling.{TellBlockers}
 use Rattle.search_peaks.specs.Peaks.{Peaks}
 use Rattle.search_nodes.specs.declared.figure.Figure.{Figure}
 use Rattle.search_nodes.specs.declared.figure.Figure.TheVariants.{Blocked, Blockers, Errors, Hold, Jobs, Latency, Loss, Refusal, RefusedAction, Response, RoutineErrors, Shutdown}
 use Rattle.search_nodes.specs.declared.found.Bounds.{Bounds}
 use Rattle.search_nodes.specs.Figures.{one_if, told}
 use Rattle.search_witnesses.specs.declared.witness.Witness.{Witness}
+use Rattle.search_witnesses.specs.Listed.{IsListApart}
 use Rattle.search_witnesses.specs.Blocked.{most_blocked}
 use Rattle.search_witnesses.specs.Watched.{most_jobs, number_or_none, ticks_of}
 
@@ -85,10 +86,11 @@ pub record Shows (S : System) (mode : ℕ) (arrivals : List Arrival) (n : ℕ) (
   pub of : IsOf S figure
   pub shown : shown figures are.seen (run S mode arrivals n).state.over figure ≡ value
 
--- the arrivals of a witness keep distances, and its run shows what bounds tell of a figure
+-- the arrivals of a witness are a list that keeps distances, and its run shows what bounds tell of a
+-- figure
 pub record IsWitness (S : System) (mode : ℕ) (distances : List ℕ) (found : Bounds)
     (figure : Figure) (w : Witness) : Type 0 where
-  pub keep : KeepDistances S distances w.arrivals
+  pub arrivals : IsListApart S distances w.arrivals
   pub shows : Shows S mode w.arrivals w.ticks figure (told found.peaks figure)
 
 -- the figure is below their cap, and some run is one

@@ -6,8 +6,8 @@ ghost use Rattle.search_labels.specs.Labels.{distance_of};
 ghost use Rattle.osek_base.specs.ArrivalList.{are_in_order};
 ghost use Rattle.osek_base.specs.declared.arrivals.Arrival.{Arrival};
 ghost use Rattle.kernel.specs.Progress.{AreKnown};
-ghost use Rattle.law_bounds.specs.Bounds.{KeepDistances};
 ghost use Rattle.search_witnesses.specs.Apart.{are_apart, comes_behind, next_tick};
+ghost use Rattle.search_witnesses.specs.Listed.{IsListApart};
 
 use osek_base::{Arrival, Arrivals, System};
 
@@ -86,7 +86,7 @@ pub(crate) fn are_of_routines(system: &System, arrivals: &[Arrival]) -> bool
 /// say, in ticks by routine, 1 where none is given; at true they do, and no two of a routine come
 /// in one tick.
 pub(crate) fn keep_distances(system: &System, distances: &[u32], arrivals: &Arrivals) -> bool
-    ensures { IsTrue result → KeepDistances system.now distances.now arrivals.now }
+    ensures { IsTrue result → IsListApart system.now distances.now arrivals.now }
 {
     let list = arrivals.list();
     if !are_known(system.routine_count(), list) {

@@ -6,7 +6,7 @@ ghost use Rattle.search_nodes.specs.Ground.{IsGround};
 ghost use Rattle.law_bounds.specs.Unending.{NeedNotEnd};
 ghost use Rattle.law_bounds.specs.Lassos.{again};
 ghost use Rattle.kernel.specs.Progress.{AreKnown};
-ghost use Rattle.law_bounds.specs.Bounds.{KeepDistances};
+ghost use Rattle.law_bounds.specs.Distances.{KeepDistances};
 ghost use Rattle.search_witnesses.specs.Endless.{IsEndless};
 
 use crate::again::{again, come_before};

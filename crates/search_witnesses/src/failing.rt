@@ -3,8 +3,8 @@
 ghost use Rattle.std.specs.Prelude.{◌≡◌, IfOk, IfSome, IsTrue, Some};
 ghost use Rattle.std.specs.List.{All};
 ghost use Rattle.kernel.specs.Progress.{AreKnown};
-ghost use Rattle.law_bounds.specs.Bounds.{KeepDistances};
 ghost use Rattle.search_witnesses.specs.Failing.{Fails, FailsAtEnd, IsFailing};
+ghost use Rattle.search_witnesses.specs.Listed.{IsListApart};
 
 use crate::candidate::arrivals_of;
 use crate::running::{begin, watch};
@@ -58,7 +58,7 @@ fn tried(
     ticks: u32,
     failure: &Failure,
 ) -> Result<Option<Witness>, AllocError>
-    ensures { IfOk result (λ found. IfSome found (λ w. KeepDistances system.now distances.now w.arrivals
+    ensures { IfOk result (λ found. IfSome found (λ w. IsListApart system.now distances.now w.arrivals
         × FailsAtEnd system.now mode w.arrivals w.ticks failure.now)) }
 {
     let Some((arrivals, copy)) = kept_apart(alloc, system, distances, arrivals)? else {

@@ -19,9 +19,12 @@
 //!   for as many ticks as one likes, by a run that begins with these arrivals. They keep the
 //!   distances, also where those between the two ticks come once more, and a job of the task is
 //!   there in each tick between. `endless_tasks`: each task that it answers can be kept so.
+//! - `what_the_part_shows_holds`, a law: what they answer of the upper part of a system by itself
+//!   holds in that system and in each that agrees with it from that priority upward.
 //! - An error is want of memory.
 #![tactic(auto)]
 
+mod above_cuts;
 mod again;
 mod apart;
 mod blocked;
@@ -39,6 +42,7 @@ mod walk;
 mod watched;
 mod witness;
 
+pub use above_cuts::what_the_part_shows_holds;
 pub use endless::{Endless, endless_tasks, find_endless};
 pub use failing::{failing_services, find_failing};
 pub use reached::reached_figures;

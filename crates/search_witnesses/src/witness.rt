@@ -1,7 +1,7 @@
 //! Runs that show what bounds tell.
 
 ghost use Rattle.std.specs.Prelude.{◌≡◌, IfOk, IfSome};
-ghost use Rattle.law_bounds.specs.Bounds.{KeepDistances};
+ghost use Rattle.search_witnesses.specs.Listed.{IsListApart};
 ghost use Rattle.search_witnesses.specs.Shown.{IsWitness, Shows};
 
 use crate::apart::keep_distances;
@@ -36,7 +36,7 @@ pub(crate) fn kept_apart(
     arrivals: Vec<Arrival>,
 ) -> Result<Option<(Arrivals, Arrivals)>, AllocError>
     ensures { IfOk result (λ found. IfSome found (λ both.
-        KeepDistances system.now distances.now both.0 × (both.1 ≡ both.0))) }
+        IsListApart system.now distances.now both.0 × (both.1 ≡ both.0))) }
 {
     let copy = copy_of(alloc, &arrivals)?;
     let Some(arrivals) = Arrivals::new(arrivals) else {
@@ -63,7 +63,7 @@ fn tried(
     figure: Figure,
     value: u32,
 ) -> Result<Option<Witness>, AllocError>
-    ensures { IfOk result (λ found. IfSome found (λ w. KeepDistances system.now distances.now w.arrivals
+    ensures { IfOk result (λ found. IfSome found (λ w. IsListApart system.now distances.now w.arrivals
         × Shows system.now mode w.arrivals w.ticks figure value)) }
 {
     let Some((arrivals, copy)) = kept_apart(alloc, system, distances, arrivals)? else {

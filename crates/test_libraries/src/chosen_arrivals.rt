@@ -4,7 +4,7 @@
 ghost use Rattle.std.specs.Prelude.{◌≡◌, ◌<◌, length};
 ghost use Rattle.kernel.specs.Machine.{system_of};
 
-use crate::lines::{push_line, push_lines};
+use crate::lines::{push_line, push_lines, push_run};
 use crate::systems::system_of;
 use arrival_reader::read_arrivals;
 use kernel::{Kernel, Machine};
@@ -143,11 +143,7 @@ fn kernel_lines(alloc: Global, system: &System) -> Result<String, Fail> {
     let mut text = String::new(alloc);
     let arrivals = read_arrivals(alloc, ARRIVALS.as_bytes(), system)?;
     let mut kernel: Kernel<'_, LevelQueues> = Kernel::boot(alloc, system, "M", arrivals)?;
-    for tick in 0..TICKS {
-        if !kernel.is_over() {
-            push_lines(&mut text, system, tick, &kernel.tick())?;
-        }
-    }
+    push_run(&mut text, system, &mut kernel, TICKS)?;
     Ok(text)
 }
 

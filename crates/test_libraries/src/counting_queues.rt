@@ -1,5 +1,6 @@
 //! That a run goes through the ready queues: queues that count what they are asked for.
 
+use crate::lines::push_run;
 use crate::three_tasks::three_tasks;
 use kernel::Kernel;
 use osek_base::{Arrivals, System, TaskId};
@@ -56,15 +57,28 @@ impl ReadyQueues for CountingQueues {
     }
 }
 
-/// How often in 6 ticks a task was put newest, put oldest and taken.
-fn calls_of(alloc: Global, system: &System) -> Result<[u32; 3], Fail> {
+/// The lines of the row `preempted_is_oldest`.
+const LINES: &str = "0 pre A
+0 A 0 ACT B = 0
+1 A 1 ACT C = 0
+1 post A
+1 pre C
+2 C 0 TERM = 0
+2 post C
+2 pre A
+3 A 2 NOP
+4 A 3 TERM = 0
+4 post A
+4 pre B
+5 B 0 TERM = 0
+5 post B
+";
+
+/// Adds the lines of 6 ticks, and answers how often a task was put newest, put oldest and taken.
+fn calls_of(alloc: Global, system: &System, text: &mut String) -> Result<[u32; 3], Fail> {
     let arrivals = Arrivals::new(Vec::new(alloc)).ok_or("arrivals")?;
     let mut kernel: Kernel<'_, CountingQueues> = Kernel::boot(alloc, system, "M", arrivals)?;
-    for _tick in 0..6 {
-        if !kernel.is_over() {
-            let _records = kernel.tick();
-        }
-    }
+    push_run(text, system, &mut kernel, 6)?;
     let queues = kernel.machine().queues();
     Ok([queues.newest, queues.oldest, queues.taken])
 }
@@ -73,6 +87,9 @@ fn calls_of(alloc: Global, system: &System) -> Result<[u32; 3], Fail> {
 #[test]
 fn a_preemption_goes_through_the_queues(rt: HostRuntime) -> Result<(), Fail> {
     let system = three_tasks(rt.alloc())?;
-    assert_eq!(rt; calls_of(rt.alloc(), &system)?, [3, 1, 4]);
+    let mut text = String::new(rt.alloc());
+    let calls = calls_of(rt.alloc(), &system, &mut text)?;
+    assert_eq!(rt; text.as_str(), LINES);
+    assert_eq!(rt; calls, [3, 1, 4]);
     Ok(())
 }

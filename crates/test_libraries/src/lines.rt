@@ -1,7 +1,9 @@
 //! The lines of records.
 
 use arrayvec::ArrayString;
+use kernel::Kernel;
 use osek_base::{System, TickRecord, TraceEvent};
+use ready_queues::ReadyQueues;
 use std::alloc::AllocError;
 use trace_lines::line_text;
 
@@ -27,6 +29,22 @@ pub fn push_lines(
 ) -> Result<(), AllocError> {
     for entry in records.entries() {
         push_line(text, system, tick, entry.event())?;
+    }
+    Ok(())
+}
+
+/// Adds the lines of a kernel's next ticks, so many, or up to the end of the run. The first is tick
+/// 0.
+pub fn push_run<Q: ReadyQueues>(
+    text: &mut String,
+    system: &System,
+    kernel: &mut Kernel<'_, Q>,
+    ticks: u32,
+) -> Result<(), AllocError> {
+    for tick in 0..ticks {
+        if !kernel.is_over() {
+            push_lines(text, system, tick, &kernel.tick())?;
+        }
     }
     Ok(())
 }

@@ -1,4 +1,4 @@
-//! A system of three tasks and four resources.
+//! The system of the row `preempted_is_oldest`, in which C preempts A, with four resources.
 
 use crate::systems::system_of;
 use osek_base::System;
@@ -8,7 +8,7 @@ use std::test::Fail;
 const OIL: &str = "OIL_VERSION = \"2.5\";
 CPU c {
   OS o { STATUS = EXTENDED; STARTUPHOOK = FALSE; ERRORHOOK = FALSE;
-    SHUTDOWNHOOK = FALSE; PRETASKHOOK = FALSE; POSTTASKHOOK = FALSE; };
+    SHUTDOWNHOOK = FALSE; PRETASKHOOK = TRUE; POSTTASKHOOK = TRUE; };
   APPMODE M {};
   TASK A { PRIORITY = 1; SCHEDULE = FULL; ACTIVATION = 1; AUTOSTART = TRUE { APPMODE = M; }; };
   TASK B { PRIORITY = 1; SCHEDULE = FULL; ACTIVATION = 1; AUTOSTART = FALSE; };

@@ -1,4 +1,4 @@
-//! Limits on figures, for who checks a run by its exit status.
+//! Limits on figures, for who checks a run, or all runs, by the exit status.
 
 /// How many ticks the responses of a task, or the latency of a routine, may take.
 #[derive(Clone, Copy)]
@@ -8,7 +8,7 @@ pub struct Limit<'a> {
     pub ticks: u32,
 }
 
-/// What a run has to keep.
+/// What a run has to keep, or each run.
 #[derive(Clone, Copy)]
 pub struct Limits<'a> {
     /// The limits on times.

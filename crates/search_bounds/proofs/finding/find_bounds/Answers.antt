@@ -1,47 +1,16 @@
-use Rattle.std.proofs.Common.{◌≡◌, ◌∙◌, ap}
-use Rattle.search_needs.specs.Table.{need_of}
-use Rattle.search_nodes.specs.declared.found.Bounds.{Bounds}
-use Rattle.law_bounds.specs.Nodes.{Setting}
-use Rattle.search_bounds.proofs.Deciding.{all_are_found}
-use Rattle.search_bounds.proofs.Fallible.{if_ok}
+use Rattle.search_bounds.proofs.Deciding.{are_found, jobs_end}
 use Rattle.search_bounds.proofs.finding.find_bounds.Goals as goal
-
-pub new-requires : goal.new-requires
-new-requires g c =
-    record {
-      proper = c.shows_proper.ensures;
-      suffices = c.in_ok-needs.ensures.closed;
-      own = c.in_ok-needs.ensures.within.words;
-    }
 
 pub returns-clause-found : goal.returns-clause-found
 returns-clause-found g c =
-    let made = c.in_ok-explorer.ensures in
-    all_are_found (record { system = c.args.system.now; needs = c.in_ok-needs.needs })
-    c.args.mode c.args.distances.now c.args.extent.cap
-    c.in_ok-explorer.explorer c.search-searched.new.steps _ c.search-searched.result
-    c.into_bounds.result c.searches_bound.ensures c.levels_bound.ensures
-    (record {
-      proper = c.shows_proper.ensures;
-      suffices = c.in_ok-needs.ensures.closed;
-      own = c.in_ok-needs.ensures.within.words;
-    })
-    c.search-searched.ensures.setting
-    (λ i. record {
-      system = made.system i;
-      mode = made.mode i;
-      need = need_of (made.needs i);
-      distances = made.distances i;
-      cap = made.cap i;
-    })
-    c.search-searched.ensures.outcome c.into_bounds.ensures.outcome c.into_bounds.ensures.peaks
-    c.into_bounds.ensures.cap
+    are_found c.args.system.now c.args.mode c.args.distances.now c.shows_proper.ensures
+    c.searches_bound.ensures c.levels_bound.ensures c.args.extent c.searched_bounds.result
+    c.searched_bounds.ensures.searched
 
-pub returns-clause-cap : goal.returns-clause-cap
-returns-clause-cap g c =
-    let f = c.search-searched.new.steps in
-    if_ok (λ (b : Bounds). b.cap ≡ f.cap) (λ (b : Bounds). b.cap ≡ c.args.extent.cap)
-    c.into_bounds.result
-    (λ b same. same ∙ ap (λ (s : Setting). s.cap) c.search-searched.ensures.setting
-    ∙ c.in_ok-explorer.ensures.cap)
-    c.into_bounds.ensures.cap
+pub returns-clause-ends : goal.returns-clause-ends
+returns-clause-ends g c =
+    jobs_end c.args.system.now c.args.mode c.args.distances.now c.shows_proper.ensures
+    c.bounded_jobs_end.ensures c.searched_bounds.result
+    (are_found c.args.system.now c.args.mode c.args.distances.now c.shows_proper.ensures
+    c.searches_bound.ensures c.levels_bound.ensures c.args.extent c.searched_bounds.result
+    c.searched_bounds.ensures.searched)

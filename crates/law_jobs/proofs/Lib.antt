@@ -1,0 +1,11 @@
+pub mod Lists
+pub mod Growing
+pub mod Moving
+pub mod Calling
+pub mod Executing
+pub mod There
+pub mod Members
+pub mod Ticking
+pub mod Aging
+pub mod Ending
+pub mod Responses

@@ -1,0 +1,27 @@
+//! The laws, one function each. The functions are empty: the clause is the law.
+
+ghost use Rattle.law_jobs.specs.Ending.{JobsEndWithin, OldestIsJob, ResponsesAreOfJobs};
+ghost use Rattle.law_jobs.specs.ReadySince.{AgesAreOfJobs};
+
+/// In each tick of a run the ages that a task's label has are those of its jobs that are READY or
+/// RUNNING, oldest first: for how many ticks each has been so without a break.
+pub fn ages_are_of_jobs()
+    ensures { AgesAreOfJobs }
+{}
+
+/// The oldest age is that of the oldest of these jobs.
+pub fn oldest_is_job()
+    ensures { OldestIsJob }
+{}
+
+/// A response that the figures count in a tick is that of the job that executes its instruction:
+/// the oldest of its task, which ends by the instruction or begins to wait.
+pub fn responses_are_of_jobs()
+    ensures { ResponsesAreOfJobs }
+{}
+
+/// Where the longest time of a task in some ticks of a run is within a bound, ended or not, no job
+/// of the task that is ready since a tick is READY or RUNNING in one of them so many ticks later.
+pub fn jobs_end_within()
+    ensures { JobsEndWithin }
+{}
