@@ -1,0 +1,10 @@
+pub mod Counting
+pub mod Counts
+pub mod Ticked
+pub mod Along
+pub mod Due
+pub mod Times
+pub mod OnTime
+pub mod Gaps
+pub mod Unset
+pub mod OfBoot

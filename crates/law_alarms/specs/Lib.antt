@@ -1,0 +1,4 @@
+pub mod Spaced
+pub mod Expiries
+pub mod Setting
+pub mod Apart

@@ -1,0 +1,5 @@
+use Rattle.law_windows.proofs.Analysis.{arrivals_are_few}
+use Rattle.law_windows.proofs.laws.arrivals_are_few.Goals as goal
+
+pub returns : goal.returns
+returns c = arrivals_are_few

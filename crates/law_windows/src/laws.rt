@@ -1,0 +1,41 @@
+//! The laws, one function each. The functions are empty: the clause is the law.
+
+ghost use Rattle.law_windows.specs.Analysis.{AnalysisBoundsResponses, ArrivalsAreFew, LittleComes};
+ghost use Rattle.law_windows.specs.Potential.{WindowsAreShort};
+ghost use Rattle.law_windows.specs.Responses.{ResponsesLieInWindows};
+ghost use Rattle.law_windows.specs.Windows.{BusyTicksLieInWindows};
+
+/// A row of busy ticks between which work of the level stands lies in one window.
+pub fn busy_ticks_lie_in_windows()
+    ensures { BusyTicksLieInWindows }
+{}
+
+/// Where a run has a potential, a window has no more ticks than are enough for what may be left
+/// where it begins and for what comes in them.
+pub fn windows_are_short()
+    ensures { WindowsAreShort }
+{}
+
+/// Of a routine whose interrupts keep a distance, at most (count - 1) / distance + 1 arrive in so
+/// many ticks in a row.
+pub fn arrivals_are_few()
+    ensures { ArrivalsAreFew }
+{}
+
+/// So what comes in them costs no more than so many of each routine, and as many expiries of each
+/// alarm as there are at most.
+pub fn little_comes()
+    ensures { LittleComes }
+{}
+
+/// Where no window of a level has more than so many ticks, no job of the level is READY or RUNNING
+/// so many ticks after it became ready, and no routine is pending so long.
+pub fn responses_lie_in_windows()
+    ensures { ResponsesLieInWindows }
+{}
+
+/// Where all runs whose interrupts keep their distances have potentials of the same costs, as many
+/// ticks as are enough for all that can come bound each window, and what lies in it.
+pub fn analysis_bounds_responses()
+    ensures { AnalysisBoundsResponses }
+{}
