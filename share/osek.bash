@@ -4,11 +4,11 @@
 _osek_options() {
   case $1 in
     '') echo '--help --version --man --completions' ;;
-    trace) echo '--help --in --explain --from --to --blocking' ;;
-    upper) echo '--help --in --explain --alone' ;;
-    vcd) echo '--help --in --explain --from --to' ;;
-    timeline) echo '--help --in --explain --from --to --rows' ;;
-    stats) echo '--help --in --explain --csv --json --from --to --limit --no-loss --no-refusal' ;;
+    trace) echo '--help --in --explain --irq --from --to --blocking' ;;
+    upper) echo '--help --in --explain --irq --alone' ;;
+    vcd) echo '--help --in --explain --irq --from --to' ;;
+    timeline) echo '--help --in --explain --irq --from --to --rows --perfetto' ;;
+    stats) echo '--help --in --explain --irq --csv --json --from --to --limit --no-loss --no-refusal' ;;
     check) echo '--help --in --explain --all' ;;
     partitions) echo '--help --in --explain --joined' ;;
     class) echo '--help --in --explain' ;;

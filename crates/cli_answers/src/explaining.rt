@@ -2,14 +2,15 @@
 
 use crate::inputs::{Texts, system_of};
 use crate::partitions::{Stretch, stretches};
-use crate::verdict::Verdict;
+use crate::verdict::{DistanceFault, Verdict};
 use arrival_reader::IrqFault;
-use cli_requests::{Question, Request, RunLine};
+use cli_requests::{Question, Request, RunLine, Wanted};
 use explain_systems::{explain_denial, explain_denials, explain_generation};
 use explain_texts::{
-    LineFault, Source, explain_arrivals, explain_mode, explain_oil, explain_open_mode,
-    explain_programs,
+    LineFault, Source, explain_arrivals, explain_mode, explain_name, explain_oil,
+    explain_open_mode, explain_programs,
 };
+use oil_reader::Kind;
 use partition_check::NamedDenial;
 use partition_isolation::check_isolation;
 use std::alloc::Global;
@@ -176,7 +177,40 @@ fn explain_joined<E: Write>(
     Ok(())
 }
 
-/// Explains what was denied, as far as memory and `err` allow.
+/// Explains a name of the line that no object of some kinds has of what is asked for.
+fn explain_word<E: Write>(
+    alloc: Global,
+    request: &Request<'_>,
+    texts: &Texts,
+    kinds: &[Kind],
+    name: &str,
+    err: &mut E,
+) -> io::Result<()> {
+    let else_what = "is below the cut";
+    explain_name(alloc, oil(request, texts), kinds, name, else_what, err)
+}
+
+/// Explains a figure of which a run is wanted, and which nothing has.
+fn explain_wanted<E: Write>(
+    alloc: Global,
+    request: &Request<'_>,
+    texts: &Texts,
+    wanted: &Wanted<'_>,
+    err: &mut E,
+) -> io::Result<()> {
+    let kinds = [Kind::Task, Kind::Isr, Kind::Resource, Kind::Alarm];
+    let else_what = "has no such figure of what is searched; the tables have those that there are";
+    explain_name(
+        alloc,
+        oil(request, texts),
+        &kinds,
+        wanted.name,
+        else_what,
+        err,
+    )
+}
+
+/// Explains what was denied, or a name that nothing has, as far as memory and `err` allow.
 pub fn explain_verdict<E: Write>(
     alloc: Global,
     request: &Request<'_>,
@@ -190,6 +224,16 @@ pub fn explain_verdict<E: Write>(
         }
         Verdict::AllDenied(priority, denials) => {
             let _ = explain_cuts(alloc, request, texts, *priority, "", denials, err);
+        }
+        Verdict::NoRow(name) | Verdict::NoLimit(name) => {
+            let kinds = [Kind::Task, Kind::Isr];
+            let _ = explain_word(alloc, request, texts, &kinds, *name, err);
+        }
+        Verdict::NoDistance(DistanceFault::Unknown(name)) => {
+            let _ = explain_word(alloc, request, texts, &[Kind::Isr], *name, err);
+        }
+        Verdict::NoFigure(wanted) => {
+            let _ = explain_wanted(alloc, request, texts, wanted, err);
         }
         _ => {}
     }

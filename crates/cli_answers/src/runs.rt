@@ -11,7 +11,7 @@ use std::alloc::Global;
 use std::io::Write;
 use tracer::{RunFault, StdSink, TraceInput, run, run_blocking, run_upper};
 use view_runs::{
-    Limits, Progress, RunInput, StatsInput, unknown_limit, unknown_row, write_stats,
+    Limits, Picture, Progress, RunInput, StatsInput, unknown_limit, unknown_row, write_stats,
     write_timeline, write_vcd,
 };
 
@@ -84,11 +84,20 @@ fn write_view_of<'v, O: Write, E: Write>(
             let mut sink = StdSink::new(out);
             write_vcd(alloc, system, input, from, progress, &mut sink)?;
         }
-        View::Timeline { from, rows } => {
+        View::Timeline {
+            from,
+            rows,
+            are_events,
+        } => {
             if let Some(name) = row_without_owner(system, rows) {
                 return Ok(Verdict::NoRow(name));
             }
-            write_timeline(alloc, system, input, from, rows, progress, out)?;
+            let picture = Picture {
+                from,
+                rows,
+                are_events,
+            };
+            write_timeline(alloc, system, input, picture, progress, out)?;
         }
         View::Stats(stats) => {
             let asked = StatsInput {

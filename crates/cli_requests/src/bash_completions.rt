@@ -95,8 +95,8 @@ fn note<'a>(noted: &mut Vec<&'a str>, name: &'a str) -> Result<(), AllocError> {
     Ok(())
 }
 
-/// Adds the options of which the value is a folder, or those of which it is something else, as a
-/// pattern.
+/// Adds the options of which the value is a folder, or those of which it is no name of a folder or
+/// a file, as a pattern. Files are offered behind all else.
 fn push_valued(alloc: Global, script: &mut String, are_folders: bool) -> Result<(), AllocError> {
     let mut noted = Vec::new(alloc);
     for subcommand in &subcommands() {
@@ -120,7 +120,12 @@ fn push_pattern(
         return Ok(());
     };
     let count = noted.len();
-    if (value == "FOLDER") == are_folders {
+    let is_of_kind = match value {
+        "FOLDER" => are_folders,
+        "FILE" => false,
+        _ => !are_folders,
+    };
+    if is_of_kind {
         note(noted, argument.name())?;
     }
     if noted.len() == count {

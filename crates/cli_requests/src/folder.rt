@@ -15,59 +15,94 @@ fn file_count(subcommand: &str) -> usize {
     }
 }
 
-/// A folder that a line names, and which words do that.
+/// An option of a line with its value, and which words these are.
 #[derive(Clone, Copy)]
-pub struct Folder<'a> {
-    name: &'a str,
+struct Named<'a> {
+    value: &'a str,
     /// The first word's number.
     first: usize,
     /// The last word's.
     last: usize,
 }
 
-/// The folder that words name by `--in`, before a word `--`.
-fn named_folder<'a, S: AsStr>(words: &'a [S]) -> Option<Folder<'a>> {
-    for (number, word) in words.iter().enumerate() {
+impl Named<'_> {
+    /// Whether a word of the line, by its number, is one of these.
+    fn has(self, number: usize) -> bool {
+        self.first <= number && number <= self.last
+    }
+}
+
+/// What an option, before a word `--`, is given: as `OPTION=VALUE`, or by the word behind it.
+fn named<'a, S: AsStr>(words: &'a [S], option: &str) -> Option<Named<'a>> {
+    for (first, word) in words.iter().enumerate() {
         let word = word.as_str();
         if word == "--" {
             return None;
         }
-        if let Some(name) = word.strip_prefix("--in=") {
-            return Some(Folder {
-                name,
-                first: number,
-                last: number,
-            });
+        if word == option {
+            let last = first.saturating_add(1);
+            let value = words.get(last)?.as_str();
+            return Some(Named { value, first, last });
         }
-        if word == "--in" {
-            let last = number.saturating_add(1);
-            return Some(Folder {
-                name: words.get(last)?.as_str(),
-                first: number,
-                last,
-            });
+        if let Some((name, value)) = word.split_once('=') {
+            if name == option {
+                let last = first;
+                return Some(Named { value, first, last });
+            }
         }
     }
     None
 }
 
-/// The folder that a line names in place of files, where its subcommand takes one.
-pub fn folder_of<'a, S: AsStr>(words: &'a [S]) -> Option<Folder<'a>> {
-    if file_count(words.get(1)?.as_str()) == 0 {
-        return None;
-    }
-    named_folder(words)
+/// A folder that a line names in place of files, and the arrival list that it names in place of
+/// that of the folder.
+#[derive(Clone, Copy)]
+pub struct Folder<'a> {
+    folder: Named<'a>,
+    irq: Option<Named<'a>>,
 }
 
-/// Adds the names of so many files of a folder.
+impl Folder<'_> {
+    /// Whether a word of the line, by its number, is one of the options.
+    fn has(self, number: usize) -> bool {
+        let is_irq = match self.irq {
+            Some(irq) => irq.has(number),
+            None => false,
+        };
+        is_irq || self.folder.has(number)
+    }
+}
+
+/// The folder that a line names in place of files, where its subcommand takes one. An arrival list
+/// is named beside it where the subcommand reads one.
+pub fn folder_of<'a, S: AsStr>(words: &'a [S]) -> Option<Folder<'a>> {
+    let count = file_count(words.get(1)?.as_str());
+    if count == 0 {
+        return None;
+    }
+    let folder = named(words, "--in")?;
+    let irq = if count == NAMES.len() {
+        named(words, "--irq")
+    } else {
+        None
+    };
+    Some(Folder { folder, irq })
+}
+
+/// Adds the names of so many files of a folder, the arrival list's by its own name where it has
+/// one.
 fn add_files(
     alloc: Global,
-    folder: &str,
+    folder: Folder<'_>,
     count: usize,
     line: &mut Vec<String>,
 ) -> Result<(), AllocError> {
-    for name in NAMES.iter().take(count) {
-        line.push(format!(in alloc; "{folder}/{name}")?)?;
+    for (number, name) in NAMES.iter().take(count).enumerate() {
+        let path = match folder.irq {
+            Some(irq) if number == 2 => format!(in alloc; "{}", irq.value)?,
+            _ => format!(in alloc; "{}/{name}", folder.folder.value)?,
+        };
+        line.push(path)?;
     }
     Ok(())
 }
@@ -83,11 +118,11 @@ pub fn with_files<S: AsStr>(
     let mut line = Vec::new(alloc);
     for (number, word) in words.iter().enumerate() {
         let word = word.as_str();
-        if number < folder.first || number > folder.last {
+        if !folder.has(number) {
             line.push(format!(in alloc; "{word}")?)?;
         }
         if number == 1 {
-            add_files(alloc, folder.name, file_count(word), &mut line)?;
+            add_files(alloc, folder, file_count(word), &mut line)?;
             if !has_mode {
                 line.push(String::new(alloc))?;
             }

@@ -32,6 +32,9 @@ pub(crate) const TO: &str =
 pub(crate) const ROWS: &str =
     "The names of the tasks and routines that are drawn, with commas between them; all unless it is said";
 
+pub(crate) const PERFETTO: &str =
+    "Prints JSON in the trace event format, which ui.perfetto.dev and chrome://tracing open, in place of SVG";
+
 pub(crate) const CSV: &str = "Prints comma-separated values, a line a figure";
 
 pub(crate) const JSON: &str = "Prints JSON: an object by kinds, and in it by names";
@@ -61,6 +64,11 @@ pub(crate) const IN: &str =
 
 pub(crate) const TWO_FOLDERS: &str = "--in stands once, in place of the files";
 
+pub(crate) const OTHER_IRQ: &str =
+    "Beside --in: the arrival list that is read in place of the folder's arrivals.irq";
+
+pub(crate) const NO_FOLDER: &str = "--irq stands once, beside --in FOLDER";
+
 pub(crate) const EXPLAIN: &str =
     "Says behind a refusal or a denial, on standard error, where it is and what would be allowed";
 
@@ -82,7 +90,10 @@ pub(crate) const VCD_EXAMPLE: &str = "Example, a thousand ticks in the mode Norm
 
 pub(crate) const TIMELINE_EXAMPLE: &str =
     "At most 5000 ticks are drawn. Example, the ticks 900 to 999 in the mode Normal:
-  osek timeline system.oil programs.asm arrivals.irq Normal 1000 --from 900 > run.svg";
+  osek timeline system.oil programs.asm arrivals.irq Normal 1000 --from 900 > run.svg
+
+The same to zoom and to search in, for ui.perfetto.dev:
+  osek timeline system.oil programs.asm arrivals.irq Normal 1000 --from 900 --perfetto > run.json";
 
 pub(crate) const STATS_EXAMPLE: &str = "Example, a million ticks in the mode Normal:
   osek stats system.oil programs.asm arrivals.irq Normal 1000000

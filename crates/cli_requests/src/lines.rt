@@ -28,10 +28,11 @@ const SYSTEM: [Argument; 4] = [
 ];
 
 /// What a run is of besides its system.
-const RUN: [Argument; 3] = [
+const RUN: [Argument; 4] = [
     Argument::Word("IRQ", Takes::Text, help::IRQ),
     MODE,
     Argument::Word("TICKS", TICKS, help::TICKS),
+    Argument::Option("irq", "FILE", Takes::Text, help::OTHER_IRQ),
 ];
 
 /// Which ticks of a run are shown.
@@ -90,13 +91,16 @@ fn vcd() -> Subcommand {
 fn timeline() -> Subcommand {
     Subcommand {
         name: "timeline",
-        about: "Prints a picture of a run, as SVG",
+        about: "Prints a picture of a run, as SVG or for Perfetto",
         example: help::TIMELINE_EXAMPLE,
         arguments: &[
             &SYSTEM,
             &RUN,
             &PART,
-            &[Argument::Option("rows", "NAMES", Takes::Text, help::ROWS)],
+            &[
+                Argument::Option("rows", "NAMES", Takes::Text, help::ROWS),
+                Argument::Flag("perfetto", help::PERFETTO),
+            ],
         ],
         exclusions: &[],
     }

@@ -56,6 +56,7 @@ fn timeline<'a>(matches: &ArgMatches<'a>) -> Question<'a> {
         view: View::Timeline {
             from,
             rows: matches.get_str("rows"),
+            are_events: matches.get_flag("perfetto"),
         },
     }
 }
@@ -104,10 +105,13 @@ fn times<'a>(alloc: Global, matches: &ArgMatches<'a>) -> Result<Vec<Limit<'a>>, 
     Ok(times)
 }
 
-/// Why a line that names a folder is refused: it was taken for the files already, so this is a
-/// second one.
+/// Why a line that names a folder, or an arrival list beside it, is refused: both were taken for
+/// the files already, so this is a second one, or no folder is named.
 fn folder_fault(matches: &ArgMatches<'_>) -> Option<&'static str> {
-    matches.get_str("in").map(|_name| help::TWO_FOLDERS)
+    if matches.get_str("in").is_some() {
+        return Some(help::TWO_FOLDERS);
+    }
+    matches.get_str("irq").map(|_name| help::NO_FOLDER)
 }
 
 /// All lines, with the numbers of blockers where they are wanted.

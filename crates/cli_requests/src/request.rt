@@ -37,10 +37,16 @@ pub struct StatsLine {
 #[derive(Clone, Copy)]
 pub enum View<'a> {
     /// The value change dump of the ticks from that one on.
-    Vcd { from: u32 },
+    Vcd {
+        from: u32,
+    },
     /// The picture of the ticks from that one on: of all rows, or of those in a list with commas
-    /// between its names.
-    Timeline { from: u32, rows: Option<&'a str> },
+    /// between its names; as trace events, or as SVG.
+    Timeline {
+        from: u32,
+        rows: Option<&'a str>,
+        are_events: bool,
+    },
     /// The figures.
     Stats(StatsLine),
 }

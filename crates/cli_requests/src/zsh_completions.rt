@@ -130,7 +130,11 @@ fn push_option(
     if let Some(value) = argument.value() {
         script.push_str(":")?;
         script.push_str(value)?;
-        script.push_str(if value == "FOLDER" { ":_files -/" } else { ":" })?;
+        script.push_str(match value {
+            "FOLDER" => ":_files -/",
+            "FILE" => ":_files",
+            _ => ":",
+        })?;
     }
     script.push_str("'")
 }

@@ -9,6 +9,7 @@
 mod allowed_values;
 mod hints;
 mod mnemonics;
+mod named_words;
 mod notes;
 mod oil_faults;
 mod oil_objects;
@@ -24,6 +25,7 @@ mod trees;
 mod unseen;
 mod words;
 
+pub use named_words::explain_name;
 pub use notes::{write_choice, write_first_names, write_names};
 pub use oil_faults::explain_oil;
 pub use pieces::{Piece, kind_word};

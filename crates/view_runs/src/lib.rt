@@ -28,7 +28,7 @@ pub use beginning::RunInput;
 pub use laws::counted_are_run_figures;
 pub use progress::Progress;
 pub use stats::{StatsInput, counted_figures, write_stats};
-pub use timeline::{drawn_timeline, write_timeline};
+pub use timeline::{Picture, drawn_timeline, write_timeline};
 pub use vcd::write_vcd;
 pub use view_figure_texts::{Form, Limit, Limits, unknown_limit};
 pub use view_timelines::{MAX_DRAWN, unknown_row};

@@ -14,21 +14,33 @@ use std::io::Write;
 use tracer::RunFault;
 use view_timelines::Timeline;
 
-/// Runs a system and writes the picture of its ticks from `from` on, that of [`drawn_timeline`].
-/// Where a list of names is given, with commas between them, only these rows are drawn. A refusal
-/// comes before the first byte.
+/// Which rows a picture has, and how it is written.
+#[derive(Clone, Copy)]
+pub struct Picture<'r> {
+    /// The first tick that is drawn.
+    pub from: u32,
+    /// The names of the rows, with commas between them; None for all.
+    pub rows: Option<&'r str>,
+    /// Whether it is written as trace events, which Perfetto opens, in place of SVG.
+    pub are_events: bool,
+}
+
+/// Runs a system and writes the picture of its ticks from one on, that of [`drawn_timeline`]. A
+/// refusal comes before the first byte.
 pub fn write_timeline<O: Write, E: Write>(
     alloc: Global,
     system: &System,
     input: RunInput<'_>,
-    from: u32,
-    rows: Option<&str>,
+    picture: Picture<'_>,
     progress: &mut Progress<'_, E>,
     out: &mut O,
 ) -> Result<(), RunFault> {
-    let mut timeline = drawn_timeline(alloc, system, input, from, progress)?;
-    if let Some(list) = rows {
+    let mut timeline = drawn_timeline(alloc, system, input, picture.from, progress)?;
+    if let Some(list) = picture.rows {
         timeline.choose_rows(system, list);
+    }
+    if picture.are_events {
+        return Ok(timeline.write_events(alloc, system, out)?);
     }
     Ok(timeline.write(system, out)?)
 }

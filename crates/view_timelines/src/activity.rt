@@ -19,3 +19,10 @@ pub enum Activity {
     /// The task is WAITING.
     Waiting,
 }
+
+impl Activity {
+    /// Whether nothing is done.
+    pub(crate) fn is_nothing(self) -> bool {
+        matches!(self, Activity::Nothing)
+    }
+}

@@ -4,6 +4,7 @@ use crate::layout::Layout;
 use crate::mark::{Mark, Sign};
 use crate::pieces::{Piece, write_pieces};
 use osek_base::System;
+use std::alloc::{AllocError, Global};
 use std::io::{self, Write};
 
 /// The class of a mark, and its shape below the middle of its tick, from where it stands in its row.
@@ -63,6 +64,41 @@ fn write_detail<W: Write>(system: &System, sign: Sign, out: &mut W) -> io::Resul
         Sign::Refused(status) => Piece::Number(u32::from(status.number())),
     };
     write_pieces(&[detail], out)
+}
+
+/// What a mark tells, as text. An error is want of memory.
+pub(crate) fn sign_text(alloc: Global, system: &System, sign: Sign) -> Result<String, AllocError> {
+    match sign {
+        Sign::Activated(jobs) => format!(in alloc; "activations: {jobs}"),
+        Sign::EventsSet(mask) => events_text(alloc, system, mask),
+        Sign::Expired(alarm) => {
+            format!(in alloc; "alarm expires: {}", alarm_name(system, alarm))
+        }
+        Sign::ExpiryRefused(alarm) => {
+            format!(in alloc;
+                "alarm expires, its action is refused: {}",
+                alarm_name(system, alarm)
+            )
+        }
+        Sign::Arrived(interrupts) => format!(in alloc; "interrupts arrive: {interrupts}"),
+        Sign::Lost(interrupts) => format!(in alloc; "interrupts are lost: {interrupts}"),
+        Sign::Refused(status) => {
+            format!(in alloc; "a service answers status {}", status.number())
+        }
+    }
+}
+
+/// The names of the events of a mask that are set, as text.
+fn events_text(alloc: Global, system: &System, mask: u32) -> Result<String, AllocError> {
+    let mut text = String::from_str(alloc, "events set:")?;
+    let masks = system.parts().events.as_slice();
+    for (event, name) in masks.iter().zip(system.names().events.as_slice()) {
+        if mask & *event != 0 {
+            text.push_str(" ")?;
+            text.push_str(name.as_str())?;
+        }
+    }
+    Ok(text)
 }
 
 /// Writes a mark. An error is a failed write.

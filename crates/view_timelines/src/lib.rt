@@ -1,6 +1,6 @@
 //! A picture of ticks as SVG: of each task and routine the stretches of ticks in which it shows
 //! the same, and marks for what comes to it. Rows and marks are exactly those of the ticks drawn.
-//! The SVG text is tested.
+//! The SVG text is tested, and so is the same as trace events, which Perfetto opens.
 //!
 //! - What a row shows of a tick goes by what is seen of it, by who executes, and by whether the
 //!   job has executed since it became ready.
@@ -37,6 +37,9 @@ mod stretch;
 mod style;
 mod svg;
 mod timeline;
+mod trace_event;
+mod trace_events;
+mod trace_holds;
 mod track;
 
 pub use activity::Activity;

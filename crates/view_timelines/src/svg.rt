@@ -27,7 +27,12 @@ fn stands_above(priority: u8, number: usize, other_priority: u8, other: usize) -
 
 /// How many routines that are drawn stand above that of a number: those of higher PRIORITY, and of equal PRIORITY those before
 /// it.
-fn place_of_routine(tracks: &[Track], routines: &[Routine], number: usize, priority: u8) -> usize {
+pub(crate) fn place_of_routine(
+    tracks: &[Track],
+    routines: &[Routine],
+    number: usize,
+    priority: u8,
+) -> usize {
     let mut place = 0_usize;
     for (other, (track, routine)) in tracks.iter().zip(routines).enumerate() {
         if track.is_drawn && stands_above(routine.priority, other, priority, number) {
