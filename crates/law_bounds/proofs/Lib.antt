@@ -21,3 +21,5 @@ pub mod Known
 pub mod Spacing
 pub mod Rounds
 pub mod Ending
+pub mod Releasing
+pub mod Starting

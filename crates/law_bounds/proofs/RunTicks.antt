@@ -47,7 +47,7 @@ module _ (S : System) (mode : ℕ) (arrivals : List Arrival) (proper : IsProper 
       → IsAtMost m (age_at S mode arrivals k n)
   age_low k n m going low = subst (IsAtMost m) (sym (age_is k n going)) low
 
-  waited_is : (k n : ℕ) → Goes n
+  pub waited_is : (k n : ℕ) → Goes n
       → waited_at S mode arrivals k n
       ≡ waited (routine_ticks S mode arrivals k n)
       (label_before pending (routine_ticks S mode arrivals k) n)
@@ -70,7 +70,7 @@ module _ (S : System) (mode : ℕ) (arrivals : List Arrival) (proper : IsProper 
       → IsAtMost m (waited_at S mode arrivals k n)
   waits_low k n m going low = subst (IsAtMost m) (sym (waited_is k n going)) low
 
-  held_is : (r n : ℕ) → Goes n
+  pub held_is : (r n : ℕ) → Goes n
       → held_at S mode arrivals r n
       ≡ held_ticks (holder_ticks S mode arrivals r n)
       (label_before holding (holder_ticks S mode arrivals r) n)

@@ -7,4 +7,6 @@ pub mod Trying
 pub mod Lost
 pub mod Unending
 pub mod Ending
+pub mod Releasing
+pub mod Starting
 pub mod Lassos

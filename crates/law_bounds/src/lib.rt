@@ -11,7 +11,10 @@
 //!   (`searches_bound`). Where lists of nodes stand for all that can come in so many ticks, after
 //!   at most so many (`levels_bound`). Interrupts may come at any ticks, and without an end.
 //! - Where a task's greatest response is bounded, each job ends or begins to wait within as many
-//!   ticks of being ready, unless the run ends (`bounded_jobs_end`).
+//!   ticks of being ready, unless the run ends (`bounded_jobs_end`). Where a routine's greatest
+//!   latency is, it starts within as many ticks of each interrupt that isn't lost
+//!   (`bounded_interrupts_start`). Where a resource's longest hold is, each job that gets it releases
+//!   it within as many ticks (`bounded_holds_end`).
 //! - A run that comes twice to states of one key can be gone on so, if in each tick between a job
 //!   of a task is ready or runs, the oldest neither ends nor begins to wait, and the arrivals
 //!   between keep their distances once more. However often these come again, they keep them, and
@@ -21,7 +24,9 @@
 mod endless;
 mod laws;
 
-pub use endless::{bounded_jobs_end, lassos_are_endless};
+pub use endless::{
+    bounded_holds_end, bounded_interrupts_start, bounded_jobs_end, lassos_are_endless,
+};
 pub use laws::{
     keys_tell_futures, labels_are_ordered, levels_bound, lost_change_nothing, nodes_are_kept,
     notes_stay, one_state_tells, searches_bound, subsets_may,

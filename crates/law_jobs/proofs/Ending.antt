@@ -20,9 +20,9 @@ use Rattle.view_figures.specs.ResponseSums.{Responses, later, oldest_response, r
 use Rattle.view_figures.specs.StateSums.{leaves}
 use Rattle.law_figures.specs.Ages.{ages, ages_in, followed, oldest, oldest_age, tick_of}
 use Rattle.law_figures.specs.Labels.{IsAtMost, IsWithin, NoneShowsMore}
-use Rattle.law_figures.specs.RunFigures.{AreTicksOf, NoneMoreBefore, label_before, task_ticks}
+use Rattle.law_figures.specs.RunFigures.{AreTicksOf, label_before, task_ticks}
 use Rattle.law_figures.specs.Times.{response_time}
-use Rattle.law_figures.proofs.Running.{numbered, responses_of, same_label, task_agrees}
+use Rattle.law_figures.proofs.Running.{numbered, responses_of, task_agrees}
 use Rattle.law_figures.proofs.Times.{task_times_are_ages}
 use Rattle.law_jobs.specs.Ending.{IsOldestJob, JobsEndWithin, OldestIsJob}
 use Rattle.law_jobs.specs.ReadySince.{AreAges, IsAge, IsReadySince}
@@ -30,6 +30,7 @@ use Rattle.law_jobs.specs.Standing.{behind, standing, stands_in}
 use Rattle.law_jobs.proofs.Aging.{ages_are_of_jobs}
 use Rattle.law_jobs.proofs.Lists.{is_among}
 use Rattle.law_jobs.proofs.Members.{stands_among}
+use Rattle.law_jobs.proofs.Showing.{goes_on, none_before}
 
 -- ---- the oldest job
 
@@ -192,54 +193,6 @@ module _ (S : System) (mode : ℕ) (arrivals : List Arrival) (proper : IsProper 
       (task_times_are_ages (tick o) (map tick before)
       (numbered S mode arrivals tick_of tick (λ o. refl) n (o ∷ before) are)).shown m small within
 
-  none_before : (n : ℕ) (seen : List Observation) → AreTicksOf S mode arrivals n seen
-      → NoneShowsMore ages oldest_age m (map tick seen)
-      → NoneMoreBefore ages oldest_age (task_ticks S mode arrivals k) m n
-  none_before zero seen are none i low = absurd (omega (arith, low))
-  none_before (suc n) [] are none i low = absurd are
-  none_before (suc n) (o ∷ before) are none i low =
-      go (cases_lt i n) (none_before n before are.1 none.1 i)
-    where
-      same : oldest_age (tick o) (label_before ages (task_ticks S mode arrivals k) n)
-          ≡ oldest_age (task_ticks S mode arrivals k n)
-          (label_before ages (task_ticks S mode arrivals k) n)
-      same =
-          (task_agrees S mode arrivals proper n o are.0 k known
-          (label_before ages (task_ticks S mode arrivals k) n)).oldest
-
-      go : (i < n) ⊎ (n ≤ i)
-          → (i < n → IsAtMost m (oldest_age (task_ticks S mode arrivals k i)
-          (label_before ages (task_ticks S mode arrivals k) i)))
-          → IsAtMost m (oldest_age (task_ticks S mode arrivals k i)
-          (label_before ages (task_ticks S mode arrivals k) i))
-      go (inl less) rest = rest less
-      go (inr more) rest =
-          let here : n ≡ i = omega (arith, low, more) in
-          subst
-          (λ j. IsAtMost m (oldest_age (task_ticks S mode arrivals k j)
-          (label_before ages (task_ticks S mode arrivals k) j)))
-          here
-          (subst (IsAtMost m) same
-          (subst (λ old. IsAtMost m (oldest_age (tick o) old))
-          (same_label S mode arrivals ages oldest_age tick (task_ticks S mode arrivals k)
-          (λ i o is old. (task_agrees S mode arrivals proper i o is k known old).next)
-          (λ i o is old. (task_agrees S mode arrivals proper i o is k known old).oldest)
-          n before are.1)
-          none.0))
-
-  goes_on : (n : ℕ) (seen : List Observation) → AreTicksOf S mode arrivals n seen → (i : ℕ) → i < n
-      → (run S mode arrivals i).state.over ≡ false
-  goes_on zero seen are i low = absurd (omega (arith, low))
-  goes_on (suc n) [] are i low = absurd are
-  goes_on (suc n) (o ∷ before) are i low = go (cases_lt i n) (goes_on n before are.1 i)
-    where
-      go : (i < n) ⊎ (n ≤ i) → (i < n → (run S mode arrivals i).state.over ≡ false)
-          → (run S mode arrivals i).state.over ≡ false
-      go (inl less) rest = rest less
-      go (inr more) rest =
-          let here : n ≡ i = omega (arith, low, more) in
-          subst (λ j. (run S mode arrivals j).state.over ≡ false) here are.0.going
-
 pub jobs_end_within : JobsEndWithin
 jobs_end_within S mode arrivals n f are = record {
   jobs = λ k m known small within i since job low of ready.
@@ -256,8 +209,11 @@ jobs_end_within S mode arrivals n f are = record {
       (task_figures [])).responses))
       are.figures.last within) in
       job_within S mode arrivals k are.proper known i m since job
-      (goes_on S mode arrivals are.proper k m known n are.seen are.ticks i low)
-      (none_before S mode arrivals are.proper k m known n are.seen are.ticks
+      (goes_on S mode arrivals n are.seen are.ticks i low)
+      (none_before S mode arrivals ages oldest_age tick (task_ticks S mode arrivals k)
+      (λ i o is old. (task_agrees S mode arrivals are.proper i o is k known old).next)
+      (λ i o is old. (task_agrees S mode arrivals are.proper i o is k known old).oldest)
+      m n are.seen are.ticks
       (seen_shown S mode arrivals are.proper k m known n are.seen are.ticks small shown) i low)
       of ready;
 }

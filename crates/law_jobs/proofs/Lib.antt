@@ -7,5 +7,13 @@ pub mod There
 pub mod Members
 pub mod Ticking
 pub mod Aging
+pub mod Showing
 pub mod Ending
 pub mod Responses
+pub mod Passing
+pub mod Getting
+pub mod Holders
+pub mod Holds
+pub mod Flags
+pub mod Pending
+pub mod Starting

@@ -23,6 +23,8 @@ pub mod ShownAlike
 pub mod Within
 pub mod Part
 pub mod Ending
+pub mod Releasing
+pub mod Starting
 pub mod SightsAbove
 pub mod StepsAbove
 pub mod BlockersAbove

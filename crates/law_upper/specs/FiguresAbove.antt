@@ -20,6 +20,7 @@ use Rattle.law_figures.specs.Telling.{TellBlockers}
 use Rattle.search_peaks.specs.Peaks.{Peaks, has_come, most_blockers, peak, routine_fails, task_fails}
 use Rattle.law_bounds.specs.Bounds.{AreBounds, AreBoundsUpTo}
 use Rattle.law_bounds.specs.Ending.{EndsWithin}
+use Rattle.law_bounds.specs.Releasing.{ReleasesWithin}
 use Rattle.law_bounds.specs.RunTicks.{age_at, blocked_at, held_at, waited_at}
 use Rattle.law_bounds.specs.Distances.{KeepDistances}
 use Rattle.law_upper.specs.Above.{AreOneAbove, IsUpperTask}
@@ -124,6 +125,23 @@ abbrev pub BoundedUpperJobsEnd : Type 0
 BoundedUpperJobsEnd =
     (S : System) (p mode : ℕ) (distances : List ℕ) (cap : ℕ) (peaks : Peaks) → IsProper S
     → AreBoundsAbove S p mode distances cap peaks → UpperJobsEnd S p mode distances cap peaks
+
+-- and each job that holds an upper resource, or RES_SCHEDULER, whose longest hold is bounded below
+-- the cap releases it within as many ticks
+pub record UpperHoldsEnd (S : System) (p mode : ℕ) (distances : List ℕ) (cap : ℕ)
+    (peaks : Peaks) : Type 0 where
+  pub declared : (r : ℕ) → r < length S.resources → IsTrue (is_upper_declared S p r)
+      → peak peaks.holds (resource_in_part S p r) < cap
+      → ReleasesWithin S mode distances (peak peaks.holds (resource_in_part S p r)) r
+  pub scheduler : IsTrue S.use_res_scheduler
+      → peak peaks.holds (resource_in_part S p (length S.resources)) < cap
+      → ReleasesWithin S mode distances
+      (peak peaks.holds (resource_in_part S p (length S.resources))) (length S.resources)
+
+abbrev pub BoundedUpperHoldsEnd : Type 0
+BoundedUpperHoldsEnd =
+    (S : System) (p mode : ℕ) (distances : List ℕ) (cap : ℕ) (peaks : Peaks) → IsProper S
+    → AreBoundsAbove S p mode distances cap peaks → UpperHoldsEnd S p mode distances cap peaks
 
 -- bounds of the upper part of a system by itself hold in another one, for as many ticks
 pub record BoundsHoldIn (S B : System) (p : ℕ) : Type 0 where

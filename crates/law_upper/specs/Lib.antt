@@ -4,4 +4,5 @@ pub mod ExecutedAbove
 pub mod AlarmsAbove
 pub mod ShownAbove
 pub mod FiguresAbove
+pub mod StartingAbove
 pub mod RunsAbove

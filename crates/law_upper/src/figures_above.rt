@@ -1,7 +1,12 @@
 //! The laws, one function each. The functions are empty: the clause is the law.
 
-ghost use Rattle.law_upper.specs.FiguresAbove.{BoundedUpperJobsEnd, BoundsOfThePartHold};
+ghost use Rattle.law_upper.specs.FiguresAbove.{
+  BoundedUpperHoldsEnd,
+  BoundedUpperJobsEnd,
+  BoundsOfThePartHold,
+};
 ghost use Rattle.law_upper.specs.ShownAbove.{UpperPartsShowTheSame};
+ghost use Rattle.law_upper.specs.StartingAbove.{BoundedInterruptsStartAbove};
 
 /// Each tick shows the same of upper tasks, of routines, of upper resources and alarms, and of the
 /// services of upper tasks and routines that fail, and blocks the same upper tasks, in each system
@@ -23,4 +28,18 @@ pub fn bounds_of_the_part_hold()
 /// it that is ready since a tick is READY or RUNNING as many ticks later, unless the run has ended.
 pub fn bounded_upper_jobs_end()
     ensures { BoundedUpperJobsEnd }
+{}
+
+/// Where the longest hold of an upper resource, or of RES_SCHEDULER, is bounded by so many ticks
+/// below the cap, no job that holds it since a tick still does as many ticks later, unless the run
+/// has ended.
+pub fn bounded_upper_holds_end()
+    ensures { BoundedUpperHoldsEnd }
+{}
+
+/// Where the greatest latency of a routine is bounded by so many ticks below the cap, each interrupt
+/// of it that isn't lost has the routine started within as many ticks, unless the run is over by
+/// then.
+pub fn bounded_interrupts_start_above()
+    ensures { BoundedInterruptsStartAbove }
 {}

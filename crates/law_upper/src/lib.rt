@@ -17,10 +17,12 @@
 //! alarms, the jobs of its tasks, for how many ticks one is blocked, its blockers, and the
 //! services that fail, in every run of the whole and of each system that is separable and agrees
 //! (`bounds_of_the_part_hold`), for every number of ticks or for at most so many. So jobs of upper
-//! tasks that are bounded end (`bounded_upper_jobs_end`). And the other way round, what a run of the
-//! upper part by itself shows, theirs show under the same arrivals
-//! (`runs_show_what_the_part_shows`): figures and blockers, how long tasks are blocked, a service
-//! that fails, that the run is over, and that a task need not end.
+//! tasks that are bounded end (`bounded_upper_jobs_end`), routines that are bounded start
+//! (`bounded_interrupts_start_above`), and jobs release upper resources whose holds are bounded
+//! (`bounded_upper_holds_end`). And the other way round, what a run of the upper part by itself
+//! shows, theirs show under the same arrivals (`runs_show_what_the_part_shows`): figures and
+//! blockers, how long tasks are blocked, a service that fails, that the run is over, and that a task
+//! need not end.
 #![tactic(auto)]
 
 mod figures_above;
@@ -28,7 +30,9 @@ mod runs_above;
 mod seen_above;
 
 pub use figures_above::{
-    bounded_upper_jobs_end, bounds_of_the_part_hold, upper_parts_show_the_same,
+    bounded_interrupts_start_above, bounded_upper_holds_end, bounded_upper_jobs_end,
+    bounds_of_the_part_hold,
+    upper_parts_show_the_same,
 };
 pub use runs_above::runs_show_what_the_part_shows;
 pub use seen_above::{alarms_act_the_same, executions_are_the_same, states_are_seen_the_same};

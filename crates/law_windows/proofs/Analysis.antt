@@ -1,14 +1,16 @@
 -- As many ticks as are enough for all that can come bound each window, and what lies in it.
-use Rattle.std.proofs.Common.{ℕ, zero, suc, ◌≡◌, ◌<◌, ◌≤◌, ◌+◌, Bool, true, false, List, length, refl, sym, ◌∙◌, ap, subst, arith}
+use Rattle.std.proofs.Common.{ℕ, zero, suc, ◌≤◌, ◌+◌, List, sym, subst, arith}
 use Rattle.osek_base.specs.declared.arrivals.Arrival.{Arrival}
 use Rattle.osek_base.specs.System.{System, priority_of}
 use Rattle.law_future.specs.Shown.{arrives}
 use Rattle.search_labels.specs.Labels.{distance_of}
 use Rattle.law_bounds.specs.Distances.{KeepDistances}
-use Rattle.law_windows.specs.Windows.{IsWindow, WindowsEndWithin}
-use Rattle.law_windows.specs.Coming.{Costs, ExpireAtMost, arrivals_in, came, cost_of, expiries_in, first_cost, most_in}
+use Rattle.law_windows.specs.Windows.{WindowsEndWithin}
+use Rattle.law_windows.specs.Coming.{Costs, ExpireAtMost, arrivals_in, expiries_in, first_cost, most_in}
 use Rattle.law_windows.specs.Potential.{AreEnough}
+use Rattle.law_windows.specs.Responses.{RespondWithin}
 use Rattle.law_windows.specs.Analysis.{AnalysisBoundsResponses, AreAlwaysEnough, ArrivalsAreFew, IsCounted, LittleComes, most_cost}
+use Rattle.law_windows.proofs.Losses.{soon_started_are_not_lost}
 use Rattle.law_windows.proofs.Responses.{responses_lie_in_windows}
 use Rattle.law_windows.proofs.Short.{windows_are_short}
 use Rattle.law_windows.proofs.Spacing.{spaced_are_few}
@@ -41,7 +43,8 @@ module _ (S : System) (mode : ℕ) (distances : List ℕ) (p : ℕ) (costs : Cos
       → ExpireAtMost S mode arrivals expiries most → (first : ℕ)
       → AreEnough S mode arrivals costs first most
   are_enough arrivals keep few first =
-      let come = little_comes S mode distances arrivals costs expiries first most enough.apart keep few in
+      let come =
+      little_comes S mode distances arrivals costs expiries first most enough.apart keep few in
       let whole = begins_with first in
       omega (arith, come, whole)
 
@@ -53,16 +56,23 @@ module _ (S : System) (mode : ℕ) (distances : List ℕ) (p : ℕ) (costs : Cos
 
 pub analysis_bounds_responses : AnalysisBoundsResponses
 analysis_bounds_responses S mode distances p costs expiries most enough counted = record {
-  windows = λ arrivals keep.
-      windows_within S mode distances p costs expiries most enough arrivals keep
-      (counted arrivals keep);
-  responses = λ arrivals keep.
-      responses_lie_in_windows S mode arrivals p most
-      (windows_within S mode distances p costs expiries most enough arrivals keep
-      (counted arrivals keep));
+  windows = windows;
+  responses = responses;
   tasks = λ k high arrivals n since job keep going of ready.
-      (responses_lie_in_windows S mode arrivals p most
-      (windows_within S mode distances p costs expiries most enough arrivals keep
-      (counted arrivals keep))).jobs n since job going
+      (responses arrivals keep).jobs n since job going
       (subst (λ t. p ≤ priority_of S t) (sym of) high) ready;
+  losses = λ arrivals i keep known short.
+      soon_started_are_not_lost S mode distances arrivals p most i keep (responses arrivals keep)
+      known short;
 }
+  where
+    windows : (arrivals : List Arrival) → KeepDistances S distances arrivals
+        → WindowsEndWithin S mode arrivals p most
+    windows arrivals keep =
+        windows_within S mode distances p costs expiries most enough arrivals keep
+        (counted arrivals keep)
+
+    responses : (arrivals : List Arrival) → KeepDistances S distances arrivals
+        → RespondWithin S mode arrivals p most
+    responses arrivals keep =
+        responses_lie_in_windows S mode arrivals p most (windows arrivals keep)

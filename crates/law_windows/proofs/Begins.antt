@@ -1,11 +1,11 @@
 -- A row of busy ticks lies in one window: it is gone back to where that begins.
-use Rattle.std.proofs.Common.{ℕ, zero, suc, ◌≡◌, ◌<◌, ◌≤◌, ◌+◌, inl, inr, Bool, true, false, ◌&&◌, List, refl, sym, ◌∙◌, ap, subst, arith}
+use Rattle.std.proofs.Common.{ℕ, zero, suc, ◌≡◌, ◌<◌, ◌≤◌, inl, inr, Bool, true, false, List, refl, subst, arith}
 use Rattle.std.proofs.lemmas.Bool.{and_parts, cases_lt}
 use Rattle.osek_base.specs.declared.arrivals.Arrival.{Arrival}
 use Rattle.osek_base.specs.System.{System}
 use Rattle.osek_base.specs.Trace.{run}
 use Rattle.law_windows.specs.Work.{has_work_after, is_busy}
-use Rattle.law_windows.specs.Windows.{BusyTicksLieInWindows, IsWindow, LieInAWindow, goes_on_with}
+use Rattle.law_windows.specs.Windows.{BusyTicksLieInWindows, LieInAWindow, goes_on_with}
 
 module _ (S : System) (mode : ℕ) (arrivals : List Arrival) (p n : ℕ)
     (going : (run S mode arrivals n).state.over ≡ false) where
@@ -32,8 +32,8 @@ module _ (S : System) (mode : ℕ) (arrivals : List Arrival) (p n : ℕ)
         subst (λ (k : ℕ). is_busy S mode arrivals p k ≡ true) same before
   ]
 
-  joined_before : (from : ℕ) → Joined (suc from) → has_work_after S mode arrivals p (suc from) ≡ true
-      → Joined from
+  joined_before : (from : ℕ) → Joined (suc from)
+      → has_work_after S mode arrivals p (suc from) ≡ true → Joined from
   joined_before from joined before i low high = elim (cases_lt (suc from) i) [
     | inl later ↦ joined i later high
     | inr first ↦
@@ -63,7 +63,8 @@ module _ (S : System) (mode : ℕ) (arrivals : List Arrival) (p n : ℕ)
       go false begins back = here (suc from) order busy joined begins
       go true both back =
           let parts =
-          and_parts (is_busy S mode arrivals p from) (has_work_after S mode arrivals p (suc from)) both in
+          and_parts (is_busy S mode arrivals p from) (has_work_after S mode arrivals p (suc from))
+          both in
           earlier from (back parts.0 parts.1)
 
 pub busy_ticks_lie_in_windows : BusyTicksLieInWindows

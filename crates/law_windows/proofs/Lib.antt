@@ -1,7 +1,11 @@
+pub mod Before
+pub mod Working
+pub mod Steady
+pub mod Begins
 pub mod Short
+pub mod Phases
 pub mod Spacing
 pub mod Sums
-pub mod Begins
-pub mod Working
 pub mod Responses
+pub mod Losses
 pub mod Analysis

@@ -1,5 +1,5 @@
 -- A job that is ready, and a routine that is pending, lie in one window as long as they are.
-use Rattle.std.proofs.Common.{ℕ, zero, suc, ◌≡◌, ◌<◌, ◌≤◌, ◌+◌, inl, inr, Bool, true, false, List, refl, sym, ◌∙◌, ap, subst, arith}
+use Rattle.std.proofs.Common.{ℕ, zero, suc, ◌≡◌, ◌<◌, ◌≤◌, ◌+◌, inl, inr, true, false, List, sym, ◌∙◌, ap, subst, arith}
 use Rattle.std.specs.Prelude.{slice_index_or}
 use Rattle.std.proofs.lemmas.Bool.{cases_lt}
 use Rattle.osek_base.specs.declared.arrivals.Arrival.{Arrival}
@@ -7,16 +7,27 @@ use Rattle.osek_base.specs.State.{JobId, State}
 use Rattle.osek_base.specs.System.{System, priority_of}
 use Rattle.osek_base.specs.Tick.{is_pending, tick}
 use Rattle.osek_base.specs.Trace.{arriving, run}
-use Rattle.law_runs.proofs.RunSteps.{going_before, run_tick, state_more}
+use Rattle.law_runs.proofs.RunSteps.{run_tick, state_more}
 use Rattle.law_blockers.specs.Steps.{step_at}
 use Rattle.seen_ticks.proofs.Staying.{pending_stays}
 use Rattle.law_jobs.specs.ReadySince.{IsReadySince}
-use Rattle.law_windows.specs.Work.{has_work, has_work_after, is_busy}
+use Rattle.law_windows.specs.Work.{has_work_after, is_busy}
 use Rattle.law_windows.specs.Windows.{LieInAWindow, WindowsEndWithin}
 use Rattle.law_windows.specs.Responses.{PendsBehind, ResponsesLieInWindows}
 use Rattle.law_windows.proofs.Begins.{busy_ticks_lie_in_windows}
 use Rattle.law_windows.proofs.Short.{going_early}
-use Rattle.law_windows.proofs.Working.{SomePends, job_is_work, one_pends, pending_is_work, pending_works}
+use Rattle.law_windows.proofs.Working.{job_is_work, one_pends, pending_is_work, pending_works}
+
+-- who is pending behind a tick was so at its instruction
+pub same_flags : (S : System) (mode : ℕ) (arrivals : List Arrival) (t : ℕ)
+    → (run S mode arrivals t).state.over ≡ false
+    → (run S mode arrivals (suc t)).state.pending
+    ≡ (step_at S mode arrivals t).executing.pending
+same_flags S mode arrivals t going =
+    ap (λ (s : State). s.pending) (state_more S mode arrivals t going)
+    ∙ ap (λ k. (tick S (arriving arrivals k) (run S mode arrivals t).state).after.pending)
+    (sym (run_tick S mode arrivals t going))
+    ∙ pending_stays S mode arrivals t
 
 module _ (S : System) (mode : ℕ) (arrivals : List Arrival) (p most : ℕ)
     (within : WindowsEndWithin S mode arrivals p most) where
@@ -35,26 +46,19 @@ module _ (S : System) (mode : ℕ) (arrivals : List Arrival) (p most : ℕ)
       (busy_ticks_lie_in_windows S mode arrivals p since n ready.past going
       (λ i low late.
       job_is_work S p (step_at S mode arrivals i).executing job high (ready.stands i low late))
-      (λ i low late. job_is_work S p (run S mode arrivals i).state job high (ready.between i low late)))
+      (λ i low late.
+      job_is_work S p (run S mode arrivals i).state job high (ready.between i low late)))
 
   -- ---- routines
 
-  -- who is pending behind a tick was so at its instruction
-  same_flags : (t : ℕ) → (run S mode arrivals t).state.over ≡ false
-      → (run S mode arrivals (suc t)).state.pending
-      ≡ (step_at S mode arrivals t).executing.pending
-  same_flags t going =
-      ap (λ (s : State). s.pending) (state_more S mode arrivals t going)
-      ∙ ap (λ k. (tick S (arriving arrivals k) (run S mode arrivals t).state).after.pending)
-      (sym (run_tick S mode arrivals t going))
-      ∙ pending_stays S mode arrivals t
-
   busy_at : (t i : ℕ) → (run S mode arrivals t).state.over ≡ false
-      → is_pending (run S mode arrivals (suc t)).state i ≡ true → is_busy S mode arrivals p t ≡ true
+      → is_pending (run S mode arrivals (suc t)).state i ≡ true
+      → is_busy S mode arrivals p t ≡ true
   busy_at t i going on =
       let executing : State = (step_at S mode arrivals t).executing in
       let pends : is_pending executing i ≡ true =
-      subst (λ flags. slice_index_or flags i false ≡ true) (same_flags t going) on in
+      subst (λ flags. slice_index_or flags i false ≡ true) (same_flags S mode arrivals t going)
+      on in
       pending_is_work S p executing (one_pends executing i pends)
 
   busy_behind : (t i : ℕ) → is_pending (run S mode arrivals t).state i ≡ true
@@ -85,8 +89,8 @@ module _ (S : System) (mode : ℕ) (arrivals : List Arrival) (p most : ℕ)
     routines_within : suc n < since + most
     routines_within =
         within_one since (suc n)
-        (busy_ticks_lie_in_windows S mode arrivals p since (suc n) (omega (arith, order)) going busy
-        joined)
+        (busy_ticks_lie_in_windows S mode arrivals p since (suc n) (omega (arith, order)) going
+        busy joined)
 
 pub responses_lie_in_windows : ResponsesLieInWindows
 responses_lie_in_windows S mode arrivals p most within = record {

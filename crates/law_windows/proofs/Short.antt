@@ -1,12 +1,12 @@
 -- A window has no more ticks than are enough by a potential.
-use Rattle.std.proofs.Common.{ℕ, zero, suc, ◌≡◌, ◌<◌, ◌≤◌, ◌+◌, ◌-◌, inl, inr, Bool, true, false, List, refl, sym, ◌∙◌, ap, subst, arith}
+use Rattle.std.proofs.Common.{ℕ, zero, suc, ◌≡◌, ◌<◌, ◌≤◌, ◌+◌, inl, inr, Bool, true, false, List, refl, sym, ap, subst, arith}
 use Rattle.std.proofs.lemmas.Bool.{cases_lt}
 use Rattle.osek_base.specs.declared.arrivals.Arrival.{Arrival}
 use Rattle.osek_base.specs.System.{System}
 use Rattle.osek_base.specs.Trace.{run}
 use Rattle.law_runs.proofs.RunSteps.{going_before}
 use Rattle.law_windows.specs.Work.{has_work_after, is_busy}
-use Rattle.law_windows.specs.Windows.{IsWindow, goes_on_with}
+use Rattle.law_windows.specs.Windows.{IsWindow}
 use Rattle.law_windows.specs.Coming.{Costs, came, coming, first_cost}
 use Rattle.law_windows.specs.Potential.{AreEnough, IsPotential, WindowsAreShort}
 
@@ -28,7 +28,8 @@ module _ (S : System) (mode : ℕ) (arrivals : List Arrival) (p : ℕ) (costs : 
     (potential : IsPotential S mode arrivals p costs left) (first n : ℕ)
     (window : IsWindow S mode arrivals p first n) where
   -- behind its first tick no more is left than may be where it begins and what came, less one
-  behind_first : first < n → left (suc first) + 1 ≤ first_cost costs first + coming S mode arrivals costs first
+  behind_first : first < n
+      → left (suc first) + 1 ≤ first_cost costs first + coming S mode arrivals costs first
   behind_first less = go (has_work_after S mode arrivals p first) refl
     where
       going : (run S mode arrivals (suc first)).state.over ≡ false
@@ -56,7 +57,8 @@ module _ (S : System) (mode : ℕ) (arrivals : List Arrival) (p : ℕ) (costs : 
   behind_some zero less =
       let here : first + 0 ≡ first = omega arith in
       let one = behind_first (omega (arith, less)) in
-      subst (λ (k : ℕ). left (suc k) + 1 ≤ first_cost costs first + (0 + coming S mode arrivals costs k))
+      subst
+      (λ (k : ℕ). left (suc k) + 1 ≤ first_cost costs first + (0 + coming S mode arrivals costs k))
       (sym here) (omega (arith, one))
   behind_some (suc count) less =
       let next : first + suc count ≡ suc (first + count) = omega arith in

@@ -1,5 +1,5 @@
 -- Of ticks that lie a gap apart few are in a row of ticks.
-use Rattle.std.proofs.Common.{ℕ, zero, suc, ◌≡◌, ◌<◌, ◌≤◌, ◌+◌, ◌-◌, ◌*◌, ◌/◌, ◌⊎◌, inl, inr, Bool, true, false, refl, sym, ◌∙◌, ap, subst, arith}
+use Rattle.std.proofs.Common.{ℕ, zero, suc, ◌≡◌, ◌<◌, ◌≤◌, ◌+◌, ◌-◌, ◌*◌, ◌/◌, ◌⊎◌, inl, inr, Bool, true, false, refl, ap, subst, arith}
 use Rattle.std.proofs.Math.Nat.{add-mul}
 use Rattle.std.proofs.lemmas.Nat.{le-div}
 use Rattle.law_runs.specs.Jobs.{one_if}
@@ -64,7 +64,8 @@ module _ (passes : ℕ → Bool) (gap : ℕ)
       let room = there.room in
       let before = there.before in
       let whole = add-mul many 1 gap in
-      let same : suc many * gap ≡ (many + 1) * gap = let e : suc many ≡ many + 1 = omega arith in ap (λ (m : ℕ). m * gap) e in
+      let next : suc many ≡ many + 1 = omega arith in
+      let same : suc many * gap ≡ (many + 1) * gap = ap (λ (m : ℕ). m * gap) next in
       let fit : many ≤ (count - 1) / gap =
       le-div many (count - 1) gap some (omega (arith, room, before, whole, same)) in
       omega (arith, fit)

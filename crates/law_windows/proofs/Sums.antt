@@ -1,14 +1,14 @@
 -- What comes in some ticks is the sum over all that can come, each as often as it comes.
-use Rattle.std.proofs.Common.{ℕ, zero, suc, ◌≡◌, ◌<◌, ◌≤◌, ◌+◌, ◌*◌, Bool, true, false, cond, List, [], ◌∷◌, ◌++◌, refl, sym, ◌∙◌, ap, subst, arith, length}
+use Rattle.std.proofs.Common.{ℕ, zero, suc, ◌≡◌, ◌<◌, ◌≤◌, ◌+◌, ◌*◌, Bool, true, false, cond, List, [], ◌∷◌, refl, sym, ◌∙◌, ap, arith, length}
 use Rattle.std.specs.List.{filter, sum_by}
 use Rattle.std.proofs.Math.Nat.{add-mul, mul-le-mul_right}
-use Rattle.std.proofs.lemmas.List.Sums.{sum_by-append, sum_by-cons, sum_by_push}
+use Rattle.std.proofs.lemmas.List.Sums.{sum_by-cons, sum_by_push}
 use Rattle.osek_base.specs.declared.arrivals.Arrival.{Arrival}
 use Rattle.osek_base.specs.Lists.{below}
 use Rattle.osek_base.specs.System.{System}
 use Rattle.law_runs.specs.Jobs.{one_if}
 use Rattle.law_future.specs.Shown.{arrives, chosen_of}
-use Rattle.law_windows.specs.Coming.{Costs, arrivals_in, came, coming, cost_of, expires, expiries_in, how_many, in_ticks}
+use Rattle.law_windows.specs.Coming.{Costs, arrivals_in, came, cost_of, expires, expiries_in, how_many, in_ticks}
 
 -- ---- sums
 
@@ -76,7 +76,8 @@ ticks_passing cost test xs from (suc count) =
     let rest = ticks_passing cost test xs from count in
     let here = sum_passing cost (test (from + count)) xs in
     let both =
-    sum_more cost (λ x. how_many (λ n. test n x) from count) (λ x. one_if (test (from + count) x)) xs in
+    sum_more cost (λ x. how_many (λ n. test n x) from count)
+    (λ x. one_if (test (from + count) x)) xs in
     omega (arith, rest, here, both)
 
 module _ (S : System) (mode : ℕ) (arrivals : List Arrival) (costs : Costs) (from count : ℕ) where
@@ -88,8 +89,11 @@ module _ (S : System) (mode : ℕ) (arrivals : List Arrival) (costs : Costs) (fr
       ticks_plus (λ n. sum_by costs.of_arrival (chosen_of S (arrives arrivals n)))
       (λ n. sum_by costs.of_expiry (filter (expires S mode arrivals n) (below (length S.alarms))))
       from count in
-      let one = ticks_passing costs.of_arrival (arrives arrivals) (below (length S.routines)) from count in
-      let other = ticks_passing costs.of_expiry (expires S mode arrivals) (below (length S.alarms)) from count in
+      let one =
+      ticks_passing costs.of_arrival (arrives arrivals) (below (length S.routines)) from count in
+      let other =
+      ticks_passing costs.of_expiry (expires S mode arrivals) (below (length S.alarms)) from
+      count in
       omega (arith, both, one, other)
 
 -- what comes no more often costs no more

@@ -1,23 +1,18 @@
 -- Where work stands: with a job of the level, and where a routine is pending.
-use Rattle.std.proofs.Common.{ℕ, zero, suc, ◌≡◌, ◌≤◌, Bool, true, false, cond, not, ◌&&◌, ◌||◌, List, [], ◌∷◌, set, refl, sym, ◌∙◌, ap, subst, arith}
+use Rattle.std.proofs.Common.{ℕ, zero, suc, ◌≡◌, ◌≤◌, Bool, true, false, cond, not, ◌&&◌, ◌||◌, List, [], ◌∷◌, set, refl, sym, ◌∙◌, ap}
 use Rattle.std.specs.Prelude.{Option, Some, None, is_some, nat_le, slice_index_or}
-use Rattle.std.specs.List.{find, list_any}
-use Rattle.std.proofs.lemmas.Bool.{and_parts, le-leb}
-use Rattle.osek_base.specs.Alarm.{due_alarms, alarms_advanced}
+use Rattle.std.specs.List.{list_any}
+use Rattle.std.proofs.lemmas.Bool.{le-leb}
 use Rattle.osek_base.specs.Blocker.{is_in_state, is_waiting_job, waits_in}
 use Rattle.osek_base.specs.Priority.{static_priority}
 use Rattle.osek_base.specs.Reschedule.{reschedule}
-use Rattle.osek_base.specs.Service.{unasked_service}
-use Rattle.osek_base.specs.State.{Job, JobId, State, job_of, may_dispatch, same_id, waits}
+use Rattle.osek_base.specs.State.{Job, JobId, State, job_of, may_dispatch, same_id}
 use Rattle.osek_base.specs.System.{System, priority_of}
-use Rattle.osek_base.specs.Tick.{alarm_acts, alarm_phase, alarms_act, arrival_phase, flagged, is_pending, routine_choice, routine_started, start_phase, tick}
+use Rattle.osek_base.specs.Tick.{alarm_phase, arrival_phase, flagged, is_pending, routine_choice, routine_started, start_phase, tick}
 use Rattle.law_runs.proofs.Foremost.{same_ids}
 use Rattle.law_runs.proofs.Lists.{clash}
 use Rattle.law_windows.specs.Work.{has_work, is_work}
-
-or_true : (b : Bool) → (b || true) ≡ true
-or_true true = refl
-or_true false = refl
+use Rattle.law_windows.proofs.Before.{or_true, pending_alarms, pending_reschedule}
 
 -- ---- jobs
 
@@ -40,7 +35,8 @@ module _ (S : System) (p : ℕ) where
           ∙ le-leb p (priority_of S n.task) high in
           ap (λ b. (b && nat_le p (static_priority S j)) || list_any (is_work S p) jobs) here
           ∙ ap (λ b. b || list_any (is_work S p) jobs) level
-      go false other there rest = ap (λ b. is_work S p j || b) (rest there) ∙ or_true (is_work S p j)
+      go false other there rest =
+          ap (λ b. is_work S p j || b) (rest there) ∙ or_true (is_work S p j)
 
   pub job_is_work : (s : State) (n : JobId) → p ≤ priority_of S n.task
       → (is_in_state s n && not (waits_in s n)) ≡ true → has_work S p s ≡ true
@@ -74,7 +70,8 @@ one_raised (false ∷ flags) (suc i) some = one_raised flags i some
 all_raised : (arrived : List ℕ) (flags : List Bool) → list_any (λ flag. flag) flags ≡ true
     → list_any (λ flag. flag) (flagged arrived flags) ≡ true
 all_raised [] flags some = some
-all_raised (i ∷ arrived) flags some = all_raised arrived (set flags i true) (one_raised flags i some)
+all_raised (i ∷ arrived) flags some =
+    all_raised arrived (set flags i true) (one_raised flags i some)
 
 module _ (S : System) (p : ℕ) where
   pub pending_is_work : (s : State) → SomePends s → has_work S p s ≡ true
@@ -83,19 +80,6 @@ module _ (S : System) (p : ℕ) where
       ∙ or_true (is_some s.active)
 
   -- ---- up to the instruction
-
-  pending_acts : (due : List ℕ) (s : State) → (alarms_act S due s).state.pending ≡ s.pending
-  unfolding unasked_service
-  pending_acts [] s = refl
-  pending_acts (a ∷ due) s = pending_acts due (alarm_acts S a s).state
-
-  pending_alarms : (s : State) → (alarm_phase S s).state.pending ≡ s.pending
-  unfolding alarm_phase
-  pending_alarms s = pending_acts (due_alarms S s) (record s { alarms = alarms_advanced S s })
-
-  pending_reschedule : (s : State) → (reschedule S s).state.pending ≡ s.pending
-  unfolding reschedule
-  pending_reschedule s = refl
 
   started_works : (chosen : Option ℕ) (s : State) → SomePends s
       → (is_some (routine_started chosen s).active
@@ -123,6 +107,7 @@ module _ (S : System) (p : ℕ) where
       let acted : State = (alarm_phase S s).state in
       let raised : State = arrival_phase arrived acted in
       let still : SomePends raised =
-      all_raised arrived acted.pending (ap (list_any (λ flag. flag)) (pending_alarms s) ∙ some) in
+      all_raised arrived acted.pending
+      (ap (list_any (λ flag. flag)) (pending_alarms S s) ∙ some) in
       start_works (reschedule S raised).state
-      (ap (list_any (λ flag. flag)) (pending_reschedule raised) ∙ still)
+      (ap (list_any (λ flag. flag)) (pending_reschedule S raised) ∙ still)

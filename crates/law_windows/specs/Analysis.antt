@@ -10,6 +10,7 @@ use Rattle.law_windows.specs.Windows.{WindowsEndWithin}
 use Rattle.law_windows.specs.Coming.{Costs, ExpireAtMost, arrivals_in, came, cost_of, most_in}
 use Rattle.law_windows.specs.Potential.{IsPotential}
 use Rattle.law_windows.specs.Responses.{RespondWithin}
+use Rattle.law_windows.specs.Losses.{NoneIsLost}
 
 -- ---- what comes
 
@@ -62,6 +63,9 @@ pub record IsBoundOf (S : System) (mode : ℕ) (distances : List ℕ) (p most : 
   pub responses : (arrivals : List Arrival) → KeepDistances S distances arrivals
       → RespondWithin S mode arrivals p most
   pub tasks : (k : ℕ) → p ≤ priority_of S k → EndsWithin S mode distances most k
+  -- no interrupt is lost of a routine whose interrupts are as many ticks apart, or more
+  pub losses : (arrivals : List Arrival) (i : ℕ) → KeepDistances S distances arrivals
+      → i < length S.routines → most ≤ distance_of distances i → NoneIsLost S mode arrivals i
 
 -- the law: where what is counted holds in each such run, as many ticks as are enough are a bound
 abbrev pub AnalysisBoundsResponses : Type 0

@@ -11,8 +11,8 @@ use Rattle.osek_base.specs.Trace.{run}
 use Rattle.law_runs.specs.Jobs.{one_if}
 use Rattle.law_future.specs.Shown.{arrives, chosen_of}
 
--- how many instructions of a level are counted for an interrupt of each routine and for an expiry of
--- each alarm, and how many at most where a window begins: with the run, or later
+-- how many instructions of a level are counted for an interrupt of each routine and for an expiry
+-- of each alarm, and how many at most where a window begins: with the run, or later
 pub record Costs : Type 0 where
   pub of_arrival : ℕ → ℕ
   pub of_expiry : ℕ → ℕ

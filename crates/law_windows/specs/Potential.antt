@@ -1,5 +1,5 @@
--- A potential of a run: how much work of a level is left at most between two ticks, counted with all
--- that comes of it. And that windows are short by it.
+-- A potential of a run: how much work of a level is left at most between two ticks, counted with
+-- all that comes of it. And that windows are short by it.
 use Rattle.std.specs.Prelude.{ℕ, suc, ◌+◌, ◌≡◌, ◌<◌, ◌≤◌, true, false, List}
 use Rattle.osek_base.specs.declared.arrivals.Arrival.{Arrival}
 use Rattle.osek_base.specs.System.{System}

@@ -17,8 +17,8 @@ PendsBehind S mode arrivals i since n =
 -- in no window are responses longer than it may be
 pub record RespondWithin (S : System) (mode : ℕ) (arrivals : List Arrival) (p most : ℕ)
     : Type 0 where
-  -- a job of the level that is ready since a tick isn't READY or RUNNING so many ticks later: it has
-  -- ended or begun to wait, or the run is over
+  -- a job of the level that is ready since a tick isn't READY or RUNNING so many ticks later: it
+  -- has ended or begun to wait, or the run is over
   pub jobs : (n since : ℕ) (job : JobId) → (run S mode arrivals n).state.over ≡ false
       → p ≤ priority_of S job.task → IsReadySince S mode arrivals n job since → n < since + most
   -- a routine that is pending behind a tick starts before so many ticks have passed

@@ -11,10 +11,11 @@ goes_on_with S mode arrivals p zero = false
 goes_on_with S mode arrivals p (suc n) =
     is_busy S mode arrivals p n && has_work_after S mode arrivals p (suc n)
 
--- a window, from its first tick to one of its ticks: all of them are busy, behind each but the last
--- work stands, and the first doesn't go on with work of the one before. The run isn't over before
--- the last
-pub record IsWindow (S : System) (mode : ℕ) (arrivals : List Arrival) (p first n : ℕ) : Type 0 where
+-- a window, from its first tick to one of its ticks: all of them are busy, behind each but the
+-- last work stands, and the first doesn't go on with work of the one before. The run isn't over
+-- before the last
+pub record IsWindow (S : System) (mode : ℕ) (arrivals : List Arrival) (p first n : ℕ)
+    : Type 0 where
   pub order : first ≤ n
   pub going : (run S mode arrivals n).state.over ≡ false
   pub busy : (i : ℕ) → first ≤ i → i ≤ n → is_busy S mode arrivals p i ≡ true

@@ -1,9 +1,10 @@
--- OSEK/VDX OS: task management, task state model; interrupt processing, category 2. Work of a level:
--- of all routines and of the tasks from a static priority upward.
-use Rattle.std.specs.Prelude.{ℕ, Bool, not, ◌&&◌, ◌||◌, nat_le, List, is_some}
+-- OSEK/VDX OS: task management, task state model; interrupt processing, category 2. Work of a
+-- level: of all routines and of the tasks from a static priority upward.
+use Rattle.std.specs.Prelude.{ℕ, ◌≡◌, Bool, true, false, not, ◌&&◌, ◌||◌, nat_le, List, is_some}
 use Rattle.std.specs.List.{list_any}
 use Rattle.osek_base.specs.declared.arrivals.Arrival.{Arrival}
 use Rattle.osek_base.specs.Priority.{static_priority}
+use Rattle.osek_base.specs.Proper.{IsProper}
 use Rattle.osek_base.specs.State.{Job, State, waits}
 use Rattle.osek_base.specs.System.{System}
 use Rattle.osek_base.specs.Trace.{run}
@@ -25,3 +26,12 @@ has_work_after S mode arrivals p n = has_work S p (run S mode arrivals n).state
 -- a tick is busy: at its instruction work stands
 abbrev pub is_busy : System → ℕ → List Arrival → ℕ → ℕ → Bool
 is_busy S mode arrivals p n = has_work S p (step_at S mode arrivals n).executing
+
+-- ---- the law
+
+-- a tick before which work stands is busy
+abbrev pub WorkStays : Type 0
+WorkStays =
+    (S : System) (mode : ℕ) (arrivals : List Arrival) (p n : ℕ) → IsProper S
+    → (run S mode arrivals n).state.over ≡ false → has_work_after S mode arrivals p n ≡ true
+    → is_busy S mode arrivals p n ≡ true

@@ -1,9 +1,17 @@
 //! The laws, one function each. The functions are empty: the clause is the law.
 
 ghost use Rattle.law_windows.specs.Analysis.{AnalysisBoundsResponses, ArrivalsAreFew, LittleComes};
+ghost use Rattle.law_windows.specs.Losses.{SoonStartedAreNotLost};
+ghost use Rattle.law_windows.specs.Phases.{PhasesMakeAPotential};
 ghost use Rattle.law_windows.specs.Potential.{WindowsAreShort};
 ghost use Rattle.law_windows.specs.Responses.{ResponsesLieInWindows};
 ghost use Rattle.law_windows.specs.Windows.{BusyTicksLieInWindows};
+ghost use Rattle.law_windows.specs.Work.{WorkStays};
+
+/// A tick before which work of the level stands is busy.
+pub fn work_stays()
+    ensures { WorkStays }
+{}
 
 /// A row of busy ticks between which work of the level stands lies in one window.
 pub fn busy_ticks_lie_in_windows()
@@ -14,6 +22,11 @@ pub fn busy_ticks_lie_in_windows()
 /// where it begins and for what comes in them.
 pub fn windows_are_short()
     ensures { WindowsAreShort }
+{}
+
+/// What stays low up to a tick's instruction, but for what comes, and falls by it, is a potential.
+pub fn phases_make_a_potential()
+    ensures { PhasesMakeAPotential }
 {}
 
 /// Of a routine whose interrupts keep a distance, at most (count - 1) / distance + 1 arrive in so
@@ -32,6 +45,12 @@ pub fn little_comes()
 /// so many ticks after it became ready, and no routine is pending so long.
 pub fn responses_lie_in_windows()
     ensures { ResponsesLieInWindows }
+{}
+
+/// Where a routine starts before as many ticks have passed as its interrupts are apart, none of
+/// them is lost.
+pub fn soon_started_are_not_lost()
+    ensures { SoonStartedAreNotLost }
 {}
 
 /// Where all runs whose interrupts keep their distances have potentials of the same costs, as many

@@ -1,16 +1,21 @@
-//! No code: the frame of a response-time analysis. One inequality bounds every response of a level,
-//! whatever interrupts come that keep their distances, where the work of the level can be counted.
+//! No code: the frame of a response-time analysis. One inequality bounds every response of a
+//! level, whatever interrupts come that keep their distances, where the work of the level can be
+//! counted.
 //!
 //! A *level* is a static priority: its *work* is of all routines and of the tasks of that priority
 //! or more. A tick is *busy* where work stands at its instruction: a routine is active or pending,
 //! or such a job is READY or RUNNING. A *window* is a longest row of busy ticks behind each of
 //! which, but the last, work stands.
 //!
-//! - A response lies in one window: `busy_ticks_lie_in_windows`, `responses_lie_in_windows`.
-//! - A *potential* of a run is a number between two ticks, at least 1 where work stands, that falls
-//!   in each busy tick but for what comes in it: costs of interrupts and of expiries of alarms.
-//!   A window that begins with so much and in which so much comes has no more ticks than that
-//!   (`windows_are_short`).
+//! - A tick before which work stands is busy (`work_stays`). A response lies in one window
+//!   (`busy_ticks_lie_in_windows`, `responses_lie_in_windows`), and so does the time for which an
+//!   interrupt is pending. So none is lost where windows are shorter than its distance
+//!   (`soon_started_are_not_lost`).
+//! - A *potential* of a run is a number between two ticks, at least 1 where work stands, that
+//!   falls in each busy tick but for what comes in it: costs of interrupts and of expiries of
+//!   alarms. A window that begins with so much and in which so much comes has no more ticks than
+//!   that (`windows_are_short`). It is enough to know it phase by phase
+//!   (`phases_make_a_potential`).
 //! - How often interrupts come in a row of ticks is bounded by their distances
 //!   (`arrivals_are_few`, `little_comes`). How often alarms expire is a premise.
 //! - So a number of ticks that is no less than what may be left where a window begins and all that
@@ -24,5 +29,6 @@ mod laws;
 
 pub use laws::{
     analysis_bounds_responses, arrivals_are_few, busy_ticks_lie_in_windows, little_comes,
-    responses_lie_in_windows, windows_are_short,
+    phases_make_a_potential, responses_lie_in_windows, soon_started_are_not_lost,
+    windows_are_short, work_stays,
 };

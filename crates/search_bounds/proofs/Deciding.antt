@@ -14,10 +14,11 @@ use Rattle.search_peaks.specs.Peaks.{Peaks}
 use Rattle.law_bounds.specs.Bounds.{AreBounds, AreBoundsUpTo, LevelsBound, SearchesBound}
 use Rattle.law_bounds.specs.Ending.{BoundedJobsEnd}
 use Rattle.law_bounds.specs.Nodes.{AreNoted, Setting, rules_of}
+use Rattle.law_bounds.specs.Starting.{BoundedInterruptsStart}
 use Rattle.search_bounds.specs.Exploring.{AreNotedIn, Explorer, setting_of}
 use Rattle.search_nodes.specs.declared.found.Bounds.{Bounds}
 use Rattle.search_nodes.specs.declared.found.Extent.{Extent}
-use Rattle.search_nodes.specs.Found.{AreFound, IsOfSearch, JobsEnd, Says, limits_of, setting_by}
+use Rattle.search_nodes.specs.Found.{AreFound, InterruptsStart, IsOfSearch, JobsEnd, Says, limits_of, setting_by}
 use Rattle.search_nodes.specs.Ground.{Ground, IsGround}
 use Rattle.search_bounds.proofs.Fallible.{if_ok}
 
@@ -92,3 +93,18 @@ module _ (S : System) (mode : ℕ) (distances : List ℕ) (proper : IsProper S) 
     jobs_end found are =
         if_ok (AreFound S mode distances) (JobsEnd S mode distances) found
         (λ b is. ends_by b b.outcome is) are
+
+  module _ (law : BoundedInterruptsStart) where
+    starts_by : (found : Bounds) (outcome : Outcome)
+        → Says outcome (AreBounds S mode distances found.cap found.peaks)
+        (AreBoundsUpTo S mode distances found.cap found.peaks)
+        → InterruptsStart S mode distances (record found { outcome = outcome })
+    starts_by found (Decided p) bounds =
+        law S mode distances found.cap found.peaks proper bounds
+    starts_by found (Undecided obstacle p) bounds = tt
+
+    pub interrupts_start : {E : Type 0} (found : Result Bounds E)
+        → IfOk found (AreFound S mode distances) → IfOk found (InterruptsStart S mode distances)
+    interrupts_start found are =
+        if_ok (AreFound S mode distances) (InterruptsStart S mode distances) found
+        (λ b is. starts_by b b.outcome is) are

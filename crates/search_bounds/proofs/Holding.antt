@@ -1,4 +1,4 @@
--- Bounds of the upper part by itself hold above, and jobs end there.
+-- Bounds of the upper part by itself hold above, and jobs end and routines start there.
 use Rattle.std.proofs.Common.{ℕ, ◌≡◌, List, subst}
 use Rattle.osek_base.specs.System.{System}
 use Rattle.osek_base.specs.Proper.{IsProper}
@@ -9,8 +9,9 @@ use Rattle.search.specs.declared.outcome.Outcome.TheVariants.{Decided, Undecided
 use Rattle.search_peaks.specs.Peaks.{Peaks}
 use Rattle.law_bounds.specs.Bounds.{AreBounds, AreBoundsUpTo}
 use Rattle.law_upper.specs.FiguresAbove.{BoundedUpperJobsEnd, BoundsOfThePartHold}
+use Rattle.law_upper.specs.StartingAbove.{BoundedInterruptsStartAbove}
 use Rattle.search_nodes.specs.Found.{Says}
-use Rattle.search_bounds.specs.Above.{BoundAll, BoundAllUpTo, EndAll}
+use Rattle.search_bounds.specs.Above.{BoundAll, BoundAllUpTo, EndAll, StartAll}
 
 pub hold_above : BoundsOfThePartHold → (S part : System) (p mode : ℕ) (distances : List ℕ) (cap : ℕ) (peaks : Peaks)
     (outcome : Outcome) → IsProper S → Separable S p → part ≡ upper_part S p
@@ -39,3 +40,13 @@ ends_above law S p mode distances cap peaks (Decided progress) proper all = reco
   others = λ B one. law B p mode distances cap peaks one.proper_there (all.others B one);
 }
 ends_above law S p mode distances cap peaks (Undecided obstacle progress) proper all = tt
+
+pub starts_above : BoundedInterruptsStartAbove → (S : System) (p mode : ℕ) (distances : List ℕ) (cap : ℕ) (peaks : Peaks)
+    (outcome : Outcome) → IsProper S
+    → Says outcome (BoundAll S p mode distances cap peaks) (BoundAllUpTo S p mode distances cap peaks)
+    → Says outcome (StartAll S p mode distances cap peaks) (λ levels. Unit {0})
+starts_above law S p mode distances cap peaks (Decided progress) proper all = record {
+  whole = law S p mode distances cap peaks proper all.whole;
+  others = λ B one. law B p mode distances cap peaks one.proper_there (all.others B one);
+}
+starts_above law S p mode distances cap peaks (Undecided obstacle progress) proper all = tt

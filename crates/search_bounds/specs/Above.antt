@@ -4,6 +4,7 @@ use Rattle.osek_base.specs.System.{System}
 use Rattle.search_nodes.specs.declared.found.Bounds.{Bounds}
 use Rattle.search_nodes.specs.Found.{Says}
 use Rattle.search_peaks.specs.Peaks.{Peaks}
+use Rattle.law_bounds.specs.Starting.{RoutinesStart}
 use Rattle.law_upper.specs.Above.{AreOneAbove}
 use Rattle.law_upper.specs.FiguresAbove.{AreBoundsAbove, AreBoundsAboveUpTo, UpperJobsEnd}
 
@@ -37,3 +38,15 @@ pub record EndAll (S : System) (p mode : ℕ) (distances : List ℕ) (cap : ℕ)
 abbrev pub JobsEndAbove : System → ℕ → ℕ → List ℕ → Bounds → Type 0
 JobsEndAbove S p mode distances found =
     Says found.outcome (EndAll S p mode distances found.cap found.peaks) (λ levels. Unit {0})
+
+-- in all of them routines whose greatest latency is below the cap start within as many ticks of an
+-- interrupt
+pub record StartAll (S : System) (p mode : ℕ) (distances : List ℕ) (cap : ℕ)
+    (peaks : Peaks) : Type 0 where
+  pub whole : RoutinesStart S mode distances cap peaks
+  pub others : (B : System) → AreOneAbove S B p → RoutinesStart B mode distances cap peaks
+
+-- where the search is decided
+abbrev pub InterruptsStartAbove : System → ℕ → ℕ → List ℕ → Bounds → Type 0
+InterruptsStartAbove S p mode distances found =
+    Says found.outcome (StartAll S p mode distances found.cap found.peaks) (λ levels. Unit {0})

@@ -11,6 +11,7 @@ use Rattle.search_peaks.specs.Peaks.{peak}
 use Rattle.law_bounds.specs.Bounds.{AreBounds, AreBoundsUpTo}
 use Rattle.law_bounds.specs.Ending.{EndsWithin}
 use Rattle.law_bounds.specs.Nodes.{AreNoted, Setting, rules_of}
+use Rattle.law_bounds.specs.Starting.{RoutinesStart}
 use Rattle.search_nodes.specs.declared.found.Bounds.{Bounds}
 use Rattle.search_nodes.specs.declared.found.Extent.{Extent}
 
@@ -34,6 +35,11 @@ JobsEnd S mode distances found =
     ((k : ℕ) → k < length S.tasks → peak found.peaks.responses k < found.cap
     → EndsWithin S mode distances (peak found.peaks.responses k) k)
     (λ levels. Unit {0})
+
+-- and each routine starts within its greatest latency of each interrupt that isn't lost
+abbrev pub InterruptsStart : System → ℕ → List ℕ → Bounds → Type 0
+InterruptsStart S mode distances found =
+    Says found.outcome (RoutinesStart S mode distances found.cap found.peaks) (λ levels. Unit {0})
 
 -- ---- the search
 

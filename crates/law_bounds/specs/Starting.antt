@@ -1,0 +1,32 @@
+-- OSEK/VDX OS: interrupt processing, category 2. Interrupts whose routines start within some ticks.
+use Rattle.std.specs.Prelude.{ℕ, ◌≡◌, ◌<◌, ◌+◌, false, List, length}
+use Rattle.osek_base.specs.declared.arrivals.Arrival.{Arrival}
+use Rattle.osek_base.specs.Proper.{IsProper}
+use Rattle.osek_base.specs.System.{System}
+use Rattle.osek_base.specs.Trace.{run}
+use Rattle.law_jobs.specs.PendingSince.{IsTaken}
+use Rattle.law_jobs.specs.Starting.{HasStarted}
+use Rattle.search_peaks.specs.Peaks.{Peaks, peak}
+use Rattle.law_bounds.specs.Bounds.{AreBounds}
+use Rattle.law_bounds.specs.Distances.{KeepDistances}
+
+-- whatever arrives that keeps the distances, each interrupt of a routine that isn't lost has its
+-- routine started within so many ticks, unless the run is over by then
+abbrev pub StartsWithin : System → ℕ → List ℕ → ℕ → ℕ → Type 0
+StartsWithin S mode distances most k =
+    (arrivals : List Arrival) (since : ℕ) → KeepDistances S distances arrivals
+    → (run S mode arrivals (since + most)).state.over ≡ false → IsTaken S mode arrivals k since
+    → HasStarted S mode arrivals k since (since + most)
+
+-- so it is of each routine whose greatest latency is below a cap
+abbrev pub RoutinesStart : System → ℕ → List ℕ → ℕ → Peaks → Type 0
+RoutinesStart S mode distances cap peaks =
+    (k : ℕ) → k < length S.routines → peak peaks.latencies k < cap
+    → StartsWithin S mode distances (peak peaks.latencies k) k
+
+-- ---- the law
+
+abbrev pub BoundedInterruptsStart : Type 0
+BoundedInterruptsStart =
+    (S : System) (mode : ℕ) (distances : List ℕ) (cap : ℕ) (peaks : Peaks) → IsProper S
+    → AreBounds S mode distances cap peaks → RoutinesStart S mode distances cap peaks

@@ -1,0 +1,14 @@
+-- Routines start where bounds of an upper part bound their greatest latency.
+use Rattle.std.proofs.Common.{suc, ◌+◌, arith}
+use Rattle.search_peaks.specs.Peaks.{peak}
+use Rattle.law_bounds.proofs.Starting.{none_later}
+use Rattle.law_upper.specs.StartingAbove.{BoundedInterruptsStartAbove}
+
+pub interrupts_start_above : BoundedInterruptsStartAbove
+interrupts_start_above S p mode distances cap peaks proper bounds k known below arrivals since keep
+    going is =
+    let most = peak peaks.latencies k in
+    none_later S mode arrivals k most since proper known going
+    (((bounds (suc (since + most))).ticks arrivals (since + most) (omega arith) keep going).waits k
+    known below)
+    is
