@@ -29,7 +29,7 @@ little_comes S mode distances arrivals costs expiries from count apart keep few 
     (λ a. expiries_in S mode arrivals a from count)
     (λ i. most_in (distance_of distances i) count) expiries
     (λ i known. arrivals_are_few S distances arrivals i from count keep known (apart i known))
-    (λ a known. few a from known) in
+    (λ a known dear. few a from known dear) in
     omega (arith, is, less)
 
 module _ (S : System) (mode : ℕ) (distances : List ℕ) (p : ℕ) (costs : Costs) (expiries : ℕ → ℕ)
@@ -40,7 +40,7 @@ module _ (S : System) (mode : ℕ) (distances : List ℕ) (p : ℕ) (costs : Cos
   begins_with (suc n) = enough.at_begin
 
   are_enough : (arrivals : List Arrival) → KeepDistances S distances arrivals
-      → ExpireAtMost S mode arrivals expiries most → (first : ℕ)
+      → ExpireAtMost S mode arrivals costs expiries most → (first : ℕ)
       → AreEnough S mode arrivals costs first most
   are_enough arrivals keep few first =
       let come =

@@ -49,15 +49,21 @@ sum_more cost many more (x ∷ xs) =
     let here = add-mul (many x) (more x) (cost x) in
     omega (arith, whole, first, second, rest, here)
 
-sum_less : (cost many most : ℕ → ℕ) (n : ℕ) → ((x : ℕ) → x < n → many x ≤ most x)
+-- what costs something comes no more often
+sum_less : (cost many most : ℕ → ℕ) (n : ℕ)
+    → ((x : ℕ) → x < n → 1 ≤ cost x → many x ≤ most x)
     → sum_by (λ x. many x * cost x) (below n) ≤ sum_by (λ x. most x * cost x) (below n)
 sum_less cost many most zero low = omega arith
 sum_less cost many most (suc n) low =
     let one = sum_by_push (λ x. many x * cost x) (below n) n in
     let other = sum_by_push (λ x. most x * cost x) (below n) n in
     let rest = sum_less cost many most n (λ x less. low x (omega (arith, less))) in
-    let here = mul-le-mul_right (cost n) (low n (omega arith)) in
+    let here = term (cost n) (low n (omega arith)) in
     omega (arith, one, other, rest, here)
+  where
+    term : (c : ℕ) → (1 ≤ c → many n ≤ most n) → many n * c ≤ most n * c
+    term zero less = omega arith
+    term (suc c) less = mul-le-mul_right (suc c) (less (omega arith))
 
 -- ---- over ticks
 
@@ -99,9 +105,10 @@ module _ (S : System) (mode : ℕ) (arrivals : List Arrival) (costs : Costs) (fr
 -- what comes no more often costs no more
 pub cost_less : (S : System) (costs : Costs) (many few most least : ℕ → ℕ)
     → ((i : ℕ) → i < length S.routines → many i ≤ most i)
-    → ((a : ℕ) → a < length S.alarms → few a ≤ least a)
+    → ((a : ℕ) → a < length S.alarms → 1 ≤ costs.of_expiry a → few a ≤ least a)
     → cost_of S costs many few ≤ cost_of S costs most least
 cost_less S costs many few most least some other =
-    let one = sum_less costs.of_arrival many most (length S.routines) some in
+    let one =
+    sum_less costs.of_arrival many most (length S.routines) (λ i known dear. some i known) in
     let two = sum_less costs.of_expiry few least (length S.alarms) other in
     omega (arith, one, two)

@@ -34,7 +34,7 @@ abbrev pub LittleComes : Type 0
 LittleComes =
     (S : System) (mode : ℕ) (distances : List ℕ) (arrivals : List Arrival) (costs : Costs)
     (expiries : ℕ → ℕ) (from count : ℕ) → AreApart S distances → KeepDistances S distances arrivals
-    → ExpireAtMost S mode arrivals expiries count
+    → ExpireAtMost S mode arrivals costs expiries count
     → came S mode arrivals costs from count ≤ most_cost S distances costs expiries count
 
 -- ---- the analysis
@@ -53,7 +53,7 @@ pub record IsCounted (S : System) (mode : ℕ) (arrivals : List Arrival) (p : �
     (expiries : ℕ → ℕ) (most : ℕ) : Type 0 where
   pub left : ℕ → ℕ
   pub potential : IsPotential S mode arrivals p costs left
-  pub few : ExpireAtMost S mode arrivals expiries most
+  pub few : ExpireAtMost S mode arrivals costs expiries most
 
 -- whatever arrives that keeps the distances, no window of the level has more ticks, and all that
 -- windows bound is bounded

@@ -66,10 +66,10 @@ expiries_in S mode arrivals a from count = how_many (λ n. expires S mode arriva
 abbrev pub most_in : ℕ → ℕ → ℕ
 most_in gap count = (count - 1) / gap + 1
 
--- in no so many ticks in a row does an alarm expire more often
-abbrev pub ExpireAtMost : System → ℕ → List Arrival → (ℕ → ℕ) → ℕ → Type 0
-ExpireAtMost S mode arrivals expiries count =
-    (a from : ℕ) → a < length S.alarms
+-- in no so many ticks in a row does an alarm whose expiry costs something expire more often
+abbrev pub ExpireAtMost : System → ℕ → List Arrival → Costs → (ℕ → ℕ) → ℕ → Type 0
+ExpireAtMost S mode arrivals costs expiries count =
+    (a from : ℕ) → a < length S.alarms → 1 ≤ costs.of_expiry a
     → expiries_in S mode arrivals a from count ≤ expiries a
 
 -- what so many interrupts of each routine and so many expiries of each alarm cost

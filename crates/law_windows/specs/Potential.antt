@@ -24,7 +24,7 @@ pub record IsPotential (S : System) (mode : ℕ) (arrivals : List Arrival) (p : 
   pub rises : (n : ℕ) → (run S mode arrivals n).state.over ≡ false
       → goes_on_with S mode arrivals p n ≡ false → has_work_after S mode arrivals p n ≡ true
       → left n ≤ first_cost costs n
-  -- and where none stands before a busy tick, but behind it, its instruction is taken
+  -- where a window begins within a tick, one less behind it than that and what comes in the tick
   pub begins : (n : ℕ) → (run S mode arrivals (suc n)).state.over ≡ false
       → is_busy S mode arrivals p n ≡ true → has_work_after S mode arrivals p n ≡ false
       → has_work_after S mode arrivals p (suc n) ≡ true

@@ -17,7 +17,8 @@
 //!   that (`windows_are_short`). It is enough to know it phase by phase
 //!   (`phases_make_a_potential`).
 //! - How often interrupts come in a row of ticks is bounded by their distances
-//!   (`arrivals_are_few`, `little_comes`). How often alarms expire is a premise.
+//!   (`arrivals_are_few`, `little_comes`). A premise is how often alarms expire, where that costs
+//!   something.
 //! - So a number of ticks that is no less than what may be left where a window begins and all that
 //!   can come in as many ticks bounds each window, and each response
 //!   (`analysis_bounds_responses`).

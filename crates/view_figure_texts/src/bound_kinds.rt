@@ -1,5 +1,23 @@
 //! The kinds of objects of which bounds are told, and what is told of each.
 
+ghost use Rattle.std.specs.Prelude.{◌≡◌, ◌<◌, ◌^◌, ◌-◌, length};
+ghost use Rattle.std.specs.Option.{option_map};
+ghost use Rattle.view_figure_texts.specs.Tables.{
+  column_of as first_column,
+  column_word,
+  columns_of,
+  count_of,
+  declared_names,
+  is_asked,
+  is_column as is_any_column,
+  kind_word,
+  last_name,
+  name_of,
+  place_of as told_place,
+  word_of,
+};
+
+use crate::words::Word;
 use osek_base::{Name, System};
 
 /// The name of the resource behind the declared ones.
@@ -38,19 +56,38 @@ pub enum Column {
 }
 
 impl Column {
-    /// Its word, that of the same figure of one run.
-    pub fn word(self) -> &'static str {
+    /// Which word it has, that of the same figure of one run.
+    fn figure(self) -> Word
+        ensures { result ≡ word_of self }
+    {
         match self {
-            Column::Response => "greatest",
-            Column::Blocked => "blocked",
-            Column::Blockers => "blockers",
-            Column::Jobs => "jobs",
-            Column::Latency => "latency",
-            Column::Loss => "losses",
-            Column::Hold => "longest",
-            Column::Refusal | Column::RefusedAction => "refused",
-            Column::Errors | Column::RoutineErrors => "errors",
-            Column::Shutdown => "comes",
+            Column::Response => Word::Greatest,
+            Column::Blocked => Word::Blocked,
+            Column::Blockers => Word::Blockers,
+            Column::Jobs => Word::Jobs,
+            Column::Latency => Word::Latency,
+            Column::Loss => Word::Losses,
+            Column::Hold => Word::Longest,
+            Column::Refusal | Column::RefusedAction => Word::Refused,
+            Column::Errors | Column::RoutineErrors => Word::Errors,
+            Column::Shutdown => Word::Comes,
+        }
+    }
+
+    /// Its word, that of the same figure of one run.
+    pub fn word(self) -> &'static str
+        ensures { result.now ≡ column_word self }
+    {
+        self.figure().text()
+    }
+
+    /// Whether it has a word, where one is said.
+    fn is_asked(self, word: Option<&str>) -> bool
+        ensures { result ≡ is_asked (option_map (λ w. w.now) word.entry) self }
+    {
+        match word {
+            Some(word) => word == self.word(),
+            None => true,
         }
     }
 }
@@ -77,7 +114,9 @@ pub const KINDS: [Kind; 5] = [
 
 impl Kind {
     /// Its word.
-    pub fn word(self) -> &'static str {
+    pub fn word(self) -> &'static str
+        ensures { result.now ≡ kind_word self }
+    {
         match self {
             Kind::Task => "task",
             Kind::Routine => "routine",
@@ -88,7 +127,9 @@ impl Kind {
     }
 
     /// What is told of each of its objects.
-    pub fn columns(self) -> &'static [Column] {
+    pub fn columns(self) -> &'static [Column]
+        ensures { result.now ≡ columns_of self }
+    {
         match self {
             Kind::Task => &[
                 Column::Response,
@@ -106,7 +147,10 @@ impl Kind {
     }
 
     /// The names of its declared objects.
-    fn names(self, system: &System) -> &[Name] {
+    fn names(self, system: &System) -> &[Name]
+        ensures value { result.now ≡ declared_names system.now.names self }
+        ensures few { length result.now < 2 ^ 64 - 1 }
+    {
         let names = system.names();
         match self {
             Kind::Task => names.tasks.as_slice(),
@@ -117,28 +161,37 @@ impl Kind {
         }
     }
 
-    /// Whether one stands behind the declared objects: RES_SCHEDULER, and of the system ShutdownOS.
-    fn has_one_more(self, system: &System) -> bool {
+    /// The name of what stands behind the declared objects: RES_SCHEDULER, where the system uses
+    /// it, and of the system what may end a run.
+    fn last_name(self, system: &System) -> Option<&'static str>
+        ensures { option_map (λ name. name.now) result ≡ last_name system.now self }
+    {
         match self {
-            Kind::Resource => system.has_res_scheduler(),
-            Kind::System => true,
-            Kind::Task | Kind::Routine | Kind::Alarm => false,
+            Kind::Resource if system.has_res_scheduler() => Some(RES_SCHEDULER),
+            Kind::System => Some(SHUTDOWN),
+            _ => None,
         }
     }
 
     /// How many objects of it a system has.
-    pub fn count(self, system: &System) -> usize {
-        self.names(system)
-            .len()
-            .saturating_add(usize::from(self.has_one_more(system)))
+    pub fn count(self, system: &System) -> usize
+        ensures { result ≡ count_of system.now self }
+    {
+        match self.last_name(system) {
+            Some(_) => self.names(system).len() + 1,
+            None => self.names(system).len(),
+        }
     }
 
-    /// The name of an object of it.
-    pub fn name(self, system: &System, number: usize) -> &str {
-        match self.names(system).get(number) {
+    /// The name of an object of it, empty where there is none of that number.
+    pub fn name(self, system: &System, number: usize) -> &str
+        ensures { result.now ≡ name_of system.now self number }
+    {
+        let names = self.names(system);
+        match names.get(number) {
             Some(name) => name.as_str(),
-            None if matches!(self, Kind::System) => SHUTDOWN,
-            None => RES_SCHEDULER,
+            None if number == names.len() => self.last_name(system).unwrap_or(""),
+            None => "",
         }
     }
 
@@ -162,23 +215,28 @@ pub fn width_of(system: &System) -> usize {
 }
 
 /// The column of a kind that has that word; its first, where no word is said.
-pub fn column_of(kind: Kind, word: Option<&str>) -> Option<Column> {
+pub fn column_of(kind: Kind, word: Option<&str>) -> Option<Column>
+    ensures { result ≡ first_column kind (option_map (λ w. w.now) word.entry) }
+{
     for column in kind.columns() {
-        match word {
-            Some(word) if word != column.word() => {}
-            _ => return Some(*column),
+        if column.is_asked(word) {
+            return Some(*column);
         }
     }
     None
 }
 
 /// The place of a service that a word tells, as a figure is told by the word of its column.
-pub fn place_of(word: &str) -> Option<u16> {
+pub fn place_of(word: &str) -> Option<u16>
+    ensures { result ≡ told_place word.now }
+{
     word.parse::<u16>().ok()
 }
 
 /// Whether a column has that word.
-pub fn is_column(word: &str) -> bool {
+pub fn is_column(word: &str) -> bool
+    ensures { result ≡ is_any_column word.now }
+{
     for kind in &KINDS {
         if column_of(*kind, Some(word)).is_some() {
             return true;

@@ -1,7 +1,9 @@
 //! The figures of a line, and their texts.
 
-ghost use Rattle.std.specs.Prelude.{◌≡◌};
+ghost use Rattle.std.specs.Prelude.{◌≡◌, Some};
 ghost use Rattle.view_figure_texts.specs.Rounding.{rounded};
+ghost use Rattle.view_figure_texts.specs.Csv.{cell_text};
+ghost use Rattle.view_figure_texts.specs.Sections.{quotient as share};
 
 use std::fmt;
 use std::io::{self, Write};
@@ -29,7 +31,9 @@ pub fn rounded(part: u64, whole: u32) -> Option<u64>
 }
 
 /// That quotient as a figure.
-pub fn quotient(part: u64, whole: u32) -> Cell {
+pub fn quotient(part: u64, whole: u32) -> Cell
+    ensures { result ≡ share part whole }
+{
     match rounded(part, whole) {
         Some(tenths) => Cell::Tenths(tenths),
         None => Cell::Nothing,
@@ -49,6 +53,8 @@ impl Cell {
 
 /// The figure, where there is one.
 impl fmt::Display for Cell {
+    ghost output = { λ c. Some (cell_text c) };
+
     fn fmt<W: fmt::Write>(&self, f: &mut fmt::Formatter<W>) -> fmt::Result {
         match self {
             Cell::Count(count) => write!(f, "{count}"),

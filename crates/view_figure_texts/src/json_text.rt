@@ -2,11 +2,13 @@
 //! run.
 
 use crate::cells::Cell;
-use crate::line::{Group, Line, Section};
-use crate::rows::{ALARMS, JOBS, RESOURCES, ROUTINES, RUN};
+use crate::entry::Entry;
+use crate::section::{SECTIONS, Section};
+use osek_base::System;
 use serde_json::{Map, Value};
 use std::alloc::{AllocError, Global};
 use std::num::nearest_u64_to_f64;
+use view_figures::Figures;
 
 fn value_of(cell: Cell) -> Value {
     match cell {
@@ -30,11 +32,10 @@ fn put(
 fn put_cells(
     alloc: Global,
     object: &mut Map<String, Value>,
-    section: Section,
-    line: &Line<'_>,
+    entries: &[Entry],
 ) -> Result<(), AllocError> {
-    for (column, cell) in section.columns.iter().zip(line.cells.as_slice()) {
-        put(alloc, object, column, value_of(*cell))?;
+    for entry in entries {
+        put(alloc, object, entry.word.text(), value_of(entry.cell))?;
     }
     Ok(())
 }
@@ -42,54 +43,57 @@ fn put_cells(
 // The figures of the object of that number, of all sections of its kind.
 fn object(
     alloc: Global,
-    groups: &[Group<'_>],
+    figures: &Figures,
     kind: &str,
     number: usize,
 ) -> Result<Value, AllocError> {
-    let mut figures = Map::new(alloc);
-    for group in groups {
-        if group.section.kind == kind {
-            if let Some(line) = group.lines.as_slice().get(number) {
-                put_cells(alloc, &mut figures, group.section, line)?;
-            }
+    let mut object = Map::new(alloc);
+    for section in &SECTIONS {
+        if section.word() == kind {
+            let entries = section.entries(alloc, figures, number)?;
+            put_cells(alloc, &mut object, entries.as_slice())?;
         }
     }
-    Ok(Value::Object(figures))
+    Ok(Value::Object(object))
 }
 
-// The lines of the first section of a kind: one an object.
-fn lines_of<'g, 'a>(groups: &'g [Group<'a>], kind: &str) -> &'g [Line<'a>] {
-    for group in groups {
-        if group.section.kind == kind {
-            return group.lines.as_slice();
-        }
-    }
-    &[]
-}
-
-fn objects(alloc: Global, groups: &[Group<'_>], kind: &str) -> Result<Value, AllocError> {
+// The objects of the kind of a section, by names.
+fn objects(
+    alloc: Global,
+    system: &System,
+    figures: &Figures,
+    section: Section,
+) -> Result<Value, AllocError> {
     let mut objects = Map::new(alloc);
-    for (number, line) in lines_of(groups, kind).iter().enumerate() {
-        let figures = object(alloc, groups, kind, number)?;
-        put(alloc, &mut objects, line.name, figures)?;
+    for number in 0..section.count(figures) {
+        let object = object(alloc, figures, section.word(), number)?;
+        put(alloc, &mut objects, section.name(system, number), object)?;
     }
     Ok(Value::Object(objects))
 }
 
-fn kinds(alloc: Global, groups: &[Group<'_>]) -> Result<Value, AllocError> {
+// A section of each kind of objects.
+const KINDS: [Section; 4] = [
+    Section::Jobs,
+    Section::Routines,
+    Section::Resources,
+    Section::Alarms,
+];
+
+fn kinds(alloc: Global, system: &System, figures: &Figures) -> Result<Value, AllocError> {
     let mut kinds = Map::new(alloc);
-    let run = object(alloc, groups, RUN.kind, 0)?;
-    put(alloc, &mut kinds, RUN.kind, run)?;
-    for kind in [JOBS.kind, ROUTINES.kind, RESOURCES.kind, ALARMS.kind] {
-        let objects = objects(alloc, groups, kind)?;
-        put(alloc, &mut kinds, kind, objects)?;
+    let run = object(alloc, figures, Section::Run.word(), 0)?;
+    put(alloc, &mut kinds, Section::Run.word(), run)?;
+    for section in &KINDS {
+        let objects = objects(alloc, system, figures, *section)?;
+        put(alloc, &mut kinds, section.word(), objects)?;
     }
     Ok(Value::Object(kinds))
 }
 
 /// The text of all sections.
-pub fn json_text(alloc: Global, groups: &[Group<'_>]) -> Result<Vec<u8>, AllocError> {
-    let mut text = kinds(alloc, groups)?.to_vec_pretty(alloc)?;
+pub fn json_text(alloc: Global, system: &System, figures: &Figures) -> Result<Vec<u8>, AllocError> {
+    let mut text = kinds(alloc, system, figures)?.to_vec_pretty(alloc)?;
     text.push(b'\n')?;
     Ok(text)
 }

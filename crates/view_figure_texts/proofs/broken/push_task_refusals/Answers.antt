@@ -1,0 +1,12 @@
+use Rattle.std.specs.Prelude.{codes}
+use Rattle.view_figures.specs.declared.task_figures.TaskFigures.{TaskFigures}
+use Rattle.view_figure_texts.specs.declared.bound_kinds.Kind.{Kind}
+use Rattle.view_figure_texts.specs.Limits.{first_line_of}
+use Rattle.view_figure_texts.proofs.LineLemmas.{as_told, one_more}
+use Rattle.view_figure_texts.proofs.broken.push_task_refusals.Goals as goal
+
+pub loop-number-preserved : goal.loop-number-preserved
+loop-number-preserved c =
+    let line = first_line_of c.args.system.now Kind.Task (codes "refusal") (λ (t : TaskFigures). t.counts.first_refusal) c.args.figures.now.tasks in
+    one_more line c.loop-number.number _ _ _ c.loop-number.invariant
+    (as_told (codes "refusal") _ _ _ _ _ _ c.name-name.ensures c.first_task_refusal-first.ensures c.in_ok-push_first.ensures)
