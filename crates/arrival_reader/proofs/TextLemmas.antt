@@ -58,17 +58,19 @@ same_cut byte (x ∷ xs) (y ∷ ys) front bytes p q e =
     let k = same_cut byte xs ys front bytes (lacks_rest byte x xs p) (lacks_rest byte y ys q) (ap tail_of e) in
     record { fronts = cc; rests = k.rests }
 
-digit_no_space : (b : ℕ) → is_digit b ≡ true → not (b == 32) ≡ true
-digit_no_space b e =
-    rw (ne_eqb b 32 (λ h. let k : is_digit 32 ≡ true = rw h at e in absurd (false≢true k))) refl
+-- bytes that pass a test lack each that fails it
+pub lacks_where : (test : ℕ → Bool) (byte : ℕ) → test byte ≡ false → (bytes : List ℕ)
+    → list_all test bytes ≡ true → lacks byte bytes ≡ true
+lacks_where test byte fails [] e = refl
+lacks_where test byte fails (b ∷ bytes) e =
+    let passes : test b ≡ true = both_left (test b) (list_all test bytes) e in
+    rw (
+      ne_eqb b byte (λ (same : b ≡ byte). false≢true (sym fails ∙ sym (ap test same) ∙ passes)),
+      lacks_where test byte fails bytes (both_right (test b) (list_all test bytes) e),
+    ) refl
 
 pub digits_lack_space : (digits : List ℕ) → list_all is_digit digits ≡ true → lacks 32 digits ≡ true
-digits_lack_space [] e = refl
-digits_lack_space (d ∷ digits) e =
-    rw (
-      digit_no_space d (both_left (is_digit d) (list_all is_digit digits) e),
-      digits_lack_space digits (both_right (is_digit d) (list_all is_digit digits) e),
-    ) refl
+digits_lack_space digits e = lacks_where is_digit 32 refl digits e
 
 -- what stands before and behind the first space of a line of the right form
 pub record HasParts (line : List ℕ) (i : ℕ) (tick : ℕ) (name : List ℕ) : Type 0 where

@@ -1,1 +1,2 @@
 pub mod ArrivalText
+pub mod PrintedArrivals

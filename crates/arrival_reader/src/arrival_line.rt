@@ -68,7 +68,7 @@ fn begins_with_letter(bytes: &[u8]) -> bool
     }
 }
 
-fn is_name(bytes: &[u8]) -> bool
+pub(crate) fn is_name(bytes: &[u8]) -> bool
     ensures { result ≡ is_name bytes.now }
 {
     begins_with_letter(bytes) && are_word_bytes(bytes) && bytes.len() <= 32
