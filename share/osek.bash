@@ -14,8 +14,8 @@ _osek_options() {
     class) echo '--help --in --explain' ;;
     show) echo '--help --in --explain' ;;
     bounds) echo '--help --in --explain --apart --witness --states --longest --upper --csv --json --limit --no-loss --no-refusal' ;;
-    make) echo '--help --output' ;;
-    import) echo '--help' ;;
+    make) echo '--help --output --oil' ;;
+    import) echo '--help --work' ;;
   esac
 }
 

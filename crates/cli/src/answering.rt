@@ -163,7 +163,7 @@ fn answer_asked<F: Files, O: Write, E: Write>(
         Err(error) => print_help(error, out, err),
         Ok(Asked::System(request)) => answer(alloc, &request, files, out, err, shows_progress),
         Ok(Asked::Make(line)) => make_files(alloc, line, files, err),
-        Ok(Asked::Import(names)) => answer_import(alloc, &names, files, out, err),
+        Ok(Asked::Import(line)) => answer_import(alloc, &line, files, out, err),
         Ok(Asked::Text(text)) => {
             let written = out.write_all(text.as_bytes());
             end_print(written, out, err)

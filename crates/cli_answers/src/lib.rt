@@ -15,6 +15,7 @@ mod partitions;
 mod runs;
 mod showing;
 mod verdict;
+mod works;
 
 pub use explaining::{explain_fault, explain_verdict};
 pub use imports::answer_import;

@@ -1,7 +1,9 @@
 //! What is made of a description: the three files of a system, or the places of all that is wrong.
 
+use crate::works::make_beside;
 use cli_requests::{
-    DONE, FileFault, Files, MakeLine, NAMES, REFUSED, WRITE_FAILED, explain_unread, read_file,
+    DONE, FileFault, Files, MakeLine, NAMES, REFUSED, Unread, WRITE_FAILED, explain_unread,
+    read_file,
 };
 use explain_texts::{Piece, Source};
 use make_systems::{Answer, Made, Remark, make};
@@ -10,7 +12,11 @@ use std::io::{self, Write};
 use tracer::read_system;
 
 /// Writes how many things are wrong with a description, and each at its place.
-fn write_remarks<E: Write>(source: Source<'_>, remarks: &[Remark], err: &mut E) -> io::Result<()> {
+pub(crate) fn write_remarks<E: Write>(
+    source: Source<'_>,
+    remarks: &[Remark],
+    err: &mut E,
+) -> io::Result<()> {
     let word = if remarks.len() == 1 {
         "fault"
     } else {
@@ -42,6 +48,23 @@ fn write_file<F: Files, E: Write>(
     }
 }
 
+/// Writes the files of a system, in the order of their names, into a folder, and gives the exit
+/// status.
+pub(crate) fn write_files<F: Files, E: Write>(
+    alloc: Global,
+    texts: [&[u8]; 3],
+    files: &mut F,
+    folder: &str,
+    err: &mut E,
+) -> Result<u8, AllocError> {
+    for (name, bytes) in NAMES.iter().zip(texts.iter()) {
+        if !write_file(alloc, files, folder, name, bytes, err)? {
+            return Ok(WRITE_FAILED);
+        }
+    }
+    Ok(DONE)
+}
+
 /// Writes the files of a system, where the program's own reader takes them.
 fn write_made<F: Files, E: Write>(
     alloc: Global,
@@ -54,11 +77,12 @@ fn write_made<F: Files, E: Write>(
         let _ = writeln!(err, "{fault}");
         return Ok(REFUSED);
     }
-    let [oil, asm, irq] = NAMES;
-    let is_written = write_file(alloc, files, folder, oil, &made.oil, err)?
-        && write_file(alloc, files, folder, asm, &made.asm, err)?
-        && write_file(alloc, files, folder, irq, &made.irq, err)?;
-    Ok(if is_written { DONE } else { WRITE_FAILED })
+    let texts = [
+        made.oil.as_slice(),
+        made.asm.as_slice(),
+        made.irq.as_slice(),
+    ];
+    write_files(alloc, texts, files, folder, err)
 }
 
 /// Makes the files of the description that a text is.
@@ -85,8 +109,15 @@ fn make_text<F: Files, E: Write>(
     }
 }
 
-/// Makes the files of a description, and gives the exit status. Where anything is wrong with it, no
-/// file is written.
+/// Tells why a file can't be had, and gives the exit status.
+pub(crate) fn refuse_unread<E: Write>(unread: Unread<'_>, err: &mut E) -> u8 {
+    let _ = writeln!(err, "{unread}");
+    let _ = explain_unread(unread, err);
+    REFUSED
+}
+
+/// Makes the files of a description, or of an OIL file and its work file, and gives the exit
+/// status. Where anything is wrong, no file is written.
 pub fn make_files<F: Files, E: Write>(
     alloc: Global,
     line: MakeLine<'_>,
@@ -94,12 +125,11 @@ pub fn make_files<F: Files, E: Write>(
     err: &mut E,
 ) -> u8 {
     let made = match read_file(alloc, files, line.file) {
-        Ok(text) => make_text(alloc, line, &text, files, err),
-        Err(unread) => {
-            let _ = writeln!(err, "{unread}");
-            let _ = explain_unread(unread, err);
-            return REFUSED;
-        }
+        Ok(text) => match line.oil {
+            Some(oil) => make_beside(alloc, line, oil, &text, files, err),
+            None => make_text(alloc, line, &text, files, err),
+        },
+        Err(unread) => return refuse_unread(unread, err),
     };
     match made {
         Ok(status) => status,

@@ -120,12 +120,7 @@ fn push_pattern(
         return Ok(());
     };
     let count = noted.len();
-    let is_of_kind = match value {
-        "FOLDER" => are_folders,
-        "FILE" => false,
-        _ => !are_folders,
-    };
-    if is_of_kind {
+    if value != "FILE" && (value == "FOLDER") == are_folders {
         note(noted, argument.name())?;
     }
     if noted.len() == count {

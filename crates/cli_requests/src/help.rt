@@ -178,7 +178,11 @@ Held to limits, for scripts:
 A run in which a response of the task Inject takes as many ticks; their number stands on standard error:
   osek bounds system.oil programs.asm Normal --apart Crank=20 --witness Inject > longest.irq";
 
-pub(crate) const FILE: &str = "The description, in TOML: tasks, interrupts and alarms";
+pub(crate) const FILE: &str =
+    "The description, in TOML: tasks, interrupts and alarms; with --oil the bodies of tasks and interrupts";
+
+pub(crate) const OIL_OF_WORK: &str =
+    "The OIL file of the system; FILE then tells how long its tasks and routines work, and when interrupts arrive";
 
 pub(crate) const FOLDER: &str =
     "The folder that system.oil, programs.asm and arrivals.irq are written to";
@@ -187,17 +191,27 @@ pub(crate) const MAKE_EXAMPLE: &str =
     "What is wrong is told with its places, all at once, and nothing is written then.
 
 Example:
-  osek make system.toml -o system";
+  osek make system.toml -o system
+
+Of an OIL file and the times of its tasks and routines; what works one tick since nothing is told of it stands on
+standard error:
+  osek make --oil system.oil work.toml -o system";
 
 pub(crate) const IMPORTED: &str =
     "The OIL file, and behind it those that it includes: they are found by the last part of their path";
+
+pub(crate) const WORK: &str =
+    "In place of the OIL: a file of times for `osek make` with each task and routine, an EXECUTIONBUDGET taken as ticks";
 
 pub(crate) const IMPORT_EXAMPLE: &str =
     "What is left out, set or refused is told on standard error, each at its place. Where something is refused, nothing is
 printed.
 
 Example:
-  osek import application.oil implementation.oil > system.oil";
+  osek import application.oil implementation.oil > system.oil
+
+A file of times to begin with, for `osek make`:
+  osek import application.oil implementation.oil --work > work.toml";
 
 pub(crate) const MAN: &str = "Prints the manual page, for `man -l -`";
 

@@ -25,6 +25,8 @@ pub use bounds_line::{BoundsLine, Distance, Wanted};
 pub use folder::{Folder, NAMES, folder_of, with_files};
 pub use host_files::{FileFault, Files, HostFiles, Refusal};
 pub use reading::read_line;
-pub use request::{Asked, Lines, MakeLine, Question, Request, RunLine, StatsLine, View};
+pub use request::{
+    Asked, ImportLine, Lines, MakeLine, Question, Request, RunLine, StatsLine, View,
+};
 pub use status::{BROKEN, DENIED, DONE, REFUSED, REFUSED_LINE, UNDECIDED, WRITE_FAILED};
 pub use unread::{Unread, explain_unread, read_file};

@@ -201,11 +201,12 @@ fn bounds() -> Subcommand {
 fn make() -> Subcommand {
     Subcommand {
         name: "make",
-        about: "Makes the files of a system that a description tells of",
+        about: "Makes the files of a system from a description, or from an OIL file and its times",
         example: help::MAKE_EXAMPLE,
         arguments: &[&[
             Argument::Word("FILE", Takes::Text, help::FILE),
             Argument::Required('o', "output", "FOLDER", help::FOLDER),
+            Argument::Option("oil", "FILE", Takes::Text, help::OIL_OF_WORK),
         ]],
         exclusions: &[],
     }
@@ -216,7 +217,10 @@ fn import() -> Subcommand {
         name: "import",
         about: "Prints OIL as other kernels use it as the OIL that is read here",
         example: help::IMPORT_EXAMPLE,
-        arguments: &[&[Argument::Words("FILE", help::IMPORTED)]],
+        arguments: &[&[
+            Argument::Words("FILE", help::IMPORTED),
+            Argument::Flag("work", help::WORK),
+        ]],
         exclusions: &[],
     }
 }

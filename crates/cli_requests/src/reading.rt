@@ -6,7 +6,9 @@ use crate::fault::Fault;
 use crate::help;
 use crate::lines::lines;
 use crate::man_page::man_page;
-use crate::request::{Asked, Lines, MakeLine, Question, Request, RunLine, StatsLine, View};
+use crate::request::{
+    Asked, ImportLine, Lines, MakeLine, Question, Request, RunLine, StatsLine, View,
+};
 use crate::zsh_completions::zsh_completions;
 use clap::error::ErrorKind;
 use clap::{ArgMatches, Command, Error};
@@ -227,8 +229,12 @@ fn asked_of<'a>(
         "make" => Ok(Asked::Make(MakeLine {
             file: text(found, "FILE"),
             folder: text(found, "output"),
+            oil: found.get_str("oil"),
         })),
-        "import" => Ok(Asked::Import(imported(alloc, found)?)),
+        "import" => Ok(Asked::Import(ImportLine {
+            names: imported(alloc, found)?,
+            is_work: found.get_flag("work"),
+        })),
         _ => Ok(Asked::System(request_of(alloc, name, found, has_mode)?)),
     }
 }

@@ -191,14 +191,24 @@ impl<'a> Request<'a> {
 pub struct MakeLine<'a> {
     pub file: &'a str,
     pub folder: &'a str,
+    /// The name of its OIL file, where it has one; the description then is a work file.
+    pub oil: Option<&'a str>,
 }
 
-/// What a command line asks for: something of a system, the files of a description, the import of
-/// files of these names, or a text that is printed as it is.
+/// Files to be imported, by their names.
+#[derive(Drop)]
+pub struct ImportLine<'a> {
+    pub names: Vec<&'a str>,
+    /// Whether a work file is wanted in place of the OIL.
+    pub is_work: bool,
+}
+
+/// What a command line asks for: something of a system, the files of a description, an import, or a
+/// text that is printed as it is.
 #[derive(Drop)]
 pub enum Asked<'a> {
     System(Request<'a>),
     Make(MakeLine<'a>),
-    Import(Vec<&'a str>),
+    Import(ImportLine<'a>),
     Text(String),
 }

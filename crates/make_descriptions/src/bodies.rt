@@ -86,10 +86,7 @@ fn barred(does: Does<'_>) -> Option<&'static str> {
 }
 
 /// Tells what is wrong in the body of a routine.
-pub(crate) fn tell_routine<'a>(
-    body: &Body<'a>,
-    faults: &mut Vec<Fault<'a>>,
-) -> Result<(), AllocError> {
+pub fn tell_routine<'a>(body: &Body<'a>, faults: &mut Vec<Fault<'a>>) -> Result<(), AllocError> {
     for step in &body.steps {
         if let Some(what) = barred(step.does) {
             tell(faults, step.place, Wrong::ByRoutine(what))?;
@@ -115,7 +112,7 @@ fn tell_end<'a>(
 }
 
 /// Tells what is wrong in the body of a task.
-pub(crate) fn tell_task<'a>(
+pub fn tell_task<'a>(
     alloc: Global,
     body: &Body<'a>,
     faults: &mut Vec<Fault<'a>>,

@@ -24,7 +24,7 @@ fn task_of<'d, 'a>(described: &'d Described<'a>, name: &str) -> Option<&'d Task<
 
 /// Adds a name to those of its kind, told where it is there already. An empty name was told as
 /// missing.
-fn add_name<'a>(
+pub fn add_name<'a>(
     name: &'a str,
     place: usize,
     names: &mut Vec<&'a str>,

@@ -10,8 +10,12 @@ use thiserror::Error;
 pub enum Wrong<'a> {
     #[error("unknown section {0}; there are [[task]], [[interrupt]] and [[alarm]]")]
     UnknownSection(&'a str),
+    #[error("unknown section {0}; beside an OIL file there are [[task]] and [[interrupt]]")]
+    UnknownWork(&'a str),
     #[error("unknown key {0} of {1}")]
     UnknownKey(&'a str, &'static str),
+    #[error("{0} of {1} is told by the OIL file, not here")]
+    OfOil(&'static str, &'static str),
     #[error("{0} is missing here")]
     Missing(&'static str),
     #[error("{0} has to be a text in quotation marks")]
@@ -46,6 +50,20 @@ pub enum Wrong<'a> {
     UnknownTask(&'a str),
     #[error("task {0} neither waits for {1} nor clears it, so it doesn't have that event")]
     NotItsEvent(&'a str, &'a str),
+    #[error("no interrupt routine is called {0}")]
+    UnknownRoutine(&'a str),
+    #[error("no resource is called {0}")]
+    UnknownResource(&'a str),
+    #[error("task {0} doesn't list the resource {1}")]
+    UnlistedResource(&'a str, &'a str),
+    #[error("{0} is an internal resource: its tasks have it without getting it")]
+    InternalResource(&'a str),
+    #[error("RES_SCHEDULER isn't there: USERESSCHEDULER is FALSE")]
+    NoScheduler,
+    #[error("no event is called {0}")]
+    UnknownEvent(&'a str),
+    #[error("task {0} doesn't list the event {1}")]
+    UnlistedEvent(&'a str, &'a str),
     #[error("a routine can't {0}")]
     ByRoutine(&'static str),
     #[error("a task that has events has activations = 1")]

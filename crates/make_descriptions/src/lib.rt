@@ -4,10 +4,12 @@
 //!
 //! `node` has the keys and values of a description's text, `described` what it tells; `checks`
 //! and `bodies` look at what one part says of another; `fault` has all that can be wrong, also
-//! what a reader of the text finds. Nothing that runs a system depends on this crate.
+//! what a reader of the text finds, and beside an OIL file. `read_sections`, `read_steps` and
+//! `read_tables` read what stands in the text, for a whole description or a part of one. Nothing
+//! that runs a system depends on this crate.
 #![tactic(auto)]
 
-mod bodies;
+pub mod bodies;
 pub mod checks;
 pub mod description;
 pub mod fault;
@@ -15,9 +17,9 @@ pub mod lists;
 pub mod names;
 pub mod node;
 mod read_lists;
-mod read_sections;
-mod read_steps;
-mod read_tables;
+pub mod read_sections;
+pub mod read_steps;
+pub mod read_tables;
 pub mod routines;
 pub mod uses;
 mod work;

@@ -1,6 +1,9 @@
-//! Names in lists.
+//! Names in lists, and the name that no description declares.
 
 use std::alloc::AllocError;
+
+/// The resource that is there without being declared, and that no task lists.
+pub const SCHEDULER: &str = "RES_SCHEDULER";
 
 /// Whether a name stands in a list.
 pub fn is_among(names: &[&str], name: &str) -> bool {

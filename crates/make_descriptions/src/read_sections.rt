@@ -12,9 +12,11 @@ use osek_base::{
 };
 use std::alloc::{AllocError, Global};
 
-const ROOT_KEYS: [&str; 3] = ["name", "mode", "ticks"];
+/// What may stand before all sections.
+pub const ROOT_KEYS: [&str; 3] = ["name", "mode", "ticks"];
 
-const TASK_KEYS: [&str; 12] = [
+/// The keys of a task.
+pub const TASK_KEYS: [&str; 12] = [
     "name",
     "priority",
     "activations",
@@ -29,7 +31,8 @@ const TASK_KEYS: [&str; 12] = [
     "loop",
 ];
 
-const INTERRUPT_KEYS: [&str; 10] = [
+/// The keys of an interrupt.
+pub const INTERRUPT_KEYS: [&str; 10] = [
     "name", "priority", "period", "offset", "jitter", "seed", "ticks", "least", "most", "body",
 ];
 
@@ -104,7 +107,7 @@ fn periodic<'a>(table: &Table<'a>, faults: &mut Vec<Fault<'a>>) -> Result<Arrivi
 }
 
 /// When an interrupt arrives.
-fn arriving<'a>(
+pub fn arriving<'a>(
     alloc: Global,
     table: &Table<'a>,
     faults: &mut Vec<Fault<'a>>,
@@ -262,7 +265,7 @@ fn alarm<'a>(table: &Table<'a>, faults: &mut Vec<Fault<'a>>) -> Result<Alarm<'a>
 }
 
 /// Tells where a kind has more objects than it may have.
-fn is_full<'a>(
+pub fn is_full<'a>(
     len: usize,
     most: usize,
     what: &'static str,
@@ -317,18 +320,12 @@ pub fn described<'a>(
     nodes: &'a [Node],
     faults: &mut Vec<Fault<'a>>,
 ) -> Result<Described<'a>, AllocError> {
-    let root = Table {
-        nodes,
-        first: 0,
-        behind: first_section(nodes),
-        depth: 0,
-        place: 0,
-    };
+    let root = root_of(nodes);
     root.tell_unknown(&ROOT_KEYS, "the system", faults)?;
     let mut described = Described {
         name: root.name("name", faults)?.unwrap_or("System"),
         mode: root.name("mode", faults)?.unwrap_or("Normal"),
-        ticks: number_or(&root, "ticks", (1, MAX_TICKS), DEFAULT_TICKS, faults)?,
+        ticks: end_of_arrivals(&root, faults)?,
         tasks: Vec::new(alloc),
         interrupts: Vec::new(alloc),
         alarms: Vec::new(alloc),
@@ -346,6 +343,25 @@ pub fn described<'a>(
 
 /// Before which tick interrupts arrive, where nothing is said.
 const DEFAULT_TICKS: u32 = 1000;
+
+/// Before which tick interrupts arrive.
+pub fn end_of_arrivals<'a>(
+    root: &Table<'a>,
+    faults: &mut Vec<Fault<'a>>,
+) -> Result<u32, AllocError> {
+    number_or(root, "ticks", (1, MAX_TICKS), DEFAULT_TICKS, faults)
+}
+
+/// What stands before all sections.
+pub fn root_of<'a>(nodes: &'a [Node]) -> Table<'a> {
+    Table {
+        nodes,
+        first: 0,
+        behind: first_section(nodes),
+        depth: 0,
+        place: 0,
+    }
+}
 
 /// The number of the first node that begins a section.
 fn first_section(nodes: &[Node]) -> usize {

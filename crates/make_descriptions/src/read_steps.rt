@@ -112,10 +112,14 @@ fn does<'a>(
     if word == "clear" {
         return Ok(Does::Clear(events(alloc, table, "clear", faults)?));
     }
+    if word == "get" {
+        return Ok(Does::Get(table.resource("get", faults)?.unwrap_or("")));
+    }
+    if word == "release" {
+        return Ok(Does::Release(table.resource("release", faults)?.unwrap_or("")));
+    }
     let name = table.name(word, faults)?.unwrap_or("");
     Ok(match word {
-        "get" => Does::Get(name),
-        "release" => Does::Release(name),
         "activate" => Does::Activate(name),
         "chain" => Does::Chain(name),
         _ => Does::Set(name, events(alloc, table, "events", faults)?),
@@ -215,7 +219,7 @@ fn steps_of<'a>(
 }
 
 /// The steps of the list at the key `body`; none where there is no such key.
-pub(crate) fn body<'a>(
+pub fn body<'a>(
     alloc: Global,
     table: &Table<'a>,
     faults: &mut Vec<Fault<'a>>,

@@ -3,7 +3,7 @@
 
 use crate::fault::{Fault, Wrong, tell};
 use crate::lists::behind;
-use crate::names::is_among;
+use crate::names::{SCHEDULER, is_among};
 use crate::node::{Kind, Node, number_of};
 use osek_base::MAX_NAME;
 use osek_base::words::is_word_byte;
@@ -11,28 +11,19 @@ use std::alloc::AllocError;
 
 /// What can't be a name, since it means something in programs.
 const WORDS_OF_PROGRAMS: [&str; 10] = [
-    "INVALID",
-    "RES_SCHEDULER",
-    "r0",
-    "r1",
-    "r2",
-    "r3",
-    "r4",
-    "r5",
-    "r6",
-    "r7",
+    "INVALID", SCHEDULER, "r0", "r1", "r2", "r3", "r4", "r5", "r6", "r7",
 ];
 
 /// A value, and its number among the nodes of its text.
 #[derive(Clone, Copy)]
-pub(crate) struct Found<'a> {
+pub struct Found<'a> {
     pub node: &'a Node,
     pub at: usize,
 }
 
 /// What stands in a table: the nodes of its text, those in it, and how deep its own keys are.
 #[derive(Clone, Copy)]
-pub(crate) struct Table<'a> {
+pub struct Table<'a> {
     pub nodes: &'a [Node],
     pub first: usize,
     pub behind: usize,
@@ -43,7 +34,7 @@ pub(crate) struct Table<'a> {
 
 impl<'a> Table<'a> {
     /// What stands in a node that is a table or begins a section.
-    pub(crate) fn of(nodes: &'a [Node], at: usize, node: &'a Node) -> Table<'a> {
+    pub fn of(nodes: &'a [Node], at: usize, node: &'a Node) -> Table<'a> {
         Table {
             nodes,
             first: at.saturating_add(1),
@@ -54,7 +45,7 @@ impl<'a> Table<'a> {
     }
 
     /// The value at a key.
-    pub(crate) fn find(&self, key: &str) -> Option<Found<'a>> {
+    pub fn find(&self, key: &str) -> Option<Found<'a>> {
         for at in self.first..self.behind {
             if let Some(node) = self.nodes.get(at) {
                 if node.depth == self.depth && node.key.as_str() == key {
@@ -66,7 +57,7 @@ impl<'a> Table<'a> {
     }
 
     /// Tells of each key that isn't among those of such a table.
-    pub(crate) fn tell_unknown(
+    pub fn tell_unknown(
         &self,
         keys: &[&str],
         whose: &'static str,
@@ -87,7 +78,7 @@ impl<'a> Table<'a> {
     }
 
     /// The text at a key.
-    pub(crate) fn text(
+    pub fn text(
         &self,
         key: &'static str,
         faults: &mut Vec<Fault<'a>>,
@@ -103,7 +94,7 @@ impl<'a> Table<'a> {
     }
 
     /// The name at a key, told where it can't be a name of OIL.
-    pub(crate) fn name(
+    pub fn name(
         &self,
         key: &'static str,
         faults: &mut Vec<Fault<'a>>,
@@ -117,8 +108,20 @@ impl<'a> Table<'a> {
         Ok(found)
     }
 
+    /// The same for the name of a resource, which may be RES_SCHEDULER besides.
+    pub fn resource(
+        &self,
+        key: &'static str,
+        faults: &mut Vec<Fault<'a>>,
+    ) -> Result<Option<&'a str>, AllocError> {
+        match self.find(key) {
+            Some(Found { node, .. }) if node.text.as_str() == SCHEDULER => self.text(key, faults),
+            _ => self.name(key, faults),
+        }
+    }
+
     /// The same for a name that has to be there; empty where it isn't.
-    pub(crate) fn own_name(&self, faults: &mut Vec<Fault<'a>>) -> Result<&'a str, AllocError> {
+    pub fn own_name(&self, faults: &mut Vec<Fault<'a>>) -> Result<&'a str, AllocError> {
         if self.find("name").is_none() {
             tell(faults, self.place, Wrong::Missing("name"))?;
         }
@@ -126,7 +129,7 @@ impl<'a> Table<'a> {
     }
 
     /// The number at a key, from one to another.
-    pub(crate) fn number(
+    pub fn number(
         &self,
         key: &'static str,
         range: (u32, u32),
@@ -146,7 +149,7 @@ impl<'a> Table<'a> {
     }
 
     /// Whether a key is true. It is false where it isn't there.
-    pub(crate) fn is_true(
+    pub fn is_true(
         &self,
         key: &'static str,
         faults: &mut Vec<Fault<'a>>,
@@ -162,7 +165,7 @@ impl<'a> Table<'a> {
     }
 
     /// The list at a key.
-    pub(crate) fn list(
+    pub fn list(
         &self,
         key: &'static str,
         faults: &mut Vec<Fault<'a>>,
@@ -179,7 +182,7 @@ impl<'a> Table<'a> {
 }
 
 /// Whether a text can be the name of an object: a word, and none that means something in programs.
-pub(crate) fn is_name(text: &str) -> bool {
+pub fn is_name(text: &str) -> bool {
     let bytes = text.as_bytes();
     let Some(first) = bytes.first() else {
         return false;

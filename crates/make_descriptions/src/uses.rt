@@ -2,7 +2,7 @@
 
 use crate::description::{Body, Described, Does};
 use crate::lists::names;
-use crate::names::add;
+use crate::names::{SCHEDULER, add};
 use crate::node::Node;
 use std::alloc::{AllocError, Global};
 
@@ -23,12 +23,13 @@ pub fn events_of<'a>(
     Ok(found)
 }
 
-/// The resources that a body gets, each once: those that its task lists.
+/// The resources that a body gets, each once: those that its task lists, so not RES_SCHEDULER.
 pub fn resources_of<'a>(alloc: Global, body: &Body<'a>) -> Result<Vec<&'a str>, AllocError> {
     let mut found = Vec::new(alloc);
     for step in &body.steps {
-        if let Does::Get(name) = step.does {
-            add(&mut found, name)?;
+        match step.does {
+            Does::Get(name) if name != SCHEDULER => add(&mut found, name)?,
+            _ => {}
         }
     }
     Ok(found)

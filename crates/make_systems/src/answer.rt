@@ -49,7 +49,7 @@ fn shown(alloc: Global, text: &str) -> Result<String, AllocError> {
 }
 
 /// Faults as they are told, by place; of one place in the order in which they were found.
-fn told(alloc: Global, faults: &[Fault<'_>]) -> Result<Vec<Remark>, AllocError> {
+pub fn told(alloc: Global, faults: &[Fault<'_>]) -> Result<Vec<Remark>, AllocError> {
     let mut order = BTreeSet::new(alloc);
     for (number, fault) in faults.iter().enumerate() {
         let _ = order.insert((fault.place, number))?;
@@ -68,13 +68,11 @@ fn told(alloc: Global, faults: &[Fault<'_>]) -> Result<Vec<Remark>, AllocError> 
 }
 
 /// A text that is no TOML.
-fn refused(alloc: Global, place: usize, why: &str) -> Result<Answer, AllocError> {
-    let mut remarks = Vec::new(alloc);
-    remarks.push(Remark {
+fn refused(alloc: Global, place: usize, why: &str) -> Result<TomlText, AllocError> {
+    Ok(TomlText::Refused(Remark {
         place,
         text: format!(in alloc; "this isn't TOML: {why}")?,
-    })?;
-    Ok(Answer::Refused(remarks))
+    }))
 }
 
 /// Writes the texts of a description that has nothing wrong.
@@ -110,9 +108,17 @@ fn make_nodes(alloc: Global, nodes: &[Node]) -> io::Result<Answer> {
     }
 }
 
-/// Makes the texts of a system from its description, or tells all that is wrong with it; of a text
-/// that is no TOML only the first fault. An error is want of memory.
-pub fn make(alloc: Global, text: &[u8]) -> io::Result<Answer> {
+/// What comes of a text in TOML.
+#[derive(Drop)]
+pub enum TomlText {
+    /// Its keys and values.
+    Nodes(Vec<Node>),
+    /// The first place where it is no TOML.
+    Refused(Remark),
+}
+
+/// Reads the keys and values of a text in TOML. An error is want of memory.
+pub fn read_toml(alloc: Global, text: &[u8]) -> io::Result<TomlText> {
     match toml::table_from_slice(alloc, text) {
         Ok(_table) => {}
         Err(error) => match error.span() {
@@ -122,11 +128,24 @@ pub fn make(alloc: Global, text: &[u8]) -> io::Result<Answer> {
     }
     let text = std::str::from_utf8(text).unwrap_or("");
     match nodes_of(alloc, text) {
-        Ok(nodes) => make_nodes(alloc, nodes.as_slice()),
+        Ok(nodes) => Ok(TomlText::Nodes(nodes)),
         Err(ParseError::OutOfMemory) => Err(AllocError.into()),
         Err(ParseError::At(kind, from, _)) => {
             let place = text.len().saturating_sub(from);
             Ok(refused(alloc, place, kind.description())?)
+        }
+    }
+}
+
+/// Makes the texts of a system from its description, or tells all that is wrong with it; of a text
+/// that is no TOML only the first fault. An error is want of memory.
+pub fn make(alloc: Global, text: &[u8]) -> io::Result<Answer> {
+    match read_toml(alloc, text)? {
+        TomlText::Nodes(nodes) => make_nodes(alloc, nodes.as_slice()),
+        TomlText::Refused(remark) => {
+            let mut remarks = Vec::new(alloc);
+            remarks.push(remark)?;
+            Ok(Answer::Refused(remarks))
         }
     }
 }

@@ -11,7 +11,7 @@ mod nodes;
 mod oil_text;
 mod program_text;
 
-pub use answer::{Answer, Made, Remark, make};
+pub use answer::{Answer, Made, Remark, TomlText, make, read_toml, told};
 pub use arrival_text::{Arrivals, arrivals, write_arrivals};
 pub use oil_text::write_oil;
 pub use program_text::write_programs;

@@ -2,6 +2,7 @@
 
 use crate::attributes::is_cpu_name;
 use crate::braces::inside;
+use crate::budgets::Budgets;
 use crate::declared::{DEFAULT_MODE, DeclaredObjects};
 use crate::draft::Draft;
 use crate::items::{Item, Written};
@@ -46,6 +47,7 @@ impl<'a> Importer<'a> {
             objects: DeclaredObjects::new(alloc, objects, depth_of(objects))?,
             messages,
             draft: Draft::new(alloc),
+            budgets: Budgets::new(alloc),
             needs_default_mode: false,
         })
     }

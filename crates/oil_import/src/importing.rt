@@ -4,6 +4,7 @@ ghost use Rattle.std.specs.Prelude.{IfOk, IfSome};
 ghost use Rattle.std.specs.String.{string_bytes};
 ghost use Rattle.oil_printer.specs.Plain.{IsPlain};
 
+use crate::budgets::Budgets;
 use crate::files::import_items;
 use crate::includes::all_tokens;
 use crate::items::{Item, items_of};
@@ -20,6 +21,7 @@ pub struct PlainOil<'a> {
     /// Plain OIL, unless something was refused.
     pub text: Option<String>,
     pub messages: Messages<'a>,
+    pub budgets: Budgets<'a>,
 }
 
 /// The items of all files, and the place of the end.
@@ -69,5 +71,6 @@ pub fn import<'a>(alloc: Global, sources: &[Source<'a>]) -> Result<PlainOil<'a>,
     Ok(PlainOil {
         text,
         messages: importer.messages,
+        budgets: importer.budgets,
     })
 }

@@ -9,11 +9,13 @@
 //! Files become tokens (`tokens`), in the order in which files include one another (`includes`),
 //! these become items by depth of braces (`items`). What is kept of them is written as a draft
 //! (`draft`, `settings`, `objects`, `files`), which is read and printed (`importing`). `messages`
-//! tells what was left out, set or refused.
+//! tells what was left out, set or refused, `budgets` what was left out that may be of use
+//! elsewhere.
 #![tactic(auto)]
 
 mod attributes;
 mod braces;
+mod budgets;
 mod declared;
 mod draft;
 mod files;
@@ -27,6 +29,7 @@ mod settings;
 mod sources;
 mod tokens;
 
+pub use budgets::{Budget, Budgets};
 pub use importing::{PlainOil, import};
 pub use messages::{Message, Messages, Subject, Verdict};
 pub use sources::{Place, Source};

@@ -25,6 +25,7 @@ fn reason_for(kind: Kind, word: &str) -> &'static str {
         (Kind::Os, "CC") => reasons::CLASS,
         (Kind::Os, "SCHEDULE") => reasons::SCHEDULING,
         (Kind::Task | Kind::Isr, "MESSAGE" | "ACCESSOR") => reasons::COMMUNICATION,
+        (Kind::Task | Kind::Isr, "TIMING_PROTECTION") => reasons::BUDGETS,
         _ => reasons::UNKNOWN_ATTRIBUTE,
     }
 }
@@ -84,6 +85,7 @@ impl<'a> Importer<'a> {
         if !self.is_declared(kind, name, number) {
             return self.refuse_name(kind, name, item);
         }
+        self.budgets.note(kind, name, attributes)?;
         self.draft.open_object(item.word, name)?;
         let end = item.end;
         self.attributes(alloc, ImportedObject { kind, name, end }, attributes)?;

@@ -43,6 +43,9 @@ pub(crate) const COMMUNICATION: &str = "communication and network management are
 
 pub(crate) const UNKNOWN_ATTRIBUTE: &str = "there is no such attribute";
 
+pub(crate) const BUDGETS: &str =
+    "there is no such attribute; --work takes an EXECUTIONBUDGET in it";
+
 pub(crate) const CLASS: &str = "the conformance class follows from the objects";
 
 pub(crate) const SCHEDULING: &str = "each task has its own SCHEDULE";

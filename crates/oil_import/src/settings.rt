@@ -2,6 +2,7 @@
 //! is missing.
 
 use crate::attributes::{default_of, is_hook, is_of_hook_code, named_by, reason_against, value_of};
+use crate::budgets::Budgets;
 use crate::declared::{DEFAULT_MODE, DeclaredObjects, is_scheduler};
 use crate::draft::Draft;
 use crate::items::{Item, Written};
@@ -17,6 +18,7 @@ pub(crate) struct Importer<'a> {
     pub objects: DeclaredObjects<'a>,
     pub messages: Messages<'a>,
     pub draft: Draft,
+    pub budgets: Budgets<'a>,
     /// Whether the mode is named that is there without being declared.
     pub needs_default_mode: bool,
 }
