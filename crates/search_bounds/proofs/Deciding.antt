@@ -18,7 +18,8 @@ use Rattle.law_bounds.specs.Starting.{BoundedInterruptsStart}
 use Rattle.search_bounds.specs.Exploring.{AreNotedIn, Explorer, setting_of}
 use Rattle.search_nodes.specs.declared.found.Bounds.{Bounds}
 use Rattle.search_nodes.specs.declared.found.Extent.{Extent}
-use Rattle.search_nodes.specs.Found.{AreFound, InterruptsStart, IsOfSearch, JobsEnd, Says, limits_of, setting_by}
+use Rattle.search_nodes.specs.Found.{AreFound, HoldsEnd, InterruptsStart, IsOfSearch, JobsEnd, Says, limits_of, setting_by}
+use Rattle.law_bounds.specs.Releasing.{BoundedHoldsEnd}
 use Rattle.search_nodes.specs.Ground.{Ground, IsGround}
 use Rattle.search_bounds.proofs.Fallible.{if_ok}
 
@@ -108,3 +109,18 @@ module _ (S : System) (mode : ℕ) (distances : List ℕ) (proper : IsProper S) 
     interrupts_start found are =
         if_ok (AreFound S mode distances) (InterruptsStart S mode distances) found
         (λ b is. starts_by b b.outcome is) are
+
+  module _ (law : BoundedHoldsEnd) where
+    releases_by : (found : Bounds) (outcome : Outcome)
+        → Says outcome (AreBounds S mode distances found.cap found.peaks)
+        (AreBoundsUpTo S mode distances found.cap found.peaks)
+        → HoldsEnd S mode distances (record found { outcome = outcome })
+    releases_by found (Decided p) bounds = λ r low below.
+        law S mode distances found.cap found.peaks r proper bounds low below
+    releases_by found (Undecided obstacle p) bounds = tt
+
+    pub holds_end : {E : Type 0} (found : Result Bounds E) → IfOk found (AreFound S mode distances)
+        → IfOk found (HoldsEnd S mode distances)
+    holds_end found are =
+        if_ok (AreFound S mode distances) (HoldsEnd S mode distances) found
+        (λ b is. releases_by b b.outcome is) are

@@ -1,4 +1,5 @@
--- Bounds of the upper part by itself hold above, and jobs end and routines start there.
+-- Bounds of the upper part by itself hold above, and there jobs end and release what they hold, and
+-- routines start.
 use Rattle.std.proofs.Common.{ℕ, ◌≡◌, List, subst}
 use Rattle.osek_base.specs.System.{System}
 use Rattle.osek_base.specs.Proper.{IsProper}
@@ -8,10 +9,10 @@ use Rattle.search.specs.declared.outcome.Outcome.{Outcome}
 use Rattle.search.specs.declared.outcome.Outcome.TheVariants.{Decided, Undecided}
 use Rattle.search_peaks.specs.Peaks.{Peaks}
 use Rattle.law_bounds.specs.Bounds.{AreBounds, AreBoundsUpTo}
-use Rattle.law_upper.specs.FiguresAbove.{BoundedUpperJobsEnd, BoundsOfThePartHold}
+use Rattle.law_upper.specs.FiguresAbove.{BoundedUpperHoldsEnd, BoundedUpperJobsEnd, BoundsOfThePartHold}
 use Rattle.law_upper.specs.StartingAbove.{BoundedInterruptsStartAbove}
 use Rattle.search_nodes.specs.Found.{Says}
-use Rattle.search_bounds.specs.Above.{BoundAll, BoundAllUpTo, EndAll, StartAll}
+use Rattle.search_bounds.specs.Above.{BoundAll, BoundAllUpTo, EndAll, ReleaseAll, StartAll}
 
 pub hold_above : BoundsOfThePartHold → (S part : System) (p mode : ℕ) (distances : List ℕ) (cap : ℕ) (peaks : Peaks)
     (outcome : Outcome) → IsProper S → Separable S p → part ≡ upper_part S p
@@ -50,3 +51,13 @@ starts_above law S p mode distances cap peaks (Decided progress) proper all = re
   others = λ B one. law B p mode distances cap peaks one.proper_there (all.others B one);
 }
 starts_above law S p mode distances cap peaks (Undecided obstacle progress) proper all = tt
+
+pub releases_above : BoundedUpperHoldsEnd → (S : System) (p mode : ℕ) (distances : List ℕ) (cap : ℕ) (peaks : Peaks)
+    (outcome : Outcome) → IsProper S
+    → Says outcome (BoundAll S p mode distances cap peaks) (BoundAllUpTo S p mode distances cap peaks)
+    → Says outcome (ReleaseAll S p mode distances cap peaks) (λ levels. Unit {0})
+releases_above law S p mode distances cap peaks (Decided progress) proper all = record {
+  whole = law S p mode distances cap peaks proper all.whole;
+  others = λ B one. law B p mode distances cap peaks one.proper_there (all.others B one);
+}
+releases_above law S p mode distances cap peaks (Undecided obstacle progress) proper all = tt

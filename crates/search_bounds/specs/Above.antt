@@ -6,7 +6,7 @@ use Rattle.search_nodes.specs.Found.{Says}
 use Rattle.search_peaks.specs.Peaks.{Peaks}
 use Rattle.law_bounds.specs.Starting.{RoutinesStart}
 use Rattle.law_upper.specs.Above.{AreOneAbove}
-use Rattle.law_upper.specs.FiguresAbove.{AreBoundsAbove, AreBoundsAboveUpTo, UpperJobsEnd}
+use Rattle.law_upper.specs.FiguresAbove.{AreBoundsAbove, AreBoundsAboveUpTo, UpperHoldsEnd, UpperJobsEnd}
 
 -- in the system itself, and in each that is separable at p and agrees with it from p upward
 pub record BoundAll (S : System) (p mode : ℕ) (distances : List ℕ) (cap : ℕ)
@@ -50,3 +50,14 @@ pub record StartAll (S : System) (p mode : ℕ) (distances : List ℕ) (cap : �
 abbrev pub InterruptsStartAbove : System → ℕ → ℕ → List ℕ → Bounds → Type 0
 InterruptsStartAbove S p mode distances found =
     Says found.outcome (StartAll S p mode distances found.cap found.peaks) (λ levels. Unit {0})
+
+-- in all of them jobs release upper resources, whose longest hold is below the cap, within as many
+-- ticks
+pub record ReleaseAll (S : System) (p mode : ℕ) (distances : List ℕ) (cap : ℕ)
+    (peaks : Peaks) : Type 0 where
+  pub whole : UpperHoldsEnd S p mode distances cap peaks
+  pub others : (B : System) → AreOneAbove S B p → UpperHoldsEnd B p mode distances cap peaks
+
+abbrev pub HoldsEndAbove : System → ℕ → ℕ → List ℕ → Bounds → Type 0
+HoldsEndAbove S p mode distances found =
+    Says found.outcome (ReleaseAll S p mode distances found.cap found.peaks) (λ levels. Unit {0})

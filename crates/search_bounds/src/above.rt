@@ -3,10 +3,18 @@
 ghost use Rattle.std.specs.Prelude.{◌≡◌, IfOk};
 ghost use Rattle.osek_base.specs.Separable.{Separable};
 ghost use Rattle.osek_base.specs.Agree.{upper_part};
-ghost use Rattle.search_bounds.specs.Above.{HoldAbove, InterruptsStartAbove, JobsEndAbove};
+ghost use Rattle.search_bounds.specs.Above.{
+  HoldAbove,
+  HoldsEndAbove,
+  InterruptsStartAbove,
+  JobsEndAbove,
+};
 
 use crate::finding::find_bounds;
-use law_upper::{bounded_interrupts_start_above, bounded_upper_jobs_end, bounds_of_the_part_hold};
+use law_upper::{
+    bounded_interrupts_start_above, bounded_upper_holds_end, bounded_upper_jobs_end,
+    bounds_of_the_part_hold,
+};
 use osek_base::{ModeId, System};
 use partition_check::upper_only;
 use search_nodes::{Bounds, Extent, Watch};
@@ -28,9 +36,10 @@ pub struct UpperBounds {
 /// separable at p and agrees with it from p upward, whatever runs below: of upper tasks, all
 /// routines, and upper resources and alarms. Where it isn't, they hold there after as many ticks at
 /// most as the levels that the search has done. So each job of an upper task that is bounded by a
-/// decided search ends or begins to wait within as many ticks in all of them, and a routine that is
-/// bounded so starts within as many ticks of each interrupt that isn't lost. Who watches is told how
-/// far the search has come. An error is want of memory.
+/// decided search ends or begins to wait within as many ticks in all of them, each that gets an
+/// upper resource, or RES_SCHEDULER, that is bounded releases it so, and a routine that is bounded
+/// starts so behind each interrupt that isn't lost. Who watches is told how far the search has come.
+/// An error is want of memory.
 pub fn find_upper_bounds<W: Watch>(
     alloc: Global,
     system: &System,
@@ -48,11 +57,14 @@ pub fn find_upper_bounds<W: Watch>(
         JobsEndAbove system.now p mode distances.now upper.bounds) }
     ensures starts { IfOk result (λ upper.
         InterruptsStartAbove system.now p mode distances.now upper.bounds) }
+    ensures releases { IfOk result (λ upper.
+        HoldsEndAbove system.now p mode distances.now upper.bounds) }
 {
     system.shows_proper();
     bounds_of_the_part_hold();
     bounded_upper_jobs_end();
     bounded_interrupts_start_above();
+    bounded_upper_holds_end();
     let part = upper_only(alloc, system, p)?;
     let bounds = find_bounds(alloc, &part, mode, distances, extent, watch)?;
     Ok(UpperBounds { part, bounds })

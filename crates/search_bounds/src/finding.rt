@@ -1,10 +1,18 @@
 //! The bounds of all runs of a system.
 
 ghost use Rattle.std.specs.Prelude.{◌≡◌, IfOk};
-ghost use Rattle.search_nodes.specs.Found.{AreFound, InterruptsStart, IsOfSearch, JobsEnd};
+ghost use Rattle.search_nodes.specs.Found.{
+  AreFound,
+  HoldsEnd,
+  InterruptsStart,
+  IsOfSearch,
+  JobsEnd,
+};
 
 use crate::explorer::Explorer;
-use law_bounds::{bounded_interrupts_start, bounded_jobs_end, levels_bound, searches_bound};
+use law_bounds::{
+    bounded_holds_end, bounded_interrupts_start, bounded_jobs_end, levels_bound, searches_bound,
+};
 use osek_base::{ModeId, System};
 use search::{Limits, search};
 use search_needs::needed_data;
@@ -20,9 +28,10 @@ use std::alloc::{AllocError, Global};
 /// that the search has done. Who watches is told how far it has come. An error is want of memory.
 ///
 /// So where it is decided, each job of a task whose peak of responses is below the cap ends or
-/// begins to wait within as many ticks of being ready, unless the run ends before. A routine whose
-/// peak of latencies is starts within as many ticks of each interrupt that isn't lost. And the
-/// outcome tells how many nodes stand for all that can come, or why the search stopped.
+/// begins to wait within as many ticks of being ready, and each job that gets a resource whose peak
+/// of holds is below it releases it within as many, unless the run ends before. A routine whose peak
+/// of latencies is starts within as many ticks of each interrupt that isn't lost. And the outcome
+/// tells how many nodes stand for all that can come, or why the search stopped.
 pub fn find_bounds<W: Watch>(
     alloc: Global,
     system: &System,
@@ -34,6 +43,7 @@ pub fn find_bounds<W: Watch>(
     ensures found { IfOk result (AreFound system.now mode distances.now) }
     ensures ends { IfOk result (JobsEnd system.now mode distances.now) }
     ensures starts { IfOk result (InterruptsStart system.now mode distances.now) }
+    ensures releases { IfOk result (HoldsEnd system.now mode distances.now) }
     ensures searched { IfOk result (IsOfSearch system.now mode distances.now extent) }
     ensures cap { IfOk result (λ found. found.cap ≡ extent.cap) }
 {
@@ -42,6 +52,7 @@ pub fn find_bounds<W: Watch>(
     levels_bound();
     bounded_jobs_end();
     bounded_interrupts_start();
+    bounded_holds_end();
     searched_bounds(alloc, system, mode, distances, extent, watch)
 }
 

@@ -14,7 +14,8 @@
 //! - So where a task's greatest response is below the cap, each of its jobs ends or begins to wait
 //!   within as many ticks of being ready, unless the run ends (`JobsEnd`). Where a routine's
 //!   greatest latency is, the routine starts within as many ticks of each interrupt that isn't lost
-//!   (`InterruptsStart`).
+//!   (`InterruptsStart`). Where a resource's longest hold is, each job that gets it releases it
+//!   within as many (`HoldsEnd`).
 //! - A run ends by a ShutdownOS only where the peaks say so.
 //! - Where the search is undecided, all this holds after as many ticks at most as it tells.
 //! - Where the search is decided, as many nodes as its outcome tells stand for all that can come;
@@ -23,7 +24,8 @@
 //!   itself. The part is exactly the upper part. Where its search is decided, its peaks bound
 //!   every run of the system and of every one that is separable at p and agrees from p upward;
 //!   where it is undecided, after as many ticks at most as it tells. Jobs of upper tasks end, and
-//!   routines start, in all of them within their bounds (`JobsEndAbove`, `InterruptsStartAbove`).
+//!   routines start, in all of them within their bounds (`JobsEndAbove`, `InterruptsStartAbove`),
+//!   and jobs release upper resources within theirs (`HoldsEndAbove`).
 //! - A `Watch` is told of each visit how far the search has come. An error is want of memory.
 //!
 //! A bound is of programs that take exactly these ticks: a job that ends earlier can make another

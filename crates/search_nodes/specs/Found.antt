@@ -2,6 +2,7 @@
 use Rattle.std.specs.Prelude.{ℕ, ◌<◌, List, length}
 use Rattle.osek_base.specs.System.{System}
 use Rattle.law_future.specs.Need.{Need, Suffices}
+use Rattle.view_figures.specs.FigureSums.{held_count}
 use Rattle.search.specs.declared.outcome.Limits.{Limits}
 use Rattle.search.specs.declared.outcome.Outcome.{Outcome}
 use Rattle.search.specs.declared.outcome.Outcome.TheVariants.{Decided, Undecided}
@@ -12,6 +13,7 @@ use Rattle.law_bounds.specs.Bounds.{AreBounds, AreBoundsUpTo}
 use Rattle.law_bounds.specs.Ending.{EndsWithin}
 use Rattle.law_bounds.specs.Nodes.{AreNoted, Setting, rules_of}
 use Rattle.law_bounds.specs.Starting.{RoutinesStart}
+use Rattle.law_bounds.specs.Releasing.{ReleasesWithin}
 use Rattle.search_nodes.specs.declared.found.Bounds.{Bounds}
 use Rattle.search_nodes.specs.declared.found.Extent.{Extent}
 
@@ -40,6 +42,14 @@ JobsEnd S mode distances found =
 abbrev pub InterruptsStart : System → ℕ → List ℕ → Bounds → Type 0
 InterruptsStart S mode distances found =
     Says found.outcome (RoutinesStart S mode distances found.cap found.peaks) (λ levels. Unit {0})
+
+-- and each job that gets a resource releases it within the resource's longest hold
+abbrev pub HoldsEnd : System → ℕ → List ℕ → Bounds → Type 0
+HoldsEnd S mode distances found =
+    Says found.outcome
+    ((r : ℕ) → r < held_count S → peak found.peaks.holds r < found.cap
+    → ReleasesWithin S mode distances (peak found.peaks.holds r) r)
+    (λ levels. Unit {0})
 
 -- ---- the search
 

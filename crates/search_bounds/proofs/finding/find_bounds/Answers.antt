@@ -1,4 +1,4 @@
-use Rattle.search_bounds.proofs.Deciding.{are_found, interrupts_start, jobs_end}
+use Rattle.search_bounds.proofs.Deciding.{are_found, holds_end, interrupts_start, jobs_end}
 use Rattle.search_bounds.proofs.finding.find_bounds.Goals as goal
 
 pub returns-clause-found : goal.returns-clause-found
@@ -19,6 +19,14 @@ pub returns-clause-starts : goal.returns-clause-starts
 returns-clause-starts g c =
     interrupts_start c.args.system.now c.args.mode c.args.distances.now c.shows_proper.ensures
     c.bounded_interrupts_start.ensures c.searched_bounds.result
+    (are_found c.args.system.now c.args.mode c.args.distances.now c.shows_proper.ensures
+    c.searches_bound.ensures c.levels_bound.ensures c.args.extent c.searched_bounds.result
+    c.searched_bounds.ensures.searched)
+
+pub returns-clause-releases : goal.returns-clause-releases
+returns-clause-releases g c =
+    holds_end c.args.system.now c.args.mode c.args.distances.now c.shows_proper.ensures
+    c.bounded_holds_end.ensures c.searched_bounds.result
     (are_found c.args.system.now c.args.mode c.args.distances.now c.shows_proper.ensures
     c.searches_bound.ensures c.levels_bound.ensures c.args.extent c.searched_bounds.result
     c.searched_bounds.ensures.searched)
