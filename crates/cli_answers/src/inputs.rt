@@ -1,5 +1,9 @@
 //! What a command line's files have: their texts, and the system of these.
 
+ghost use Rattle.std.specs.Prelude.{IfOk};
+ghost use Rattle.std.specs.String.{string_bytes};
+ghost use Rattle.cli_answers.specs.ModeNames.{IsModeName};
+
 use cli_requests::{Files, Request, Unread, read_file};
 use oil_reader::read_oil;
 use osek_base::System;
@@ -31,7 +35,9 @@ pub fn read_texts<'a, F: Files>(
 
 /// The name of a run's mode: the one that its line has, or else the only one of the OIL file. It is
 /// empty where the file has several.
-pub fn mode_of(alloc: Global, texts: &Texts, mode: Option<&str>) -> Result<String, RunFault> {
+pub fn mode_of(alloc: Global, texts: &Texts, mode: Option<&str>) -> Result<String, RunFault>
+    ensures { IfOk result (λ name. IsModeName texts.now.oil.items mode.entry (string_bytes name)) }
+{
     if let Some(mode) = mode {
         return Ok(format!(in alloc; "{mode}")?);
     }

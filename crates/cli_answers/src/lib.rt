@@ -1,5 +1,6 @@
 //! Answers to command lines of `osek` on one run, on partitions, on the texts of a system, and on
-//! what makes or imports these. No contract but safety: it is tested.
+//! what makes or imports these. The mode of a run has the name that its line says, or that of the
+//! only one (`mode_of`); all else is tested.
 //!
 //! It reads the texts that a request names, has them run, checked, listed or made, and writes
 //! what becomes of it.

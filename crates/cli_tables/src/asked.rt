@@ -1,5 +1,8 @@
 //! What is asked of bounds.
 
+ghost use Rattle.std.specs.Prelude.{IfOk};
+ghost use Rattle.cli_tables.specs.Modes.{IsModeAsked};
+
 use crate::naming::is_known;
 use cli_answers::{Texts, mode_of};
 use cli_requests::{BoundsLine, Wanted};
@@ -23,7 +26,9 @@ pub fn mode_id(
     texts: &Texts,
     system: &System,
     mode: Option<&str>,
-) -> Result<ModeId, RunFault> {
+) -> Result<ModeId, RunFault>
+    ensures { IfOk result (IsModeAsked texts.now.oil.items system.now.names.modes mode.entry) }
+{
     let name = mode_of(alloc, texts, mode)?;
     match system.names().mode(name.as_str()) {
         Some(mode) => Ok(mode),

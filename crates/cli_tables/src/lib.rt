@@ -1,6 +1,6 @@
-//! Writes what a search through every run has found: bounds as tables, comma-separated values and
-//! JSON, what they mean, which limits they break, or a run that shows one. No contract but on its
-//! own helpers: it is tested.
+//! Writes what a search through every run has found: as tables, comma-separated values and JSON,
+//! what it means, which limits break, or a run that shows a figure. A search's mode and distances
+//! are exactly those asked for (`mode_id`, `all_distances`); the texts are tested.
 #![tactic(auto)]
 
 mod asked;

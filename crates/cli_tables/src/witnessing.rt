@@ -2,23 +2,25 @@
 
 use crate::failed_service::service_text;
 use crate::naming::{NamedFigure, figure_named, service_named};
+use arrival_reader::print_arrivals;
 use cli_answers::Verdict;
 use cli_requests::Wanted;
 use osek_base::{Arrivals, ModeId, System};
 use search_nodes::{Bounds, Figure};
 use search_witnesses::{Endless, Witness, find_endless, find_failing, find_witness};
 use std::alloc::{AllocError, Global};
-use std::io::{self, Write};
+use std::io::Write;
 use tracer::RunFault;
 
-/// Writes arrivals as a list.
-fn write_arrivals<O: Write>(system: &System, arrivals: &Arrivals, out: &mut O) -> io::Result<()> {
-    let names = &system.names().routines;
-    for arrival in arrivals.list() {
-        if let Some(name) = names.get(usize::from(arrival.routine.number())) {
-            writeln!(out, "{} {}", arrival.tick, name.as_str())?;
-        }
-    }
+/// Writes arrivals as a text that is read as them again.
+fn write_arrivals<O: Write>(
+    alloc: Global,
+    system: &System,
+    arrivals: &Arrivals,
+    out: &mut O,
+) -> Result<(), RunFault> {
+    let text = print_arrivals(alloc, system, arrivals)?;
+    out.write_all(text.as_bytes())?;
     Ok(())
 }
 
@@ -86,7 +88,7 @@ fn write_failing<'v, O: Write>(
     };
     let service = service_text(alloc, system, failure)?;
     let line = format!(in alloc; "{} ticks: service {service}\n", witness.ticks)?;
-    write_arrivals(system, &witness.arrivals, out)?;
+    write_arrivals(alloc, system, &witness.arrivals, out)?;
     Ok(Verdict::Witnessed(line))
 }
 
@@ -115,6 +117,6 @@ pub(crate) fn write_witness<'v, O: Write>(
             arrivals = &endless.arrivals;
         }
     }
-    write_arrivals(system, arrivals, out)?;
+    write_arrivals(alloc, system, arrivals, out)?;
     Ok(Verdict::Witnessed(lines))
 }

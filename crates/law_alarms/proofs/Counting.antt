@@ -1,5 +1,5 @@
 -- Of ticks that lie apart the last one lies behind all gaps.
-use Rattle.std.proofs.Common.{ℕ, zero, suc, ◌≡◌, ◌<◌, ◌≤◌, ◌+◌, ◌-◌, ◌*◌, ◌/◌, ◌⊎◌, inl, inr, Bool, true, false, refl, sym, ◌∙◌, ap, arith}
+use Rattle.std.proofs.Common.{ℕ, zero, suc, ◌≡◌, ◌<◌, ◌≤◌, ◌+◌, ◌-◌, ◌*◌, ◌⊎◌, inl, inr, Bool, true, false, refl, ap, arith}
 use Rattle.std.proofs.lemmas.Nat.{le-div}
 use Rattle.law_runs.specs.Jobs.{one_if}
 use Rattle.law_alarms.specs.Spaced.{IsSpaced, SpacedAreFew, how_many, most_in}
@@ -17,7 +17,8 @@ module _ (passes : ℕ → Bool) (gap last from : ℕ) (spaced : IsSpaced passes
   abbrev IsCounted : ℕ → Type 0
   IsCounted count = (how_many passes from count ≡ 0) ⊎ HasLast count
 
-  one_more : (count : ℕ) → from + suc count ≤ last + 1 → IsCounted count → (b : Bool) → passes (from + count) ≡ b
+  one_more : (count : ℕ) → from + suc count ≤ last + 1 → IsCounted count → (b : Bool)
+      → passes (from + count) ≡ b
       → IsCounted (suc count)
   one_more count low before false here =
       let none : one_if (passes (from + count)) ≡ 0 = ap one_if here in
@@ -51,7 +52,8 @@ module _ (passes : ℕ → Bool) (gap last from : ℕ) (spaced : IsSpaced passes
             let many = l.many in
             let inside = l.inside in
             let behind = l.behind in
-            let apart = spaced (from + l.at) (from + count) (omega (arith, inside)) (omega (arith, low)) l.is here in
+            let apart = spaced (from + l.at) (from + count) (omega (arith, inside))
+            (omega (arith, low)) l.is here in
             inr (record {
               at = count;
               gaps = suc l.gaps;
@@ -67,7 +69,8 @@ module _ (passes : ℕ → Bool) (gap last from : ℕ) (spaced : IsSpaced passes
   counted (suc count) low =
       one_more count low (counted count (omega (arith, low))) (passes (from + count)) refl
 
-  pub few : (count : ℕ) → 0 < gap → 0 < count → from + count ≤ last + 1 → how_many passes from count ≤ most_in gap count
+  pub few : (count : ℕ) → 0 < gap → 0 < count → from + count ≤ last + 1
+      → how_many passes from count ≤ most_in gap count
   few count some long low = elim (counted count low) [
     | inl none ↦ omega (arith, none)
     | inr l ↦
@@ -79,4 +82,5 @@ module _ (passes : ℕ → Bool) (gap last from : ℕ) (spaced : IsSpaced passes
   ]
 
 pub spaced_are_few : SpacedAreFew
-spaced_are_few passes gap last from count some long low spaced = few passes gap last from spaced count some long low
+spaced_are_few passes gap last from count some long low spaced =
+    few passes gap last from spaced count some long low

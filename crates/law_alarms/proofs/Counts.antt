@@ -1,5 +1,5 @@
 -- Ticks and the counts in which they lie.
-use Rattle.std.proofs.Common.{ℕ, zero, suc, ◌≡◌, ◌<◌, ◌≤◌, ◌+◌, ◌*◌, ◌/◌, ◌%◌, inl, inr, refl, sym, ◌∙◌, ap, subst, arith}
+use Rattle.std.proofs.Common.{ℕ, suc, ◌≡◌, ◌<◌, ◌≤◌, ◌+◌, ◌*◌, ◌/◌, ◌%◌, inl, inr, sym, ◌∙◌, ap, arith}
 use Rattle.std.proofs.Math.Nat.{add-mul, div-mul-le_self, lt-div-mul-add, lt_of_mul-lt-mul_right, mul-div_left, mul-le-mul_right}
 use Rattle.std.proofs.lemmas.Bool.{cases_lt}
 use Rattle.std.proofs.lemmas.Nat.{div-add-mod', le-div}
@@ -48,7 +48,8 @@ pub steps_on : (t u b : ℕ) → 0 < b → t % b ≡ 0 → u % b ≡ 0 → t < u
 steps_on t u b some first next later =
     let whole = div-add-mod' t b in
     let other = div-add-mod' u b in
-    let more : t / b < u / b = lt_of_mul-lt-mul_right b (omega (arith, whole, other, first, next, later)) in
+    let more : t / b < u / b =
+    lt_of_mul-lt-mul_right b (omega (arith, whole, other, first, next, later)) in
     let far = so_far t u b 1 first (omega (arith, more)) in
     omega (arith, far)
 

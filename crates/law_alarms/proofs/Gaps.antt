@@ -1,12 +1,11 @@
 -- From an expiry to the next lie as many counts as boot and programs set.
-use Rattle.std.proofs.Common.{ℕ, suc, ◌≡◌, ◌<◌, ◌≤◌, ◌+◌, ◌*◌, ◌/◌, ◌%◌, inl, inr, Bool, true, false, cond, List, refl, sym, ◌∙◌, ap, subst, arith}
+use Rattle.std.proofs.Common.{ℕ, suc, ◌≡◌, ◌<◌, ◌≤◌, ◌+◌, ◌*◌, ◌/◌, inl, inr, Bool, true, false, cond, List, refl, sym, ◌∙◌, ap, subst, arith}
 use Rattle.std.specs.Prelude.{Option, Some, None, ◌==◌, IfSome}
 use Rattle.std.proofs.lemmas.Bool.{cases_lt, eqb-false, eqb-true, true≢false}
 use Rattle.osek_base.specs.declared.arrivals.Arrival.{Arrival}
 use Rattle.osek_base.specs.declared.instr.Service.{Service}
 use Rattle.osek_base.specs.declared.task.Counter.{Counter}
 use Rattle.osek_base.specs.Alarm.{is_due_at}
-use Rattle.osek_base.specs.Proper.{IsProper}
 use Rattle.osek_base.specs.State.{Expiry}
 use Rattle.osek_base.specs.System.{System, alarm_start_in, counter_of}
 use Rattle.osek_base.specs.Trace.{first_expiry}
@@ -16,37 +15,42 @@ use Rattle.law_alarms.specs.Expiries.{base_of, expires}
 use Rattle.law_alarms.specs.Setting.{AreNoSooner, IsNoSooner, IsSlow}
 use Rattle.law_alarms.specs.Spaced.{IsSpaced}
 use Rattle.law_alarms.proofs.Ticked.{SetsTo}
-use Rattle.law_alarms.proofs.Along.{IsKept, along, expired_at, expiry_at}
+use Rattle.law_alarms.proofs.Along.{IsKept, a_cycle_on, along, expired_at, expiry_at}
 use Rattle.law_alarms.proofs.Counting.{few}
 use Rattle.law_alarms.proofs.Counts.{no_less, so_far, steps_on}
 use Rattle.law_alarms.proofs.Due.{IsExpiring, expiring, some_ticks}
 use Rattle.law_alarms.proofs.OnTime.{on_time}
 
 -- a call that sets an alarm no sooner sets it so far ahead
-far_set : (c : Counter) (a least n : ℕ) (call : ServiceCall) (e : Expiry) → IsNoSooner a least call → SetsTo c n a call e
+far_set : (c : Counter) (a least n : ℕ) (call : ServiceCall) (e : Expiry) → IsNoSooner a least call
+    → SetsTo c n a call e
     → (n + least ≤ e.count) × IsSlow least e.cycle
 far_set c a least n (Service.SetRelAlarm (Some b) x y) e slow sets =
     let is = ap (λ (f : Expiry). f.count) sets.1 in
+    let same = ap (λ (f : Expiry). f.cycle) sets.1 in
     let low = (slow sets.0).0 in
-    (omega (arith, is, low), subst (IsSlow least) (sym (ap (λ (f : Expiry). f.cycle) sets.1)) (slow sets.0).1)
+    (omega (arith, is, low), subst (IsSlow least) (sym same) (slow sets.0).1)
 far_set c a least n (Service.SetAbsAlarm (Some b) x y) e slow sets =
     let is = ap (λ (f : Expiry). f.count) sets.1 in
+    let same = ap (λ (f : Expiry). f.cycle) sets.1 in
     let low = (slow sets.0).0 in
-    (omega (arith, is, low), subst (IsSlow least) (sym (ap (λ (f : Expiry). f.cycle) sets.1)) (slow sets.0).1)
+    (omega (arith, is, low), subst (IsSlow least) (sym same) (slow sets.0).1)
 far_set c a least n _ e slow sets = absurd sets
 
 some_cycle : (least cycle : ℕ) → (cycle == 0) ≡ false → IsSlow least cycle → least ≤ cycle
 some_cycle least cycle some (inl none) = absurd (eqb-false cycle 0 some none)
 some_cycle least cycle some (inr slow) = slow
 
-module _ (S : System) (mode : ℕ) (arrivals : List Arrival) (a least last : ℕ) (some : 0 < base_of S a)
-    (set : AreNoSooner S mode arrivals a least last) (t : ℕ) (first : IsExpiring S mode arrivals a t) where
+module _ (S : System) (mode : ℕ) (arrivals : List Arrival) (a least last : ℕ)
+    (some : 0 < base_of S a) (set : AreNoSooner S mode arrivals a least last)
+    (t : ℕ) (first : IsExpiring S mode arrivals a t) where
   -- at tick n: the cycle is slow, and behind tick t the alarm expires so many counts behind it
   abbrev IsFar : ℕ → Option Expiry → Type 0
   IsFar n None = Unit {0}
   IsFar n (Some e) = IsSlow least e.cycle × (t < n → t / base_of S a + least ≤ e.count)
 
-  begins : (o : Option (ℕ × ℕ)) → IfSome o (λ start. IsSlow least start.1) → IsFar 0 (first_expiry o)
+  begins : (o : Option (ℕ × ℕ)) → IfSome o (λ start. IsSlow least start.1)
+      → IsFar 0 (first_expiry o)
   begins None slow = tt
   begins (Some start) slow = (slow, λ low. absurd (omega (arith, low)))
 
@@ -69,7 +73,7 @@ module _ (S : System) (mode : ℕ) (arrivals : List Arrival) (a least last : ℕ
       ]
 
       go : (b : Bool) → (e.count == n / base_of S a) ≡ b → (c : Bool) → (e.cycle == 0) ≡ c
-          → IsFar (suc n) (cond b (cond c None (Some (record { count = e.count + e.cycle; cycle = e.cycle }))) (Some e))
+          → IsFar (suc n) (cond b (cond c None (Some (a_cycle_on e))) (Some e))
       go true now true once = tt
       go true now false cyclic = (
         far.0,
@@ -87,7 +91,8 @@ module _ (S : System) (mode : ℕ) (arrivals : List Arrival) (a least last : ℕ
     boot = begins (alarm_start_in S mode a) set.boot;
     expires = λ n below goes far. goes_on n (expiry_at S mode arrivals a n) refl far;
     set = λ n below goes call e s.
-        let both = far_set (counter_of S a) a least (n / base_of S a) call e (set.calls n call below goes s.served) s.sets in (
+        let both = far_set (counter_of S a) a least (n / base_of S a) call e
+        (set.calls n call below goes s.served) s.sets in (
           both.1,
           λ low.
               let far = both.0 in
@@ -104,7 +109,8 @@ module _ (S : System) (mode : ℕ) (arrivals : List Arrival) (a least last : ℕ
       let low = far.1 later in
       omega (arith, is, low)
 
-  far_on : (u : ℕ) → t < u → u ≤ last → IsExpiring S mode arrivals a u → t / base_of S a + least ≤ u / base_of S a
+  far_on : (u : ℕ) → t < u → u ≤ last → IsExpiring S mode arrivals a u
+      → t / base_of S a + least ≤ u / base_of S a
   far_on u later low x =
       due_far u (expiry_at S mode arrivals a u)
       (along S mode arrivals a x.inside IsFar last kept u low x.goes) later x.due
@@ -112,7 +118,8 @@ module _ (S : System) (mode : ℕ) (arrivals : List Arrival) (a least last : ℕ
 -- ---- the laws
 
 module _ (S : System) (mode : ℕ) (arrivals : List Arrival) (a last : ℕ) where
-  pub spaced_are_apart : (gap : ℕ) → IsSpaced (expires S mode arrivals a) gap last → AreApart S mode arrivals a gap last
+  pub spaced_are_apart : (gap : ℕ) → IsSpaced (expires S mode arrivals a) gap last
+      → AreApart S mode arrivals a gap last
   spaced_are_apart gap spaced = record {
     spaced = spaced;
     few = λ from count. few (expires S mode arrivals a) gap last from spaced count;
@@ -122,17 +129,18 @@ pub always_apart : AlwaysApart
 always_apart S mode arrivals a last proper =
     spaced_are_apart S mode arrivals a last (base_of S a)
     (λ t u later low h k.
-        let x = expiring S mode arrivals a t h in
-        let y = expiring S mode arrivals a u k in
-        let some = some_ticks S a proper x.inside in
-        steps_on t u (base_of S a) some (on_time S mode arrivals a some t x) (on_time S mode arrivals a some u y) later)
+    let x = expiring S mode arrivals a t h in
+    let y = expiring S mode arrivals a u k in
+    let some = some_ticks S a proper x.inside in
+    steps_on t u (base_of S a) some (on_time S mode arrivals a some t x)
+    (on_time S mode arrivals a some u y) later)
 
 pub apart_as_set : ApartAsSet
 apart_as_set S mode arrivals a least last proper set =
     spaced_are_apart S mode arrivals a last (least * base_of S a)
     (λ t u later low h k.
-        let x = expiring S mode arrivals a t h in
-        let y = expiring S mode arrivals a u k in
-        let some = some_ticks S a proper x.inside in
-        so_far t u (base_of S a) least (on_time S mode arrivals a some t x)
-        (far_on S mode arrivals a least last some set t x u later low y))
+    let x = expiring S mode arrivals a t h in
+    let y = expiring S mode arrivals a u k in
+    let some = some_ticks S a proper x.inside in
+    so_far t u (base_of S a) least (on_time S mode arrivals a some t x)
+    (far_on S mode arrivals a least last some set t x u later low y))

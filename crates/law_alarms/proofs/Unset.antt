@@ -1,11 +1,10 @@
 -- An alarm that no program has an instruction to set is set by no call.
-use Rattle.std.proofs.Common.{ℕ, ◌≡◌, ◌<◌, inl, inr, Bool, true, false, not, ◌&&◌, List, length, refl, sym, ◌∙◌, ap, subst}
-use Rattle.std.specs.Prelude.{Option, Some, None, ◌==◌, slice_index_or}
+use Rattle.std.proofs.Common.{ℕ, ◌≡◌, inl, inr, true, false, not, List, length, ap, subst}
+use Rattle.std.specs.Prelude.{Some}
 use Rattle.std.specs.List.{list_all}
-use Rattle.std.proofs.lemmas.Bool.{and_parts, cases_lt, eq-eqb, true≢false}
+use Rattle.std.proofs.lemmas.Bool.{and_parts, cases_lt, eqb-false, not-true}
 use Rattle.std.proofs.lemmas.List.{get_or_past}
 use Rattle.osek_base.specs.declared.ids.Owner.{Owner}
-use Rattle.osek_base.specs.declared.instr.Control.{Control}
 use Rattle.osek_base.specs.declared.instr.Instr.{Instr}
 use Rattle.osek_base.specs.declared.instr.Plain.{Plain}
 use Rattle.osek_base.specs.declared.instr.Service.{Service}
@@ -32,21 +31,19 @@ other_later a least (Service.SetRelAlarm (Some b) x y) other = λ same. absurd (
 other_later a least (Service.SetAbsAlarm (Some b) x y) other = λ same. absurd (other same)
 other_later a least _ other = tt
 
-pub other_sets : (c : Counter) (a n : ℕ) (call : ServiceCall) (e : Expiry) → IsOther a call → SetsTo c n a call e → ⊥
+pub other_sets : (c : Counter) (a n : ℕ) (call : ServiceCall) (e : Expiry) → IsOther a call
+    → SetsTo c n a call e → ⊥
 other_sets c a n (Service.SetRelAlarm (Some b) x y) e other sets = other sets.0
 other_sets c a n (Service.SetAbsAlarm (Some b) x y) e other sets = other sets.0
 other_sets c a n _ e other sets = sets
 
 -- ---- programs
 
-is_off : (b : Bool) → not b ≡ true → b ≡ false
-is_off false h = refl
-is_off true h = sym h
-
-left_at : (a place : ℕ) (program : List Instr) → leaves_alarm a program ≡ true → sets_alarm a (instruction_in program place) ≡ false
+left_at : (a place : ℕ) (program : List Instr) → leaves_alarm a program ≡ true
+    → sets_alarm a (instruction_in program place) ≡ false
 left_at a place program leaves = elim (cases_lt place (length program)) [
   | inl low ↦
-      is_off (sets_alarm a (instruction_in program place))
+      not-true (sets_alarm a (instruction_in program place))
       (all_at (λ i. not (sets_alarm a i)) program place (Instr.Plain Plain.Nop) low leaves)
   | inr past ↦ ap (sets_alarm a) (get_or_past program place (Instr.Plain Plain.Nop) past)
 ]
@@ -64,8 +61,10 @@ module _ (S : System) (a : ℕ) (never : is_never_set S a ≡ true) where
 
   routine_leaves : (i : ℕ) → leaves_alarm a (routine S i).program ≡ true
   routine_leaves i = elim (cases_lt i (length S.routines)) [
-    | inl low ↦ all_at (λ (k : Routine). leaves_alarm a k.program) S.routines i no_routine low both.1
-    | inr past ↦ ap (λ (k : Routine). leaves_alarm a k.program) (get_or_past S.routines i no_routine past)
+    | inl low ↦
+        all_at (λ (k : Routine). leaves_alarm a k.program) S.routines i no_routine low both.1
+    | inr past ↦
+        ap (λ (k : Routine). leaves_alarm a k.program) (get_or_past S.routines i no_routine past)
   ]
 
   never_at : (who : Owner) (place : ℕ) → sets_alarm a (instruction_at S who place) ≡ false
@@ -74,17 +73,16 @@ module _ (S : System) (a : ℕ) (never : is_never_set S a ≡ true) where
 
   -- ---- calls
 
-  unequal : (b : ℕ) → (b == a) ≡ false → b ≡ a → ⊥
-  unequal b h same = true≢false (sym (eq-eqb b a same) ∙ h)
-
   other_values : (x : Context) (call : ServiceCall) → sets_alarm a (Instr.Service call) ≡ false
       → IsOther a (at_values x call)
-  other_values x (Service.SetRelAlarm (Some b) i j) h = unequal b h
-  other_values x (Service.SetAbsAlarm (Some b) i j) h = unequal b h
+  other_values x (Service.SetRelAlarm (Some b) i j) h = eqb-false b a h
+  other_values x (Service.SetAbsAlarm (Some b) i j) h = eqb-false b a h
   other_values x _ h = tt
 
-  other_in : (x : Context) (what : Instr) (call : ServiceCall) → sets_alarm a what ≡ false → call_in x what ≡ Some call → IsOther a call
-  other_in x (Instr.Service c) call h is = subst (IsOther a) (some_inside _ call is) (other_values x c h)
+  other_in : (x : Context) (what : Instr) (call : ServiceCall) → sets_alarm a what ≡ false
+      → call_in x what ≡ Some call → IsOther a call
+  other_in x (Instr.Service c) call h is =
+      subst (IsOther a) (some_inside _ call is) (other_values x c h)
   other_in x (Instr.Plain p) call h is = absurd (none_some call is)
   other_in x (Instr.Control c) call h is = absurd (none_some call is)
 

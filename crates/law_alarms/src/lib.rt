@@ -19,6 +19,6 @@
 mod laws;
 
 pub use laws::{
-    always_apart, always_on_time, apart_as_set, never_started, served_have_times,
-    set_at_boot_only, spaced_are_few,
+    always_apart, always_on_time, apart_as_set, never_started, served_have_times, set_at_boot_only,
+    spaced_are_few,
 };

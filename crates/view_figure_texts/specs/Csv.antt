@@ -1,6 +1,6 @@
 -- Figures as comma-separated values: the heading, and a line a figure, section by section, and in each
 -- object by object.
-use Rattle.std.specs.Prelude.{ℕ, ◌/◌, ◌%◌, List, [], ◌∷◌, ◌++◌, codes, decimal}
+use Rattle.std.specs.Prelude.{ℕ, ◌/◌, ◌%◌, List, [], ◌++◌, codes, decimal}
 use Rattle.std.specs.List.{flat_map}
 use Rattle.osek_base.specs.System.{System}
 use Rattle.osek_base.specs.Lists.{below}

@@ -1,7 +1,7 @@
 -- Which limits a run breaks: a line each, with the tick at which it was.
-use Rattle.std.specs.Prelude.{ℕ, Bool, true, not, ◌&&◌, ◌||◌, cond, Option, Some, None, is_none, List, [], ◌∷◌, ◌++◌, length, nat_lt, slice_get, codes, decimal}
+use Rattle.std.specs.Prelude.{ℕ, Bool, true, not, ◌&&◌, ◌||◌, cond, Option, Some, None, is_none, List, [], ◌++◌, length, nat_lt, slice_get, codes, decimal}
 use Rattle.std.specs.List.{flat_map, list_all}
-use Rattle.std.specs.Option.{option_and_then, option_map}
+use Rattle.std.specs.Option.{option_and_then}
 use Rattle.osek_base.specs.Lists.{below}
 use Rattle.osek_base.specs.Names.{number_of}
 use Rattle.osek_base.specs.System.{System}
