@@ -10,7 +10,7 @@ use cli_tables::{
 use osek_base::System;
 use partition_check::upper_only;
 use partition_isolation::check_isolation;
-use search_bounds::{find_bounds, find_upper_bounds};
+use search_bounds::{UpperBounds, find_bounds, find_upper_bounds};
 use search_nodes::Extent;
 use std::alloc::{AllocError, Global};
 use std::io::Write;
@@ -64,8 +64,8 @@ fn write_upper<'v, O: Write, E: Write>(
     let distances = all_distances(alloc, system, distances)?;
     let extent = extent_of(asked.line);
     let found = find_upper_bounds(alloc, system, priority, mode, &distances, extent, watch)?;
-    let (part, bounds) = (&found.part, &found.bounds);
-    write_found(alloc, part, mode, &distances, bounds, asked, out)
+    let UpperBounds { part, bounds } = found;
+    write_found(alloc, &part, mode, &distances, bounds, asked, out)
 }
 
 /// Writes the bounds of all runs in a mode.
@@ -85,7 +85,7 @@ fn write_whole<'v, O: Write, E: Write>(
     let distances = all_distances(alloc, system, distances)?;
     let extent = extent_of(asked.line);
     let found = find_bounds(alloc, system, mode, &distances, extent, watch)?;
-    write_found(alloc, system, mode, &distances, &found, asked, out)
+    write_found(alloc, system, mode, &distances, found, asked, out)
 }
 
 /// Writes the bounds that are asked for, or what names nothing of the system.

@@ -1,2 +1,8 @@
 pub mod Distances
 pub mod Modes
+pub mod Cells
+pub mod Promises
+pub mod Texts
+pub mod CsvText
+pub mod Broken
+pub mod Kept

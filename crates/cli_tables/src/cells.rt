@@ -1,11 +1,19 @@
 //! What is told of a figure.
 
-use std::fmt;
+ghost use Rattle.std.specs.Prelude.{◌≡◌, ◌++◌, OnOk};
+ghost use Rattle.std.specs.String.{string_bytes};
+ghost use Rattle.search_nodes.specs.Figures.{one_if};
+ghost use Rattle.cli_tables.specs.Cells.{cell_below};
+ghost use Rattle.cli_tables.specs.Texts.{number_text, reached_or, shown_text, standing_of};
+
+use crate::numbers::{push_number, push_signed};
+use std::alloc::AllocError;
+use view_figure_texts::Column;
 
 /// What is told of a figure.
 #[derive(Clone, Copy)]
 pub enum Cell {
-    /// A time, in ticks, and whether a run shows it.
+    /// A time below the cap, in ticks, and whether a run shows it.
     Time { ticks: u32, is_reached: bool },
     /// A time that reaches the cap.
     Above,
@@ -17,13 +25,40 @@ pub enum Cell {
     Coming { comes: bool, is_reached: bool },
 }
 
+/// The word where a run is known, or else another one.
+pub(crate) fn reached_or(is_reached: bool, other: &'static str) -> &'static str
+    ensures { result.now ≡ reached_or is_reached other.now }
+{
+    if is_reached { "reached" } else { other }
+}
+
+/// 1 for what may come, and 0 for what doesn't.
+fn number_of(comes: bool) -> u32
+    ensures { result ≡ one_if comes }
+{
+    if comes { 1 } else { 0 }
+}
+
 impl Cell {
-    /// A time that is told below a cap.
-    pub fn of_time(ticks: u32, cap: u32, is_reached: bool) -> Self {
-        if ticks < cap {
-            Cell::Time { ticks, is_reached }
-        } else {
-            Cell::Above
+    /// What a column tells below the cap of a figure that is told so.
+    pub(crate) fn below(column: Column, value: u32, is_reached: bool) -> Self
+        ensures { result ≡ cell_below column value is_reached }
+    {
+        match column {
+            Column::Response | Column::Blocked | Column::Latency | Column::Hold => Cell::Time {
+                ticks: value,
+                is_reached,
+            },
+            Column::Blockers | Column::Jobs => Cell::Count { value, is_reached },
+            Column::Refusal
+            | Column::Loss
+            | Column::RefusedAction
+            | Column::Errors
+            | Column::RoutineErrors
+            | Column::Shutdown => Cell::Coming {
+                comes: value > 0,
+                is_reached,
+            },
         }
     }
 
@@ -44,53 +79,45 @@ impl Cell {
     /// What is promised of the figure: `reached` where a run shows it and none shows more, `bound`
     /// where none shows more, `unbounded` where some run shows as much as one likes, or `above`
     /// where nothing is promised.
-    pub fn standing(self) -> &'static str {
+    pub fn standing(self) -> &'static str
+        ensures { result.now ≡ standing_of self }
+    {
         match self {
-            Cell::Time {
-                is_reached: true,
-                ..
-            }
-            | Cell::Count {
-                is_reached: true,
-                ..
-            }
-            | Cell::Coming {
-                is_reached: true,
-                ..
-            } => "reached",
-            Cell::Time { .. } | Cell::Count { .. } | Cell::Coming { comes: false, .. } => "bound",
-            Cell::Above | Cell::Coming { comes: true, .. } => "above",
+            Cell::Time { is_reached, .. } => reached_or(is_reached, "bound"),
+            Cell::Above => "above",
             Cell::Unbounded => "unbounded",
-        }
-    }
-}
-
-/// The figure as a number, where one is told.
-impl fmt::Display for Cell {
-    fn fmt<W: fmt::Write>(&self, f: &mut fmt::Formatter<W>) -> fmt::Result {
-        match self {
-            Cell::Time { ticks, .. } => write!(f, "{ticks}"),
-            Cell::Count { value, .. } => write!(f, "{value}"),
-            Cell::Above | Cell::Unbounded => Ok(()),
-            Cell::Coming { comes, .. } => write!(f, "{}", u8::from(*comes)),
-        }
-    }
-}
-
-/// A figure as a table prints it, without the spaces before it.
-#[derive(Clone, Copy)]
-pub struct Shown(pub Cell);
-
-impl fmt::Display for Shown {
-    fn fmt<W: fmt::Write>(&self, f: &mut fmt::Formatter<W>) -> fmt::Result {
-        let cell = self.0;
-        match cell {
-            Cell::Time { is_reached, .. }
-            | Cell::Count { is_reached, .. }
-            | Cell::Coming { is_reached, .. } => {
-                write!(f, "{}{cell}", if is_reached { "" } else { "<=" })
+            Cell::Count { is_reached, .. } => reached_or(is_reached, "bound"),
+            Cell::Coming { comes, is_reached } => {
+                reached_or(is_reached, if comes { "above" } else { "bound" })
             }
-            Cell::Above | Cell::Unbounded => f.write_str(cell.standing()),
+        }
+    }
+
+    /// Appends the figure as a number, where one is told.
+    pub(crate) fn push_number(self, text: &mut String) -> Result<(), AllocError>
+        ensures { OnOk result
+            (string_bytes text.new ≡ string_bytes text.old ++ number_text self) }
+    {
+        match self {
+            Cell::Time { ticks, .. } => push_number(text, ticks),
+            Cell::Above => Ok(()),
+            Cell::Unbounded => Ok(()),
+            Cell::Count { value, .. } => push_number(text, value),
+            Cell::Coming { comes, .. } => push_number(text, number_of(comes)),
+        }
+    }
+
+    /// Appends the figure as a table prints it, without the spaces before it.
+    pub(crate) fn push_shown(self, text: &mut String) -> Result<(), AllocError>
+        ensures { OnOk result
+            (string_bytes text.new ≡ string_bytes text.old ++ shown_text self) }
+    {
+        match self {
+            Cell::Time { ticks, is_reached } => push_signed(text, is_reached, ticks),
+            Cell::Above => text.push_str("above"),
+            Cell::Unbounded => text.push_str("unbounded"),
+            Cell::Count { value, is_reached } => push_signed(text, is_reached, value),
+            Cell::Coming { comes, is_reached } => push_signed(text, is_reached, number_of(comes)),
         }
     }
 }

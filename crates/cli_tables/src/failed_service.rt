@@ -1,6 +1,7 @@
 //! OSEK/VDX OS: error handling. A service that may be answered other than E_OK, as traces write it.
 
-ghost use Rattle.std.specs.Prelude.{◌<◌, IsTrue, length};
+ghost use Rattle.std.specs.Prelude.{◌≡◌, ◌<◌, IsTrue, length};
+ghost use Rattle.osek_base.specs.Names.{owner_name};
 ghost use Rattle.osek_base.specs.Separable.{IsOwner};
 ghost use Rattle.osek_base.specs.System.{program};
 
@@ -35,8 +36,10 @@ fn has_place(system: &System, failure: &Failure) -> bool
     (failure.place.number() as usize) < len
 }
 
-/// The name of a task or routine.
-pub(crate) fn name_of(system: &System, owner: Owner) -> &str {
+/// The name of a task or routine; empty, where there is none.
+pub(crate) fn name_of(system: &System, owner: Owner) -> &str
+    ensures { result.now ≡ owner_name system.now.names owner }
+{
     let names = system.names();
     let name = match owner {
         Owner::Task(task) => names.tasks.get(task.number() as usize),

@@ -1,20 +1,16 @@
 //! The services that may be answered other than E_OK, behind the tables of figures.
 
 use crate::failed_service::{behind_tick, put_failure};
-use crate::told::Told;
 use osek_base::System;
+use search_witnesses::Findings;
 use std::io::{self, Write};
 use trace_lines::LineText;
 
 /// Writes a line for each service that may be answered other than E_OK, as a trace writes it but
 /// for the tick, behind `<=` where no run is known in which it is, all behind an empty line and a
 /// heading; nothing where none may. An error is a failed write.
-pub fn write_services<W: Write>(
-    system: &System,
-    told: Told<'_, '_>,
-    out: &mut W,
-) -> io::Result<()> {
-    let failures = told.bounds.peaks.failures();
+pub fn write_services<W: Write>(system: &System, found: &Findings, out: &mut W) -> io::Result<()> {
+    let failures = found.bounds.peaks.failures();
     if failures.is_empty() {
         return Ok(());
     }
@@ -22,7 +18,7 @@ pub fn write_services<W: Write>(
     let mut text = LineText::new();
     for (number, failure) in failures.iter().enumerate() {
         put_failure(system, failure, &mut text);
-        let mark = if told.is_failing(number) { "" } else { "<=" };
+        let mark = if found.is_failing(number) { "" } else { "<=" };
         writeln!(out, "{mark}{}", behind_tick(&text))?;
     }
     Ok(())

@@ -2,17 +2,16 @@
 
 use crate::asked::BoundsAsked;
 use crate::broken::broken_bounds;
-use crate::csv_text::write_lines;
+use crate::csv_text::csv_of;
 use crate::json_text::json_of;
 use crate::remarks::write_remarks;
-use crate::told::Told;
 use crate::witnessing::write_witness;
 use crate::writing::{write_decided, write_undecided, write_up_to};
 use cli_answers::Verdict;
 use osek_base::{ModeId, System};
 use search::{Obstacle, Outcome, Progress};
 use search_nodes::Bounds;
-use search_witnesses::{endless_tasks, failing_services, reached_figures};
+use search_witnesses::Findings;
 use std::alloc::Global;
 use std::io::Write;
 use tracer::RunFault;
@@ -22,15 +21,15 @@ use view_figure_texts::Form;
 fn write_bounds<O: Write>(
     alloc: Global,
     system: &System,
-    told: Told<'_, '_>,
+    found: &Findings,
     progress: Progress,
     form: Form,
     out: &mut O,
 ) -> Result<(), RunFault> {
     match form {
-        Form::Table => write_decided(system, told, progress, out)?,
-        Form::Csv => write_lines(system, told, out)?,
-        Form::Json => out.write_all(json_of(alloc, system, told)?.as_slice())?,
+        Form::Table => write_decided(system, found, progress, out)?,
+        Form::Csv => out.write_all(csv_of(alloc, system, found)?.as_bytes())?,
+        Form::Json => out.write_all(json_of(alloc, system, found)?.as_slice())?,
     }
     Ok(())
 }
@@ -40,12 +39,12 @@ fn write_bounds<O: Write>(
 fn remarks_of(
     alloc: Global,
     system: &System,
-    told: Told<'_, '_>,
+    found: &Findings,
     is_explained: bool,
 ) -> Result<Vec<u8>, RunFault> {
     let mut remarks = Vec::new(alloc);
     if is_explained {
-        match write_remarks(system, told, &mut remarks) {
+        match write_remarks(system, found, &mut remarks) {
             Ok(()) => {}
             Err(_) => return Err(RunFault::Memory),
         }
@@ -58,25 +57,20 @@ fn remarks_of(
 fn write_open<'v, O: Write>(
     alloc: Global,
     system: &System,
-    found: &Bounds,
+    bounds: Bounds,
     obstacle: Obstacle,
     progress: Progress,
     asked: BoundsAsked<'v>,
     out: &mut O,
 ) -> Result<Verdict<'v>, RunFault> {
-    let told = Told {
-        bounds: found,
-        reached: &[],
-        endless: &[],
-        failing: &[],
-    };
+    let found = Findings::untried(alloc, bounds);
     write_undecided(obstacle, progress, out)?;
     if asked.line.form == Form::Table && asked.line.witness.is_none() {
-        write_up_to(system, told, progress, out)?;
+        write_up_to(system, &found, progress, out)?;
     }
     Ok(Verdict::Searched {
         is_decided: false,
-        remarks: remarks_of(alloc, system, told, asked.is_explained)?,
+        remarks: remarks_of(alloc, system, &found, asked.is_explained)?,
     })
 }
 
@@ -84,14 +78,14 @@ fn write_open<'v, O: Write>(
 fn write_held<'v, O: Write>(
     alloc: Global,
     system: &System,
-    told: Told<'_, '_>,
+    found: &Findings,
     progress: Progress,
     asked: BoundsAsked<'v>,
     out: &mut O,
 ) -> Result<Verdict<'v>, RunFault> {
-    let remarks = remarks_of(alloc, system, told, asked.is_explained)?;
-    let broken = broken_bounds(alloc, system, told, asked.limits)?;
-    write_bounds(alloc, system, told, progress, asked.line.form, out)?;
+    let remarks = remarks_of(alloc, system, found, asked.is_explained)?;
+    let broken = broken_bounds(alloc, system, found, &asked.limits)?;
+    write_bounds(alloc, system, found, progress, asked.line.form, out)?;
     if broken.is_empty() {
         Ok(Verdict::Searched {
             is_decided: true,
@@ -109,27 +103,19 @@ pub fn write_found<'v, O: Write>(
     system: &System,
     mode: ModeId,
     distances: &[u32],
-    found: &Bounds,
+    bounds: Bounds,
     asked: BoundsAsked<'v>,
     out: &mut O,
 ) -> Result<Verdict<'v>, RunFault> {
-    let progress = match found.outcome {
+    let progress = match bounds.outcome {
         Outcome::Decided(progress) => progress,
         Outcome::Undecided(obstacle, progress) => {
-            return write_open(alloc, system, found, obstacle, progress, asked, out);
+            return write_open(alloc, system, bounds, obstacle, progress, asked, out);
         }
     };
     if let Some(wanted) = asked.line.witness {
-        return write_witness(alloc, system, mode, distances, found, wanted, out);
+        return write_witness(alloc, system, mode, distances, &bounds, wanted, out);
     }
-    let reached = reached_figures(alloc, system, mode, distances, found)?;
-    let endless = endless_tasks(alloc, system, mode, distances, found)?;
-    let failing = failing_services(alloc, system, mode, distances, found)?;
-    let told = Told {
-        bounds: found,
-        reached: &reached,
-        endless: &endless,
-        failing: &failing,
-    };
-    write_held(alloc, system, told, progress, asked, out)
+    let found = Findings::of(alloc, system, mode, distances, bounds)?;
+    write_held(alloc, system, &found, progress, asked, out)
 }

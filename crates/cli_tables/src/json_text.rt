@@ -2,8 +2,9 @@
 
 use crate::cells::Cell;
 use crate::failed_service::name_of;
-use crate::told::Told;
+use crate::told::{cell, service_standing};
 use osek_base::System;
+use search_witnesses::Findings;
 use seen_ticks::Failure;
 use serde_json::{Map, Value};
 use std::alloc::{AllocError, Global};
@@ -38,15 +39,10 @@ fn value_of(alloc: Global, cell: Cell) -> Result<Value, AllocError> {
     Ok(Value::Object(told))
 }
 
-fn object(
-    alloc: Global,
-    told: Told<'_, '_>,
-    kind: Kind,
-    number: usize,
-) -> Result<Value, AllocError> {
+fn object(alloc: Global, found: &Findings, kind: Kind, number: usize) -> Result<Value, AllocError> {
     let mut figures = Map::new(alloc);
     for column in kind.columns() {
-        let value = value_of(alloc, told.cell(*column, number))?;
+        let value = value_of(alloc, cell(found, *column, number))?;
         put(alloc, &mut figures, column.word(), value)?;
     }
     Ok(Value::Object(figures))
@@ -55,12 +51,12 @@ fn object(
 fn objects(
     alloc: Global,
     system: &System,
-    told: Told<'_, '_>,
+    found: &Findings,
     kind: Kind,
 ) -> Result<Value, AllocError> {
     let mut objects = Map::new(alloc);
     for number in 0..kind.count(system) {
-        let figures = object(alloc, told, kind, number)?;
+        let figures = object(alloc, found, kind, number)?;
         put(alloc, &mut objects, kind.name(system, number), figures)?;
     }
     Ok(Value::Object(objects))
@@ -86,22 +82,22 @@ fn service(
     Ok(Value::Object(told))
 }
 
-fn services(alloc: Global, system: &System, told: Told<'_, '_>) -> Result<Value, AllocError> {
+fn services(alloc: Global, system: &System, found: &Findings) -> Result<Value, AllocError> {
     let mut services = Vec::new(alloc);
-    for (number, failure) in told.bounds.peaks.failures().iter().enumerate() {
-        services.push(service(alloc, system, failure, told.standing_of(number))?)?;
+    for (number, failure) in found.bounds.peaks.failures().iter().enumerate() {
+        services.push(service(alloc, system, failure, service_standing(found, number))?)?;
     }
     Ok(Value::Array(services))
 }
 
 /// The text of all figures, and of the services that may be answered other than E_OK.
-pub fn json_of(alloc: Global, system: &System, told: Told<'_, '_>) -> Result<Vec<u8>, AllocError> {
+pub fn json_of(alloc: Global, system: &System, found: &Findings) -> Result<Vec<u8>, AllocError> {
     let mut kinds = Map::new(alloc);
     for kind in &KINDS {
-        let objects = objects(alloc, system, told, *kind)?;
+        let objects = objects(alloc, system, found, *kind)?;
         put(alloc, &mut kinds, kind.word(), objects)?;
     }
-    let services = services(alloc, system, told)?;
+    let services = services(alloc, system, found)?;
     put(alloc, &mut kinds, "service", services)?;
     let mut text = Value::Object(kinds).to_vec_pretty(alloc)?;
     text.push(b'\n')?;

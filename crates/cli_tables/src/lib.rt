@@ -1,6 +1,15 @@
 //! Writes what a search through every run has found: as tables, comma-separated values and JSON,
-//! what it means, which limits break, or a run that shows a figure. A search's mode and distances
-//! are exactly those asked for (`mode_id`, `all_distances`); the texts are tested.
+//! what it means, which limits break, or a run that shows a figure.
+//!
+//! - A search's mode and distances are exactly those asked for (`mode_id`, `all_distances`).
+//! - `cell`: exactly what is told in a column of an object, and what that promises is so of findings
+//!   (`Promises`). A number is what the bounds tell, and a time is below the cap; where a run is
+//!   said to show it, one does, or it is 0. A time that is said to have no bound has none.
+//! - `csv_of`: exactly a line for each figure, and for each service that may be answered other than
+//!   E_OK.
+//! - `broken_bounds`: exactly a line for each limit that isn't kept; so nothing exactly where all
+//!   are (`AreKept`).
+//! - Tables, JSON and remarks go by the same cells. How they are laid out is tested.
 #![tactic(auto)]
 
 mod asked;
@@ -13,6 +22,7 @@ mod failed_services;
 mod found;
 mod json_text;
 mod naming;
+mod numbers;
 mod remarks;
 mod search_watch;
 mod table;
@@ -22,7 +32,7 @@ mod writing;
 
 pub use asked::{BoundsAsked, mode_id, unknown_figure};
 pub use broken::broken_bounds;
-pub use csv_text::write_lines;
+pub use csv_text::csv_of;
 pub use distances::{all_distances, distance_fault};
 pub use failed_service::service_text;
 pub use found::write_found;
@@ -30,5 +40,5 @@ pub use json_text::json_of;
 pub use naming::{NamedFigure, figure_named, is_known, service_named};
 pub use remarks::write_remarks;
 pub use search_watch::SearchWatch;
-pub use told::Told;
+pub use told::cell;
 pub use writing::{write_decided, write_undecided, write_up_to};

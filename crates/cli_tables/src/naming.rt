@@ -1,5 +1,9 @@
 //! Figures by the names of objects and the words of columns.
 
+ghost use Rattle.std.specs.Prelude.{◌≡◌};
+ghost use Rattle.osek_base.specs.Names.{number_of};
+ghost use Rattle.view_figure_texts.specs.Tables.{names_of};
+
 use crate::failed_service::name_of;
 use crate::told::figure_of;
 use osek_base::System;
@@ -15,7 +19,9 @@ pub struct NamedFigure {
 }
 
 /// The number of the object of a kind that has that name.
-pub(crate) fn number_of(system: &System, kind: Kind, name: &str) -> Option<usize> {
+pub(crate) fn number_of(system: &System, kind: Kind, name: &str) -> Option<usize>
+    ensures { result ≡ number_of name.now (names_of system.now kind) }
+{
     for number in 0..kind.count(system) {
         if kind.name(system, number) == name {
             return Some(number);

@@ -1,9 +1,10 @@
 //! What figures mean that aren't times that a run shows, and what would change them.
 
 use crate::cells::Cell;
-use crate::told::Told;
+use crate::told::cell;
 use osek_base::System;
 use search::{Obstacle, Outcome};
+use search_witnesses::Findings;
 use std::io::{self, Write};
 use view_figure_texts::{Column, KINDS, Kind};
 
@@ -70,19 +71,19 @@ fn write_meaning<W: Write>(cell: Cell, column: Column, cap: u32, out: &mut W) ->
 /// Writes what a figure means, unless it is a time that a run shows, or 0.
 fn write_remark<W: Write>(
     system: &System,
-    told: Told<'_, '_>,
+    found: &Findings,
     kind: Kind,
     column: Column,
     number: usize,
     out: &mut W,
 ) -> io::Result<()> {
-    let cell = told.cell(column, number);
+    let cell = cell(found, column, number);
     if cell.is_plain() {
         return Ok(());
     }
     let name = kind.name(system, number);
     write!(out, "{} {name}: {} ", kind.word(), column.word())?;
-    write_meaning(cell, column, told.bounds.cap, out)
+    write_meaning(cell, column, found.bounds.cap, out)
 }
 
 /// What a search stopped at.
@@ -105,15 +106,15 @@ fn help(obstacle: Obstacle) -> &'static str {
 
 /// Writes a line for each figure that isn't a time that a run shows, or 0; or, where a search
 /// stopped before its end, at what it did. An error is a failed write.
-pub fn write_remarks<W: Write>(system: &System, told: Told<'_, '_>, out: &mut W) -> io::Result<()> {
-    if let Outcome::Undecided(obstacle, _) = told.bounds.outcome {
+pub fn write_remarks<W: Write>(system: &System, found: &Findings, out: &mut W) -> io::Result<()> {
+    if let Outcome::Undecided(obstacle, _) = found.bounds.outcome {
         writeln!(out, "undecided: {}", why(obstacle))?;
         return writeln!(out, " {} may let it end", help(obstacle));
     }
     for kind in &KINDS {
         for number in 0..kind.count(system) {
             for column in kind.columns() {
-                write_remark(system, told, *kind, *column, number, out)?;
+                write_remark(system, found, *kind, *column, number, out)?;
             }
         }
     }

@@ -2,8 +2,9 @@
 
 use crate::cells::Cell;
 use crate::failed_services::write_services;
-use crate::told::Told;
+use crate::told::cell;
 use osek_base::System;
+use search_witnesses::Findings;
 use std::io::{self, Write};
 use view_figure_texts::{KINDS, Kind, width_of};
 
@@ -57,7 +58,7 @@ fn write_heading<W: Write>(kind: Kind, width: usize, out: &mut W) -> io::Result<
 
 fn write_line<W: Write>(
     system: &System,
-    told: Told<'_, '_>,
+    found: &Findings,
     kind: Kind,
     number: usize,
     width: usize,
@@ -65,7 +66,7 @@ fn write_line<W: Write>(
 ) -> io::Result<()> {
     write_name(kind.name(system, number), width, out)?;
     for column in kind.columns() {
-        write_cell(told.cell(*column, number), out)?;
+        write_cell(cell(found, *column, number), out)?;
     }
     out.write_all(b"\n")
 }
@@ -73,7 +74,7 @@ fn write_line<W: Write>(
 /// Writes a heading and a line for each object of a kind, behind an empty line.
 fn write_kind<W: Write>(
     system: &System,
-    told: Told<'_, '_>,
+    found: &Findings,
     kind: Kind,
     width: usize,
     out: &mut W,
@@ -81,19 +82,19 @@ fn write_kind<W: Write>(
     out.write_all(b"\n")?;
     write_heading(kind, width, out)?;
     for number in 0..kind.count(system) {
-        write_line(system, told, kind, number, width, out)?;
+        write_line(system, found, kind, number, width, out)?;
     }
     Ok(())
 }
 
 /// Writes the tables of all kinds of which there are objects, and the services that may be answered
 /// other than E_OK. An error is a failed write.
-pub fn write_tables<W: Write>(system: &System, told: Told<'_, '_>, out: &mut W) -> io::Result<()> {
+pub fn write_tables<W: Write>(system: &System, found: &Findings, out: &mut W) -> io::Result<()> {
     let width = width_of(system);
     for kind in &KINDS {
         if kind.count(system) > 0 {
-            write_kind(system, told, *kind, width, out)?;
+            write_kind(system, found, *kind, width, out)?;
         }
     }
-    write_services(system, told, out)
+    write_services(system, found, out)
 }

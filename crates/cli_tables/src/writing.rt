@@ -1,9 +1,9 @@
 //! How far a search for bounds came.
 
 use crate::table::write_tables;
-use crate::told::Told;
 use osek_base::System;
 use search::{Obstacle, Progress};
+use search_witnesses::Findings;
 use std::io::{self, Write};
 
 /// The word of what a search stopped at.
@@ -18,19 +18,19 @@ fn reason(obstacle: Obstacle) -> &'static str {
 /// Writes how many states a system comes to, and the tables. An error is a failed write.
 pub fn write_decided<W: Write>(
     system: &System,
-    told: Told<'_, '_>,
+    found: &Findings,
     progress: Progress,
     out: &mut W,
 ) -> io::Result<()> {
     writeln!(out, "decided: {} states", progress.nodes)?;
-    write_tables(system, told, out)
+    write_tables(system, found, out)
 }
 
 /// Writes the tables of what no run of so many ticks shows more of as a search that stopped before
 /// its end has tried, where these are any. An error is a failed write.
 pub fn write_up_to<W: Write>(
     system: &System,
-    told: Told<'_, '_>,
+    found: &Findings,
     progress: Progress,
     out: &mut W,
 ) -> io::Result<()> {
@@ -38,7 +38,7 @@ pub fn write_up_to<W: Write>(
         return Ok(());
     }
     writeln!(out, "up to {} ticks:", progress.levels)?;
-    write_tables(system, told, out)
+    write_tables(system, found, out)
 }
 
 /// Writes how far a search came that stopped before its end, and at what. An error is a failed

@@ -8,3 +8,4 @@ pub mod Stood
 pub mod Lassoing
 pub mod SeenInBoth
 pub mod AboveCuts
+pub mod Among

@@ -7,4 +7,5 @@ pub mod Shown
 pub mod Failing
 pub mod Walks
 pub mod Endless
+pub mod Findings
 pub mod AboveCuts

@@ -1,5 +1,5 @@
 -- What a run shows of figures, and runs that show what bounds tell.
-use Rattle.std.specs.Prelude.{ℕ, ◌≡◌, ◌<◌, Bool, List, [], nat_lt, length, slice_index_or}
+use Rattle.std.specs.Prelude.{ℕ, ◌≡◌, ◌<◌, Bool, true, IsTrue, List, [], nat_lt, length, slice_index_or}
 use Rattle.osek_base.specs.declared.arrivals.Arrival.{Arrival}
 use Rattle.osek_base.specs.System.{System}
 use Rattle.osek_base.specs.Trace.{run}
@@ -62,20 +62,21 @@ IsOf S (Errors k) = k < length S.tasks
 IsOf S (RoutineErrors i) = i < length S.routines
 IsOf S Shutdown = Unit {0}
 
--- what is told of a figure isn't above a cap
-abbrev pub IsBelow : ℕ → Peaks → Figure → Type 0
-IsBelow cap peaks (Response k) = told peaks (Response k) < cap
-IsBelow cap peaks (Blocked k) = told peaks (Blocked k) < cap
-IsBelow cap peaks (Latency i) = told peaks (Latency i) < cap
-IsBelow cap peaks (Hold r) = told peaks (Hold r) < cap
-IsBelow cap peaks (Blockers k) = 0 < cap
-IsBelow cap peaks (Jobs k) = Unit {0}
-IsBelow cap peaks (Refusal k) = Unit {0}
-IsBelow cap peaks (Loss i) = Unit {0}
-IsBelow cap peaks (RefusedAction a) = Unit {0}
-IsBelow cap peaks (Errors k) = Unit {0}
-IsBelow cap peaks (RoutineErrors i) = Unit {0}
-IsBelow cap peaks Shutdown = Unit {0}
+-- what is told of a figure is below a cap, where it is a time. All else is told without one, but
+-- that blockers are told of what is blocked for a time below it, so it may not be 0
+abbrev pub is_below : ℕ → Peaks → Figure → Bool
+is_below cap peaks (Response k) = nat_lt (told peaks (Response k)) cap
+is_below cap peaks (Blocked k) = nat_lt (told peaks (Blocked k)) cap
+is_below cap peaks (Blockers k) = nat_lt 0 cap
+is_below cap peaks (Jobs k) = true
+is_below cap peaks (Refusal k) = true
+is_below cap peaks (Latency i) = nat_lt (told peaks (Latency i)) cap
+is_below cap peaks (Loss i) = true
+is_below cap peaks (Hold r) = nat_lt (told peaks (Hold r)) cap
+is_below cap peaks (RefusedAction a) = true
+is_below cap peaks (Errors k) = true
+is_below cap peaks (RoutineErrors i) = true
+is_below cap peaks Shutdown = true
 
 -- the first n ticks of a run show so much of a figure; what is told of blockers is told of the run
 pub record Shows (S : System) (mode : ℕ) (arrivals : List Arrival) (n : ℕ) (figure : Figure)
@@ -96,6 +97,6 @@ pub record IsWitness (S : System) (mode : ℕ) (distances : List ℕ) (found : B
 -- the figure is below their cap, and some run is one
 pub record IsReached (S : System) (mode : ℕ) (distances : List ℕ) (found : Bounds)
     (figure : Figure) : Type 0 where
-  pub below : IsBelow found.cap found.peaks figure
+  pub below : IsTrue (is_below found.cap found.peaks figure)
   pub witness : Witness
   pub is : IsWitness S mode distances found figure witness

@@ -19,6 +19,10 @@
 //!   for as many ticks as one likes, by a run that begins with these arrivals. They keep the
 //!   distances, also where those between the two ticks come once more, and a job of the task is
 //!   there in each tick between. `endless_tasks`: each task that it answers can be kept so.
+//! - `Findings`: bounds, and what of them these three answer. Each figure that is known as reached
+//!   is reached by some run, or is 0; each task that is known as endless can be kept from ending,
+//!   and some run answers each service that is known to fail as is told (`AreFindings`). Of bounds
+//!   that are untried nothing but a 0 is known.
 //! - `what_the_part_shows_holds`, a law: what they answer of the upper part of a system by itself
 //!   holds in that system and in each that agrees with it from that priority upward.
 //! - An error is want of memory.
@@ -32,6 +36,7 @@ mod came;
 mod candidate;
 mod endless;
 mod failing;
+mod findings;
 mod going_on;
 mod lasso;
 mod reached;
@@ -45,5 +50,6 @@ mod witness;
 pub use above_cuts::what_the_part_shows_holds;
 pub use endless::{Endless, endless_tasks, find_endless};
 pub use failing::{failing_services, find_failing};
+pub use findings::Findings;
 pub use reached::reached_figures;
 pub use witness::{Witness, find_witness};

@@ -1,8 +1,8 @@
 //! The figures that are told as some run shows them.
 
-ghost use Rattle.std.specs.Prelude.{IfOk, IsTrue};
+ghost use Rattle.std.specs.Prelude.{◌≡◌, IfOk, IsTrue};
 ghost use Rattle.std.specs.List.{All};
-ghost use Rattle.search_witnesses.specs.Shown.{IsBelow, IsReached};
+ghost use Rattle.search_witnesses.specs.Shown.{IsReached, is_below};
 
 use crate::witness::find_witness;
 use osek_base::{ModeId, System};
@@ -11,8 +11,8 @@ use std::alloc::{AllocError, Global};
 
 /// Whether a figure is told below the cap; so is all that isn't a time, and blockers where the cap
 /// isn't 0.
-fn is_below(found: &Bounds, figure: Figure) -> bool
-    ensures { IsTrue result → IsBelow found.now.cap found.now.peaks figure }
+pub(crate) fn is_below(found: &Bounds, figure: Figure) -> bool
+    ensures { result ≡ is_below found.now.cap found.now.peaks figure }
 {
     match figure {
         Figure::Response(_) | Figure::Blocked(_) | Figure::Latency(_) | Figure::Hold(_) => {

@@ -3,7 +3,9 @@
 ghost use Rattle.std.specs.Prelude.{◌≡◌, ◌++◌, List, [], ◌∷◌, IfErr, IfOk, drop, length, reverse};
 ghost use Rattle.osek_base.specs.System.{System};
 ghost use Rattle.seen_ticks.specs.declared.observation.Observation.{Observation};
-ghost use Rattle.view_figures.specs.FigureSums.{AreFigures};
+ghost use Rattle.std.specs.String.{string_bytes};
+ghost use Rattle.view_figures.specs.FigureSums.{AreFigures, RunFigures};
+ghost use Rattle.view_figure_texts.specs.Limits.{broken_text};
 ghost use Rattle.view_runs.specs.Counted.{AreFiguresOfRun};
 ghost use Rattle.tracer.specs.WholeRuns.{RefusesStart};
 
@@ -39,7 +41,12 @@ pub fn write_stats<O: Write, E: Write>(
     asked: StatsInput<'_>,
     progress: &mut Progress<'_, E>,
     out: &mut O,
-) -> Result<String, RunFault> {
+) -> Result<String, RunFault>
+    ensures { IfOk result (λ lines. (f : RunFigures)
+        × AreFiguresOfRun system.now input.entry.irqs.now input.entry.mode.now input.entry.ticks
+            asked.entry.from f
+        × (string_bytes lines ≡ broken_text system.now f asked.entry.limits)) }
+{
     let figures = counted_figures(alloc, system, input, asked.from, progress)?;
     out.write_all(figures_text(alloc, system, &figures, asked.form)?.as_slice())?;
     Ok(broken_limits(alloc, system, &figures, &asked.limits)?)

@@ -37,7 +37,7 @@ impl Group {
 #[derive(Clone, Copy)]
 pub(crate) struct Place {
     pub(crate) group: Group,
-    pub(crate) number: u32,
+    pub(crate) number: usize,
 }
 
 /// The events that are written, one a line, in a list of JSON.

@@ -88,7 +88,7 @@ fn put_routines<W: Write>(
             let before = place_of_routine(tracks, routines, number, routine.priority);
             let place = Place {
                 group: Group::Routines,
-                number: (before as u32).saturating_add(1),
+                number: before.saturating_add(1),
             };
             put_row(
                 alloc,
@@ -116,7 +116,7 @@ fn put_tasks<W: Write>(
         if track.is_drawn {
             let place = Place {
                 group: Group::Tasks,
-                number: (number as u32).saturating_add(1),
+                number: number.saturating_add(1),
             };
             put_row(
                 alloc,

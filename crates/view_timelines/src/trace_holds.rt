@@ -88,7 +88,7 @@ fn put_resource<W: Write>(
 ) -> io::Result<()> {
     let place = Place {
         group: Group::Resources,
-        number: (resource as u32).saturating_add(1),
+        number: resource.saturating_add(1),
     };
     events.name_track(place, resource_name(system, resource))?;
     for (track, name) in tasks.iter().zip(system.names().tasks.as_slice()) {

@@ -1,0 +1,3 @@
+pub mod PromiseLemmas
+pub mod KeptLemmas
+pub mod TextLemmas

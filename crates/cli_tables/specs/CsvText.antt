@@ -1,0 +1,47 @@
+-- Bounds as comma-separated values.
+use Rattle.std.specs.Prelude.{ℕ, List, ◌++◌, codes, decimal}
+use Rattle.std.specs.List.{enumerate_from, flat_map}
+use Rattle.osek_base.specs.Names.{owner_name}
+use Rattle.osek_base.specs.Tick.{status_number}
+use Rattle.osek_base.specs.System.{System}
+use Rattle.seen_ticks.specs.declared.failures.Failure.{Failure}
+use Rattle.view_figure_texts.specs.declared.bound_kinds.Column.{Column}
+use Rattle.view_figure_texts.specs.declared.bound_kinds.Kind.{Kind}
+use Rattle.view_figure_texts.specs.Tables.{column_word, columns_of, count_of, kind_word, kinds, name_of}
+use Rattle.search_witnesses.specs.declared.findings.Findings.{Findings}
+use Rattle.cli_tables.specs.Cells.{cell_of}
+use Rattle.cli_tables.specs.Texts.{each_below, number_text, service_standing, standing_of}
+
+-- a line: five values, and its end
+unfoldable pub line : List ℕ → List ℕ → List ℕ → List ℕ → List ℕ → List ℕ
+line kind name figure value standing =
+    kind ++ codes "," ++ name ++ codes "," ++ figure ++ codes "," ++ value ++ codes "," ++ standing ++ codes "\n"
+
+-- the line of a figure
+unfoldable pub figure_line : System → Findings → Kind → ℕ → Column → List ℕ
+figure_line S f kind number column =
+    let cell = cell_of f column number in
+    line (kind_word kind) (name_of S kind number) (column_word column) (number_text cell) (standing_of cell)
+
+-- the lines of an object; of all objects of a kind
+unfoldable pub object_lines : System → Findings → Kind → ℕ → List ℕ
+object_lines S f kind number = flat_map (figure_line S f kind number) (columns_of kind)
+
+unfoldable pub kind_lines : System → Findings → Kind → List ℕ
+kind_lines S f kind = each_below (object_lines S f kind) (count_of S kind)
+
+-- the line of a service that may be answered other than E_OK: whose it is, its place, the number of
+-- the status, and what is promised of it
+unfoldable pub failure_line : System → Failure → List ℕ → List ℕ
+failure_line S failure standing =
+    line (codes "service") (owner_name S.names failure.owner) (decimal failure.place)
+    (decimal (status_number failure.status)) standing
+
+unfoldable pub service_line : System → Findings → ℕ × Failure → List ℕ
+service_line S f service = failure_line S service.1 (service_standing f service.0)
+
+-- the text: a heading, a line a figure, kind by kind, and a line a service
+abbrev pub csv_text : System → Findings → List ℕ
+csv_text S f =
+    codes "kind,name,figure,value,standing\n" ++ flat_map (kind_lines S f) kinds
+    ++ flat_map (service_line S f) (enumerate_from 0 f.bounds.peaks.failures)

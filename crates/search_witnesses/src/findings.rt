@@ -1,0 +1,141 @@
+//! Bounds, and what runs are known to show of them.
+
+ghost use Rattle.std.specs.Prelude.{ℕ, ◌≡◌, ◌==◌, IfOk, List};
+ghost use Rattle.std.specs.List.{list_any};
+ghost use Rattle.osek_base.specs.System.{System};
+ghost use Rattle.search_witnesses.specs.Shown.{is_below};
+ghost use Rattle.search_witnesses.specs.Findings.{
+  AreFindings,
+  AreUntried,
+  is_endless,
+  is_failing,
+  is_reached,
+  is_same,
+};
+
+use crate::endless::endless_tasks;
+use crate::failing::failing_services;
+use crate::reached::{is_below, reached_figures};
+use osek_base::{ModeId, System};
+use search_nodes::{Bounds, Figure};
+use std::alloc::{AllocError, Global};
+
+/// Bounds, and what runs are known to show of them.
+#[derive(Drop)]
+pub struct Findings {
+    pub bounds: Bounds,
+    /// The figures that a run is known to show as they are told, all below the cap.
+    pub reached: Vec<Figure>,
+    /// The tasks, by number, that are known as ones that can be kept from ending for as many ticks
+    /// as one likes.
+    pub endless: Vec<usize>,
+    /// The services, by number among those of the bounds, that a run is known to answer other than
+    /// E_OK as they tell.
+    pub failing: Vec<usize>,
+}
+
+/// Whether two figures are one.
+fn is_same(one: Figure, other: Figure) -> bool
+    ensures { result ≡ is_same one other }
+{
+    match one {
+        Figure::Response(k) => matches!(other, Figure::Response(j) if k == j),
+        Figure::Blocked(k) => matches!(other, Figure::Blocked(j) if k == j),
+        Figure::Blockers(k) => matches!(other, Figure::Blockers(j) if k == j),
+        Figure::Jobs(k) => matches!(other, Figure::Jobs(j) if k == j),
+        Figure::Refusal(k) => matches!(other, Figure::Refusal(j) if k == j),
+        Figure::Latency(k) => matches!(other, Figure::Latency(j) if k == j),
+        Figure::Loss(k) => matches!(other, Figure::Loss(j) if k == j),
+        Figure::Hold(k) => matches!(other, Figure::Hold(j) if k == j),
+        Figure::RefusedAction(k) => matches!(other, Figure::RefusedAction(j) if k == j),
+        Figure::Errors(k) => matches!(other, Figure::Errors(j) if k == j),
+        Figure::RoutineErrors(k) => matches!(other, Figure::RoutineErrors(j) if k == j),
+        Figure::Shutdown => matches!(other, Figure::Shutdown),
+    }
+}
+
+/// Whether a figure is among some.
+fn is_among(known: &[Figure], figure: Figure) -> bool
+    ensures { result ≡ list_any (λ (other : Figure). is_same other figure) known.now }
+{
+    known.iter().any(|other| is_same(*other, figure))
+}
+
+/// Whether a number is among some.
+fn is_numbered(known: &[usize], number: usize) -> bool
+    ensures { result ≡ list_any (λ (other : ℕ). other == number) known.now }
+{
+    known.iter().any(|other| *other == number)
+}
+
+impl Findings {
+    /// Bounds of a system in a mode, and what the runs show that are found of them. Interrupts keep
+    /// the distances, in ticks by routine, 1 where none is given. An error is want of memory.
+    pub fn of(
+        alloc: Global,
+        system: &System,
+        mode: ModeId,
+        distances: &[u32],
+        bounds: Bounds,
+    ) -> Result<Self, AllocError>
+        ensures bounds { IfOk result (λ found. found.bounds ≡ bounds) }
+        ensures shown { IfOk result (AreFindings system.now mode distances.now) }
+    {
+        let reached = reached_figures(alloc, system, mode, distances, &bounds)?;
+        let endless = endless_tasks(alloc, system, mode, distances, &bounds)?;
+        let failing = failing_services(alloc, system, mode, distances, &bounds)?;
+        Ok(Findings {
+            bounds,
+            reached,
+            endless,
+            failing,
+        })
+    }
+
+    /// Bounds of which no run is known, such as those of a search that isn't decided.
+    pub fn untried(alloc: Global, bounds: Bounds) -> Self
+        ensures untried { AreUntried bounds result }
+        ensures shown { (S : System) (mode : ℕ) (distances : List ℕ)
+            → AreFindings S mode distances result }
+    {
+        Findings {
+            bounds,
+            reached: Vec::new(alloc),
+            endless: Vec::new(alloc),
+            failing: Vec::new(alloc),
+        }
+    }
+
+    /// Whether what is told of a figure is below the cap; so is all that isn't a time, and blockers
+    /// where the cap isn't 0.
+    pub fn is_below(&self, figure: Figure) -> bool
+        ensures { result ≡ is_below self.now.bounds.cap self.now.bounds.peaks figure }
+    {
+        is_below(&self.bounds, figure)
+    }
+
+    /// Whether what is told of a figure is 0, or a run is known to show it.
+    pub fn is_reached(&self, figure: Figure) -> bool
+        ensures { result ≡ is_reached self.now figure }
+    {
+        figure.told(&self.bounds.peaks) == 0 || is_among(&self.reached, figure)
+    }
+
+    /// Whether a figure is the time of a task that is known as one that can be kept from ending for
+    /// as many ticks as one likes.
+    pub fn is_endless(&self, figure: Figure) -> bool
+        ensures { result ≡ is_endless self.now figure }
+    {
+        match figure {
+            Figure::Response(task) => is_numbered(&self.endless, task),
+            _ => false,
+        }
+    }
+
+    /// Whether a run is known that answers the service of a number as it is told.
+    pub fn is_failing(&self, number: usize) -> bool
+        ensures { result ≡ is_failing self.now number }
+    {
+        is_numbered(&self.failing, number)
+    }
+}
