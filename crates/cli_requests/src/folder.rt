@@ -33,7 +33,7 @@ impl Named<'_> {
 }
 
 /// What an option, before a word `--`, is given: as `OPTION=VALUE`, or by the word behind it.
-fn named<'a, S: AsStr>(words: &'a [S], option: &str) -> Option<Named<'a>> {
+fn option_of<'a, S: AsStr>(words: &'a [S], option: &str) -> Option<Named<'a>> {
     for (first, word) in words.iter().enumerate() {
         let word = word.as_str();
         if word == "--" {
@@ -80,9 +80,9 @@ pub fn folder_of<'a, S: AsStr>(words: &'a [S]) -> Option<Folder<'a>> {
     if count == 0 {
         return None;
     }
-    let folder = named(words, "--in")?;
+    let folder = option_of(words, "--in")?;
     let irq = if count == NAMES.len() {
-        named(words, "--irq")
+        option_of(words, "--irq")
     } else {
         None
     };

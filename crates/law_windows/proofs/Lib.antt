@@ -4,8 +4,8 @@ pub mod Steady
 pub mod Begins
 pub mod Short
 pub mod Phases
-pub mod Spacing
 pub mod Sums
 pub mod Responses
 pub mod Losses
 pub mod Analysis
+pub mod Expiring

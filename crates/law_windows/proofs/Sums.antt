@@ -8,7 +8,9 @@ use Rattle.osek_base.specs.Lists.{below}
 use Rattle.osek_base.specs.System.{System}
 use Rattle.law_runs.specs.Jobs.{one_if}
 use Rattle.law_future.specs.Shown.{arrives, chosen_of}
-use Rattle.law_windows.specs.Coming.{Costs, arrivals_in, came, cost_of, expires, expiries_in, how_many, in_ticks}
+use Rattle.law_alarms.specs.Expiries.{expires, expiries}
+use Rattle.law_alarms.specs.Spaced.{how_many}
+use Rattle.law_windows.specs.Coming.{Costs, arrivals_in, came, cost_of, in_ticks}
 
 -- ---- sums
 
@@ -89,17 +91,18 @@ ticks_passing cost test xs from (suc count) =
 module _ (S : System) (mode : ℕ) (arrivals : List Arrival) (costs : Costs) (from count : ℕ) where
   pub came_is : came S mode arrivals costs from count
       ≡ cost_of S costs (λ i. arrivals_in arrivals i from count)
-      (λ a. expiries_in S mode arrivals a from count)
+      (λ a. expiries S mode arrivals a from count)
   came_is =
       let both =
       ticks_plus (λ n. sum_by costs.of_arrival (chosen_of S (arrives arrivals n)))
-      (λ n. sum_by costs.of_expiry (filter (expires S mode arrivals n) (below (length S.alarms))))
+      (λ n. sum_by costs.of_expiry
+      (filter (λ a. expires S mode arrivals a n) (below (length S.alarms))))
       from count in
       let one =
       ticks_passing costs.of_arrival (arrives arrivals) (below (length S.routines)) from count in
       let other =
-      ticks_passing costs.of_expiry (expires S mode arrivals) (below (length S.alarms)) from
-      count in
+      ticks_passing costs.of_expiry (λ n a. expires S mode arrivals a n)
+      (below (length S.alarms)) from count in
       omega (arith, both, one, other)
 
 -- what comes no more often costs no more

@@ -6,8 +6,9 @@ use Rattle.osek_base.specs.System.{System, priority_of}
 use Rattle.search_labels.specs.Labels.{distance_of}
 use Rattle.law_bounds.specs.Distances.{KeepDistances}
 use Rattle.law_bounds.specs.Ending.{EndsWithin}
+use Rattle.law_alarms.specs.Spaced.{most_in}
 use Rattle.law_windows.specs.Windows.{WindowsEndWithin}
-use Rattle.law_windows.specs.Coming.{Costs, ExpireAtMost, arrivals_in, came, cost_of, most_in}
+use Rattle.law_windows.specs.Coming.{Costs, ExpireAtMost, arrivals_in, came, cost_of}
 use Rattle.law_windows.specs.Potential.{IsPotential}
 use Rattle.law_windows.specs.Responses.{RespondWithin}
 use Rattle.law_windows.specs.Losses.{NoneIsLost}

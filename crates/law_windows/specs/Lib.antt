@@ -6,3 +6,4 @@ pub mod Phases
 pub mod Responses
 pub mod Losses
 pub mod Analysis
+pub mod Expiring

@@ -1,6 +1,7 @@
 //! The laws, one function each. The functions are empty: the clause is the law.
 
 ghost use Rattle.law_windows.specs.Analysis.{AnalysisBoundsResponses, ArrivalsAreFew, LittleComes};
+ghost use Rattle.law_windows.specs.Expiring.{ExpiriesAreFew, GapsBoundResponses};
 ghost use Rattle.law_windows.specs.Losses.{SoonStartedAreNotLost};
 ghost use Rattle.law_windows.specs.Phases.{PhasesMakeAPotential};
 ghost use Rattle.law_windows.specs.Potential.{WindowsAreShort};
@@ -57,4 +58,17 @@ pub fn soon_started_are_not_lost()
 /// ticks as are enough for all that can come bound each window, and what lies in it.
 pub fn analysis_bounds_responses()
     ensures { AnalysisBoundsResponses }
+{}
+
+/// An alarm that no program sets expires in so many ticks as often as its cycle fits, once without
+/// one, never where it doesn't start; any other as often as what programs set fits, at least a
+/// count.
+pub fn expiries_are_few()
+    ensures { ExpiriesAreFew }
+{}
+
+/// So costs, distances of interrupts and gaps between expiries bound each window, where all such
+/// runs have potentials of these costs.
+pub fn gaps_bound_responses()
+    ensures { GapsBoundResponses }
 {}

@@ -17,19 +17,20 @@
 //!   that (`windows_are_short`). It is enough to know it phase by phase
 //!   (`phases_make_a_potential`).
 //! - How often interrupts come in a row of ticks is bounded by their distances
-//!   (`arrivals_are_few`, `little_comes`). A premise is how often alarms expire, where that costs
-//!   something.
+//!   (`arrivals_are_few`, `little_comes`), and how often alarms expire by their cycles
+//!   (`expiries_are_few`): of one that programs set by the least increment or cycle to which they
+//!   set it, a count where nothing else is known.
 //! - So a number of ticks that is no less than what may be left where a window begins and all that
 //!   can come in as many ticks bounds each window, and each response
-//!   (`analysis_bounds_responses`).
+//!   (`analysis_bounds_responses`, `gaps_bound_responses`).
 //!
-//! That a system has a potential is a premise too: costs of programs are not in this crate.
+//! That a system has a potential is a premise: costs of programs are not in this crate.
 #![tactic(auto)]
 
 mod laws;
 
 pub use laws::{
-    analysis_bounds_responses, arrivals_are_few, busy_ticks_lie_in_windows, little_comes,
-    phases_make_a_potential, responses_lie_in_windows, soon_started_are_not_lost,
-    windows_are_short, work_stays,
+    analysis_bounds_responses, arrivals_are_few, busy_ticks_lie_in_windows, expiries_are_few,
+    gaps_bound_responses, little_comes, phases_make_a_potential, responses_lie_in_windows,
+    soon_started_are_not_lost, windows_are_short, work_stays,
 };
