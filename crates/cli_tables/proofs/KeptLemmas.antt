@@ -162,27 +162,33 @@ module _ (S : System) (f : Findings) where
   kept_from : (limits : Limits) → broken_text S f limits ≡ [] → AreKept S f limits
   unfolding broken_text loss_lines refusal_lines
   kept_from limits h =
-      let first = both_empty _ _ h in
-      let rest = both_empty (if limits.no_loss then loss_lines S f else [])
-      (if limits.no_refusal then refusal_lines S f else []) first.1 in
+      let last = both_empty (flat_map (time_lines S f) limits.times.now ++ (if limits.no_loss then loss_lines S f else []))
+      (if limits.no_refusal then refusal_lines S f else []) h in
+      let first = both_empty (flat_map (time_lines S f) limits.times.now)
+      (if limits.no_loss then loss_lines S f else []) last.0 in
       record {
         times = no_times limits.times.now first.0;
-        losses = λ is. none_come Kind.Routine Column.Loss _ (chosen limits.no_loss _ rest.0 is);
-        refusals = λ is. none_come Kind.Task Column.Refusal _
-            (both_empty _ _ (chosen limits.no_refusal (refusal_lines S f) rest.1 is)).0;
-        actions = λ is. none_come Kind.Alarm Column.RefusedAction _
-            (both_empty _ _ (chosen limits.no_refusal (refusal_lines S f) rest.1 is)).1;
+        losses = λ is.
+            none_come Kind.Routine Column.Loss _
+            (chosen limits.no_loss (loss_lines S f) first.1 is);
+        refusals = λ is.
+            none_come Kind.Task Column.Refusal _
+            (both_empty _ _ (chosen limits.no_refusal (refusal_lines S f) last.1 is)).0;
+        actions = λ is.
+            none_come Kind.Alarm Column.RefusedAction _
+            (both_empty _ _ (chosen limits.no_refusal (refusal_lines S f) last.1 is)).1;
       }
 
   empty_from : (limits : Limits) → AreKept S f limits → broken_text S f limits ≡ []
   unfolding broken_text loss_lines refusal_lines
   empty_from limits k =
-      both_of _ _ (kept_times limits.times.now k.times)
-      (both_of _ _
-      (choice limits.no_loss _ (λ is. without_lines Kind.Routine Column.Loss _ (k.losses is)))
-      (choice limits.no_refusal _
+      both_of _ _
+      (both_of _ _ (kept_times limits.times.now k.times)
+      (choice limits.no_loss (loss_lines S f)
+      (λ is. without_lines Kind.Routine Column.Loss _ (k.losses is))))
+      (choice limits.no_refusal (refusal_lines S f)
       (λ is. both_of _ _ (without_lines Kind.Task Column.Refusal _ (k.refusals is))
-      (without_lines Kind.Alarm Column.RefusedAction _ (k.actions is)))))
+      (without_lines Kind.Alarm Column.RefusedAction _ (k.actions is))))
 
   empty_where_kept : (limits : Limits) → (broken_text S f limits ≡ []) ↔ AreKept S f limits
   empty_where_kept limits = (kept_from limits, empty_from limits)

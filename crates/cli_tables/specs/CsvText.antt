@@ -1,6 +1,6 @@
 -- Bounds as comma-separated values.
-use Rattle.std.specs.Prelude.{ℕ, List, ◌++◌, codes, decimal}
-use Rattle.std.specs.List.{enumerate_from, flat_map}
+use Rattle.std.specs.Prelude.{ℕ, List, [], ◌++◌, Option, Some, None, codes, decimal, length, slice_get}
+use Rattle.std.specs.List.{flat_map}
 use Rattle.osek_base.specs.Names.{owner_name}
 use Rattle.osek_base.specs.Tick.{status_number}
 use Rattle.osek_base.specs.System.{System}
@@ -37,11 +37,16 @@ failure_line S failure standing =
     line (codes "service") (owner_name S.names failure.owner) (decimal failure.place)
     (decimal (status_number failure.status)) standing
 
-unfoldable pub service_line : System → Findings → ℕ × Failure → List ℕ
-service_line S f service = failure_line S service.1 (service_standing f service.0)
+abbrev pub line_of_failure : System → Option Failure → List ℕ → List ℕ
+line_of_failure S None standing = []
+line_of_failure S (Some failure) standing = failure_line S failure standing
+
+unfoldable pub service_line : System → Findings → ℕ → List ℕ
+service_line S f number =
+    line_of_failure S (slice_get f.bounds.peaks.failures number) (service_standing f number)
 
 -- the text: a heading, a line a figure, kind by kind, and a line a service
 abbrev pub csv_text : System → Findings → List ℕ
 csv_text S f =
     codes "kind,name,figure,value,standing\n" ++ flat_map (kind_lines S f) kinds
-    ++ flat_map (service_line S f) (enumerate_from 0 f.bounds.peaks.failures)
+    ++ each_below (service_line S f) (length f.bounds.peaks.failures)

@@ -6,7 +6,8 @@ ghost use Rattle.search_nodes.specs.Figures.{one_if};
 ghost use Rattle.cli_tables.specs.Cells.{cell_below};
 ghost use Rattle.cli_tables.specs.Texts.{number_text, reached_or, shown_text, standing_of};
 
-use crate::numbers::{push_number, push_signed};
+use crate::numbers::{push_number, push_signed, sign_of};
+use itoa::Buffer;
 use std::alloc::AllocError;
 use view_figure_texts::Column;
 
@@ -107,7 +108,22 @@ impl Cell {
         }
     }
 
-    /// Appends the figure as a table prints it, without the spaces before it.
+    /// The figure as a table prints it, without the spaces before it, in two parts.
+    pub(crate) fn shown(self, digits: &mut Buffer) -> (&'static str, &str)
+        ensures { result.0.now ++ result.1.now ≡ shown_text self }
+    {
+        match self {
+            Cell::Time { ticks, is_reached } => (sign_of(is_reached), digits.format(ticks)),
+            Cell::Above => ("above", ""),
+            Cell::Unbounded => ("unbounded", ""),
+            Cell::Count { value, is_reached } => (sign_of(is_reached), digits.format(value)),
+            Cell::Coming { comes, is_reached } => {
+                (sign_of(is_reached), digits.format(number_of(comes)))
+            }
+        }
+    }
+
+    /// Appends the figure as a table prints it.
     pub(crate) fn push_shown(self, text: &mut String) -> Result<(), AllocError>
         ensures { OnOk result
             (string_bytes text.new ≡ string_bytes text.old ++ shown_text self) }

@@ -1,7 +1,7 @@
 //! Bounds as comma-separated values, a line a figure. Names have no comma, so nothing is quoted.
 
-ghost use Rattle.std.specs.Prelude.{◌≡◌, ◌++◌, IfOk, OnOk, codes, decimal};
-ghost use Rattle.std.specs.List.{enumerate_from, flat_map};
+ghost use Rattle.std.specs.Prelude.{◌≡◌, ◌++◌, IfOk, OnOk, codes, length};
+ghost use Rattle.std.specs.List.{flat_map};
 ghost use Rattle.std.specs.String.{string_bytes};
 ghost use Rattle.view_figure_texts.specs.Tables.{kinds};
 ghost use Rattle.cli_tables.specs.CsvText.{
@@ -13,10 +13,11 @@ ghost use Rattle.cli_tables.specs.CsvText.{
   object_lines,
   service_line,
 };
+ghost use Rattle.cli_tables.specs.Texts.{each_below};
 
 use crate::failed_service::name_of;
-use crate::numbers::push_number;
 use crate::told::{cell, service_standing};
+use itoa::Buffer;
 use osek_base::System;
 use search_witnesses::Findings;
 use seen_ticks::Failure;
@@ -95,32 +96,38 @@ fn push_kinds(text: &mut String, system: &System, found: &Findings) -> Result<()
     Ok(())
 }
 
-/// Appends the line of a service: whose it is, its place, the number of the status, and what is
-/// promised of it.
+/// Appends a value and the comma behind it.
+fn push_value(text: &mut String, value: &str) -> Result<(), AllocError>
+    ensures { OnOk result
+        (string_bytes text.new ≡ string_bytes text.old ++ value.now ++ codes ",") }
+{
+    text.push_str(value)?;
+    text.push_str(",")
+}
+
+/// Appends a line of five values.
 #[tactic(auto, unfolding(crate::specs::CsvText::line))]
-fn push_values(
+fn push_line(
     text: &mut String,
+    kind: &str,
     name: &str,
-    place: u32,
-    status: u32,
+    figure: &str,
+    value: &str,
     standing: &str,
 ) -> Result<(), AllocError>
     ensures { OnOk result (string_bytes text.new ≡ string_bytes text.old
-        ++ line (codes "service") name.now (decimal place) (decimal status) standing.now) }
+        ++ line kind.now name.now figure.now value.now standing.now) }
 {
-    text.push_str("service")?;
-    text.push_str(",")?;
-    text.push_str(name)?;
-    text.push_str(",")?;
-    push_number(text, place)?;
-    text.push_str(",")?;
-    push_number(text, status)?;
-    text.push_str(",")?;
+    push_value(text, kind)?;
+    push_value(text, name)?;
+    push_value(text, figure)?;
+    push_value(text, value)?;
     text.push_str(standing)?;
     text.push_str("\n")
 }
 
-/// Appends the line of a service that may be answered other than E_OK.
+/// Appends the line of a service that may be answered other than E_OK: whose it is, its place, the
+/// number of the status, and what is promised of it.
 #[tactic(auto, unfolding(crate::specs::CsvText::failure_line))]
 fn push_service(
     text: &mut String,
@@ -132,19 +139,44 @@ fn push_service(
         ≡ string_bytes text.old ++ failure_line system.now failure.now standing.now) }
 {
     let name = name_of(system, failure.owner);
-    let place = u32::from(failure.place.number());
-    let status = u32::from(failure.status.number());
-    push_values(text, name, place, status, standing)
+    let mut place = Buffer::new();
+    let mut status = Buffer::new();
+    push_line(
+        text,
+        "service",
+        name,
+        place.format(failure.place.number()),
+        status.format(failure.status.number()),
+        standing,
+    )
+}
+
+/// Appends the line of the service of a number, where there is one.
+#[tactic(auto, unfolding(crate::specs::CsvText::service_line))]
+fn push_numbered(
+    text: &mut String,
+    system: &System,
+    found: &Findings,
+    number: usize,
+) -> Result<(), AllocError>
+    ensures { OnOk result (string_bytes text.new
+        ≡ string_bytes text.old ++ service_line system.now found.now number) }
+{
+    match found.bounds.peaks.failures().get(number) {
+        Some(failure) => push_service(text, system, failure, service_standing(found, number)),
+        None => Ok(()),
+    }
 }
 
 /// Appends the lines of the services that may be answered other than E_OK.
+#[tactic(auto, using(crate::proofs::TextLemmas::each_more))]
 fn push_services(text: &mut String, system: &System, found: &Findings) -> Result<(), AllocError>
     ensures { OnOk result (string_bytes text.new ≡ string_bytes text.old
-        ++ flat_map (service_line system.now found.now)
-        (enumerate_from 0 found.now.bounds.peaks.failures)) }
+        ++ each_below (service_line system.now found.now)
+        (length found.now.bounds.peaks.failures)) }
 {
-    for (number, failure) in found.bounds.peaks.failures().iter().enumerate() {
-        push_service(text, system, failure, service_standing(found, number))?;
+    for number in 0..found.bounds.peaks.failures().len() {
+        push_numbered(text, system, found, number)?;
     }
     Ok(())
 }

@@ -55,7 +55,10 @@ pub fn is_known(system: &System, name: &str, word: Option<&str>) -> bool {
     }
     let is_owner = number_of(system, Kind::Task, name).is_some()
         || number_of(system, Kind::Routine, name).is_some();
-    is_owner && word.and_then(place_of).is_some()
+    match word {
+        Some(word) => is_owner && place_of(word).is_some(),
+        None => false,
+    }
 }
 
 /// The number of the first service that may be answered other than E_OK, of the task or routine of

@@ -17,7 +17,7 @@ pub fn push_number(text: &mut String, number: u32) -> Result<(), AllocError>
 }
 
 /// The sign of a number that no run is known to show.
-fn sign_of(is_reached: bool) -> &'static str
+pub(crate) fn sign_of(is_reached: bool) -> &'static str
     ensures { result.now ≡ sign_of is_reached }
 {
     if is_reached { "" } else { "<=" }

@@ -3,13 +3,14 @@
 use crate::cells::Cell;
 use crate::failed_services::write_services;
 use crate::told::cell;
+use itoa::Buffer;
 use osek_base::System;
 use search_witnesses::Findings;
 use std::io::{self, Write};
 use view_figure_texts::{KINDS, Kind, width_of};
 
 /// How many bytes a column has, with the space before it.
-const WIDTH: u32 = 12;
+const WIDTH: usize = 12;
 
 fn write_name<W: Write>(name: &str, width: usize, out: &mut W) -> io::Result<()> {
     out.write_all(name.as_bytes())?;
@@ -19,33 +20,15 @@ fn write_name<W: Write>(name: &str, width: usize, out: &mut W) -> io::Result<()>
     Ok(())
 }
 
-/// How many digits a number has in decimal.
-fn digits_of(value: u32) -> u32 {
-    u64::from(value)
-        .checked_ilog10()
-        .unwrap_or(0)
-        .saturating_add(1)
-}
-
-/// Writes a number, behind `<=` where no run is known to show it.
-fn write_number<W: Write>(value: u32, is_reached: bool, out: &mut W) -> io::Result<()> {
-    if is_reached {
-        return write!(out, " {value:>11}");
-    }
-    for _missing in digits_of(value)..WIDTH - 2 {
+/// Writes a cell at the right of its column.
+fn write_cell<W: Write>(cell: Cell, out: &mut W) -> io::Result<()> {
+    let mut digits = Buffer::new();
+    let (sign, rest) = cell.shown(&mut digits);
+    for _missing in sign.len().saturating_add(rest.len())..WIDTH {
         out.write_all(b" ")?;
     }
-    write!(out, "<={value}")
-}
-
-fn write_cell<W: Write>(cell: Cell, out: &mut W) -> io::Result<()> {
-    match cell {
-        Cell::Time { ticks, is_reached } => write_number(ticks, is_reached, out),
-        Cell::Count { value, is_reached } => write_number(value, is_reached, out),
-        Cell::Above => out.write_all(b"       above"),
-        Cell::Unbounded => out.write_all(b"   unbounded"),
-        Cell::Coming { comes, is_reached } => write_number(u32::from(comes), is_reached, out),
-    }
+    out.write_all(sign.as_bytes())?;
+    out.write_all(rest.as_bytes())
 }
 
 fn write_heading<W: Write>(kind: Kind, width: usize, out: &mut W) -> io::Result<()> {

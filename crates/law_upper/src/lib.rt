@@ -31,8 +31,7 @@ mod seen_above;
 
 pub use figures_above::{
     bounded_interrupts_start_above, bounded_upper_holds_end, bounded_upper_jobs_end,
-    bounds_of_the_part_hold,
-    upper_parts_show_the_same,
+    bounds_of_the_part_hold, upper_parts_show_the_same,
 };
 pub use runs_above::runs_show_what_the_part_shows;
 pub use seen_above::{alarms_act_the_same, executions_are_the_same, states_are_seen_the_same};

@@ -9,3 +9,4 @@ pub mod Responses
 pub mod Losses
 pub mod Analysis
 pub mod Expiring
+pub mod Routines

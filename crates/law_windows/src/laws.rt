@@ -6,6 +6,7 @@ ghost use Rattle.law_windows.specs.Losses.{SoonStartedAreNotLost};
 ghost use Rattle.law_windows.specs.Phases.{PhasesMakeAPotential};
 ghost use Rattle.law_windows.specs.Potential.{WindowsAreShort};
 ghost use Rattle.law_windows.specs.Responses.{ResponsesLieInWindows};
+ghost use Rattle.law_windows.specs.Routines.{RoutinesEndInTime};
 ghost use Rattle.law_windows.specs.Windows.{BusyTicksLieInWindows};
 ghost use Rattle.law_windows.specs.Work.{WorkStays};
 
@@ -71,4 +72,9 @@ pub fn expiries_are_few()
 /// runs have potentials of these costs.
 pub fn gaps_bound_responses()
     ensures { GapsBoundResponses }
+{}
+
+/// A routine that ends within so many instructions isn't active for so many ticks.
+pub fn routines_end_in_time()
+    ensures { RoutinesEndInTime }
 {}

@@ -24,7 +24,8 @@
 //!   can come in as many ticks bounds each window, and each response
 //!   (`analysis_bounds_responses`, `gaps_bound_responses`).
 //!
-//! That a system has a potential is a premise: costs of programs are not in this crate.
+//! That a system has a potential is a premise. Of costs of programs it has the first alone: a
+//! routine that ends within so many instructions isn't active longer (`routines_end_in_time`).
 #![tactic(auto)]
 
 mod laws;
@@ -32,5 +33,5 @@ mod laws;
 pub use laws::{
     analysis_bounds_responses, arrivals_are_few, busy_ticks_lie_in_windows, expiries_are_few,
     gaps_bound_responses, little_comes, phases_make_a_potential, responses_lie_in_windows,
-    soon_started_are_not_lost, windows_are_short, work_stays,
+    routines_end_in_time, soon_started_are_not_lost, windows_are_short, work_stays,
 };

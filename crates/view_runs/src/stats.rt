@@ -44,7 +44,7 @@ pub fn write_stats<O: Write, E: Write>(
 ) -> Result<String, RunFault>
     ensures { IfOk result (λ lines. (f : RunFigures)
         × AreFiguresOfRun system.now input.entry.irqs.now input.entry.mode.now input.entry.ticks
-            asked.entry.from f
+        asked.entry.from f
         × (string_bytes lines ≡ broken_text system.now f asked.entry.limits)) }
 {
     let figures = counted_figures(alloc, system, input, asked.from, progress)?;

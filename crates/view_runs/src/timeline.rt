@@ -40,7 +40,8 @@ pub fn write_timeline<O: Write, E: Write>(
         timeline.choose_rows(system, list);
     }
     if picture.are_events {
-        return Ok(timeline.write_events(alloc, system, out)?);
+        let text = timeline.events_text(alloc, system)?;
+        return Ok(out.write_all(text.as_slice())?);
     }
     Ok(timeline.write(system, out)?)
 }

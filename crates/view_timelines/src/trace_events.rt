@@ -133,15 +133,7 @@ fn put_tasks<W: Write>(
 }
 
 impl Timeline {
-    /// Writes the picture in the trace event format, as JSON: a track for each routine and task
-    /// that was chosen, by falling priority, and one for each resource, with who of them holds it.
-    /// A tick is a microsecond. An error is a failed write or want of memory.
-    pub fn write_events<W: Write>(
-        &self,
-        alloc: Global,
-        system: &System,
-        out: &mut W,
-    ) -> io::Result<()> {
+    fn put_events<W: Write>(&self, alloc: Global, system: &System, out: &mut W) -> io::Result<()> {
         let mut events = Events::new(alloc, out);
         events.begin()?;
         for group in Group::ALL {
@@ -151,5 +143,16 @@ impl Timeline {
         put_tasks(alloc, system, self.tasks.as_slice(), &mut events)?;
         put_holds(alloc, system, self.tasks.as_slice(), &mut events)?;
         events.end()
+    }
+
+    /// The picture in the trace event format, as JSON: a track for each routine and task that was
+    /// chosen, by falling priority, and one for each resource, with who of them holds it. A tick is
+    /// a microsecond. The only error is want of memory.
+    pub fn events_text(&self, alloc: Global, system: &System) -> Result<Vec<u8>, AllocError> {
+        let mut text = Vec::new(alloc);
+        match self.put_events(alloc, system, &mut text) {
+            Ok(()) => Ok(text),
+            Err(_) => Err(AllocError),
+        }
     }
 }
