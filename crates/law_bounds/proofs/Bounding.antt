@@ -1,9 +1,10 @@
 -- Where the nodes of a search stand for all that can come, what it has noted bounds each run; where
 -- they do for so many steps, each run of so many ticks.
-use Rattle.std.proofs.Common.{ℕ, zero, suc, ◌≡◌, ◌<◌, ◌≤◌, inl, inr, false, List, [], ◌∷◌, length, refl, sym, ◌∙◌, ap, subst, arith}
-use Rattle.std.specs.Prelude.{Contains, IfSome, Option}
-use Rattle.std.proofs.lemmas.Bool.{cases_lt}
+use Rattle.std.proofs.Common.{ℕ, zero, suc, ◌≡◌, ◌<◌, ◌≤◌, ◌&&◌, Bool, inl, inr, false, List, length, min, refl, sym, ◌∙◌, ap, subst, arith, ltb-true}
+use Rattle.std.specs.Prelude.{Contains, IfSome, IsTrue, Option, nat_lt}
+use Rattle.std.specs.Option.{option_map}
 use Rattle.osek_base.specs.declared.arrivals.Arrival.{Arrival}
+use Rattle.osek_base.specs.declared.ids.Owner.{Owner}
 use Rattle.osek_base.specs.Proper.{IsProper}
 use Rattle.osek_base.specs.System.{System}
 use Rattle.osek_base.specs.Trace.{run}
@@ -13,42 +14,49 @@ use Rattle.law_kept.specs.KeptTick.{KeptStep, boot_in, tick_in}
 use Rattle.seen_ticks.specs.Seen.{Seen}
 use Rattle.seen_ticks.specs.declared.alarm_seen.AlarmSeen.{AlarmSeen}
 use Rattle.seen_ticks.specs.declared.failures.Failure.{Failure}
-use Rattle.seen_ticks.specs.declared.observation.Observation.{Observation}
+use Rattle.seen_ticks.specs.declared.routine_seen.RoutineSeen.{RoutineSeen}
 use Rattle.seen_ticks.specs.declared.task_seen.TaskSeen.{TaskSeen}
-use Rattle.seen_ticks.specs.Observed.{failure_of, task_seen, tick_at}
+use Rattle.seen_ticks.specs.Observed.{answered, failure_of, owner_of, routine_seen, task_seen, tick_at}
 use Rattle.law_future.specs.Alike.{kept_after}
 use Rattle.law_future.proofs.Covered.{none_waits}
 use Rattle.law_future.proofs.Futures.{kept_more}
-use Rattle.view_figures.specs.FigureSums.{RunFigures, held_count, levels_of}
-use Rattle.law_figures.specs.Ages.{ages, oldest_age}
+use Rattle.view_figures.specs.FigureSums.{is_error, is_routine, is_task, levels_of}
+use Rattle.view_measures.specs.declared.kind.Kind.{Kind}
+use Rattle.view_measures.specs.declared.measure.Measure.{Measure}
+use Rattle.view_measures.specs.Kinds.{count_of}
+use Rattle.view_measures.specs.Measures.{figure, is_of, kind_of}
 use Rattle.law_figures.specs.Counts.{one_if}
-use Rattle.law_figures.specs.Holding.{held_ticks}
 use Rattle.law_figures.specs.Labels.{IsAtMost}
-use Rattle.law_figures.specs.Pending.{pending}
-use Rattle.law_figures.specs.Times.{waited}
-use Rattle.law_figures.specs.RunFigures.{AreRunFigures, AreTicksOf, HaveNone, NoneMoreBefore, StayWithin, alarm_ticks, holder_ticks, routine_errors, routine_ticks, task_errors, task_ticks}
-use Rattle.law_figures.proofs.Nothing.{runs_have_none}
-use Rattle.law_figures.proofs.RunTimes.{runs_stay_within}
+use Rattle.law_seen.specs.Shown.{ShowTheSame, kept_tick_at}
 use Rattle.law_seen.proofs.Shown.{runs_show}
 use Rattle.search.specs.Admitted.{IsAbove}
 use Rattle.search.specs.Levels.{AreLevels}
 use Rattle.search.specs.Searched.{AreAll, IsTried, IsVisited}
 use Rattle.search_labels.specs.Labels.{ages_of, distance_of, hold_of, pending_of}
-use Rattle.search_peaks.specs.Peaks.{IsNoted, Peaks, TickShown, has_come, peak, routine_fails, task_fails}
-use Rattle.search_labels.specs.Ticks.{holder_tick, routine_tick, task_in, task_tick}
+use Rattle.search_labels.specs.Ticks.{holder_tick, routine_in, routine_tick, task_in, task_tick}
+use Rattle.search_peaks.specs.Noting.{IsNoted, TickShown, blocked_ticks, fails_by, reading_by, seen_count}
+use Rattle.search_peaks.specs.Peaks.{Peaks, is_below, told}
 use Rattle.search_keys.specs.Key.{key}
-use Rattle.law_bounds.specs.Bounds.{AreWithin, IsTickWithin, LevelsBound, SearchesBound}
+use Rattle.law_bounds.specs.Bounds.{IsTickWithin, LevelsBound, SearchesBound}
 use Rattle.law_bounds.specs.Distances.{KeepDistances}
 use Rattle.law_bounds.specs.Nodes.{AreNoted, IsAfter, May, Node, Setting, StandsFor, routines_of, rules_of, tick_shown_from}
+use Rattle.law_bounds.specs.RunTicks.{blocked_at}
+use Rattle.law_bounds.specs.Showing.{shown_by}
 use Rattle.law_bounds.proofs.Arrived.{StandFor, in_set, set_at, set_is_low, set_stands}
 use Rattle.law_bounds.proofs.Blocked.{blocked_low}
-use Rattle.law_bounds.proofs.Blockers.{figures_low}
-use Rattle.law_bounds.proofs.Capped.{held_within, latency_within, leaving_within, oldest_within, waited_within}
-use Rattle.law_bounds.proofs.Failing.{failure_same, no_routine_error, no_task_error}
+use Rattle.law_bounds.proofs.Capped.{held_within, oldest_within, waited_within}
+use Rattle.law_bounds.proofs.Failing.{fails_alike, failure_same}
 use Rattle.law_bounds.proofs.Going.{boot_state}
 use Rattle.law_bounds.proofs.RunTicks.{age_low, hold_low, waits_low}
 use Rattle.law_bounds.proofs.Seen.{ages_agree, alarm_same, holds_agree, jobs_same, lost_same, pending_agrees, refused_same, seen_alarms, seen_holders, seen_routines, seen_tasks}
+use Rattle.law_bounds.proofs.Showing.{going_at, value_within}
 use Rattle.law_bounds.proofs.Standing.{AreBoundsAt, ages_at, at_least, boot_bounds, hold_at, pending_at, tick_bounds}
+
+-- one blocker at most, and none where none is told and no tick blocks
+none_or_one : (m seen there : ℕ) → min 1 seen ≤ m → (seen ≤ 0 → there ≤ 0) → min 1 there ≤ m
+none_or_one zero seen there few none =
+    let less = none (omega (arith, few)) in omega (arith, less)
+none_or_one (suc m) seen there few none = omega arith
 
 module _ (s : Setting) (peaks : Peaks) (count : ℕ) (levels : ℕ → List Node)
     (proper : IsProper s.system) (all : AreLevels (rules_of s) (AreNoted s peaks) count levels)
@@ -176,6 +184,9 @@ module _ (s : Setting) (peaks : Peaks) (count : ℕ) (levels : ℕ → List Node
     abbrev has : HasVisited n
     has = visited_above n early (node_at n early going)
 
+    abbrev here : List ℕ
+    here = routines_of s (set n)
+
     abbrev shown : TickShown
     shown = tick_shown_from s (set n) (after n)
 
@@ -185,204 +196,135 @@ module _ (s : Setting) (peaks : Peaks) (count : ℕ) (levels : ℕ → List Node
     noted : IsNoted (levels_of S) s.cap peaks shown has.node.labels
     noted = (tried n going has).noted (after n) has.stands
 
-    oldest_low : (k : ℕ) → k < length S.tasks → peak peaks.responses k < s.cap
-        → IsAtMost (peak peaks.responses k)
-        (oldest_age (task_ticks S s.mode arrivals k n) (ages_at s arrivals k n))
-    oldest_low k low below_cap =
-        let size = seen_tasks S (routines_of s (set n)) (after n) in
-        subst (IsAtMost (peak peaks.responses k))
-        (sym (ages_agree S s.mode arrivals n (routines_of s (set n)) (arrived n) k low
-        (ages_at s arrivals k n)).oldest)
-        (oldest_within s.cap (peak peaks.responses k) below_cap (task_tick seen k)
-        (ages_of has.node.labels k) (ages_at s arrivals k n) (has.bounds.ages k low)
-        (noted.responses k (omega (arith, low, size))))
+    told_same : ShowTheSame S (tick_at S s.mode arrivals n) (kept_tick_at S s.mode arrivals n)
+    told_same = runs_show S s.mode arrivals n proper going
 
-    waited_low : (i : ℕ) → i < length S.routines → peak peaks.latencies i < s.cap
-        → IsAtMost (peak peaks.latencies i)
-        (waited (routine_ticks S s.mode arrivals i n) (pending_at s arrivals i n))
-    waited_low i low below_cap =
-        let size = seen_routines S (routines_of s (set n)) (after n) in
-        subst (IsAtMost (peak peaks.latencies i))
-        (sym (pending_agrees S s.mode arrivals n (routines_of s (set n)) (arrived n) i low
-        (pending_at s arrivals i n)).waited)
-        (waited_within s.cap (peak peaks.latencies i) below_cap (routine_tick seen i)
-        (pending_of has.node.labels i) (pending_at s arrivals i n) (has.bounds.pending i low)
-        (noted.latencies i (omega (arith, low, size))))
+    -- of each thing of the system something is seen
+    seen_of : (kind : Kind) → seen_count seen kind ≡ count_of S kind
+    seen_of Kind.Task = seen_tasks S here (after n)
+    seen_of Kind.Routine = seen_routines S here (after n)
+    seen_of Kind.Resource = seen_holders S here (after n)
+    seen_of Kind.Alarm = seen_alarms S here (after n)
+    seen_of Kind.System = refl
 
-    held_low : (r : ℕ) → r < held_count S → peak peaks.holds r < s.cap
-        → IsAtMost (peak peaks.holds r)
-        (held_ticks (holder_ticks S s.mode arrivals r n) (hold_at s arrivals r n))
-    held_low r low below_cap =
-        let size = seen_holders S (routines_of s (set n)) (after n) in
-        subst (IsAtMost (peak peaks.holds r))
-        (sym (holds_agree S s.mode arrivals n (routines_of s (set n)) (arrived n) r
-        (hold_at s arrivals r n)).held)
-        (held_within s.cap (peak peaks.holds r) below_cap (holder_tick seen r)
-        (hold_of has.node.labels r) (hold_at s arrivals r n) (has.bounds.holds r low)
-        (noted.holds r (omega (arith, low, size))))
+    -- so what is noted of it is within what is told
+    read : (measure : Measure) (k : ℕ) → IsTrue (is_of S (figure measure k))
+        → IsAtMost (told peaks (figure measure k))
+        (reading_by (levels_of S) s.cap shown has.node.labels measure k)
+    read measure k of =
+        noted.figures (figure measure k)
+        (subst (λ c. IsTrue (nat_lt k c)) (sym (seen_of (kind_of measure))) of)
 
-    none_lost : (i : ℕ) → i < length S.routines → has_come peaks.losses i ≡ false
-        → (routine_ticks S s.mode arrivals i n).seen.lost ≡ 0
-    none_lost i low none =
-        let size = seen_routines S (routines_of s (set n)) (after n) in
-        lost_same S s.mode arrivals n (routines_of s (set n)) (arrived n) i low
-        ∙ noted.losses i (omega (arith, low, size)) none
+    abbrev IsLow : Measure → ℕ → Type 0
+    IsLow measure k =
+        IsAtMost (told peaks (figure measure k)) (shown_by S s.mode arrivals n measure k)
 
-    none_refused : (k : ℕ) → k < length S.tasks → has_come peaks.refusals k ≡ false
-        → (task_ticks S s.mode arrivals k n).seen.refused ≡ 0
-    none_refused k low none =
-        let size = seen_tasks S (routines_of s (set n)) (after n) in
-        refused_same S s.mode arrivals n (routines_of s (set n)) (arrived n) k low
-        ∙ noted.refusals k (omega (arith, low, size)) none
+    blocked_few : (k m : ℕ) → k < length S.tasks → m < s.cap
+        → blocked_ticks (levels_of S) s.cap shown has.node.labels k ≤ m
+        → blocked_at S s.mode arrivals k n ≤ m
+    blocked_few k m low below noted_few =
+        blocked_low s arrivals n has.node.labels proper going (arrived n) has.bounds k m low below
+        noted_few
 
-    none_acts : (a : ℕ) → a < length S.alarms → has_come peaks.actions a ≡ false
-        → one_if (alarm_ticks S s.mode arrivals a n).seen.is_refused ≡ 0
-    none_acts a low none =
-        let size = seen_alarms S (routines_of s (set n)) (after n) in
-        ap (λ (x : AlarmSeen). one_if x.is_refused)
-        (alarm_same S s.mode arrivals n (routines_of s (set n)) (arrived n) a low)
-        ∙ ap one_if (noted.actions a (omega (arith, low, size)) none)
+    -- a service that fails is of an owner that passes a test exactly where the one noted is
+    fails_same : (test : Option Owner → Bool)
+        → (test (option_map owner_of (tick_at S s.mode arrivals n).executed)
+        && is_error (answered (tick_at S s.mode arrivals n).executed))
+        ≡ fails_by test shown.failure
+    fails_same test =
+        fails_alike test (tick_at S s.mode arrivals n).executed
+        ∙ ap (fails_by test)
+        (ap failure_of told_same.executed
+        ∙ failure_same S s.mode arrivals n here (arrived n))
 
-    no_error : (k : ℕ) → task_fails peaks.failures k ≡ false
-        → one_if (task_errors S s.mode arrivals k n) ≡ 0
-    no_error k none =
-        ap one_if
-        (no_task_error S s.mode arrivals n (routines_of s (set n)) (arrived n) peaks.failures
-        noted.failures k none)
-
-    no_error_of_routine : (i : ℕ) → routine_fails peaks.failures i ≡ false
-        → one_if (routine_errors S s.mode arrivals i n) ≡ 0
-    no_error_of_routine i none =
-        ap one_if
-        (no_routine_error S s.mode arrivals n (routines_of s (set n)) (arrived n) peaks.failures
-        noted.failures i none)
+    low_by : (measure : Measure) (k : ℕ) → IsTrue (is_of S (figure measure k))
+        → IsTrue (is_below s.cap peaks (figure measure k)) → IsLow measure k
+    low_by Measure.Response k of below =
+        let low = ltb-true _ _ of in
+        age_low S s.mode arrivals proper k n _ going
+        (subst (IsAtMost (told peaks (figure Measure.Response k)))
+        (sym (ages_agree S s.mode arrivals n here (arrived n) k low (ages_at s arrivals k n)).oldest)
+        (oldest_within s.cap (told peaks (figure Measure.Response k)) (ltb-true _ _ below)
+        (task_tick seen k) (ages_of has.node.labels k) (ages_at s arrivals k n)
+        (has.bounds.ages k low) (read Measure.Response k of)))
+    low_by Measure.Blocked k of below =
+        blocked_few k _ (ltb-true _ _ of) (ltb-true _ _ below) (read Measure.Blocked k of)
+    low_by Measure.Blockers k of below =
+        none_or_one (told peaks (figure Measure.Blockers k))
+        (blocked_ticks (levels_of S) s.cap shown has.node.labels k)
+        (blocked_at S s.mode arrivals k n) (read Measure.Blockers k of)
+        (blocked_few k 0 (ltb-true _ _ of) (ltb-true _ _ below))
+    low_by Measure.Jobs k of below =
+        let few = read Measure.Jobs k of in
+        let same : (task_seen S (tick_at S s.mode arrivals n) k).jobs ≡ (task_in seen k).jobs =
+        ap (λ (t : TaskSeen). t.jobs) (told_same.tasks k)
+        ∙ jobs_same S s.mode arrivals n here (arrived n) k (ltb-true _ _ of) in
+        omega (arith, few, same)
+    low_by Measure.Refusal k of below =
+        let few = read Measure.Refusal k of in
+        let same : (task_seen S (tick_at S s.mode arrivals n) k).refused ≡ (task_in seen k).refused =
+        ap (λ (t : TaskSeen). t.refused) (told_same.tasks k)
+        ∙ refused_same S s.mode arrivals n here (arrived n) k (ltb-true _ _ of) in
+        omega (arith, few, same)
+    low_by Measure.Errors k of below =
+        subst (λ b. one_if b ≤ told peaks (figure Measure.Errors k))
+        (sym (fails_same (λ who. is_task who k))) (read Measure.Errors k of)
+    low_by Measure.Latency k of below =
+        let low = ltb-true _ _ of in
+        waits_low S s.mode arrivals proper k n _ going
+        (subst (IsAtMost (told peaks (figure Measure.Latency k)))
+        (sym (pending_agrees S s.mode arrivals n here (arrived n) k low
+        (pending_at s arrivals k n)).waited)
+        (waited_within s.cap (told peaks (figure Measure.Latency k)) (ltb-true _ _ below)
+        (routine_tick seen k) (pending_of has.node.labels k) (pending_at s arrivals k n)
+        (has.bounds.pending k low) (read Measure.Latency k of)))
+    low_by Measure.Loss k of below =
+        let few = read Measure.Loss k of in
+        let same : (routine_seen (tick_at S s.mode arrivals n) k).lost ≡ (routine_in seen k).lost =
+        ap (λ (r : RoutineSeen). r.lost) (told_same.routines k)
+        ∙ lost_same S s.mode arrivals n here (arrived n) k (ltb-true _ _ of) in
+        omega (arith, few, same)
+    low_by Measure.RoutineErrors k of below =
+        subst (λ b. one_if b ≤ told peaks (figure Measure.RoutineErrors k))
+        (sym (fails_same (λ who. is_routine who k))) (read Measure.RoutineErrors k of)
+    low_by Measure.Hold k of below =
+        hold_low S s.mode arrivals proper k n _ going
+        (subst (IsAtMost (told peaks (figure Measure.Hold k)))
+        (sym (holds_agree S s.mode arrivals n here (arrived n) k (hold_at s arrivals k n)).held)
+        (held_within s.cap (told peaks (figure Measure.Hold k)) (ltb-true _ _ below)
+        (holder_tick seen k) (hold_of has.node.labels k) (hold_at s arrivals k n)
+        (has.bounds.holds k (ltb-true _ _ of)) (read Measure.Hold k of)))
+    low_by Measure.RefusedAction k of below =
+        subst (λ (a : AlarmSeen). one_if a.is_refused ≤ told peaks (figure Measure.RefusedAction k))
+        (sym (told_same.alarms k
+        ∙ alarm_same S s.mode arrivals n here (arrived n) k (ltb-true _ _ of)))
+        (read Measure.RefusedAction k of)
+    low_by Measure.Shutdown k of below =
+        subst (λ b. one_if b ≤ told peaks (figure Measure.Shutdown k))
+        (ap (λ (o : Kept). o.over) (after_tick n going)) (read Measure.Shutdown k of)
 
     tick_within : IsTickWithin S s.mode s.cap peaks arrivals n
-    tick_within =
-        let told = runs_show S s.mode arrivals n proper going in
-        let size = seen_tasks S (routines_of s (set n)) (after n) in
-        record {
-          failures =
-              subst (λ (f : Option Failure). IfSome f (λ x. Contains peaks.failures x))
-              (sym
-              (ap failure_of told.executed
-              ∙ failure_same S s.mode arrivals n (routines_of s (set n)) (arrived n)))
-              noted.failures;
-          jobs = λ k low.
-              let few = noted.jobs k (omega (arith, low, size)) in
-              let same : (task_seen S (tick_at S s.mode arrivals n) k).jobs ≡ (task_in seen k).jobs =
-              ap (λ (t : TaskSeen). t.jobs) (told.tasks k)
-              ∙ jobs_same S s.mode arrivals n (routines_of s (set n)) (arrived n) k low in
-              omega (arith, few, same);
-          ages = λ k is few. age_low S s.mode arrivals proper k n _ going (oldest_low k is few);
-          blocked = λ k low below_cap.
-              blocked_low s arrivals n has.node.labels proper going (arrived n) has.bounds k
-              (peak peaks.blocked k) low below_cap (noted.blocked k (omega (arith, low, size)));
-          waits = λ i is few. waits_low S s.mode arrivals proper i n _ going (waited_low i is few);
-          holds = λ r is few. hold_low S s.mode arrivals proper r n _ going (held_low r is few);
-          shutdown = λ none.
-              ap (λ (o : Kept). o.over) (sym (after_tick n going)) ∙ noted.shutdown none;
-        }
+    tick_within = record {
+      figures = λ f of below. low_by f.measure f.number of below;
+      failures =
+          subst (λ (f : Option Failure). IfSome f (λ x. Contains peaks.failures x))
+          (sym
+          (ap failure_of told_same.executed
+          ∙ failure_same S s.mode arrivals n here (arrived n)))
+          noted.failures;
+    }
 
 -- ---- the law
 
--- a run isn't over before a tick that is observed
-pub going_at : (S : System) (mode : ℕ) (arrivals : List Arrival) (n : ℕ) (seen : List Observation)
-    → AreTicksOf S mode arrivals n seen → (i : ℕ) → i < n
-    → (run S mode arrivals i).state.over ≡ false
-going_at S mode arrivals zero seen are i low = absurd (omega (arith, low))
-going_at S mode arrivals (suc n) [] are i low = absurd are
-going_at S mode arrivals (suc n) (o ∷ before) are i low = elim (cases_lt i n) [
-  | inl less ↦ going_at S mode arrivals n before are.1 i less
-  | inr last ↦
-      let same : n ≡ i = omega (arith, low, last) in
-      subst (λ k. (run S mode arrivals k).state.over ≡ false) same are.0.going
-]
-
-module _ (s : Setting) (peaks : Peaks) (count : ℕ) (levels : ℕ → List Node)
-    (proper : IsProper s.system) (all : AreLevels (rules_of s) (AreNoted s peaks) count levels)
-    (arrivals : List Arrival) (n : ℕ) (few : n ≤ count)
-    (f : RunFigures) (keep : KeepDistances s.system s.distances arrivals)
-    (are : AreRunFigures s.system s.mode arrivals n f) where
-  going : (i : ℕ) → i < n → (run s.system s.mode arrivals i).state.over ≡ false
-  going i low = going_at s.system s.mode arrivals n are.seen are.ticks i low
-
-  soon : (i : ℕ) → i < n → i < count
-  soon i inside = omega (arith, inside, few)
-
-  stay : StayWithin s.system s.mode arrivals n f
-  stay = runs_stay_within s.system s.mode arrivals n f are
-
-  have : HaveNone s.system s.mode arrivals n f
-  have = runs_have_none s.system s.mode arrivals n f are
-
-  none_older : (k : ℕ) → k < length s.system.tasks → peak peaks.responses k < s.cap
-      → NoneMoreBefore ages oldest_age (task_ticks s.system s.mode arrivals k)
-      (peak peaks.responses k) n
-  none_older k low below_cap i inside =
-      oldest_low s peaks count levels proper all arrivals keep i (soon i inside) (going i inside) k low below_cap
-
-  none_waits_longer : (k : ℕ) → k < length s.system.routines → peak peaks.latencies k < s.cap
-      → NoneMoreBefore pending waited (routine_ticks s.system s.mode arrivals k)
-      (peak peaks.latencies k) n
-  none_waits_longer k low below_cap i inside =
-      waited_low s peaks count levels proper all arrivals keep i (soon i inside) (going i inside) k low below_cap
-
-  within : AreWithin s.system s.cap peaks f
-  within = record {
-    responses = λ k low below_cap.
-        stay.responses k (peak peaks.responses k) low
-        (λ i inside. leaving_within (peak peaks.responses k)
-        (task_ticks s.system s.mode arrivals k i) (ages_at s arrivals k i)
-        (none_older k low below_cap i inside));
-    times = λ k low below_cap.
-        stay.times k (peak peaks.responses k) low (none_older k low below_cap);
-    latencies = λ k low below_cap.
-        stay.latencies k (peak peaks.latencies k) low
-        (λ i inside. latency_within (peak peaks.latencies k)
-        (routine_ticks s.system s.mode arrivals k i) (pending_at s arrivals k i)
-        (none_waits_longer k low below_cap i inside));
-    waits = λ k low below_cap.
-        stay.waits k (peak peaks.latencies k) low (none_waits_longer k low below_cap);
-    holds = λ r low below_cap.
-        stay.holds r (peak peaks.holds r) low
-        (λ i inside. held_low s peaks count levels proper all arrivals keep i (soon i inside) (going i inside) r low
-        below_cap);
-    losses = λ k low none.
-        have.losses k low
-        (λ i inside. none_lost s peaks count levels proper all arrivals keep i (soon i inside) (going i inside) k low
-        none);
-    refusals = λ k low none.
-        have.refusals k low
-        (λ i inside. none_refused s peaks count levels proper all arrivals keep i (soon i inside) (going i inside) k
-        low none);
-    actions = λ a low none.
-        have.actions a low
-        (λ i inside. none_acts s peaks count levels proper all arrivals keep i (soon i inside) (going i inside) a low
-        none);
-    errors = λ k low none.
-        have.errors k low
-        (λ i inside. no_error s peaks count levels proper all arrivals keep i (soon i inside)
-        (going i inside) k none);
-    routine_errors = λ k low none.
-        have.routine_errors k low
-        (λ i inside. no_error_of_routine s peaks count levels proper all arrivals keep i
-        (soon i inside) (going i inside) k none);
-  }
-
 pub levels_bound : LevelsBound
 levels_bound s peaks count levels proper enough own all = record {
-  figures = λ arrivals n f few keep are.
-      within s peaks count levels proper all arrivals n few f keep are;
+  figures = λ arrivals n f figure few keep are told of below.
+      value_within s.system s.mode arrivals n f figure _ are told of
+      (λ i inside.
+      (tick_within s peaks count levels proper all arrivals keep i (omega (arith, inside, few))
+      (going_at s.system s.mode arrivals n are.seen are.ticks i inside)).figures figure of below);
   ticks = λ arrivals n early keep going.
       tick_within s peaks count levels proper all arrivals keep n early going;
-  blockers = λ arrivals n f few keep are told k low some.
-      let on : (v : ℕ) → v < n → (run s.system s.mode arrivals v).state.over ≡ false =
-      λ v less. going_at s.system s.mode arrivals n are.seen are.ticks v less in
-      figures_low s.system s.mode arrivals n f are told on k (peak peaks.blocked k) low
-      (λ none v less.
-      (tick_within s peaks count levels proper all arrivals keep v (omega (arith, less, few))
-      (on v less)).blocked k low (omega (arith, none, some)));
 }
 
 -- nodes that stand for all that can come do for any number of steps

@@ -10,9 +10,9 @@ use Rattle.view_figures.specs.ResourceSums.{is_same}
 use Rattle.view_figures.specs.ResponseSums.{later}
 use Rattle.view_figures.specs.StateSums.{leaves}
 use Rattle.law_figures.specs.Labels.{IsAtMost}
-use Rattle.law_figures.specs.Ages.{AreOlder, ages_in, ages_next, followed, leaving_age, oldest_age}
+use Rattle.law_figures.specs.Ages.{AreOlder, ages_in, ages_next, followed, oldest_age}
 use Rattle.law_figures.specs.Blocking.{blocked_in, blocked_next, is_blocked_in}
-use Rattle.law_figures.specs.Pending.{IsOlder, pending_in, pending_next, start_latency}
+use Rattle.law_figures.specs.Pending.{IsOlder, pending_in, pending_next}
 use Rattle.law_figures.specs.Holding.{Hold, IsLonger, held_in, held_ticks, hold_next}
 use Rattle.law_figures.specs.Times.{waited}
 use Rattle.law_figures.proofs.AgeOrder.{ages_keep_order}
@@ -22,25 +22,6 @@ use Rattle.search_labels.specs.Labels.{capped_hold}
 
 abbrev waited_where : Bool → Option ℕ → Option ℕ
 waited_where b age = cond b (option_map (λ n. n - 1) age) age
-
--- what is shown where an age ends is shown before too
-module _ (m : ℕ) where
-  pub leaving_within : (t : TaskTick) (old : List ℕ) → IsAtMost m (oldest_age t old)
-      → IsAtMost m (leaving_age t old)
-  leaving_within t old low = go (leaves t)
-    where
-      go : (b : Bool) → IsAtMost m (cond b (oldest_age t old) None)
-      go true = low
-      go false = tt
-
-  pub latency_within : (r : RoutineTick) (age : Option ℕ) → IsAtMost m (waited r age)
-      → IsAtMost m (start_latency r age)
-  latency_within r age = go r.seen.is_started
-    where
-      go : (b : Bool) → IsAtMost m (waited_where b (pending_in r age))
-          → IsAtMost m (cond b (option_map (λ n. n - 1) (pending_in r age)) None)
-      go true low = low
-      go false low = tt
 
 module _ (cap : ℕ) where
   abbrev pub capped_ages : List ℕ → List ℕ

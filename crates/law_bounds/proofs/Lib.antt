@@ -13,6 +13,7 @@ pub mod Lower
 pub mod Blockers
 pub mod OneLabel
 pub mod RunTicks
+pub mod Showing
 pub mod Bounding
 pub mod Trying
 pub mod Lost

@@ -1,7 +1,7 @@
 -- Interrupts of routines that are pending already are lost, and change nothing else.
-use Rattle.std.proofs.Common.{ℕ, ◌≡◌, ◌<◌, ◌≤◌, ◌-◌, inl, inr, Bool, true, false, cond, ◌||◌, ◌&&◌, List, ◌++◌, map, length, get_or, Option, Some, None, refl, sym, ◌∙◌, ap, subst, arith, true≢false}
+use Rattle.std.proofs.Common.{ℕ, ◌≡◌, ◌<◌, ◌≤◌, ◌-◌, inl, inr, Bool, true, false, cond, ◌||◌, ◌&&◌, List, ◌++◌, map, length, get_or, zero, suc, Option, Some, None, refl, sym, ◌∙◌, ap, subst, arith, ltb-true, true≢false}
 use Rattle.std.proofs.Math.Path.{fun_ext}
-use Rattle.std.specs.Prelude.{min}
+use Rattle.std.specs.Prelude.{IsTrue, min, nat_lt}
 use Rattle.std.specs.Int.{bit_at}
 use Rattle.std.specs.Option.{option_map}
 use Rattle.std.proofs.lemmas.Bool.{cases_lt, eqb-true}
@@ -32,7 +32,10 @@ use Rattle.law_figures.specs.Times.{waited}
 use Rattle.search_keys.specs.Key.{key}
 use Rattle.search_labels.specs.Ticks.{routine_in, routine_tick}
 use Rattle.search_labels.specs.Labels.{IsAtLeast, Labels, arrives_in, distance_of, next_labels, next_pending, next_wait, pending_of, wait_of}
-use Rattle.search_peaks.specs.Peaks.{IsNoted, Peaks, TickShown, has_come, peak}
+use Rattle.view_measures.specs.declared.measure.Measure.{Measure}
+use Rattle.view_measures.specs.Measures.{figure}
+use Rattle.search_peaks.specs.Noting.{IsNoted, TickShown, is_seen, reading_by}
+use Rattle.search_peaks.specs.Peaks.{Peaks, told}
 use Rattle.law_bounds.specs.Lost.{IsWithoutLost, LostChangeNothing}
 use Rattle.law_bounds.specs.Nodes.{IsAfter, May, Node, Setting, routines_of, tick_shown_from}
 use Rattle.law_bounds.proofs.Counted.{times_of}
@@ -48,10 +51,11 @@ raised_alike true false flag less lost = sym (lost refl refl)
 raised_alike false true flag less lost = absurd (true≢false (sym (less refl)))
 raised_alike false false flag less lost = refl
 
-same_unlost : (b c come : Bool) → (c ≡ true → b ≡ true) → (b ≡ true → c ≡ false → come ≡ true)
-    → come ≡ false → b ≡ c
+same_unlost : (b c : Bool) (come : ℕ) → (c ≡ true → b ≡ true) → (b ≡ true → c ≡ false → 1 ≤ come)
+    → come ≡ 0 → b ≡ c
 same_unlost true true come less lost none = refl
-same_unlost true false come less lost none = absurd (true≢false (sym (lost refl refl) ∙ none))
+same_unlost true false come less lost none =
+    let some = lost refl refl in absurd (omega (arith, some, none))
 same_unlost false true come less lost none = less refl
 same_unlost false false come less lost none = refl
 
@@ -229,6 +233,11 @@ module _ (r u : RoutineTick) (pend : r.seen.is_pending ≡ u.seen.is_pending)
   waits_alike age =
       λ i. cond (start i) (option_map (λ n. n - 1) (ages_alike age i)) (ages_alike age i)
 
+-- where losses are told, one more changes nothing
+lost_low : (m other lost : ℕ) → min 1 other ≤ m → (m ≡ 0 → other ≡ lost) → min 1 lost ≤ m
+lost_low zero other lost few same = let is = same refl in omega (arith, few, is)
+lost_low (suc m) other lost few same = omega arith
+
 -- ticks show the same but for what is seen of routines, and of these the same pend and start
 module _ (shown : TickShown) (others : List RoutineSeen) where
   abbrev with_others : TickShown
@@ -240,27 +249,44 @@ module _ (shown : TickShown) (others : List RoutineSeen) where
       ≡ (routine_in shown.seen i).is_started) where
     notes_alike : (levels : List ℕ) (cap : ℕ) (peaks : Peaks) (l : Labels)
         → length others ≡ length shown.seen.routines
-        → ((i : ℕ) → i < length others → has_come peaks.losses i ≡ false
+        → ((i : ℕ) → i < length others → told peaks (figure Measure.Loss i) ≡ 0
         → (routine_in with_others.seen i).lost ≡ (routine_in shown.seen i).lost)
         → IsNoted levels cap peaks with_others l → IsNoted levels cap peaks shown l
     notes_alike levels cap peaks l long lost noted = record {
-      responses = noted.responses;
-      blocked = noted.blocked;
-      jobs = noted.jobs;
-      latencies = λ i low.
-          subst (λ (age : Option ℕ). IsAtMost (peak peaks.latencies i) (option_map (min cap) age))
-          (waits_alike (routine_tick with_others.seen i) (routine_tick shown.seen i) (pend i)
-          (start i) (pending_of l i))
-          (noted.latencies i (omega (arith, low, long)));
-      holds = noted.holds;
-      losses = λ i low none.
-          let inside : i < length others = omega (arith, low, long) in
-          sym (lost i inside none) ∙ noted.losses i inside none;
-      refusals = noted.refusals;
-      actions = noted.actions;
+      figures = λ f seen. by_measure f.measure f.number seen;
       failures = noted.failures;
-      shutdown = noted.shutdown;
     }
+      where
+        inside : (i : ℕ) → nat_lt i (length shown.seen.routines) ≡ true
+            → nat_lt i (length others) ≡ true
+        inside i seen = subst (λ c. nat_lt i c ≡ true) (sym long) seen
+
+        by_measure : (measure : Measure) (k : ℕ) → IsTrue (is_seen shown.seen (figure measure k))
+            → IsAtMost (told peaks (figure measure k)) (reading_by levels cap shown l measure k)
+        by_measure Measure.Response k seen = noted.figures (figure Measure.Response k) seen
+        by_measure Measure.Blocked k seen = noted.figures (figure Measure.Blocked k) seen
+        by_measure Measure.Blockers k seen = noted.figures (figure Measure.Blockers k) seen
+        by_measure Measure.Jobs k seen = noted.figures (figure Measure.Jobs k) seen
+        by_measure Measure.Refusal k seen = noted.figures (figure Measure.Refusal k) seen
+        by_measure Measure.Errors k seen = noted.figures (figure Measure.Errors k) seen
+        by_measure Measure.Latency i seen =
+            subst
+            (λ (age : Option ℕ).
+            IsAtMost (told peaks (figure Measure.Latency i)) (option_map (min cap) age))
+            (waits_alike (routine_tick with_others.seen i) (routine_tick shown.seen i) (pend i)
+            (start i) (pending_of l i))
+            (noted.figures (figure Measure.Latency i) (inside i seen))
+        by_measure Measure.Loss i seen =
+            lost_low (told peaks (figure Measure.Loss i)) (routine_in with_others.seen i).lost
+            (routine_in shown.seen i).lost
+            (noted.figures (figure Measure.Loss i) (inside i seen))
+            (lost i (ltb-true _ _ (inside i seen)))
+        by_measure Measure.RoutineErrors i seen =
+            noted.figures (figure Measure.RoutineErrors i) (inside i seen)
+        by_measure Measure.Hold k seen = noted.figures (figure Measure.Hold k) seen
+        by_measure Measure.RefusedAction k seen =
+            noted.figures (figure Measure.RefusedAction k) seen
+        by_measure Measure.Shutdown k seen = noted.figures (figure Measure.Shutdown k) seen
 
     pending_alike : (cap : ℕ) (l : Labels) (i : ℕ)
         → next_pending cap with_others.seen l i ≡ next_pending cap shown.seen l i
@@ -357,7 +383,7 @@ module _ (s : Setting) (x : Node) (set fewer : ℕ) (o : Kept) (may : May s x se
   noted_without : (peaks : Peaks)
       → IsNoted (levels_of s.system) s.cap peaks (tick_shown_from s fewer o) x.labels
       → ((i : ℕ) → i < length s.system.routines → arrives_in set i ≡ true
-      → arrives_in fewer i ≡ false → has_come peaks.losses i ≡ true)
+      → arrives_in fewer i ≡ false → 1 ≤ told peaks (figure Measure.Loss i))
       → IsNoted (levels_of s.system) s.cap peaks (tick_shown_from s set o) x.labels
   noted_without peaks noted come =
       let seen = routine_seen_in (as_few s set fewer o without) in
@@ -368,7 +394,7 @@ module _ (s : Setting) (x : Node) (set fewer : ℕ) (o : Kept) (may : May s x se
       (λ i inside none.
       let low : i < length s.system.routines = omega (arith, inside, long) in
       lost_same s set fewer o without i low
-      (same_unlost (arrives_in set i) (arrives_in fewer i) (has_come peaks.losses i)
+      (same_unlost (arrives_in set i) (arrives_in fewer i) (told peaks (figure Measure.Loss i))
       (without.less i) (come i low) none))
       (subst (λ (t : TickShown). IsNoted (levels_of s.system) s.cap peaks t x.labels)
       (sym (shown_same s set fewer o without)) noted)

@@ -1,5 +1,5 @@
 -- Where the longest hold of a resource is bounded, who holds it releases it.
-use Rattle.std.proofs.Common.{◌≡◌, ℕ, suc, ◌+◌, ◌-◌, ◌<◌, ◌≤◌, false, List, ◌∙◌, subst, arith}
+use Rattle.std.proofs.Common.{◌≡◌, ℕ, suc, ◌+◌, ◌-◌, ◌<◌, ◌≤◌, false, List, ◌∙◌, subst, arith, lt-ltb}
 use Rattle.osek_base.specs.declared.arrivals.Arrival.{Arrival}
 use Rattle.osek_base.specs.Proper.{IsProper}
 use Rattle.osek_base.specs.State.{JobId}
@@ -9,7 +9,9 @@ use Rattle.view_figures.specs.FigureSums.{held_count}
 use Rattle.law_figures.specs.Labels.{IsAtMost}
 use Rattle.law_jobs.specs.HeldSince.{IsHeldSince}
 use Rattle.law_jobs.proofs.Holds.{holds_are_of_jobs}
-use Rattle.search_peaks.specs.Peaks.{peak}
+use Rattle.view_measures.specs.declared.measure.Measure.{Measure}
+use Rattle.view_measures.specs.Measures.{figure}
+use Rattle.search_peaks.specs.Peaks.{told}
 use Rattle.law_bounds.specs.Releasing.{BoundedHoldsEnd}
 use Rattle.law_bounds.specs.RunTicks.{held_at}
 use Rattle.law_bounds.proofs.RunTicks.{held_is}
@@ -31,5 +33,6 @@ none_longer S mode arrivals r most n since job proper known going low holds =
 pub bounded_holds_end : BoundedHoldsEnd
 bounded_holds_end S mode distances cap peaks r proper bounds known below arrivals n since job keep
     going holds =
-    none_longer S mode arrivals r (peak peaks.holds r) n since job proper known going
-    (((bounds (suc n)).ticks arrivals n (omega arith) keep going).holds r known below) holds
+    none_longer S mode arrivals r (told peaks (figure Measure.Hold r)) n since job proper known going
+    (((bounds (suc n)).ticks arrivals n (omega arith) keep going).figures (figure Measure.Hold r)
+    (lt-ltb _ _ known) (lt-ltb _ _ below)) holds

@@ -1,5 +1,5 @@
 -- Where the greatest latency of a routine is bounded, it starts within that of each interrupt.
-use Rattle.std.proofs.Common.{◌≡◌, ℕ, suc, ◌<◌, ◌+◌, false, List, length, subst, arith}
+use Rattle.std.proofs.Common.{◌≡◌, ℕ, suc, ◌<◌, ◌+◌, false, List, length, subst, arith, lt-ltb}
 use Rattle.osek_base.specs.declared.arrivals.Arrival.{Arrival}
 use Rattle.osek_base.specs.Proper.{IsProper}
 use Rattle.osek_base.specs.System.{System}
@@ -8,7 +8,9 @@ use Rattle.law_figures.specs.Labels.{IsAtMost}
 use Rattle.law_jobs.specs.PendingSince.{IsTaken}
 use Rattle.law_jobs.specs.Starting.{HasStarted}
 use Rattle.law_jobs.proofs.Starting.{started_within}
-use Rattle.search_peaks.specs.Peaks.{peak}
+use Rattle.view_measures.specs.declared.measure.Measure.{Measure}
+use Rattle.view_measures.specs.Measures.{figure}
+use Rattle.search_peaks.specs.Peaks.{told}
 use Rattle.law_bounds.specs.RunTicks.{waited_at}
 use Rattle.law_bounds.specs.Starting.{BoundedInterruptsStart}
 use Rattle.law_bounds.proofs.RunTicks.{waited_is}
@@ -25,8 +27,8 @@ none_later S mode arrivals k most since proper known going low is =
 pub bounded_interrupts_start : BoundedInterruptsStart
 bounded_interrupts_start S mode distances cap peaks proper bounds k known below arrivals since keep
     going is =
-    let most = peak peaks.latencies k in
+    let most = told peaks (figure Measure.Latency k) in
     none_later S mode arrivals k most since proper known going
-    (((bounds (suc (since + most))).ticks arrivals (since + most) (omega arith) keep going).waits k
-    known below)
+    (((bounds (suc (since + most))).ticks arrivals (since + most) (omega arith) keep going).figures
+    (figure Measure.Latency k) (lt-ltb _ _ known) (lt-ltb _ _ below))
     is

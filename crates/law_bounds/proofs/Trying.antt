@@ -11,7 +11,7 @@ use Rattle.search.specs.Subsets.{IsSubset}
 use Rattle.search.proofs.SubsetLemmas.{subset_within}
 use Rattle.search_keys.specs.InRange.{NeedsOwnWords}
 use Rattle.search_labels.specs.Labels.{IsAtLeast, arrives_in, next_labels, wait_of}
-use Rattle.search_peaks.specs.Peaks.{IsNoted, TickShown}
+use Rattle.search_peaks.specs.Noting.{IsNoted, TickShown}
 use Rattle.law_bounds.specs.Going.{GoOnAlike, HaveOneFuture, KeysTellFutures}
 use Rattle.law_bounds.specs.Nodes.{May, Node, Setting, StandsFor, routines_of, tick_shown_from}
 use Rattle.law_bounds.specs.Trying.{AreFree, LabelsAreOrdered, OneStateTells, SubsetsMay}

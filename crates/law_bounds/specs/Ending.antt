@@ -6,7 +6,9 @@ use Rattle.osek_base.specs.State.{JobId}
 use Rattle.osek_base.specs.System.{System}
 use Rattle.osek_base.specs.Trace.{run}
 use Rattle.law_jobs.specs.ReadySince.{IsReadySince}
-use Rattle.search_peaks.specs.Peaks.{Peaks, peak}
+use Rattle.view_measures.specs.declared.measure.Measure.{Measure}
+use Rattle.view_measures.specs.Measures.{figure}
+use Rattle.search_peaks.specs.Peaks.{Peaks, told}
 use Rattle.law_bounds.specs.Bounds.{AreBounds}
 use Rattle.law_bounds.specs.Distances.{KeepDistances}
 
@@ -24,5 +26,6 @@ EndsWithin S mode distances most k =
 abbrev pub BoundedJobsEnd : Type 0
 BoundedJobsEnd =
     (S : System) (mode : ℕ) (distances : List ℕ) (cap : ℕ) (peaks : Peaks) (k : ℕ) → IsProper S
-    → AreBounds S mode distances cap peaks → k < length S.tasks → peak peaks.responses k < cap
-    → EndsWithin S mode distances (peak peaks.responses k) k
+    → AreBounds S mode distances cap peaks → k < length S.tasks
+    → told peaks (figure Measure.Response k) < cap
+    → EndsWithin S mode distances (told peaks (figure Measure.Response k)) k

@@ -2,6 +2,7 @@ pub mod Distances
 pub mod Nodes
 pub mod Going
 pub mod RunTicks
+pub mod Showing
 pub mod Bounds
 pub mod Trying
 pub mod Lost

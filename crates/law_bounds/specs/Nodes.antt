@@ -13,7 +13,8 @@ use Rattle.law_seen.specs.Seen.{executor_in, failure_in, seen_in}
 use Rattle.search_keys.specs.Key.{key}
 use Rattle.search.specs.Rules.{Rules}
 use Rattle.search_labels.specs.Labels.{Labels, IsAtLeast, arrives_in, first_labels, next_labels, wait_of}
-use Rattle.search_peaks.specs.Peaks.{IsNoted, Peaks, TickShown}
+use Rattle.search_peaks.specs.Noting.{IsNoted, TickShown}
+use Rattle.search_peaks.specs.Peaks.{Peaks}
 
 -- what a search goes by: a system in a mode, which data is needed, how many ticks apart interrupts
 -- of each routine come at least, and up to which age labels tell

@@ -7,7 +7,9 @@ use Rattle.osek_base.specs.System.{System}
 use Rattle.osek_base.specs.Trace.{run}
 use Rattle.view_figures.specs.FigureSums.{held_count}
 use Rattle.law_jobs.specs.HeldSince.{IsHeldSince}
-use Rattle.search_peaks.specs.Peaks.{Peaks, peak}
+use Rattle.view_measures.specs.declared.measure.Measure.{Measure}
+use Rattle.view_measures.specs.Measures.{figure}
+use Rattle.search_peaks.specs.Peaks.{Peaks, told}
 use Rattle.law_bounds.specs.Bounds.{AreBounds}
 use Rattle.law_bounds.specs.Distances.{KeepDistances}
 
@@ -26,5 +28,6 @@ ReleasesWithin S mode distances most r =
 abbrev pub BoundedHoldsEnd : Type 0
 BoundedHoldsEnd =
     (S : System) (mode : ℕ) (distances : List ℕ) (cap : ℕ) (peaks : Peaks) (r : ℕ) → IsProper S
-    → AreBounds S mode distances cap peaks → r < held_count S → peak peaks.holds r < cap
-    → ReleasesWithin S mode distances (peak peaks.holds r) r
+    → AreBounds S mode distances cap peaks → r < held_count S
+    → told peaks (figure Measure.Hold r) < cap
+    → ReleasesWithin S mode distances (told peaks (figure Measure.Hold r)) r

@@ -6,7 +6,9 @@ use Rattle.osek_base.specs.System.{System}
 use Rattle.osek_base.specs.Trace.{run}
 use Rattle.law_jobs.specs.PendingSince.{IsTaken}
 use Rattle.law_jobs.specs.Starting.{HasStarted}
-use Rattle.search_peaks.specs.Peaks.{Peaks, peak}
+use Rattle.view_measures.specs.declared.measure.Measure.{Measure}
+use Rattle.view_measures.specs.Measures.{figure}
+use Rattle.search_peaks.specs.Peaks.{Peaks, told}
 use Rattle.law_bounds.specs.Bounds.{AreBounds}
 use Rattle.law_bounds.specs.Distances.{KeepDistances}
 
@@ -21,8 +23,8 @@ StartsWithin S mode distances most k =
 -- so it is of each routine whose greatest latency is below a cap
 abbrev pub RoutinesStart : System → ℕ → List ℕ → ℕ → Peaks → Type 0
 RoutinesStart S mode distances cap peaks =
-    (k : ℕ) → k < length S.routines → peak peaks.latencies k < cap
-    → StartsWithin S mode distances (peak peaks.latencies k) k
+    (k : ℕ) → k < length S.routines → told peaks (figure Measure.Latency k) < cap
+    → StartsWithin S mode distances (told peaks (figure Measure.Latency k)) k
 
 -- ---- the law
 

@@ -7,7 +7,8 @@ use Rattle.search_keys.specs.InRange.{NeedsOwnWords}
 use Rattle.search.specs.Subsets.{IsSubset}
 use Rattle.view_figures.specs.FigureSums.{levels_of}
 use Rattle.search_labels.specs.Labels.{IsAtLeast, Labels, arrives_in, wait_of}
-use Rattle.search_peaks.specs.Peaks.{IsNoted, Peaks}
+use Rattle.search_peaks.specs.Noting.{IsNoted}
+use Rattle.search_peaks.specs.Peaks.{Peaks}
 use Rattle.law_bounds.specs.Nodes.{AreNoted, IsAfter, IsNext, May, Node, Setting, StandsFor, tick_shown_from}
 
 -- ---- labels

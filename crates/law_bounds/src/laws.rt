@@ -1,6 +1,6 @@
 //! The laws, one function each. They do nothing: the clause is the law.
 
-ghost use Rattle.search_peaks.specs.Peaks.{NotesStay};
+ghost use Rattle.search_peaks.specs.Noting.{NotesStay};
 ghost use Rattle.law_bounds.specs.Bounds.{LevelsBound, NodesAreKept, SearchesBound};
 ghost use Rattle.law_bounds.specs.Going.{KeysTellFutures};
 ghost use Rattle.law_bounds.specs.Lost.{LostChangeNothing};

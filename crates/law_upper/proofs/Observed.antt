@@ -1,10 +1,9 @@
 -- Each run of a system that isn't over has observations and figures.
-use Rattle.std.proofs.Common.{◌≡◌, ℕ, zero, suc, ◌<◌, ◌≤◌, ◌^◌, false, List, [], ◌∷◌, map, length, refl, arith}
+use Rattle.std.proofs.Common.{◌≡◌, ℕ, zero, suc, ◌<◌, false, List, [], ◌∷◌, map, length, refl, arith}
 use Rattle.std.specs.Prelude.{None, count_by}
 use Rattle.std.specs.Option.{option_map}
 use Rattle.osek_base.specs.declared.arrivals.Arrival.{Arrival}
 use Rattle.osek_base.specs.Lists.{below}
-use Rattle.osek_base.specs.Proper.{IsProper}
 use Rattle.osek_base.specs.System.{System}
 use Rattle.osek_base.specs.Trace.{run}
 use Rattle.seen_ticks.specs.declared.observation.Observation.{Observation}
@@ -15,7 +14,7 @@ use Rattle.view_figures.specs.Counts.{capped}
 use Rattle.view_figures.specs.FigureSums.{AreFigures, AreOf, RunFigures, alarm_tick, held_count, holder_tick, is_idle, last_tick, levels_of, routine_tick, task_figures, task_tick}
 use Rattle.view_figures.specs.ResourceSums.{resource_figures}
 use Rattle.view_figures.specs.RoutineSums.{routine_figures}
-use Rattle.law_figures.specs.RunFigures.{AreRunFigures, AreTicksOf}
+use Rattle.law_figures.specs.RunFigures.{AreTicksOf}
 
 module _ (S : System) (mode : ℕ) (arrivals : List Arrival) where
   abbrev pub observed_at : ℕ → Observation
@@ -100,14 +99,3 @@ module _ (S : System) (seen : List Observation) where
     resources = each_of (held_count S) resource_figures (λ k. map (λ o. holder_tick o k) seen);
     alarms = each_of (length S.alarms) alarm_figures (λ k. map (λ o. alarm_tick o k) seen);
   }
-
-pub are_run_figures : (S : System) (mode : ℕ) (arrivals : List Arrival) (n : ℕ) → IsProper S
-    → n ≤ 2 ^ 32 → ((i : ℕ) → i < n → (run S mode arrivals i).state.over ≡ false)
-    → AreRunFigures S mode arrivals n (figures_of S (observed_before S mode arrivals n))
-are_run_figures S mode arrivals n proper small going = record {
-  seen = observed_before S mode arrivals n;
-  proper = proper;
-  small = small;
-  ticks = are_ticks S mode arrivals n going;
-  figures = are_figures S (observed_before S mode arrivals n);
-}

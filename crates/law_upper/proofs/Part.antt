@@ -144,12 +144,8 @@ module _ (S B : System) (p : ℕ) (pair : AreOneAbove S B p) where
 
   hold_in : BoundsHoldIn S B p
   hold_in = record {
-    ever =
-        bounds_there B part p numbered with_that_part.proper_there
-        (ticks_show B part p with_that_part) over_alike;
-    up_to =
-        bounds_there_up_to B part p numbered with_that_part.proper_there
-        (ticks_show B part p with_that_part) over_alike;
+    ever = bounds_there B part p numbered (ticks_show B part p with_that_part) over_alike;
+    up_to = bounds_there_up_to B part p numbered (ticks_show B part p with_that_part) over_alike;
   }
 
 -- ---- the law

@@ -1,20 +1,18 @@
 -- Jobs release upper resources where their longest hold is bounded.
-use Rattle.std.proofs.Common.{suc, length, arith}
-use Rattle.search_peaks.specs.Peaks.{peak}
+use Rattle.std.proofs.Common.{suc, lt-ltb, arith}
+use Rattle.view_measures.specs.declared.kind.Kind.{Kind}
+use Rattle.view_measures.specs.declared.measure.Measure.{Measure}
+use Rattle.view_measures.specs.Measures.{figure}
+use Rattle.search_peaks.specs.Peaks.{told}
 use Rattle.law_bounds.proofs.Releasing.{none_longer}
 use Rattle.law_upper.specs.FiguresAbove.{BoundedUpperHoldsEnd, resource_in_part}
-use Rattle.law_upper.proofs.Within.{declared_held, scheduler_held}
+use Rattle.law_upper.proofs.Within.{has_thing}
 
 pub bounded_upper_holds_end : BoundedUpperHoldsEnd
-bounded_upper_holds_end S p mode distances cap peaks proper bounds = record {
-  declared = λ r inside upper below arrivals n since job keep going holds.
-      none_longer S mode arrivals r (peak peaks.holds (resource_in_part S p r)) n since job proper
-      (declared_held S r inside) going
-      (((bounds (suc n)).ticks arrivals n (omega arith) keep going).holds r inside upper below)
-      holds;
-  scheduler = λ used below arrivals n since job keep going holds.
-      none_longer S mode arrivals (length S.resources)
-      (peak peaks.holds (resource_in_part S p (length S.resources))) n since job proper
-      (scheduler_held S used) going
-      (((bounds (suc n)).ticks arrivals n (omega arith) keep going).scheduler used below) holds;
-}
+bounded_upper_holds_end S p mode distances cap peaks proper bounds r is below arrivals n since job
+    keep going holds =
+    let most = told peaks (figure Measure.Hold (resource_in_part S p r)) in
+    none_longer S mode arrivals r most n since job proper (has_thing S p Kind.Resource r is) going
+    (((bounds (suc n)).ticks arrivals n (omega arith) keep going).figures
+    (figure Measure.Hold r) is (lt-ltb most cap below))
+    holds

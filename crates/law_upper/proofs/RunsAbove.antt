@@ -1,7 +1,6 @@
 -- What runs of the upper part by itself show, runs of every system with that part show.
 use Rattle.std.proofs.Common.{◌≡◌, ℕ, zero, suc, ◌+◌, ◌-◌, ◌<◌, false, true, List, [], map, length, refl, sym, ◌∙◌, ap, subst, arith}
 use Rattle.std.specs.Prelude.{IfSome, IsTrue, Option, Some, None, slice_index_or}
-use Rattle.std.specs.List.{AllByRecursion}
 use Rattle.std.specs.Option.{option_map}
 use Rattle.osek_base.specs.declared.arrivals.Arrival.{Arrival}
 use Rattle.osek_base.specs.declared.executed.Executed.{Executed}
@@ -24,7 +23,7 @@ use Rattle.view_figures.specs.ResourceSums.{resource_figures}
 use Rattle.view_figures.specs.RoutineSums.{routine_figures}
 use Rattle.law_figures.specs.RunFigures.{AreRunFigures, IsTickOf}
 use Rattle.law_bounds.specs.Unending.{NeedNotEnd}
-use Rattle.law_bounds.proofs.Bounding.{going_at}
+use Rattle.law_bounds.proofs.Showing.{going_at}
 use Rattle.law_upper.specs.Above.{AreOneAbove, IsTheSameAlarm, IsTheSameResource, IsUpperTask}
 use Rattle.law_upper.specs.FiguresAbove.{alarm_in_part, resource_in_part}
 use Rattle.law_upper.specs.RunsAbove.{AreThoseOfThePart, HasThoseOfThePart, RunsShowWhatThePartShows, ShowsWhatThePartShows, TickShowsThatOfThePart}

@@ -16,10 +16,9 @@ pub fn upper_parts_show_the_same()
 {}
 
 /// Peaks that bound the figures of every run of the upper part by itself whose interrupts keep
-/// their distances bound those of its tasks, routines, resources and alarms in every such run of
-/// the whole system, and of each that agrees with it from that priority upward: also for how long
-/// upper tasks are blocked, and how many blockers they have, where observations tell these. Those
-/// of runs of so many ticks bound those of as many.
+/// their distances bound the same figures in every such run of the whole system, and of each that
+/// agrees with it from that priority upward: numbers of blockers where observations tell them.
+/// Those of runs of so many ticks bound those of as many.
 pub fn bounds_of_the_part_hold()
     ensures { BoundsOfThePartHold }
 {}

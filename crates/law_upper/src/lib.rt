@@ -13,9 +13,8 @@
 //! - each tick shows the same of upper tasks, routines, resources and alarms, blocks upper tasks
 //!   alike, and shows the same of the services of theirs that fail (`upper_parts_show_the_same`).
 //!
-//! Bounds of the upper part by itself bound the figures of its tasks, routines, resources and
-//! alarms, the jobs of its tasks, for how many ticks one is blocked, its blockers, and the
-//! services that fail, in every run of the whole and of each system that is separable and agrees
+//! Bounds of the upper part by itself bound the same figures of it, and the services that fail, in
+//! every run of the whole and of each system that is separable and agrees
 //! (`bounds_of_the_part_hold`), for every number of ticks or for at most so many. So jobs of upper
 //! tasks that are bounded end (`bounded_upper_jobs_end`), routines that are bounded start
 //! (`bounded_interrupts_start_above`), and jobs release upper resources whose holds are bounded

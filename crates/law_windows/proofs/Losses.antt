@@ -23,20 +23,20 @@ use Rattle.law_windows.proofs.Responses.{same_flags}
 
 -- ---- flags
 
-abbrev flag : List Bool → ℕ → Bool
+abbrev pub flag : List Bool → ℕ → Bool
 flag flags i = slice_index_or flags i false
 
-not_taken : (flags : List Bool) (r i : ℕ) → flag (set flags r false) i ≡ true → flag flags i ≡ true
+pub not_taken : (flags : List Bool) (r i : ℕ) → flag (set flags r false) i ≡ true → flag flags i ≡ true
 not_taken [] r i on = on
 not_taken (b ∷ flags) zero zero on = clash (sym on)
 not_taken (b ∷ flags) zero (suc i) on = on
 not_taken (b ∷ flags) (suc r) zero on = on
 not_taken (b ∷ flags) (suc r) (suc i) on = not_taken flags r i on
 
-abbrev IsRaised : List ℕ → List Bool → ℕ → Type 0
+abbrev pub IsRaised : List ℕ → List Bool → ℕ → Type 0
 IsRaised arrived flags i = (is_in i arrived ≡ true) ⊎ (flag flags i ≡ true)
 
-raised : (arrived : List ℕ) (flags : List Bool) (i : ℕ) → flag (flagged arrived flags) i ≡ true
+pub raised : (arrived : List ℕ) (flags : List Bool) (i : ℕ) → flag (flagged arrived flags) i ≡ true
     → IsRaised arrived flags i
 raised [] flags i on = inr on
 raised (r ∷ arrived) flags i on = go (raised arrived (set flags r true) i on)
@@ -48,7 +48,7 @@ raised (r ∷ arrived) flags i on = go (raised arrived (set flags r true) i on)
       | inr away ↦ inr (sym (get_or-set_other flags r i true false away) ∙ set)
     ]
 
-none_on : (n i : ℕ) → flag (replicate n false) i ≡ false
+pub none_on : (n i : ℕ) → flag (replicate n false) i ≡ false
 none_on zero i = refl
 none_on (suc n) zero = refl
 none_on (suc n) (suc i) = none_on n i
@@ -87,7 +87,7 @@ module _ (S : System) where
   unfolding activated
   activated_pending t s = refl
 
-  all_pending : (ts : List ℕ) (s : State) → (all_activated S ts s).pending ≡ s.pending
+  pub all_pending : (ts : List ℕ) (s : State) → (all_activated S ts s).pending ≡ s.pending
   all_pending [] s = refl
   all_pending (t ∷ ts) s = all_pending ts (activated S t s) ∙ activated_pending t s
 

@@ -57,7 +57,7 @@ module _ (S : System) where
       go true = refl
       go false = active_reschedule S s
 
-  behind_over : (arrived : List ℕ) (s : State)
+  pub behind_over : (arrived : List ℕ) (s : State)
       → (tick S arrived s).after.over
       ≡ (execute_phase S (tick S arrived s).executing).state.over
   unfolding tick

@@ -18,7 +18,8 @@ use Rattle.search.specs.Rules.{IsNextChoice, NoMoreMay, StaysNoted}
 use Rattle.search.specs.Subsets.{IsSubset, NoSubset}
 use Rattle.search_labels.specs.Labels.{IsAtLeast, Labels, arrives_in, first_labels, next_labels, wait_of}
 use Rattle.view_figures.specs.FigureSums.{held_count, levels_of, lower_executes}
-use Rattle.search_peaks.specs.Peaks.{AreAtLeast, IsNoted, NotesStay, Peaks, TickShown, shown_by}
+use Rattle.search_peaks.specs.Noting.{IsNoted, NotesStay, TickShown, shown_by}
+use Rattle.search_peaks.specs.Peaks.{AreAtLeast, Peaks}
 use Rattle.law_bounds.specs.Nodes.{AreNoted, Comes, IsFirst, IsNext, Node, Setting, StandsFor, labels_at_boot, lower_from, routines_of, rules_of, seen_from, tick_shown_from}
 use Rattle.law_bounds.specs.Trying.{AreFree, MaySubsets, OneStateTells, SubsetsMay, TellsAll}
 use Rattle.law_bounds.proofs.Going.{boot_state}

@@ -1,8 +1,8 @@
 -- A set of routines repeats the set without those whose interrupts are lost.
-use Rattle.std.proofs.Common.{ℕ, ◌≡◌, ◌<◌, ◌≤◌, arith, Bool, true, false, refl, sym, ◌∙◌, length}
+use Rattle.std.proofs.Common.{ℕ, ◌≡◌, ◌<◌, ◌≤◌, arith, true, false, sym, ◌∙◌, length, inl, inr}
 use Rattle.std.specs.Prelude.{◌≢◌, IsTrue}
 use Rattle.std.specs.Int.{bit_at}
-use Rattle.std.proofs.lemmas.Bool.{and_parts, eq-eqb, eqb-true, leb-true, true≢false}
+use Rattle.std.proofs.lemmas.Bool.{and_parts, cases_lt, eq-eqb, eqb-true, leb-true, true≢false}
 use Rattle.osek_base.specs.declared.limits.TheConstants.{MAX_ROUTINES}
 use Rattle.osek_base.specs.Proper.{IsProper}
 use Rattle.osek_base.specs.System.{System}
@@ -11,7 +11,9 @@ use Rattle.law_kept.specs.Kept.{Kept}
 use Rattle.kernel.specs.Machine.{Machine, picture}
 use Rattle.search.specs.Rules.{Repeats}
 use Rattle.search_labels.specs.Labels.{arrives_in}
-use Rattle.search_peaks.specs.Peaks.{Peaks, has_come}
+use Rattle.view_measures.specs.declared.measure.Measure.{Measure}
+use Rattle.view_measures.specs.Measures.{figure}
+use Rattle.search_peaks.specs.Peaks.{Peaks, told}
 use Rattle.law_bounds.specs.Lost.{IsWithoutLost, LoseNothing, LostChangeNothing}
 use Rattle.law_bounds.specs.Nodes.{AreNoted, IsNext, May, Node, Setting, StandsFor, rules_of}
 use Rattle.law_bounds.specs.Trying.{OneStateTells, TellsAll}
@@ -40,13 +42,19 @@ without_lost s set pending fewer o few pends less others = record {
 }
 
 -- those that are lost are noted
-pub losses_noted : (losses : ℕ → Bool) (count set pending fewer lost : ℕ) → count ≤ MAX_ROUTINES
+pub losses_noted : (losses : ℕ → ℕ) (count set pending fewer lost : ℕ) → count ≤ MAX_ROUTINES
     → ((i : ℕ) → i < 64 → bit_at set i ≡ 1 → bit_at fewer i ≢ 1 → bit_at pending i ≡ 1)
     → ((i : ℕ) → bit_at set i ≡ 1 → bit_at pending i ≡ 1 → bit_at lost i ≡ 1)
-    → ((i : ℕ) → i < MAX_ROUTINES → losses i ≡ false → bit_at lost i ≡ 0)
+    → ((i : ℕ) → i < MAX_ROUTINES → losses i ≡ 0 → bit_at lost i ≡ 0)
     → (i : ℕ) → i < count → IsTrue (arrives_in set i) → arrives_in fewer i ≡ false
-    → losses i ≡ true
-losses_noted losses count set pending fewer lost few others both noted i low arrives isnt = go (losses i) refl
+    → 1 ≤ losses i
+losses_noted losses count set pending fewer lost few others both noted i low arrives isnt =
+    elim (cases_lt (losses i) 1) [
+      | inl lt ↦
+          let none = noted i (omega (arith, low, few)) (omega (arith, lt)) in
+          absurd (omega (arith, none, is_lost))
+      | inr le ↦ le
+    ]
   where
     in_set : bit_at set i ≡ 1
     in_set = eqb-true (bit_at set i) 1 arrives
@@ -54,11 +62,6 @@ losses_noted losses count set pending fewer lost few others both noted i low arr
     is_lost : bit_at lost i ≡ 1
     is_lost =
         both i in_set (others i (omega (arith, low, few)) in_set (λ bit. true≢false (sym (eq-eqb (bit_at fewer i) 1 bit) ∙ isnt)))
-
-    go : (b : Bool) → losses i ≡ b → b ≡ true
-    go true is = refl
-    go false is =
-        let none = noted i (omega (arith, low, few)) is in absurd (omega (arith, none, is_lost))
 
 module _ (e : Explorer) (x : Node) (set fewer : ℕ) (m : Machine) (tells : OneStateTells)
     (lost : LostChangeNothing) (ground : IsGround e.ground) (may : May (setting_of e) x set)
@@ -78,7 +81,7 @@ module _ (e : Explorer) (x : Node) (set fewer : ℕ) (m : Machine) (tells : OneS
 
   noted_too : (peaks : Peaks) → AreNoted (setting_of e) peaks x fewer
       → ((i : ℕ) → i < length (setting_of e).system.routines → IsTrue (arrives_in set i)
-      → arrives_in fewer i ≡ false → has_come peaks.losses i ≡ true)
+      → arrives_in fewer i ≡ false → 1 ≤ told peaks (figure Measure.Loss i))
       → AreNoted (setting_of e) peaks x set
   noted_too peaks noted losses =
       all.noted peaks (nothing.noted peaks (noted (picture m) here) losses)
@@ -92,7 +95,7 @@ module _ (e : Explorer) (x : Node) (set fewer : ℕ) (m : Machine) (tells : OneS
 
   pub repeats_it : fewer < set → (peaks : Peaks)
       → ((i : ℕ) → i < length (setting_of e).system.routines → IsTrue (arrives_in set i)
-      → arrives_in fewer i ≡ false → has_come peaks.losses i ≡ true)
+      → arrives_in fewer i ≡ false → 1 ≤ told peaks (figure Measure.Loss i))
       → Repeats (rules_of (setting_of e)) (AreNoted (setting_of e) peaks) x set fewer
   repeats_it low peaks losses = record {
     low = low;

@@ -18,11 +18,12 @@ use osek_base::{ModeId, System};
 use search::{Outcome, Progress, Steps, subset_from};
 use search_labels::Labels;
 use search_needs::Needs;
-use search_nodes::{Bounds, Node, Watch, common, held_count, without};
+use search_nodes::{Bounds, Node, Watch, common, without};
 use search_packed::{ReadLabels, free_routines};
 use std::alloc::{AllocError, Global};
 use std::marker::Model;
 use std::mem;
+use view_measures::held_count;
 
 /// Ticks machines from state to state, and notes the greatest times that are seen.
 #[derive(Drop)]

@@ -3,20 +3,18 @@
 //! it doesn't tell. `find_upper_bounds` says this of an upper part inside every accepted system.
 //!
 //! - `find_bounds`: where the search is decided, for every list of arrivals that keeps the
-//!   distances and after every number of ticks, the figures of the run (as defined in
-//!   `view_figures`) are within the peaks that lie below the cap.
-//! - Nothing is lost, refused or answered other than E_OK that no tick of the search has shown. A
-//!   service that is answered other than E_OK is one of those told.
-//! - In each tick no task has more jobs than the peaks tell. No task's oldest job has stood, or
-//!   has been blocked, for more ticks, no interrupt has waited and no resource has been held for
-//!   more, each where that is below the cap. Where a run's observations tell blockers, no job has
-//!   more than they tell (`AreBoundsUpTo.blockers`).
+//!   distances and after every number of ticks, the run shows of no figure more than the peaks
+//!   tell, where that is below the cap. That holds of the figures of whole runs (as defined in
+//!   `view_figures`; of blockers where the run's observations tell them, `AreTold`) and of what
+//!   each single tick shows (`IsTickWithin`).
+//! - So nothing is lost, refused or answered other than E_OK, and no run ends by a ShutdownOS, where
+//!   no tick of the search has shown it. A service that is answered other than E_OK is one of those
+//!   told.
 //! - So where a task's greatest response is below the cap, each of its jobs ends or begins to wait
 //!   within as many ticks of being ready, unless the run ends (`JobsEnd`). Where a routine's
 //!   greatest latency is, the routine starts within as many ticks of each interrupt that isn't lost
 //!   (`InterruptsStart`). Where a resource's longest hold is, each job that gets it releases it
 //!   within as many (`HoldsEnd`).
-//! - A run ends by a ShutdownOS only where the peaks say so.
 //! - Where the search is undecided, all this holds after as many ticks at most as it tells.
 //! - Where the search is decided, as many nodes as its outcome tells stand for all that can come;
 //!   where it isn't, the outcome tells why it stopped (`IsOfSearch`).

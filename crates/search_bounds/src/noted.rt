@@ -1,10 +1,13 @@
 //! What a search has noted.
 
-ghost use Rattle.std.specs.Prelude.{ℕ, ◌≡◌, ◌<◌, false, OnOk};
+ghost use Rattle.std.specs.Prelude.{ℕ, ◌≡◌, ◌<◌, OnOk};
 ghost use Rattle.std.specs.Int.{bit_at};
 ghost use Rattle.osek_base.specs.declared.limits.TheConstants.{MAX_ROUTINES};
 ghost use Rattle.view_figures.specs.FigureSums.{levels_of};
-ghost use Rattle.search_peaks.specs.Peaks.{AreAtLeast, IsNoted, has_come, shown_by};
+ghost use Rattle.view_measures.specs.declared.measure.Measure.{Measure};
+ghost use Rattle.view_measures.specs.Measures.{figure};
+ghost use Rattle.search_peaks.specs.Noting.{IsNoted, shown_by};
+ghost use Rattle.search_peaks.specs.Peaks.{AreAtLeast, told};
 
 use crate::ruling::Ruling;
 use osek_base::System;
@@ -60,8 +63,8 @@ impl Noted {
         before: Option<usize>,
         set: u64,
     ) -> Result<(), AllocError>
-        ensures losses { (i : ℕ) → i < MAX_ROUTINES → has_come self.new.peaks.losses i ≡ false
-            → bit_at lost i ≡ 0 }
+        ensures losses { (i : ℕ) → i < MAX_ROUTINES
+            → told self.new.peaks (figure Measure.Loss i) ≡ 0 → bit_at lost i ≡ 0 }
         ensures rises { AreAtLeast self.new.peaks self.old.peaks }
     {
         let rises = self.peaks.note_losses(lost);

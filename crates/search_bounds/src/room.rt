@@ -3,7 +3,7 @@
 ghost use Rattle.std.specs.Prelude.{◌≡◌, ◌<◌, IfOk, IfSome, OnOk, false};
 ghost use Rattle.osek_base.specs.declared.limits.TheConstants.{MAX_TICKS};
 ghost use Rattle.kernel.specs.Machine.{IsOfRun, next_tick, picture, system_of};
-ghost use Rattle.search_peaks.specs.Peaks.{shown_by};
+ghost use Rattle.search_peaks.specs.Noting.{shown_by};
 ghost use Rattle.law_bounds.specs.Nodes.{tick_shown_from};
 ghost use Rattle.search_bounds.specs.Exploring.{IsBehind, setting_by};
 

@@ -8,7 +8,9 @@ use Rattle.search.specs.declared.outcome.Outcome.{Outcome}
 use Rattle.search.specs.declared.outcome.Outcome.TheVariants.{Decided, Undecided}
 use Rattle.search.specs.Outcomes.{IsOutcome}
 use Rattle.search_keys.specs.InRange.{NeedsOwnWords}
-use Rattle.search_peaks.specs.Peaks.{peak}
+use Rattle.view_measures.specs.declared.measure.Measure.{Measure}
+use Rattle.view_measures.specs.Measures.{figure}
+use Rattle.search_peaks.specs.Peaks.{told}
 use Rattle.law_bounds.specs.Bounds.{AreBounds, AreBoundsUpTo}
 use Rattle.law_bounds.specs.Ending.{EndsWithin}
 use Rattle.law_bounds.specs.Nodes.{AreNoted, Setting, rules_of}
@@ -34,8 +36,8 @@ AreFound S mode distances found =
 abbrev pub JobsEnd : System → ℕ → List ℕ → Bounds → Type 0
 JobsEnd S mode distances found =
     Says found.outcome
-    ((k : ℕ) → k < length S.tasks → peak found.peaks.responses k < found.cap
-    → EndsWithin S mode distances (peak found.peaks.responses k) k)
+    ((k : ℕ) → k < length S.tasks → told found.peaks (figure Measure.Response k) < found.cap
+    → EndsWithin S mode distances (told found.peaks (figure Measure.Response k)) k)
     (λ levels. Unit {0})
 
 -- and each routine starts within its greatest latency of each interrupt that isn't lost
@@ -47,8 +49,8 @@ InterruptsStart S mode distances found =
 abbrev pub HoldsEnd : System → ℕ → List ℕ → Bounds → Type 0
 HoldsEnd S mode distances found =
     Says found.outcome
-    ((r : ℕ) → r < held_count S → peak found.peaks.holds r < found.cap
-    → ReleasesWithin S mode distances (peak found.peaks.holds r) r)
+    ((r : ℕ) → r < held_count S → told found.peaks (figure Measure.Hold r) < found.cap
+    → ReleasesWithin S mode distances (told found.peaks (figure Measure.Hold r)) r)
     (λ levels. Unit {0})
 
 -- ---- the search

@@ -1,3 +1,2 @@
 pub mod Ground
-pub mod Figures
 pub mod Found

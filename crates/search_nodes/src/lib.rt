@@ -1,12 +1,10 @@
-//! The nodes of a search for bounds, how the search came to them, and what is told of a figure:
-//! all that needs no machine. A node covers another only where it stands for all that the other
-//! stands for. What is told of a figure is exactly what was noted.
+//! The nodes of a search for bounds, and how the search came to them: all that needs no machine.
+//! A node covers another only where it stands for all that the other stands for.
 //!
 //! - `Node`: exactly a key, whether the run is over, and the labels that its bytes tell.
 //! - `covers`: at true it stands for all that the other one stands for. `join`: at true it stands
 //!   for all that both do, at false it is as before.
-//! - `told`: exactly what peaks tell of a figure. `put_routines`, `common` and `without`: exactly
-//!   these routines of sets.
+//! - `put_routines`, `common` and `without`: exactly these routines of sets.
 //! - A `Bounds` says what it is found to say (`AreFound`), by whom makes it. Of `Trails` nothing
 //!   is proved; what is found by them is tried by a run.
 #![tactic(auto)]
@@ -15,7 +13,6 @@ mod bytes;
 mod comparing;
 mod effort;
 mod entry;
-mod figure;
 mod found;
 mod node;
 mod raised;
@@ -25,7 +22,6 @@ mod watch;
 
 pub use comparing::Comparing;
 pub use effort::Effort;
-pub use figure::{Figure, figures_of, held_count};
 pub use found::{Bounds, Extent};
 pub use node::Node;
 pub use raised::Raised;

@@ -1,8 +1,8 @@
 //! Which labels of a node others have raised.
 
-use crate::figure::{Figure, held_count};
 use osek_base::{MAX_RESOURCES, MAX_ROUTINES, MAX_TASKS, System};
 use search_labels::Labels;
+use view_measures::{Figure, Measure, held_count};
 
 /// How many things of a kind are told apart; of those beyond, nothing is raised.
 const MAX_THINGS: usize = 64;
@@ -64,19 +64,19 @@ impl Raised {
 
     /// Whether the label by which a figure goes is raised.
     pub(crate) fn has(self, figure: Figure) -> bool {
-        match figure {
-            Figure::Response(task) | Figure::Blocked(task) | Figure::Blockers(task) => {
-                has(self.tasks, task)
+        match figure.measure {
+            Measure::Response | Measure::Blocked | Measure::Blockers => {
+                has(self.tasks, figure.number)
             }
-            Figure::Latency(routine) => has(self.routines, routine),
-            Figure::Hold(resource) => has(self.resources, resource),
-            Figure::Jobs(_)
-            | Figure::Refusal(_)
-            | Figure::Loss(_)
-            | Figure::RefusedAction(_)
-            | Figure::Errors(_)
-            | Figure::RoutineErrors(_)
-            | Figure::Shutdown => false,
+            Measure::Latency => has(self.routines, figure.number),
+            Measure::Hold => has(self.resources, figure.number),
+            Measure::Jobs
+            | Measure::Refusal
+            | Measure::Errors
+            | Measure::Loss
+            | Measure::RoutineErrors
+            | Measure::RefusedAction
+            | Measure::Shutdown => false,
         }
     }
 }

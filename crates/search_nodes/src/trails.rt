@@ -2,11 +2,11 @@
 //! tried by a run.
 
 use crate::entry::{Entry, Kept, short};
-use crate::figure::{Figure, figures_of};
 use crate::raised::Raised;
 use osek_base::System;
 use search_peaks::Peaks;
 use std::alloc::{AllocError, Global};
+use view_measures::{Figure, figures_of};
 
 /// What a tick came from: the entry of its node, if there is one, and the routines that arrive.
 #[derive(Clone, Copy)]
@@ -78,7 +78,7 @@ impl Trails {
     fn compare(&mut self, peaks: &Peaks) -> Result<(), AllocError> {
         let step = self.last;
         for origin in self.origins.iter_mut() {
-            let value = origin.figure.told(peaks);
+            let value = peaks.told(origin.figure);
             if value > origin.value {
                 origin.value = value;
                 origin.step = step;
@@ -129,7 +129,7 @@ impl Trails {
     /// The tick in which a figure was greatest first; none where it is 0.
     fn origin(&self, figure: Figure) -> Option<Step> {
         for origin in &self.origins {
-            if origin.figure == figure && origin.value > 0 {
+            if origin.figure.is_same(figure) && origin.value > 0 {
                 return Some(origin.step);
             }
         }

@@ -1,1 +1,2 @@
 pub mod PeakLemmas
+pub mod NotingLemmas

@@ -1,2 +1,3 @@
 pub mod Peaks
 pub mod Noting
+pub mod Raising

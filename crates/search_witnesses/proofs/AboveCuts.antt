@@ -1,6 +1,6 @@
 -- What runs of the upper part by itself show of figures, runs of every system with that part show.
 use Rattle.std.proofs.Common.{◌≡◌, ℕ, zero, suc, ◌<◌, ◌+◌, ◌*◌, ◌-◌, inl, inr, List, [], ◌∷◌, sym, ◌∙◌, ap, ap₂, subst}
-use Rattle.std.specs.Prelude.{IfSome, Some, nat_lt}
+use Rattle.std.specs.Prelude.{IfSome, Some}
 use Rattle.osek_base.specs.declared.arrivals.Arrival.{Arrival}
 use Rattle.osek_base.specs.Agree.{upper_part}
 use Rattle.osek_base.specs.System.{System}
@@ -12,46 +12,30 @@ use Rattle.seen_ticks.specs.Observed.{failure_of, tick_at}
 use Rattle.view_figures.specs.declared.alarm_figures.AlarmFigures.{AlarmFigures}
 use Rattle.view_figures.specs.declared.resource_figures.ResourceFigures.{ResourceFigures}
 use Rattle.view_figures.specs.declared.routine_figures.RoutineFigures.{RoutineFigures}
-use Rattle.view_figures.specs.FigureSums.{RunFigures, held_count}
+use Rattle.view_figures.specs.FigureSums.{RunFigures}
 use Rattle.view_figures.specs.ResponseSums.{Responses}
+use Rattle.view_measures.specs.declared.figure.Figure.{Figure}
+use Rattle.view_measures.specs.declared.measure.Measure.{Measure}
+use Rattle.view_measures.specs.Measures.{kind_of}
+use Rattle.law_figures.specs.Counts.{one_if}
 use Rattle.law_figures.specs.Times.{response_time, routine_time}
 use Rattle.law_figures.specs.RunFigures.{AreRunFigures, AreTicksOf}
 use Rattle.law_bounds.specs.Lassos.{rounds}
-use Rattle.law_bounds.proofs.Bounding.{going_at}
+use Rattle.law_bounds.specs.Showing.{Shows, has_come, most_blocked, number_or_none, ticks_of, value_by}
+use Rattle.law_bounds.proofs.Showing.{going_at}
 use Rattle.law_upper.specs.Above.{AreOneAbove, IsUpperTask}
+use Rattle.law_upper.specs.FiguresAbove.{IsAbove, IsThingAbove, figure_in_part, number_in_part}
 use Rattle.law_upper.specs.RunsAbove.{AreThoseOfThePart, HasThoseOfThePart, ShowsWhatThePartShows}
 use Rattle.law_upper.proofs.Observed.{are_ticks, observed_before}
 use Rattle.law_upper.proofs.Part.{itself}
 use Rattle.law_upper.proofs.RunsAbove.{runs_show_what_the_part_shows}
 use Rattle.law_upper.proofs.Sides.{upper_back, upper_there, with_part}
-use Rattle.law_upper.proofs.Within.{declared_held, scheduler_held}
-use Rattle.search_nodes.specs.declared.figure.Figure.{Figure}
-use Rattle.search_nodes.specs.declared.figure.Figure.TheVariants.{Blocked, Blockers, Errors, Hold, Jobs, Latency, Loss, Refusal, RefusedAction, Response, RoutineErrors, Shutdown}
-use Rattle.search_nodes.specs.Figures.{one_if, told}
-use Rattle.search_witnesses.specs.AboveCuts.{HoldsOf, IsAbove, WhatThePartShowsHolds, figure_in_part}
-use Rattle.search_witnesses.specs.Blocked.{most_blocked}
+use Rattle.law_upper.proofs.Within.{has_figure}
+use Rattle.search_peaks.specs.Peaks.{told}
+use Rattle.search_witnesses.specs.AboveCuts.{HoldsOf, WhatThePartShowsHolds}
 use Rattle.search_witnesses.specs.Failing.{FailsAtEnd, last_failure}
 use Rattle.search_witnesses.specs.Listed.{IsListApart}
-use Rattle.search_witnesses.specs.Shown.{IsOf, Shows, shown}
-use Rattle.search_witnesses.specs.Watched.{number_or_none, ticks_of}
 use Rattle.search_witnesses.proofs.SeenInBoth.{jobs_same, most_same}
-
--- the system has the figures of its upper part
-is_of : (S : System) (p : ℕ) (figure : Figure) → IsAbove S p figure → IsOf S figure
-is_of S p (Response t) is = is.known
-is_of S p (Blocked t) is = is.known
-is_of S p (Blockers t) is = is.known
-is_of S p (Jobs t) is = is.known
-is_of S p (Refusal t) is = is.known
-is_of S p (Latency i) is = is
-is_of S p (Loss i) is = is
-is_of S p (Hold r) (inl is) = declared_held S r is.0
-is_of S p (Hold r) (inr is) =
-    subst (λ q. q < held_count S) (sym is.0) (scheduler_held S is.1)
-is_of S p (RefusedAction a) is = is.0
-is_of S p (Errors t) is = is.known
-is_of S p (RoutineErrors i) is = is
-is_of S p Shutdown is = tt
 
 module _ (P S : System) (p : ℕ) (law : ShowsWhatThePartShows P S p)
     (upper : (t : ℕ) → IsUpperTask S p t → IsUpperTask P p t) where
@@ -68,18 +52,19 @@ module _ (P S : System) (p : ℕ) (law : ShowsWhatThePartShows P S p)
     same : AreThoseOfThePart S p f g
     same = there.same
 
-    abbrev Same : Figure → Type 0
-    Same figure =
-        shown f are.seen (run P mode arrivals n).state.over (figure_in_part S p figure)
-        ≡ shown g there.are.seen (run S mode arrivals n).state.over figure
+    abbrev Same : Measure → ℕ → Type 0
+    Same measure k =
+        value_by f are.seen (run P mode arrivals n).state.over measure
+        (number_in_part S p (kind_of measure) k)
+        ≡ value_by g there.are.seen (run S mode arrivals n).state.over measure k
 
-    jobs_are : (t : ℕ) → IsUpperTask S p t → Same (Jobs t)
+    jobs_are : (t : ℕ) → IsUpperTask S p t → Same Measure.Jobs t
     jobs_are t is =
         jobs_same P S mode arrivals t (upper t is).known is.known
         (λ i going. (law.ticks mode arrivals i going).jobs t is) n are.seen there.are.seen
         are.ticks there.are.ticks
 
-    blocked_are : (t : ℕ) → IsUpperTask S p t → Same (Blocked t)
+    blocked_are : (t : ℕ) → IsUpperTask S p t → Same Measure.Blocked t
     blocked_are t is =
         ap (λ levels. most_blocked levels t are.seen) are.figures.levels
         ∙ most_same P S mode arrivals t (upper t is).known is.known
@@ -87,30 +72,30 @@ module _ (P S : System) (p : ℕ) (law : ShowsWhatThePartShows P S p)
         there.are.seen are.ticks there.are.ticks
         ∙ sym (ap (λ levels. most_blocked levels t there.are.seen) there.are.figures.levels)
 
-    shown_same : (figure : Figure) → IsAbove S p figure → Same figure
-    shown_same (Response t) is =
+    same_by : (measure : Measure) (k : ℕ) → IsThingAbove S p (kind_of measure) k → Same measure k
+    same_by Measure.Response t is =
         ap₂ (λ last (r : Responses). ticks_of (response_time last r)) same.last
         (same.responses t is)
-    shown_same (Blocked t) is = blocked_are t is
-    shown_same (Blockers t) is = ap number_or_none (same.blockers t is)
-    shown_same (Jobs t) is = jobs_are t is
-    shown_same (Refusal t) is = ap (λ k. one_if (nat_lt 0 k)) (same.refusals t is)
-    shown_same (Latency i) is =
+    same_by Measure.Blocked t is = blocked_are t is
+    same_by Measure.Blockers t is = ap number_or_none (same.blockers t is)
+    same_by Measure.Jobs t is = jobs_are t is
+    same_by Measure.Refusal t is = ap (λ m. has_come m) (same.refusals t is)
+    same_by Measure.Errors t is = ap (λ m. has_come m) (same.errors t is)
+    same_by Measure.Latency i is =
         ap₂ (λ last (r : RoutineFigures). ticks_of (routine_time last r)) same.last
         (same.routines i is)
-    shown_same (Loss i) is =
-        ap (λ (r : RoutineFigures). one_if (nat_lt 0 r.losses)) (same.routines i is)
-    shown_same (Hold r) (inl is) =
+    same_by Measure.Loss i is =
+        ap (λ (r : RoutineFigures). has_come r.losses) (same.routines i is)
+    same_by Measure.RoutineErrors i is =
+        ap (λ (r : RoutineFigures). has_come r.errors) (same.routines i is)
+    same_by Measure.Hold r (inl is) =
         ap (λ (h : ResourceFigures). ticks_of h.longest) (same.resources r is.0 is.1)
-    shown_same (Hold r) (inr is) =
-        subst (λ q. Same (Hold q)) (sym is.0)
+    same_by Measure.Hold r (inr is) =
+        subst (λ q. Same Measure.Hold q) (sym is.0)
         (ap (λ (h : ResourceFigures). ticks_of h.longest) (same.scheduler is.1))
-    shown_same (RefusedAction a) is =
-        ap (λ (c : AlarmFigures). one_if (nat_lt 0 c.refused)) (same.alarms a is.0 is.1)
-    shown_same (Errors t) is = ap (λ k. one_if (nat_lt 0 k)) (same.errors t is)
-    shown_same (RoutineErrors i) is =
-        ap (λ (r : RoutineFigures). one_if (nat_lt 0 r.errors)) (same.routines i is)
-    shown_same Shutdown is = ap one_if (law.over mode arrivals n)
+    same_by Measure.RefusedAction a is =
+        ap (λ (c : AlarmFigures). has_come c.refused) (same.alarms a is.0 is.1)
+    same_by Measure.Shutdown z is = ap one_if (law.over mode arrivals n)
 
   shows_there : (mode : ℕ) (arrivals : List Arrival) (n : ℕ) (figure : Figure) (value : ℕ)
       → IsAbove S p figure → Shows P mode arrivals n (figure_in_part S p figure) value
@@ -121,9 +106,10 @@ module _ (P S : System) (p : ℕ) (law : ShowsWhatThePartShows P S p)
         figures = other.figures;
         are = other.are;
         told = other.told shows.told;
-        of = is_of S p figure is;
+        of = has_figure S p figure is;
         shown =
-            sym (shown_same mode arrivals n shows.figures shows.are figure is) ∙ shows.shown;
+            sym (same_by mode arrivals n shows.figures shows.are figure.measure figure.number is)
+            ∙ shows.shown;
       }
 
   -- ---- services that fail

@@ -1,21 +1,60 @@
 -- What is among some, and what is known so.
-use Rattle.std.specs.Prelude.{ℕ, ◌≡◌, ◌==◌, ◌||◌, ◌⊎◌, IsTrue, Bool, true, false, List, [], ◌∷◌}
+use Rattle.std.specs.Prelude.{ℕ, ◌≡◌, ◌==◌, ◌||◌, ◌⊎◌, if◌then◌else◌, IsTrue, Bool, true, false, List, [], ◌∷◌}
 use Rattle.std.specs.List.{All, list_any}
-use Rattle.std.proofs.Common.{inl, inr, subst, refl, rules, eqb-true}
-use Rattle.std.proofs.lemmas.Bool.{false≢true}
+use Rattle.std.proofs.Common.{◌∙◌, ap, inl, inr, subst, refl, sym, eqb-true}
+use Rattle.std.proofs.lemmas.Bool.{and_parts, false≢true}
 use Rattle.std.proofs.lemmas.List.Elements.{All-head, All-tail}
 use Rattle.osek_base.specs.System.{System}
+use Rattle.view_measures.specs.declared.figure.Figure.{Figure}
+use Rattle.view_measures.specs.declared.measure.Measure.{Measure}
+use Rattle.view_measures.specs.Measures.{is_same, place_of}
+use Rattle.search_peaks.specs.Peaks.{told}
 use Rattle.law_bounds.specs.Unending.{NeedNotEnd}
-use Rattle.search_nodes.specs.declared.figure.Figure.{Figure}
-use Rattle.search_nodes.specs.declared.figure.Figure.TheVariants.{Response}
-use Rattle.search_nodes.specs.Figures.{told}
 use Rattle.search_witnesses.specs.declared.findings.Findings.{Findings}
 use Rattle.search_witnesses.specs.Failing.{Fails}
-use Rattle.search_witnesses.specs.Findings.{AreFindings, HasNoEnd, IsShown, is_endless, is_reached, is_same}
+use Rattle.search_witnesses.specs.Findings.{AreFindings, HasNoEnd, HasNoEndBy, IsShown, is_endless, is_endless_by, is_reached}
 use Rattle.search_witnesses.specs.Shown.{IsReached}
 
+-- the measure of a place, so that measures of one place are one
+measure_at : ℕ → Measure
+measure_at n =
+    if n == 0 then Measure.Response
+    else if n == 1 then Measure.Blocked
+    else if n == 2 then Measure.Blockers
+    else if n == 3 then Measure.Jobs
+    else if n == 4 then Measure.Refusal
+    else if n == 5 then Measure.Errors
+    else if n == 6 then Measure.Latency
+    else if n == 7 then Measure.Loss
+    else if n == 8 then Measure.RoutineErrors
+    else if n == 9 then Measure.Hold
+    else if n == 10 then Measure.RefusedAction
+    else Measure.Shutdown
+
+at_place : (m : Measure) → measure_at (place_of m) ≡ m
+unfolding measure_at
+at_place Measure.Response = refl
+at_place Measure.Blocked = refl
+at_place Measure.Blockers = refl
+at_place Measure.Jobs = refl
+at_place Measure.Refusal = refl
+at_place Measure.Errors = refl
+at_place Measure.Latency = refl
+at_place Measure.Loss = refl
+at_place Measure.RoutineErrors = refl
+at_place Measure.Hold = refl
+at_place Measure.RefusedAction = refl
+at_place Measure.Shutdown = refl
+
+one_place : (m n : Measure) → place_of m ≡ place_of n → m ≡ n
+one_place m n same = sym (at_place m) ∙ ap measure_at same ∙ at_place n
+
 same_is : (a b : Figure) → IsTrue (is_same a b) → a ≡ b
-same_is a b h = search rules
+same_is a b h =
+    let parts = and_parts (place_of a.measure == place_of b.measure) (a.number == b.number) h in
+    let measures = one_place a.measure b.measure (eqb-true _ _ parts.0) in
+    let numbers = eqb-true a.number b.number parts.1 in
+    λ i. record { measure = measures i; number = numbers i }
 
 -- what holds of each holds of one that is among them
 among : {X : Type 0} (P : X → Type 0) (same : X → Bool) (x : X)
@@ -43,12 +82,16 @@ module _ (S : System) (mode : ℕ) (distances : List ℕ) (f : Findings) where
       (among (IsReached S mode distances f.bounds) (λ known. is_same known figure) figure
       (λ known same. same_is known figure same) f.reached.items all)
 
-  no_end : All (NeedNotEnd S mode distances) f.endless.items
-      → (figure : Figure) → IsTrue (is_endless f figure) → HasNoEnd S mode distances figure
-  no_end all (Response k) h =
+  no_end_by : All (NeedNotEnd S mode distances) f.endless.items → (measure : Measure) (k : ℕ)
+      → IsTrue (is_endless_by f measure k) → HasNoEndBy S mode distances measure k
+  no_end_by all Measure.Response k h =
       among (NeedNotEnd S mode distances) (λ known. known == k) k
       (λ known same. eqb-true known k same) f.endless.items all h
-  no_end all other h = absurd (false≢true h)
+  no_end_by all other k h = absurd (false≢true h)
+
+  no_end : All (NeedNotEnd S mode distances) f.endless.items
+      → (figure : Figure) → IsTrue (is_endless f figure) → HasNoEnd S mode distances figure
+  no_end all figure h = no_end_by all figure.measure figure.number h
 
   -- what holds of all that is known holds of each
   pub are_findings : All (IsReached S mode distances f.bounds) f.reached.items

@@ -1,6 +1,7 @@
 -- Figures that are watched are those of the run.
 use Rattle.std.proofs.Common.{ℕ, suc, ◌≡◌, ◌<◌, ◌≤◌, ◌+◌, ◌-◌, ◌^◌, Bool, true, false, List, [], ◌∷◌, map, length, refl, sym, ◌∙◌, ap, subst, arith, add-one, true≢false}
-use Rattle.std.specs.Prelude.{◌||◌, IfSome, Option, Some, None, cond, nat_le, nat_lt, not, slice_index_or}
+use Rattle.std.specs.Prelude.{◌||◌, IfSome, IsTrue, Option, Some, None, cond, nat_le, not, slice_index_or}
+use Rattle.std.proofs.lemmas.Bool.{ltb-true}
 use Rattle.osek_base.specs.declared.arrivals.Arrival.{Arrival}
 use Rattle.osek_base.specs.declared.limits.TheConstants.{MAX_TICKS}
 use Rattle.osek_base.specs.BlockingText.{blockers_at}
@@ -18,18 +19,20 @@ use Rattle.view_figures.specs.declared.task_tick.TaskTick.{TaskTick}
 use Rattle.view_figures.specs.FigureSums.{AreFigures, RunFigures, is_task, levels_of, task_figures, task_tick}
 use Rattle.view_figures.specs.RoutineSums.{routine_figures}
 use Rattle.view_figures.specs.TaskSums.{more_blockers, most_blockers, task_counts}
+use Rattle.view_measures.specs.declared.figure.Figure.{Figure}
+use Rattle.view_measures.specs.declared.measure.Measure.{Measure}
+use Rattle.view_measures.specs.Kinds.{count_of}
+use Rattle.view_measures.specs.Measures.{is_of, kind_of}
+use Rattle.law_figures.specs.Counts.{one_if}
 use Rattle.law_figures.specs.Times.{response_time, routine_time}
+use Rattle.law_bounds.specs.Showing.{Shows, has_come, most_blocked, number_or_none, ticks_of, value_by}
 use Rattle.law_upper.proofs.Bare.{bare_task, task_errors_bare, task_refused_bare, task_responses_bare}
 use Rattle.law_upper.proofs.Observed.{are_figures, figures_of}
-use Rattle.search_nodes.specs.declared.figure.Figure.{Figure}
-use Rattle.search_nodes.specs.declared.figure.Figure.TheVariants.{Blocked, Blockers, Errors, Hold, Jobs, Latency, Loss, Refusal, RefusedAction, Response, RoutineErrors, Shutdown}
-use Rattle.search_nodes.specs.Figures.{one_if}
 use Rattle.search_witnesses.specs.declared.blocked.BlockedTicks.{BlockedTicks}
 use Rattle.search_witnesses.specs.declared.watched.Watched.{Watched}
-use Rattle.search_witnesses.specs.Blocked.{blocked_ticks, most_blocked}
-use Rattle.search_witnesses.specs.Running.{IsWatched, Watches, number_of}
-use Rattle.search_witnesses.specs.Shown.{IsOf, Shows, shown}
-use Rattle.search_witnesses.specs.Watched.{AreWatched, bare_task_tick, number_or_none, shown_of, ticks_of}
+use Rattle.search_witnesses.specs.Blocked.{blocked_ticks}
+use Rattle.search_witnesses.specs.Running.{IsWatched, Watches}
+use Rattle.search_witnesses.specs.Watched.{AreWatched, bare_task_tick, shown_of}
 
 -- ---- tick by tick
 
@@ -104,16 +107,12 @@ one_more first old new S n k v w o of is goes step observed more =
     })
 
 -- a run that has gone on behind some ticks goes on for one more
-pub goes_on : (first old new : Progress) (n more k number : ℕ) (v w : Watched) → number ≡ k
+pub goes_on : (first old new : Progress) (n more k : ℕ) (v w : Watched)
     → IsWatched first old (n + more) k v
-    → (IsWatched first old (n + more) number v → IsWatched first new (n + more + 1) number w)
+    → (IsWatched first old (n + more) k v → IsWatched first new (n + more + 1) k w)
     → IsWatched first new (n + (more + 1)) k w
-goes_on first old new n more k number v w same is step =
-    let before : IsWatched first old (n + more) number v =
-    subst (λ j. IsWatched first old (n + more) j v) (sym same) is in
-    let after : IsWatched first new (n + (more + 1)) number w =
-    subst (λ m. IsWatched first new m number w) (omega arith) (step before) in
-    subst (λ j. IsWatched first new (n + (more + 1)) j w) same after
+goes_on first old new n more k v w is step =
+    subst (λ m. IsWatched first new m k w) (omega arith) (step is)
 
 -- ---- what is shown
 
@@ -185,34 +184,33 @@ module _ (S : System) (seen : List Observation) (f : RunFigures) (are : AreFigur
       ap (λ levels. most_blocked levels k seen) are.levels
       ∙ sym (ap (λ (b : BlockedTicks). b.most) watched.blocked)
 
-  shown_same : (figure : Figure) → AreWatched (levels_of S) (number_of figure) seen w
-      → IsOf S figure → shown f seen over figure ≡ shown_of w figure
-  shown_same (Response k) watched low = λ i.
+  value_same : (measure : Measure) (k : ℕ) → AreWatched (levels_of S) k seen w
+      → k < count_of S (kind_of measure) → value_by f seen over measure k ≡ shown_of w measure
+  value_same Measure.Response k watched low = λ i.
       ticks_of (response_time (last k watched i) (responses k watched low i))
-  shown_same (Blocked k) watched low = blocked k watched
-  shown_same (Blockers k) watched low = ap number_or_none (blockers k watched low)
-  shown_same (Jobs k) watched low = sym watched.jobs
-  shown_same (Refusal k) watched low = ap (λ n. one_if (nat_lt 0 n)) (refused k watched low)
-  shown_same (Latency k) watched low = λ i.
+  value_same Measure.Blocked k watched low = blocked k watched
+  value_same Measure.Blockers k watched low = ap number_or_none (blockers k watched low)
+  value_same Measure.Jobs k watched low = sym watched.jobs
+  value_same Measure.Refusal k watched low = ap (λ n. has_come n) (refused k watched low)
+  value_same Measure.Errors k watched low = ap (λ n. has_come n) (errors k watched low)
+  value_same Measure.Latency k watched low = λ i.
       ticks_of (routine_time (last k watched i) (routine k watched low i))
-  shown_same (Loss k) watched low =
-      ap (λ (g : RoutineFigures). one_if (nat_lt 0 g.losses)) (routine k watched low)
-  shown_same (Hold k) watched low =
+  value_same Measure.Loss k watched low =
+      ap (λ (g : RoutineFigures). has_come g.losses) (routine k watched low)
+  value_same Measure.RoutineErrors k watched low =
+      ap (λ (g : RoutineFigures). has_come g.errors) (routine k watched low)
+  value_same Measure.Hold k watched low =
       ap (λ (g : ResourceFigures). ticks_of g.longest)
       (are.resources.each k low ∙ sym watched.resource)
-  shown_same (RefusedAction k) watched low =
-      ap (λ (g : AlarmFigures). one_if (nat_lt 0 g.refused))
-      (are.alarms.each k low ∙ sym watched.alarm)
-  shown_same (Errors k) watched low = ap (λ n. one_if (nat_lt 0 n)) (errors k watched low)
-  shown_same (RoutineErrors k) watched low =
-      ap (λ (g : RoutineFigures). one_if (nat_lt 0 g.errors)) (routine k watched low)
-  shown_same Shutdown watched low = ap one_if (sym ends)
+  value_same Measure.RefusedAction k watched low =
+      ap (λ (g : AlarmFigures). has_come g.refused) (are.alarms.each k low ∙ sym watched.alarm)
+  value_same Measure.Shutdown k watched low = ap one_if (sym ends)
 
 -- what was watched of a run is what its figures show
 pub shows : (S : System) (mode : ℕ) (arrivals : List Arrival) (n : ℕ) (figure : Figure)
-    (w : Watched) → IsProper S → n ≤ 2 ^ 32 → IsOf S figure
-    → Watches S mode arrivals n (number_of figure) w
-    → Shows S mode arrivals n figure (shown_of w figure)
+    (w : Watched) → IsProper S → n ≤ 2 ^ 32 → IsTrue (is_of S figure)
+    → Watches S mode arrivals n figure.number w
+    → Shows S mode arrivals n figure (shown_of w figure.measure)
 shows S mode arrivals n figure w proper small of watches = record {
   figures = figures_of S watches.figures.seen;
   are = record {
@@ -225,30 +223,30 @@ shows S mode arrivals n figure w proper small of watches = record {
   told = watches.figures.told;
   of = of;
   shown =
-      shown_same S watches.figures.seen (figures_of S watches.figures.seen)
-      (are_figures S watches.figures.seen) w (run S mode arrivals n).state.over watches.over figure
-      watches.figures.are of;
+      value_same S watches.figures.seen (figures_of S watches.figures.seen)
+      (are_figures S watches.figures.seen) w (run S mode arrivals n).state.over watches.over
+      figure.measure figure.number watches.figures.are (ltb-true _ _ of);
 }
 
 -- the same, of a run that was begun with this system, this mode and these arrivals
 pub begun_shows : (S : System) (mode : ℕ) (arrivals : List Arrival) (n : ℕ) (figure : Figure)
     (first : Option Progress) (r : Progress) (w : Watched) (value : ℕ) → IsProper S → n < 2 ^ 32
-    → IsOf S figure
+    → IsTrue (is_of S figure)
     → IfSome first (λ (x : Progress). (x.system ≡ S) × (x.mode ≡ mode) × (x.arrivals ≡ arrivals)
     × (x.ticks ≡ 0))
-    → first ≡ Some r → Watches r.system r.mode r.arrivals n (number_of figure) w
-    → value ≡ shown_of w figure → Shows S mode arrivals n figure value
+    → first ≡ Some r → Watches r.system r.mode r.arrivals n figure.number w
+    → value ≡ shown_of w figure.measure → Shows S mode arrivals n figure value
 begun_shows S mode arrivals n figure first r w value proper small of made is watches told =
     let same : (r.system ≡ S) × (r.mode ≡ mode) × (r.arrivals ≡ arrivals) × (r.ticks ≡ 0) =
     subst
     (λ o. IfSome o (λ (x : Progress). (x.system ≡ S) × (x.mode ≡ mode) × (x.arrivals ≡ arrivals)
     × (x.ticks ≡ 0)))
     is made in
-    let of_system : Watches S r.mode r.arrivals n (number_of figure) w =
-    subst (λ x. Watches x r.mode r.arrivals n (number_of figure) w) same.0 watches in
-    let in_mode : Watches S mode r.arrivals n (number_of figure) w =
-    subst (λ x. Watches S x r.arrivals n (number_of figure) w) same.1 of_system in
-    let under : Watches S mode arrivals n (number_of figure) w =
-    subst (λ x. Watches S mode x n (number_of figure) w) same.2 in_mode in
+    let of_system : Watches S r.mode r.arrivals n figure.number w =
+    subst (λ x. Watches x r.mode r.arrivals n figure.number w) same.0 watches in
+    let in_mode : Watches S mode r.arrivals n figure.number w =
+    subst (λ x. Watches S x r.arrivals n figure.number w) same.1 of_system in
+    let under : Watches S mode arrivals n figure.number w =
+    subst (λ x. Watches S mode x n figure.number w) same.2 in_mode in
     subst (λ v. Shows S mode arrivals n figure v) (sym told)
     (shows S mode arrivals n figure w proper (omega (arith, small)) of under)

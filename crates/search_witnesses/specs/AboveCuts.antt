@@ -1,62 +1,24 @@
 -- Partitions. What some run of the upper part by itself shows, some run of every system with that
 -- part shows.
-use Rattle.std.specs.Prelude.{ℕ, ◌≡◌, ◌<◌, ◌⊎◌, IsTrue, List, length}
+use Rattle.std.specs.Prelude.{ℕ, List}
 use Rattle.osek_base.specs.declared.arrivals.Arrival.{Arrival}
-use Rattle.osek_base.specs.Agree.{is_upper_declared, upper_part}
+use Rattle.osek_base.specs.Agree.{upper_part}
 use Rattle.osek_base.specs.Proper.{IsProper}
 use Rattle.osek_base.specs.Separable.{Separable}
 use Rattle.osek_base.specs.System.{System}
-use Rattle.osek_base.specs.Upper.{is_upper_alarm}
 use Rattle.seen_ticks.specs.declared.failures.Failure.{Failure}
+use Rattle.view_measures.specs.declared.figure.Figure.{Figure}
+use Rattle.law_bounds.specs.Showing.{Shows}
 use Rattle.law_upper.specs.Above.{AreOneAbove, IsUpperTask}
-use Rattle.law_upper.specs.FiguresAbove.{alarm_in_part, resource_in_part}
-use Rattle.search_peaks.specs.Peaks.{Peaks}
-use Rattle.search_nodes.specs.declared.figure.Figure.{Figure}
-use Rattle.search_nodes.specs.declared.figure.Figure.TheVariants.{Blocked, Blockers, Errors, Hold, Jobs, Latency, Loss, Refusal, RefusedAction, Response, RoutineErrors, Shutdown}
+use Rattle.law_upper.specs.FiguresAbove.{IsAbove, figure_in_part}
+use Rattle.search_peaks.specs.Peaks.{Peaks, told}
 use Rattle.search_nodes.specs.declared.found.Bounds.{Bounds}
-use Rattle.search_nodes.specs.Figures.{told}
 use Rattle.search_witnesses.specs.declared.endless.Endless.{Endless}
 use Rattle.search_witnesses.specs.declared.witness.Witness.{Witness}
 use Rattle.search_witnesses.specs.Endless.{IsEndless}
 use Rattle.search_witnesses.specs.Failing.{Fails, FailsAtEnd}
 use Rattle.search_witnesses.specs.Listed.{IsListApart}
-use Rattle.search_witnesses.specs.Shown.{IsReached, Shows}
-
--- a resource of the upper part: an upper one, or RES_SCHEDULER
-abbrev pub IsHeldAbove : System → ℕ → ℕ → Type 0
-IsHeldAbove S p r =
-    ((r < length S.resources) × IsTrue (is_upper_declared S p r))
-    ⊎ ((r ≡ length S.resources) × IsTrue S.use_res_scheduler)
-
--- a figure is of the upper part
-abbrev pub IsAbove : System → ℕ → Figure → Type 0
-IsAbove S p (Response t) = IsUpperTask S p t
-IsAbove S p (Blocked t) = IsUpperTask S p t
-IsAbove S p (Blockers t) = IsUpperTask S p t
-IsAbove S p (Jobs t) = IsUpperTask S p t
-IsAbove S p (Refusal t) = IsUpperTask S p t
-IsAbove S p (Latency i) = i < length S.routines
-IsAbove S p (Loss i) = i < length S.routines
-IsAbove S p (Hold r) = IsHeldAbove S p r
-IsAbove S p (RefusedAction a) = (a < length S.alarms) × IsTrue (is_upper_alarm S p a)
-IsAbove S p (Errors t) = IsUpperTask S p t
-IsAbove S p (RoutineErrors i) = i < length S.routines
-IsAbove S p Shutdown = Unit {0}
-
--- the same figure of the upper part by itself, where resources and alarms have other numbers
-abbrev pub figure_in_part : System → ℕ → Figure → Figure
-figure_in_part S p (Response t) = Response t
-figure_in_part S p (Blocked t) = Blocked t
-figure_in_part S p (Blockers t) = Blockers t
-figure_in_part S p (Jobs t) = Jobs t
-figure_in_part S p (Refusal t) = Refusal t
-figure_in_part S p (Latency i) = Latency i
-figure_in_part S p (Loss i) = Loss i
-figure_in_part S p (Hold r) = Hold (resource_in_part S p r)
-figure_in_part S p (RefusedAction a) = RefusedAction (alarm_in_part S p a)
-figure_in_part S p (Errors t) = Errors t
-figure_in_part S p (RoutineErrors i) = RoutineErrors i
-figure_in_part S p Shutdown = Shutdown
+use Rattle.search_witnesses.specs.Shown.{IsReached}
 
 -- some run whose interrupts are a list that keeps the distances shows so much of a figure
 pub record CanShow (S : System) (mode : ℕ) (distances : List ℕ) (figure : Figure)

@@ -1,31 +1,16 @@
 -- Bounds, and what runs are known to show of them.
-use Rattle.std.specs.Prelude.{ℕ, ◌≡◌, ◌⊎◌, ◌==◌, ◌||◌, Bool, true, false, IsTrue, List, []}
+use Rattle.std.specs.Prelude.{ℕ, ◌≡◌, ◌⊎◌, ◌==◌, ◌||◌, Bool, false, IsTrue, List, []}
 use Rattle.std.specs.List.{list_any}
 use Rattle.osek_base.specs.System.{System}
+use Rattle.view_measures.specs.declared.figure.Figure.{Figure}
+use Rattle.view_measures.specs.declared.measure.Measure.{Measure}
+use Rattle.view_measures.specs.Measures.{is_same}
+use Rattle.search_peaks.specs.Peaks.{told}
 use Rattle.law_bounds.specs.Unending.{NeedNotEnd}
-use Rattle.search_nodes.specs.declared.figure.Figure.{Figure}
-use Rattle.search_nodes.specs.declared.figure.Figure.TheVariants.{Blocked, Blockers, Errors, Hold, Jobs, Latency, Loss, Refusal, RefusedAction, Response, RoutineErrors, Shutdown}
 use Rattle.search_nodes.specs.declared.found.Bounds.{Bounds}
-use Rattle.search_nodes.specs.Figures.{told}
 use Rattle.search_witnesses.specs.declared.findings.Findings.{Findings}
 use Rattle.search_witnesses.specs.Failing.{Fails}
 use Rattle.search_witnesses.specs.Shown.{IsReached}
-
--- two figures are one
-abbrev pub is_same : Figure → Figure → Bool
-is_same (Response k) (Response j) = k == j
-is_same (Blocked k) (Blocked j) = k == j
-is_same (Blockers k) (Blockers j) = k == j
-is_same (Jobs k) (Jobs j) = k == j
-is_same (Refusal k) (Refusal j) = k == j
-is_same (Latency i) (Latency j) = i == j
-is_same (Loss i) (Loss j) = i == j
-is_same (Hold r) (Hold j) = r == j
-is_same (RefusedAction a) (RefusedAction j) = a == j
-is_same (Errors k) (Errors j) = k == j
-is_same (RoutineErrors i) (RoutineErrors j) = i == j
-is_same Shutdown Shutdown = true
-is_same one other = false
 
 -- what is told of a figure is 0, or is known to be shown by some run
 abbrev pub is_reached : Findings → Figure → Bool
@@ -34,9 +19,12 @@ is_reached f figure =
     || list_any (λ (known : Figure). is_same known figure) f.reached.items
 
 -- a figure is the time of a task that is known as one that can be kept from ending
+abbrev pub is_endless_by : Findings → Measure → ℕ → Bool
+is_endless_by f Measure.Response k = list_any (λ (known : ℕ). known == k) f.endless.items
+is_endless_by f other k = false
+
 abbrev pub is_endless : Findings → Figure → Bool
-is_endless f (Response k) = list_any (λ (known : ℕ). known == k) f.endless.items
-is_endless f other = false
+is_endless f figure = is_endless_by f figure.measure figure.number
 
 -- a service, by its number among those of the bounds, is known to be answered so by some run
 abbrev pub is_failing : Findings → ℕ → Bool
@@ -48,9 +36,12 @@ IsShown S mode distances bounds figure =
     (told bounds.peaks figure ≡ 0) ⊎ IsReached S mode distances bounds figure
 
 -- it is the time of a task that can be kept from ending for as many ticks as one likes
+abbrev pub HasNoEndBy : System → ℕ → List ℕ → Measure → ℕ → Type 0
+HasNoEndBy S mode distances Measure.Response k = NeedNotEnd S mode distances k
+HasNoEndBy S mode distances other k = ⊥
+
 abbrev pub HasNoEnd : System → ℕ → List ℕ → Figure → Type 0
-HasNoEnd S mode distances (Response k) = NeedNotEnd S mode distances k
-HasNoEnd S mode distances other = ⊥
+HasNoEnd S mode distances figure = HasNoEndBy S mode distances figure.measure figure.number
 
 -- what is known is so: a figure that is told above 0 is shown by some run below the cap, a time
 -- can be made as long as one likes, and some run answers a service as is told

@@ -8,25 +8,8 @@ use Rattle.seen_ticks.specs.declared.observation.Observation.{Observation}
 use Rattle.view_figures.specs.FigureSums.{levels_of}
 use Rattle.law_figures.specs.RunFigures.{AreTicksOf}
 use Rattle.law_figures.specs.Telling.{TellBlockers}
-use Rattle.search_nodes.specs.declared.figure.Figure.{Figure}
-use Rattle.search_nodes.specs.declared.figure.Figure.TheVariants.{Blocked, Blockers, Errors, Hold, Jobs, Latency, Loss, Refusal, RefusedAction, Response, RoutineErrors, Shutdown}
 use Rattle.search_witnesses.specs.declared.watched.Watched.{Watched}
 use Rattle.search_witnesses.specs.Watched.{AreWatched}
-
--- the number of the thing of a figure
-abbrev pub number_of : Figure → ℕ
-number_of (Response k) = k
-number_of (Blocked k) = k
-number_of (Blockers k) = k
-number_of (Jobs k) = k
-number_of (Refusal k) = k
-number_of (Latency i) = i
-number_of (Loss i) = i
-number_of (Hold r) = r
-number_of (RefusedAction a) = a
-number_of (Errors k) = k
-number_of (RoutineErrors i) = i
-number_of Shutdown = 0
 
 -- figures of the things of a number over the first n ticks of a run
 pub record WatchesTicks (S : System) (mode : ℕ) (arrivals : List Arrival) (n k : ℕ)

@@ -1,7 +1,6 @@
 -- Figures of the things of one number, over observations, newest first.
-use Rattle.std.specs.Prelude.{ℕ, ◌≡◌, false, ◌&&◌, cond, List, [], ◌∷◌, map, max, Option, Some, None, nat_lt}
+use Rattle.std.specs.Prelude.{ℕ, ◌≡◌, false, ◌&&◌, cond, List, map, None}
 use Rattle.seen_ticks.specs.declared.observation.Observation.{Observation}
-use Rattle.view_figures.specs.declared.reached.Reached.{Reached}
 use Rattle.view_figures.specs.declared.task_tick.TaskTick.{TaskTick}
 use Rattle.view_figures.specs.AlarmSums.{alarm_figures}
 use Rattle.seen_ticks.specs.Seen.{task_seen}
@@ -9,11 +8,11 @@ use Rattle.view_figures.specs.FigureSums.{alarm_tick, holder_tick, is_error, is_
 use Rattle.view_figures.specs.ResourceSums.{resource_figures}
 use Rattle.view_figures.specs.RoutineSums.{routine_figures}
 use Rattle.law_figures.specs.Times.{response_time, routine_time}
-use Rattle.search_nodes.specs.declared.figure.Figure.{Figure}
-use Rattle.search_nodes.specs.declared.figure.Figure.TheVariants.{Blocked, Blockers, Errors, Hold, Jobs, Latency, Loss, Refusal, RefusedAction, Response, RoutineErrors, Shutdown}
-use Rattle.search_nodes.specs.Figures.{one_if}
+use Rattle.view_measures.specs.declared.measure.Measure.{Measure}
+use Rattle.law_figures.specs.Counts.{one_if}
+use Rattle.law_bounds.specs.Showing.{has_come, most_jobs, number_or_none, ticks_of, ticks_seen}
 use Rattle.search_witnesses.specs.declared.watched.Watched.{Watched}
-use Rattle.search_witnesses.specs.Blocked.{blocked_ticks, ticks_seen}
+use Rattle.search_witnesses.specs.Blocked.{blocked_ticks}
 use Rattle.search_witnesses.specs.Failing.{last_failure}
 
 -- what an observation has of a task, without whether a lower task executes
@@ -27,11 +26,6 @@ bare_task_tick o k =
       blockers = cond (is_task o.executor k) o.blockers None;
     }
 
--- the most jobs of a task at once
-abbrev pub most_jobs : ℕ → List Observation → ℕ
-most_jobs k [] = 0
-most_jobs k (o ∷ before) = max (task_seen o k).jobs (most_jobs k before)
-
 -- the figures of the things of a number, over observations, by the static priorities of all tasks
 pub record AreWatched (levels : List ℕ) (k : ℕ) (seen : List Observation)
     (w : Watched) : Type 0 where
@@ -44,27 +38,17 @@ pub record AreWatched (levels : List ℕ) (k : ℕ) (seen : List Observation)
   pub blocked : w.blocked ≡ blocked_ticks (ticks_seen levels k seen)
   pub failure : w.failure ≡ last_failure seen
 
--- the ticks of a figure, 0 where there is none
-abbrev pub ticks_of : Option Reached → ℕ
-ticks_of None = 0
-ticks_of (Some r) = r.ticks
-
--- the number of a count, 0 where there is none
-abbrev pub number_or_none : Option ℕ → ℕ
-number_or_none None = 0
-number_or_none (Some n) = n
-
--- what they show of a figure
-abbrev pub shown_of : Watched → Figure → ℕ
-shown_of w (Response k) = ticks_of (response_time w.last w.task.responses)
-shown_of w (Blocked k) = w.blocked.most
-shown_of w (Blockers k) = number_or_none w.task.counts.blockers
-shown_of w (Jobs k) = w.jobs
-shown_of w (Refusal k) = one_if (nat_lt 0 w.task.counts.refused)
-shown_of w (Latency i) = ticks_of (routine_time w.last w.routine)
-shown_of w (Loss i) = one_if (nat_lt 0 w.routine.losses)
-shown_of w (Hold r) = ticks_of w.resource.longest
-shown_of w (RefusedAction a) = one_if (nat_lt 0 w.alarm.refused)
-shown_of w (Errors k) = one_if (nat_lt 0 w.task.counts.errors)
-shown_of w (RoutineErrors i) = one_if (nat_lt 0 w.routine.errors)
-shown_of w Shutdown = one_if w.is_over
+-- what they show of a measure
+abbrev pub shown_of : Watched → Measure → ℕ
+shown_of w Measure.Response = ticks_of (response_time w.last w.task.responses)
+shown_of w Measure.Blocked = w.blocked.most
+shown_of w Measure.Blockers = number_or_none w.task.counts.blockers
+shown_of w Measure.Jobs = w.jobs
+shown_of w Measure.Refusal = has_come w.task.counts.refused
+shown_of w Measure.Errors = has_come w.task.counts.errors
+shown_of w Measure.Latency = ticks_of (routine_time w.last w.routine)
+shown_of w Measure.Loss = has_come w.routine.losses
+shown_of w Measure.RoutineErrors = has_come w.routine.errors
+shown_of w Measure.Hold = ticks_of w.resource.longest
+shown_of w Measure.RefusedAction = has_come w.alarm.refused
+shown_of w Measure.Shutdown = one_if w.is_over

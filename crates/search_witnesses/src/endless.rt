@@ -18,8 +18,9 @@ use crate::suspect::suspected;
 use law_bounds::lassos_are_endless;
 use osek_base::{Arrival, Arrivals, MAX_ARRIVALS, MAX_TICKS, ModeId, System};
 use search_needs::{Needs, needed_data};
-use search_nodes::{Bounds, Figure};
+use search_nodes::Bounds;
 use std::alloc::{AllocError, Global};
+use view_measures::{Figure, Measure};
 
 /// As how many times the ticks of a path a run that goes on behind it is walked.
 const LENGTHS: u32 = 5;
@@ -173,6 +174,14 @@ fn find_by(
     )
 }
 
+/// The greatest response of a task.
+fn response_of(task: usize) -> Figure {
+    Figure {
+        measure: Measure::Response,
+        number: task,
+    }
+}
+
 /// Whether a task can be kept from ending for ever: a run, where one is found, that comes twice to
 /// one state while a job of the task stands ready or runs, and neither ends nor begins to wait. So
 /// no number of ticks bounds the task's greatest response. Tasks are numbered from 0.
@@ -193,7 +202,7 @@ pub fn find_endless(
     ensures { IfOk result (λ endless.
         IfSome endless (IsEndless system.now mode distances.now task)) }
 {
-    let path = found.trails.path(alloc, Figure::Response(task))?;
+    let path = found.trails.path(alloc, response_of(task))?;
     let endless = find_by(alloc, system, mode, distances, &path, GoingOn::Never, task)?;
     if endless.is_some() {
         return Ok(endless);
@@ -214,7 +223,7 @@ fn is_endless(
 ) -> Result<bool, AllocError>
     ensures { IfOk result (λ endless. IsTrue endless → NeedNotEnd system.now mode distances.now task) }
 {
-    if Figure::Response(task).told(&found.peaks) < found.cap {
+    if found.peaks.told(response_of(task)) < found.cap {
         return Ok(false);
     }
     match find_endless(alloc, system, mode, distances, found, task)? {

@@ -3,22 +3,23 @@
 ghost use Rattle.std.specs.Prelude.{ℕ, ◌≡◌, ◌==◌, IfOk, List};
 ghost use Rattle.std.specs.List.{list_any};
 ghost use Rattle.osek_base.specs.System.{System};
-ghost use Rattle.search_witnesses.specs.Shown.{is_below};
+ghost use Rattle.view_measures.specs.Measures.{is_same};
+ghost use Rattle.search_peaks.specs.Peaks.{is_below};
 ghost use Rattle.search_witnesses.specs.Findings.{
   AreFindings,
   AreUntried,
   is_endless,
   is_failing,
   is_reached,
-  is_same,
 };
 
 use crate::endless::endless_tasks;
 use crate::failing::failing_services;
 use crate::reached::{is_below, reached_figures};
 use osek_base::{ModeId, System};
-use search_nodes::{Bounds, Figure};
+use search_nodes::Bounds;
 use std::alloc::{AllocError, Global};
+use view_measures::{Figure, Measure};
 
 /// Bounds, and what runs are known to show of them.
 #[derive(Drop)]
@@ -34,31 +35,11 @@ pub struct Findings {
     pub failing: Vec<usize>,
 }
 
-/// Whether two figures are one.
-fn is_same(one: Figure, other: Figure) -> bool
-    ensures { result ≡ is_same one other }
-{
-    match one {
-        Figure::Response(k) => matches!(other, Figure::Response(j) if k == j),
-        Figure::Blocked(k) => matches!(other, Figure::Blocked(j) if k == j),
-        Figure::Blockers(k) => matches!(other, Figure::Blockers(j) if k == j),
-        Figure::Jobs(k) => matches!(other, Figure::Jobs(j) if k == j),
-        Figure::Refusal(k) => matches!(other, Figure::Refusal(j) if k == j),
-        Figure::Latency(k) => matches!(other, Figure::Latency(j) if k == j),
-        Figure::Loss(k) => matches!(other, Figure::Loss(j) if k == j),
-        Figure::Hold(k) => matches!(other, Figure::Hold(j) if k == j),
-        Figure::RefusedAction(k) => matches!(other, Figure::RefusedAction(j) if k == j),
-        Figure::Errors(k) => matches!(other, Figure::Errors(j) if k == j),
-        Figure::RoutineErrors(k) => matches!(other, Figure::RoutineErrors(j) if k == j),
-        Figure::Shutdown => matches!(other, Figure::Shutdown),
-    }
-}
-
 /// Whether a figure is among some.
 fn is_among(known: &[Figure], figure: Figure) -> bool
     ensures { result ≡ list_any (λ (other : Figure). is_same other figure) known.now }
 {
-    known.iter().any(|other| is_same(*other, figure))
+    known.iter().any(|other| other.is_same(figure))
 }
 
 /// Whether a number is among some.
@@ -118,7 +99,7 @@ impl Findings {
     pub fn is_reached(&self, figure: Figure) -> bool
         ensures { result ≡ is_reached self.now figure }
     {
-        figure.told(&self.bounds.peaks) == 0 || is_among(&self.reached, figure)
+        self.bounds.peaks.told(figure) == 0 || is_among(&self.reached, figure)
     }
 
     /// Whether a figure is the time of a task that is known as one that can be kept from ending for
@@ -126,8 +107,8 @@ impl Findings {
     pub fn is_endless(&self, figure: Figure) -> bool
         ensures { result ≡ is_endless self.now figure }
     {
-        match figure {
-            Figure::Response(task) => is_numbered(&self.endless, task),
+        match figure.measure {
+            Measure::Response => is_numbered(&self.endless, figure.number),
             _ => false,
         }
     }

@@ -2,30 +2,26 @@
 
 ghost use Rattle.std.specs.Prelude.{◌≡◌, IfOk, IsTrue};
 ghost use Rattle.std.specs.List.{All};
-ghost use Rattle.search_witnesses.specs.Shown.{IsReached, is_below};
+ghost use Rattle.search_peaks.specs.Peaks.{is_below};
+ghost use Rattle.search_witnesses.specs.Shown.{IsReached};
 
 use crate::witness::find_witness;
 use osek_base::{ModeId, System};
-use search_nodes::{Bounds, Figure, figures_of};
+use search_nodes::Bounds;
 use std::alloc::{AllocError, Global};
+use view_measures::{Figure, Measure, Sort, figures_of};
 
 /// Whether a figure is told below the cap; so is all that isn't a time, and blockers where the cap
 /// isn't 0.
 pub(crate) fn is_below(found: &Bounds, figure: Figure) -> bool
     ensures { result ≡ is_below found.now.cap found.now.peaks figure }
 {
-    match figure {
-        Figure::Response(_) | Figure::Blocked(_) | Figure::Latency(_) | Figure::Hold(_) => {
-            figure.told(&found.peaks) < found.cap
-        }
-        Figure::Blockers(_) => found.cap > 0,
-        Figure::Jobs(_)
-        | Figure::Refusal(_)
-        | Figure::Loss(_)
-        | Figure::RefusedAction(_)
-        | Figure::Errors(_)
-        | Figure::RoutineErrors(_)
-        | Figure::Shutdown => true,
+    match figure.measure {
+        Measure::Blockers => found.cap > 0,
+        measure => match measure.sort() {
+            Sort::Time => found.peaks.told(figure) < found.cap,
+            Sort::Count | Sort::Coming => true,
+        },
     }
 }
 

@@ -1,18 +1,17 @@
 //! What a run shows of a figure.
 
 ghost use Rattle.std.specs.Prelude.{ℕ, ◌≡◌, ◌+◌, IfOk, IfSome, IsTrue, Some};
-ghost use Rattle.view_figures.specs.FigureSums.{held_count};
 ghost use Rattle.kernel.specs.Progress.{AreKnown, Progress, run_of};
 ghost use Rattle.osek_base.specs.Names.{number_of as number_of_name};
-ghost use Rattle.search_witnesses.specs.Running.{IsWatched, Watches, number_of};
-ghost use Rattle.search_witnesses.specs.Shown.{IsOf, Shows};
+ghost use Rattle.law_bounds.specs.Showing.{Shows};
+ghost use Rattle.search_witnesses.specs.Running.{IsWatched, Watches};
 
 use crate::watched::Watched;
 use kernel::{BootFault, Counted};
 use osek_base::{Arrivals, MAX_TICKS, ModeId, System};
-use search_nodes::Figure;
 use seen_runs::ObservedRun;
 use std::alloc::{AllocError, Global};
+use view_measures::{Figure, Measure};
 
 /// For how many ticks at most a run goes on behind those that lead to a blocked job, until the
 /// job's blockers are told: that is when it executes again.
@@ -20,61 +19,9 @@ const MOST_BEHIND: u32 = 4096;
 
 /// For how many ticks at most a run goes on until it shows what is told of a figure.
 fn most_behind(figure: Figure) -> u32 {
-    match figure {
-        Figure::Blockers(_) => MOST_BEHIND,
+    match figure.measure {
+        Measure::Blockers => MOST_BEHIND,
         _ => 0,
-    }
-}
-
-/// The number of the thing of a figure.
-fn number_of(figure: Figure) -> usize
-    ensures { result ≡ number_of figure }
-{
-    match figure {
-        Figure::Response(number)
-        | Figure::Blocked(number)
-        | Figure::Blockers(number)
-        | Figure::Jobs(number)
-        | Figure::Refusal(number)
-        | Figure::Latency(number)
-        | Figure::Loss(number)
-        | Figure::Hold(number)
-        | Figure::RefusedAction(number)
-        | Figure::Errors(number)
-        | Figure::RoutineErrors(number) => number,
-        Figure::Shutdown => 0,
-    }
-}
-
-/// How many resources can be held.
-fn held_count(system: &System) -> usize
-    ensures { result ≡ held_count system.now }
-{
-    let declared = system.resource_count();
-    if system.has_res_scheduler() {
-        declared + 1
-    } else {
-        declared
-    }
-}
-
-/// Whether a system has the thing of a figure.
-fn is_of(system: &System, figure: Figure) -> bool
-    ensures { IsTrue result → IsOf system.now figure }
-{
-    match figure {
-        Figure::Response(task)
-        | Figure::Blocked(task)
-        | Figure::Blockers(task)
-        | Figure::Jobs(task)
-        | Figure::Refusal(task)
-        | Figure::Errors(task) => task < system.task_count(),
-        Figure::Latency(routine) | Figure::Loss(routine) | Figure::RoutineErrors(routine) => {
-            routine < system.routine_count()
-        }
-        Figure::Hold(resource) => resource < held_count(system),
-        Figure::RefusedAction(alarm) => alarm < system.alarm_count(),
-        Figure::Shutdown => true,
     }
 }
 
@@ -156,15 +103,14 @@ fn go_on_until(
     most: u32,
 ) -> Option<u32>
     ensures { IfSome result (λ more. (first : Progress) (n : ℕ) → first.system ≡ system.now
-        → IsWatched first run.old n (number_of figure) watched.old
-        → IsWatched first run.new (n + more) (number_of figure) watched.new) }
+        → IsWatched first run.old n figure.number watched.old
+        → IsWatched first run.new (n + more) figure.number watched.new) }
 {
-    let number = number_of(figure);
     for more in 0..most {
-        if watched.shown(figure) == value {
+        if watched.shown(figure.measure) == value {
             return Some(more);
         }
-        if !see_tick(system, run, number, watched) {
+        if !see_tick(system, run, figure.number, watched) {
             return None;
         }
     }
@@ -183,9 +129,9 @@ fn watch_until(
     requires begun { run.old.ticks ≡ 0 }
     requires of { run.old.system ≡ system.now }
     ensures { IfSome result (λ done.
-        Watches run.old.system run.old.mode run.old.arrivals done.0 (number_of figure) done.1) }
+        Watches run.old.system run.old.mode run.old.arrivals done.0 figure.number done.1) }
 {
-    let mut watched = watch_ticks(system, run, number_of(figure), ticks)?;
+    let mut watched = watch_ticks(system, run, figure.number, ticks)?;
     let most = most_behind(figure);
     let more = go_on_until(system, run, &mut watched, figure, value, most)?;
     let done = ticks.checked_add(more)?;
@@ -244,7 +190,7 @@ pub(crate) fn shown_in_run(
         (λ shown. Shows system.now mode arrivals shown.0 figure shown.1)) }
 {
     system.shows_proper();
-    if !is_of(system, figure) {
+    if !figure.is_of(system) {
         return Ok(None);
     }
     let Some(mut run) = begin(alloc, system, mode, arrivals)? else {
@@ -254,5 +200,5 @@ pub(crate) fn shown_in_run(
         return Ok(None);
     };
     prove!(done <= u32::MAX);
-    Ok(Some((done, watched.shown(figure))))
+    Ok(Some((done, watched.shown(figure.measure))))
 }

@@ -1,28 +1,22 @@
 //! Figures of the things of one number, over the ticks that were seen.
 
-ghost use Rattle.std.specs.Prelude.{ℕ, List, [], ◌∷◌, ◌≡◌, None, cond, nat_lt};
+ghost use Rattle.std.specs.Prelude.{ℕ, List, [], ◌∷◌, ◌≡◌, None, cond};
 ghost use Rattle.seen_ticks.specs.Seen.{task_seen};
 ghost use Rattle.view_figures.specs.FigureSums.{alarm_tick, holder_tick, is_error, is_routine, is_task, levels_of, routine_tick};
 ghost use Rattle.view_figures.specs.declared.reached.Reached.{Reached};
 ghost use Rattle.seen_ticks.specs.declared.observation.Observation.{Observation};
-ghost use Rattle.search_nodes.specs.Figures.{one_if};
-ghost use Rattle.search_witnesses.specs.Watched.{
-  AreWatched,
-  bare_task_tick,
-  number_or_none,
-  shown_of,
-  ticks_of,
-};
+ghost use Rattle.law_bounds.specs.Showing.{has_come, number_or_none, ticks_of};
+ghost use Rattle.search_witnesses.specs.Watched.{AreWatched, bare_task_tick, shown_of};
 
 use crate::blocked::BlockedTicks;
 use osek_base::System;
 use search_labels::blocked_tick;
-use search_nodes::Figure;
 use seen_ticks::{Failure, Observation};
 use view_figures::{
     AlarmFigures, AlarmTick, HolderTick, Reached, ResourceFigures, RoutineFigures, RoutineTick,
     TaskFigures, TaskTick, is_error, is_routine, is_task,
 };
+use view_measures::Measure;
 
 /// The number of blockers that a tick tells of a task, where one is told and it executes.
 fn blockers_told(seen: &Observation, number: usize) -> Option<u32>
@@ -124,7 +118,7 @@ fn number_or_none(count: Option<u32>) -> u32
 
 /// What is told of something that has come so often.
 fn coming(count: u32) -> u32
-    ensures { result ≡ one_if (nat_lt 0 count) }
+    ensures { result ≡ has_come count }
 {
     if count > 0 { 1 } else { 0 }
 }
@@ -163,24 +157,24 @@ impl Watched {
         self.failure = seen.failure;
     }
 
-    /// What is shown of a figure: ticks of a time; a number of jobs or of blockers; of what comes
+    /// What is shown of a measure: ticks of a time; a number of jobs or of blockers; of what comes
     /// or not 1 where it has come.
-    pub(crate) fn shown(&self, figure: Figure) -> u32
-        ensures { result ≡ shown_of self.now figure }
+    pub(crate) fn shown(&self, measure: Measure) -> u32
+        ensures { result ≡ shown_of self.now measure }
     {
-        match figure {
-            Figure::Response(_) => ticks_of(self.task.worst(self.last)),
-            Figure::Blocked(_) => self.blocked.most(),
-            Figure::Blockers(_) => number_or_none(self.task.counts.blockers),
-            Figure::Jobs(_) => self.jobs,
-            Figure::Refusal(_) => coming(self.task.counts.refused),
-            Figure::Latency(_) => ticks_of(self.routine.worst(self.last)),
-            Figure::Loss(_) => coming(self.routine.losses),
-            Figure::Hold(_) => ticks_of(self.resource.longest),
-            Figure::RefusedAction(_) => coming(self.alarm.refused),
-            Figure::Errors(_) => coming(self.task.counts.errors),
-            Figure::RoutineErrors(_) => coming(self.routine.errors),
-            Figure::Shutdown => coming(u32::from(self.is_over)),
+        match measure {
+            Measure::Response => ticks_of(self.task.worst(self.last)),
+            Measure::Blocked => self.blocked.most(),
+            Measure::Blockers => number_or_none(self.task.counts.blockers),
+            Measure::Jobs => self.jobs,
+            Measure::Refusal => coming(self.task.counts.refused),
+            Measure::Errors => coming(self.task.counts.errors),
+            Measure::Latency => ticks_of(self.routine.worst(self.last)),
+            Measure::Loss => coming(self.routine.losses),
+            Measure::RoutineErrors => coming(self.routine.errors),
+            Measure::Hold => ticks_of(self.resource.longest),
+            Measure::RefusedAction => coming(self.alarm.refused),
+            Measure::Shutdown => coming(u32::from(self.is_over)),
         }
     }
 }

@@ -2,14 +2,16 @@
 
 ghost use Rattle.std.specs.Prelude.{◌≡◌, IfOk, IfSome};
 ghost use Rattle.search_witnesses.specs.Listed.{IsListApart};
-ghost use Rattle.search_witnesses.specs.Shown.{IsWitness, Shows};
+ghost use Rattle.law_bounds.specs.Showing.{Shows};
+ghost use Rattle.search_witnesses.specs.Shown.{IsWitness};
 
 use crate::apart::keep_distances;
 use crate::candidate::arrivals_of;
 use crate::running::shown_in_run;
 use osek_base::{Arrival, Arrivals, ModeId, System};
-use search_nodes::{Bounds, Figure};
+use search_nodes::Bounds;
 use std::alloc::{AllocError, Global};
+use view_measures::Figure;
 
 /// Arrivals that keep distances, and behind how many ticks their run shows a figure.
 #[derive(Drop)]
@@ -99,7 +101,7 @@ pub fn find_witness(
         return Ok(None);
     };
     let arrivals = arrivals_of(alloc, &path, system.routine_count())?;
-    let value = figure.told(&found.peaks);
+    let value = found.peaks.told(figure);
     tried(
         alloc, system, mode, distances, arrivals, ticks, figure, value,
     )

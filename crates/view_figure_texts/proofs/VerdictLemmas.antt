@@ -11,10 +11,10 @@ use Rattle.view_figures.specs.declared.task_figures.TaskFigures.{TaskFigures}
 use Rattle.view_figures.specs.declared.routine_figures.RoutineFigures.{RoutineFigures}
 use Rattle.view_figures.specs.declared.alarm_figures.AlarmFigures.{AlarmFigures}
 use Rattle.view_figures.specs.FigureSums.{RunFigures}
-use Rattle.view_figure_texts.specs.declared.bound_kinds.Kind.{Kind}
+use Rattle.view_measures.specs.declared.kind.Kind.{Kind}
 use Rattle.view_figure_texts.specs.declared.limits.Limit.{Limit}
 use Rattle.view_figure_texts.specs.declared.limits.Limits.{Limits}
-use Rattle.view_figure_texts.specs.Tables.{name_of}
+use Rattle.view_measures.specs.Kinds.{name_of}
 use Rattle.view_figure_texts.specs.Limits.{alarm_refusal_lines, are_kept, broken_text, broken_time, first_at, first_line_of, first_lines, first_text, has_no_loss, has_no_refusal, is_kept, is_unseen, is_within, limit_lines, lines_where, loss_lines, refusal_lines, routine_time, task_refusal_lines, task_time, time_text}
 
 and_assoc : (a b c : Bool) → ((a && b) && c) ≡ (a && (b && c))

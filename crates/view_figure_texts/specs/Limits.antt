@@ -13,10 +13,10 @@ use Rattle.view_figures.specs.FigureSums.{RunFigures}
 use Rattle.view_figures.specs.Reaching.{worse_of}
 use Rattle.view_figures.specs.ResponseSums.{oldest_response}
 use Rattle.view_figures.specs.RoutineSums.{pending_age}
-use Rattle.view_figure_texts.specs.declared.bound_kinds.Kind.{Kind}
+use Rattle.view_measures.specs.declared.kind.Kind.{Kind}
 use Rattle.view_figure_texts.specs.declared.limits.Limit.{Limit}
 use Rattle.view_figure_texts.specs.declared.limits.Limits.{Limits}
-use Rattle.view_figure_texts.specs.Tables.{name_of}
+use Rattle.view_measures.specs.Kinds.{name_of}
 
 -- ---- times
 

@@ -9,13 +9,13 @@ use Rattle.view_figures.specs.declared.resource_figures.ResourceFigures.{Resourc
 use Rattle.view_figures.specs.declared.alarm_figures.AlarmFigures.{AlarmFigures}
 use Rattle.view_figures.specs.FigureSums.{RunFigures}
 use Rattle.view_figures.specs.ResponseSums.{oldest_response}
-use Rattle.view_figure_texts.specs.declared.bound_kinds.Kind.{Kind}
+use Rattle.view_measures.specs.declared.kind.Kind.{Kind}
 use Rattle.view_figure_texts.specs.declared.cells.Cell.{Cell}
 use Rattle.view_figure_texts.specs.declared.entry.Entry.{Entry}
 use Rattle.view_figure_texts.specs.declared.section.Section.{Section}
 use Rattle.view_figure_texts.specs.declared.words.Word.{Word}
 use Rattle.view_figure_texts.specs.Rounding.{rounded}
-use Rattle.view_figure_texts.specs.Tables.{kind_word, name_of}
+use Rattle.view_measures.specs.Kinds.{kind_word, name_of}
 
 -- ---- figures
 

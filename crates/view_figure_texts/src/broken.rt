@@ -24,11 +24,11 @@ ghost use Rattle.view_figure_texts.specs.Limits.{
   time_text,
 };
 
-use crate::bound_kinds::Kind;
 use crate::limits::{Limit, Limits};
 use osek_base::{Name, System};
 use std::alloc::{AllocError, Global};
 use view_figures::{Figures, Reached};
+use view_measures::Kind;
 
 /// The number of a name, if it has one.
 fn number_of(names: &[Name], name: &str) -> Option<usize>

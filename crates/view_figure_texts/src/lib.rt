@@ -3,7 +3,6 @@
 //! lines of broken limits are exactly those of the definitions; tables and JSON are tested.
 #![tactic(auto)]
 
-mod bound_kinds;
 mod broken;
 mod cells;
 mod csv_text;
@@ -11,15 +10,16 @@ mod entry;
 mod form;
 mod json_text;
 mod limits;
+mod measure_words;
 mod rows;
 mod section;
 mod table;
 mod text;
 mod words;
 
-pub use bound_kinds::{Column, KINDS, Kind, column_of, is_column, place_of, width_of};
 pub use broken::{broken_limits, unknown_limit};
 pub use form::Form;
 pub use limits::{Limit, Limits};
+pub use measure_words::{is_measure, measure_of, measure_word, place_of};
 pub use text::figures_text;
 pub use words::Word;

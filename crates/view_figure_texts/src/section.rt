@@ -9,7 +9,6 @@ ghost use Rattle.view_figure_texts.specs.Sections.{
   section_word,
 };
 
-use crate::bound_kinds::Kind;
 use crate::entry::Entry;
 use crate::rows::{
     alarm_entries, job_entries, resource_entries, response_entries, routine_entries, run_entries,
@@ -18,6 +17,7 @@ use crate::rows::{
 use osek_base::System;
 use std::alloc::{AllocError, Global};
 use view_figures::Figures;
+use view_measures::Kind;
 
 /// A part of the figures: what is told at once of all objects of a kind.
 #[derive(Clone, Copy)]

@@ -1,12 +1,12 @@
 //! Figures as tables for people: names at the left, figures at the right of 11 columns.
 
-use crate::bound_kinds::width_of;
 use crate::entry::Entry;
 use crate::section::{SECTIONS, Section};
 use osek_base::System;
 use std::alloc::{AllocError, Global};
 use std::io::{self, Write};
 use view_figures::Figures;
+use view_measures::width_of;
 
 /// Figures of a run, and how they are laid out.
 #[derive(Clone, Copy)]

@@ -26,7 +26,7 @@ mod vcd;
 
 pub use beginning::RunInput;
 pub use laws::counted_are_run_figures;
-pub use progress::Progress;
+pub use progress::{Progress, Showing};
 pub use stats::{StatsInput, counted_figures, write_stats};
 pub use timeline::{Picture, drawn_timeline, write_timeline};
 pub use vcd::write_vcd;

@@ -1,4 +1,4 @@
-//! How far a run or a search through every run is, for who waits before a terminal.
+//! How far a run or a search through every run is, for who waits.
 
 use std::io::Write;
 
@@ -8,12 +8,26 @@ const TICKS_BETWEEN: u32 = 50_000;
 /// After how many visits of states at least the numbers of a search are shown anew.
 const VISITS_BETWEEN: u64 = 10_000;
 
-/// A line on a terminal that says how far a run or a search is, written over and over. Nothing
-/// where there is no terminal.
+/// By what part more visits have to be made, than were, before the numbers stand on another line.
+const PART_BETWEEN: u64 = 4;
+
+/// How it is shown how far a run or a search is.
+#[derive(Clone, Copy)]
+pub enum Showing {
+    Nowhere,
+    /// On one line of a terminal, which is written over and over and taken away at the end.
+    OneLine,
+    /// On lines, of which a search writes fewer and fewer.
+    Lines,
+}
+
+/// What says how far a run or a search is, where that is shown.
 #[derive(Drop)]
 pub struct Progress<'e, E> {
     err: &'e mut E,
     is_shown: bool,
+    /// Whether what is shown is written over.
+    is_one_line: bool,
     /// How many ticks have to be done before the number is shown anew.
     next: u32,
     /// How many visits have to be made before the numbers are.
@@ -21,11 +35,12 @@ pub struct Progress<'e, E> {
 }
 
 impl<'e, E: Write> Progress<'e, E> {
-    /// Progress that is shown there, if it is.
-    pub fn new(err: &'e mut E, is_shown: bool) -> Self {
+    /// Progress that is shown there.
+    pub fn new(err: &'e mut E, showing: Showing) -> Self {
         Progress {
             err,
-            is_shown,
+            is_shown: !matches!(showing, Showing::Nowhere),
+            is_one_line: matches!(showing, Showing::OneLine),
             next: TICKS_BETWEEN,
             next_visit: VISITS_BETWEEN,
         }
@@ -48,27 +63,49 @@ impl<'e, E: Write> Progress<'e, E> {
     #[inline(never)]
     fn show(&mut self, done: u32, ticks: u32) {
         self.next = done.saturating_add(TICKS_BETWEEN);
-        let _ = write!(self.err, "\r{done} of {ticks} ticks");
+        let (lead, end) = self.ends();
+        let _ = write!(self.err, "{lead}{done} of {ticks} ticks{end}");
         let _ = self.err.flush();
+    }
+
+    /// What stands before the numbers and behind them.
+    fn ends(&self) -> (&'static str, &'static str) {
+        if self.is_one_line {
+            ("\r", "")
+        } else {
+            ("", "\n")
+        }
+    }
+
+    /// How many visits have to be made before the numbers are shown anew behind so many.
+    fn visits_behind(&self, visits: u64) -> u64 {
+        let more = if self.is_one_line {
+            VISITS_BETWEEN
+        } else {
+            VISITS_BETWEEN.max(visits / PART_BETWEEN)
+        };
+        visits.saturating_add(more)
     }
 
     /// A search has made so many visits, keeps so many states, has so many of them open, has tried
     /// all that can come up to a tick, and takes so many bytes. A failed write is forgotten.
     pub fn note_search(&mut self, visits: u64, states: usize, open: usize, tick: u64, bytes: u64) {
         if self.is_shown && self.next_visit <= visits {
-            self.next_visit = visits.saturating_add(VISITS_BETWEEN);
+            self.next_visit = self.visits_behind(visits);
             let megabytes = bytes / 1_000_000;
+            let (lead, end) = self.ends();
+            let cover = if self.is_one_line { "    " } else { "" };
             let _ = write!(
                 self.err,
-                "\r{states} states, {open} open, tick {tick}, {megabytes} MB    "
+                "{lead}{states} states, {open} open, tick {tick}, {megabytes} MB{cover}{end}"
             );
             let _ = self.err.flush();
         }
     }
 
-    /// Takes the line away. A failed write is forgotten.
+    /// Takes the line of a terminal away. A failed write is forgotten.
     pub fn end(&mut self) {
-        if self.is_shown {
+        if self.is_one_line {
             let _ = write!(self.err, "\r{:60}\r", "");
             let _ = self.err.flush();
         }

@@ -4,7 +4,7 @@ use Rattle.std.specs.List.{flat_map}
 use Rattle.std.specs.String.{string_bytes}
 use Rattle.osek_base.specs.Lists.{below}
 use Rattle.view_figures.specs.declared.alarm_figures.AlarmFigures.{AlarmFigures}
-use Rattle.view_figure_texts.specs.declared.bound_kinds.Kind.{Kind}
+use Rattle.view_measures.specs.declared.kind.Kind.{Kind}
 use Rattle.view_figure_texts.specs.Limits.{first_line_of}
 use Rattle.view_figure_texts.proofs.broken.push_alarm_refusals.Given as goal
 

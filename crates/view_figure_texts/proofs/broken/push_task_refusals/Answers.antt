@@ -1,6 +1,6 @@
 use Rattle.std.specs.Prelude.{codes}
 use Rattle.view_figures.specs.declared.task_figures.TaskFigures.{TaskFigures}
-use Rattle.view_figure_texts.specs.declared.bound_kinds.Kind.{Kind}
+use Rattle.view_measures.specs.declared.kind.Kind.{Kind}
 use Rattle.view_figure_texts.specs.Limits.{first_line_of}
 use Rattle.view_figure_texts.proofs.LineLemmas.{as_told, one_more}
 use Rattle.view_figure_texts.proofs.broken.push_task_refusals.Goals as goal

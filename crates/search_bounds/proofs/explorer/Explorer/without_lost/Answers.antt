@@ -1,6 +1,8 @@
 use Rattle.std.proofs.Common.{length, arith, sym, subst}
 use Rattle.kernel.specs.Machine.{picture}
-use Rattle.search_peaks.specs.Peaks.{has_come}
+use Rattle.view_measures.specs.declared.measure.Measure.{Measure}
+use Rattle.view_measures.specs.Measures.{figure}
+use Rattle.search_peaks.specs.Peaks.{told}
 use Rattle.law_bounds.specs.Nodes.{AreNoted, May, Node, rules_of}
 use Rattle.search.specs.Rules.{Repeats}
 use Rattle.search_bounds.specs.Exploring.{Explorer, explorer_of, setting_of}
@@ -40,6 +42,6 @@ returns-clause-repeats g c =
     c.self.view_is
     (repeats_it e x set fewer m c.one_state_tells.ensures c.lost_change_nothing.ensures
     c.self.invariant.ground may is others c.if-set-fewer.false peaks
-    (losses_noted (has_come peaks.losses) (length e.ground.system.routines) set pending fewer
-    c.common.result (omega (arith, low)) c.without-fewer.ensures.others c.common.ensures
+    (losses_noted (λ i. told peaks (figure Measure.Loss i)) (length e.ground.system.routines) set
+    pending fewer c.common.result (omega (arith, low)) c.without-fewer.ensures.others c.common.ensures
     c.note_losses.ensures.losses))

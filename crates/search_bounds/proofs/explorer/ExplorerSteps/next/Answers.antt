@@ -1,6 +1,6 @@
 use Rattle.std.proofs.Common.{sym, ◌∙◌, ap₂, subst}
 use Rattle.kernel.specs.Machine.{picture}
-use Rattle.search_peaks.specs.Peaks.{shown_by}
+use Rattle.search_peaks.specs.Noting.{shown_by}
 use Rattle.law_bounds.specs.Nodes.{IsNext, Node}
 use Rattle.search_bounds.specs.Exploring.{Explorer, IsBehind, explorer_of, setting_of}
 use Rattle.search_bounds.proofs.Exploring.{are_noted, if_some, is_in_of, is_next, stays_noted, tells_all}

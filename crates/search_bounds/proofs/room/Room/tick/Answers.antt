@@ -7,7 +7,7 @@ use Rattle.seen_ticks.specs.declared.observation.Observation.{Observation}
 use Rattle.seen_ticks.specs.Seen.{seen_of}
 use Rattle.view_figures.specs.FigureSums.{levels_of, lower_executes}
 use Rattle.search_labels.specs.Labels.{arrives_in, next_labels}
-use Rattle.search_peaks.specs.Peaks.{shown_by}
+use Rattle.search_peaks.specs.Noting.{shown_by}
 use Rattle.law_bounds.specs.Nodes.{Node, routines_of, tick_shown_from}
 use Rattle.search_bounds.specs.Exploring.{IsBehind, setting_by}
 use Rattle.search_bounds.proofs.Exploring.{all_found, if_ok, is_behind, is_shown, ticked_in}

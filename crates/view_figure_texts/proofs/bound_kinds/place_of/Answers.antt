@@ -1,6 +1,0 @@
-use Rattle.std.proofs.Common.{◌∙◌}
-use Rattle.view_figure_texts.proofs.PlaceLemmas.{place_read}
-use Rattle.view_figure_texts.proofs.bound_kinds.place_of.Goals as goal
-
-pub returns : goal.returns
-returns c = c.ok.ensures.value ∙ place_read c.args.word.now c.parse.result c.parse.ensures.value.0
