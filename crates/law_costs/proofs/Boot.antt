@@ -1,0 +1,133 @@
+-- Boot leaves no more than is paid for it.
+use Rattle.std.proofs.Common.{ℕ, ◌≡◌, ◌≤◌, ◌+◌, Bool, true, false, cond, List, [], ◌∷◌, refl, ◌∙◌, ap, subst, arith, replicate, length}
+use Rattle.std.specs.Prelude.{slice_index_or}
+use Rattle.std.specs.List.{filter, sum_by, list_any}
+use Rattle.std.proofs.lemmas.Bool.{le-leb}
+use Rattle.std.proofs.lemmas.List.Sums.{sum_by-cons, sum_by_push}
+use Rattle.osek_base.specs.Activation.{activated}
+use Rattle.osek_base.specs.Lists.{below}
+use Rattle.osek_base.specs.Proper.{IsProper}
+use Rattle.osek_base.specs.State.{State}
+use Rattle.osek_base.specs.System.{System, priority_of}
+use Rattle.osek_base.specs.Tick.{is_pending}
+use Rattle.osek_base.specs.Trace.{all_activated, boot, starting_tasks}
+use Rattle.law_runs.proofs.Foremost.{idle_priority}
+use Rattle.law_runs.proofs.RankedMoves.{made_job}
+use Rattle.law_runs.proofs.Single.{IsSingle}
+use Rattle.law_runs.proofs.SingleTick.{begun, begun_single, first_single, started_keep}
+use Rattle.law_windows.proofs.Losses.{all_pending, none_on}
+use Rattle.law_costs.specs.Left.{Weights, counts, left, left_of_active, left_of_job, left_of_jobs, left_of_pending, on, switch_of}
+use Rattle.law_costs.specs.Paying.{PayForBoot, PayForDispatch, PayForStarts, is_upper}
+use Rattle.law_costs.proofs.Dispatch.{high_parts, is_high, reschedule_less}
+use Rattle.law_costs.proofs.Switches.{all_on}
+
+-- ---- what activations leave alone
+
+activated_switch : (S : System) (t : ℕ) (s : State) → switch_of (activated S t s) ≡ switch_of s
+unfolding activated
+activated_switch S t s = refl
+
+activated_active : (S : System) (t : ℕ) (s : State) → (activated S t s).active ≡ s.active
+unfolding activated
+activated_active S t s = refl
+
+all_switch : (S : System) (ts : List ℕ) (s : State) → switch_of (all_activated S ts s) ≡ switch_of s
+all_switch S [] s = refl
+all_switch S (t ∷ ts) s = all_switch S ts (activated S t s) ∙ activated_switch S t s
+
+all_active : (S : System) (ts : List ℕ) (s : State) → (all_activated S ts s).active ≡ s.active
+all_active S [] s = refl
+all_active S (t ∷ ts) s = all_active S ts (activated S t s) ∙ activated_active S t s
+
+none_pending : (S : System) (c : Weights) (s : State)
+    → s.pending ≡ replicate (length S.routines) false → left_of_pending S c s ≡ 0
+none_pending S c s is = none (below (length S.routines))
+  where
+    off : (i : ℕ) → is_pending s i ≡ false
+    off i = ap (λ flags. slice_index_or flags i false) is ∙ none_on (length S.routines) i
+
+    none : (xs : List ℕ) → sum_by c.costs.of_arrival (filter (is_pending s) xs) ≡ 0
+    none [] = refl
+    none (x ∷ xs) =
+        ap
+        (λ b. sum_by c.costs.of_arrival
+        (cond b (x ∷ filter (is_pending s) xs) (filter (is_pending s) xs)))
+        (off x)
+        ∙ none xs
+
+module _ (S : System) (p : ℕ) (c : Weights) (starts : PayForStarts S p c) where
+  abbrev part_on : ℕ → State → ℕ
+  part_on t s = left_of_job S p c (λ l. on) (made_job S t s)
+
+  made_less : (t : ℕ) (s : State)
+      → part_on t s ≤ cond (is_upper S p t) (c.of_task t) 0
+  made_less t s = go (is_high S p c (made_job S t s)) refl
+    where
+      go : (b : Bool) → is_high S p c (made_job S t s) ≡ b
+          → cond b (c.of_job on (made_job S t s)) 0 ≤ cond (is_upper S p t) (c.of_task t) 0
+      go false is = omega arith
+      go true is =
+          let up : p ≤ priority_of S t =
+          subst (λ k. p ≤ k) (idle_priority S (made_job S t s) refl refl)
+          (high_parts S p c (made_job S t s) is).1 in
+          let pay = starts.task (made_job S t s).id up in
+          let whole : cond (is_upper S p t) (c.of_task t) 0 ≡ c.of_task t =
+          ap (λ b. cond b (c.of_task t) 0) (le-leb p (priority_of S t) up) in
+          omega (arith, pay, whole)
+
+  one_started : (t : ℕ) (s : State)
+      → sum_by (left_of_job S p c (λ l. on)) (activated S t s).jobs
+      ≡ sum_by (left_of_job S p c (λ l. on)) s.jobs + part_on t s
+  unfolding activated
+  one_started t s = sum_by_push (left_of_job S p c (λ l. on)) s.jobs (made_job S t s)
+
+  all_started : (ts : List ℕ) (s : State)
+      → sum_by (left_of_job S p c (λ l. on)) (all_activated S ts s).jobs
+      ≤ sum_by (left_of_job S p c (λ l. on)) s.jobs + sum_by c.of_task (filter (is_upper S p) ts)
+  all_started [] s = omega arith
+  all_started (t ∷ ts) s =
+      let rest = all_started ts (activated S t s) in
+      let here = one_started t s in
+      let low = made_less t s in
+      let whole = split (is_upper S p t) in
+      omega (arith, rest, here, low, whole)
+    where
+      split : (b : Bool)
+          → sum_by c.of_task (cond b (t ∷ filter (is_upper S p) ts) (filter (is_upper S p) ts))
+          ≡ cond b (c.of_task t) 0 + sum_by c.of_task (filter (is_upper S p) ts)
+      split true = sum_by-cons c.of_task t (filter (is_upper S p) ts)
+      split false = omega arith
+
+  pub boot_less : (mode : ℕ) → IsProper S → PayForDispatch S p c → PayForBoot S mode p c
+      → left S p c (boot S mode).state ≤ c.costs.at_boot
+  unfolding boot
+  boot_less mode proper dispatch pays =
+      let started : State = all_activated S (starting_tasks S mode) (begun S proper mode) in
+      let single : IsSingle S started =
+      started_keep S proper (IsSingle S) (first_single S proper) mode
+      (begun_single S proper mode) in
+      let last = reschedule_less S p c dispatch started single in
+      let active : left_of_active c (switch_of started) started.active ≡ 0 =
+      ap (left_of_active c (switch_of started))
+      (all_active S (starting_tasks S mode) (begun S proper mode)) in
+      let pending =
+      none_pending S c started (all_pending S (starting_tasks S mode) (begun S proper mode)) in
+      let is : switch_of started ≡ on =
+      all_switch S (starting_tasks S mode) (begun S proper mode) in
+      let jobs = ap (λ find. left_of_jobs S p c find started.jobs) (all_on started is) in
+      let sums = all_started (starting_tasks S mode) (begun S proper mode) in
+      let low = either (list_any (λ j. counts S p on j) started.jobs) sums in
+      omega (arith, last, active, pending, jobs, low)
+    where
+      either : (b : Bool)
+          → sum_by (left_of_job S p c (λ l. on))
+          (all_activated S (starting_tasks S mode) (begun S proper mode)).jobs
+          ≤ sum_by (left_of_job S p c (λ l. on)) (begun S proper mode).jobs
+          + sum_by c.of_task (filter (is_upper S p) (starting_tasks S mode))
+          → cond b
+          (sum_by (left_of_job S p c (λ l. on))
+          (all_activated S (starting_tasks S mode) (begun S proper mode)).jobs)
+          c.of_section
+          ≤ c.costs.at_boot
+      either true sums = let pay = pays.tasks in omega (arith, sums, pay)
+      either false sums = pays.section

@@ -1,0 +1,10 @@
+pub mod Totals
+pub mod Switches
+pub mod Dispatch
+pub mod Flags
+pub mod Starts
+pub mod Ticks
+pub mod Boot
+pub mod Positive
+pub mod Falls
+pub mod Routines

@@ -1,0 +1,165 @@
+-- Where work stands, something is left.
+use Rattle.std.proofs.Common.{ℕ, zero, suc, ◌≡◌, ◌<◌, ◌≤◌, ◌⊎◌, inl, inr, Bool, true, false, cond, not, ◌&&◌, ◌||◌, nat_le, List, [], ◌∷◌, length, refl, sym, ◌∙◌, ap, subst, arith}
+use Rattle.std.specs.Prelude.{Option, Some, None, is_some, ◌==◌, slice_index_or}
+use Rattle.std.specs.List.{filter, list_any, sum_by}
+use Rattle.std.proofs.lemmas.Bool.{and_parts, cases_lt, eq-eqb, le-leb, leb-true}
+use Rattle.std.proofs.lemmas.List.Folds.{list_any-append}
+use Rattle.std.proofs.lemmas.List.Sums.{sum_by-cons}
+use Rattle.osek_base.specs.Lists.{below, is_in}
+use Rattle.osek_base.specs.Priority.{dynamic_priority, static_priority}
+use Rattle.osek_base.specs.State.{Active, Job, State, waits}
+use Rattle.osek_base.specs.System.{System}
+use Rattle.osek_base.specs.Tick.{is_pending}
+use Rattle.law_runs.proofs.Foremost.{equal, static_le}
+use Rattle.law_runs.proofs.Formed.{HasForm}
+use Rattle.law_runs.proofs.Lists.{clash}
+use Rattle.law_windows.specs.Routines.{begun}
+use Rattle.law_windows.specs.Work.{has_work, is_work}
+use Rattle.law_costs.specs.Left.{Weights, counts, is_off, left, left_of_active, on, switch_for, switch_of}
+use Rattle.law_costs.specs.Instructions.{CostSomething}
+use Rattle.law_costs.specs.Paying.{PayForComing}
+use Rattle.law_costs.proofs.Totals.{part}
+
+-- ---- lists
+
+or_true : (b : Bool) → (b || true) ≡ true
+or_true true = refl
+or_true false = refl
+
+any_weaker : {X : Type 0} (q r : X → Bool) (xs : List X) → ((x : X) → q x ≡ true → r x ≡ true)
+    → list_any q xs ≡ true → list_any r xs ≡ true
+any_weaker q r [] weaker some = some
+any_weaker q r (x ∷ xs) weaker some = go (q x) refl some (any_weaker q r xs weaker)
+  where
+    go : (b : Bool) → q x ≡ b → (b || list_any q xs) ≡ true
+        → (list_any q xs ≡ true → list_any r xs ≡ true) → (r x || list_any r xs) ≡ true
+    go true is some rest = ap (λ b. b || list_any r xs) (weaker x is)
+    go false is some rest = ap (λ b. r x || b) (rest some) ∙ or_true (r x)
+
+some_part : {X : Type 0} (q : X → Bool) (f : X → ℕ) (d : ℕ) (xs : List X)
+    → ((x : X) → q x ≡ true → 1 ≤ f x) → list_any q xs ≡ true → 1 ≤ sum_by (part q f d) xs
+some_part q f d [] dear some = clash (sym some)
+some_part q f d (x ∷ xs) dear some = go (q x) refl some (some_part q f d xs dear)
+  where
+    go : (b : Bool) → q x ≡ b → (b || list_any q xs) ≡ true
+        → (list_any q xs ≡ true → 1 ≤ sum_by (part q f d) xs)
+        → 1 ≤ sum_by (part q f d) (x ∷ xs)
+    go true is some rest =
+        let whole = sum_by-cons (part q f d) x xs in
+        let first : part q f d x ≡ f x = ap (λ b. cond b (f x) 0) is in
+        let cost = dear x is in
+        omega (arith, whole, first, cost)
+    go false is some rest =
+        let whole = sum_by-cons (part q f d) x xs in
+        let others = rest some in
+        omega (arith, whole, others)
+
+in_below : (n i : ℕ) → i < n → is_in i (below n) ≡ true
+in_below zero i low = absurd (omega (arith, low))
+in_below (suc n) i low =
+    list_any-append (λ m. m == i) (below n) (n ∷ []) ∙ go (cases_lt i n) (in_below n i)
+  where
+    go : (i < n) ⊎ (n ≤ i) → (i < n → is_in i (below n) ≡ true)
+        → (is_in i (below n) || ((n == i) || false)) ≡ true
+    go (inl less) before = ap (λ b. b || ((n == i) || false)) (before less)
+    go (inr most) before =
+        ap (λ b. is_in i (below n) || (b || false)) (eq-eqb n i (omega (arith, low, most)))
+        ∙ or_true (is_in i (below n))
+
+some_chosen : (f : ℕ → ℕ) (test : ℕ → Bool) (i : ℕ) (xs : List ℕ) → is_in i xs ≡ true
+    → test i ≡ true → 1 ≤ f i → 1 ≤ sum_by f (filter test xs)
+some_chosen f test i [] among is dear = clash (sym among)
+some_chosen f test i (x ∷ xs) among is dear =
+    go (x == i) refl among (λ later. some_chosen f test i xs later is dear)
+  where
+    more : (b : Bool) → 1 ≤ sum_by f (filter test xs)
+        → 1 ≤ sum_by f (cond b (x ∷ filter test xs) (filter test xs))
+    more true rest =
+        let whole = sum_by-cons f x (filter test xs) in
+        omega (arith, whole, rest)
+    more false rest = rest
+
+    go : (b : Bool) → (x == i) ≡ b → (b || is_in i xs) ≡ true
+        → (is_in i xs ≡ true → 1 ≤ sum_by f (filter test xs))
+        → 1 ≤ sum_by f (cond (test x) (x ∷ filter test xs) (filter test xs))
+    go true here among rest =
+        let same : x ≡ i = equal x i here in
+        let whole = sum_by-cons f x (filter test xs) in
+        let cost : f x ≡ f i = ap f same in
+        subst (λ b. 1 ≤ sum_by f (cond b (x ∷ filter test xs) (filter test xs)))
+        (sym (ap test same ∙ is)) (omega (arith, whole, cost, dear))
+    go false here among rest = more (test x) (rest among)
+
+-- some flag is raised
+record IsRaised (flags : List Bool) : Type 0 where
+  place : ℕ
+  inside : place < length flags
+  raised : slice_index_or flags place false ≡ true
+
+some_raised : (flags : List Bool) → list_any (λ flag. flag) flags ≡ true → IsRaised flags
+some_raised [] some = clash (sym some)
+some_raised (true ∷ flags) some = record { place = 0; inside = omega arith; raised = refl }
+some_raised (false ∷ flags) some =
+    let later = some_raised flags some in
+    let inside = later.inside in
+    record { place = suc later.place; inside = omega (arith, inside); raised = later.raised }
+
+-- ---- a state
+
+module _ (S : System) (p : ℕ) (c : Weights) (something : CostSomething S p c)
+    (coming : PayForComing S c) (s : State) (form : HasForm S s) where
+  active_left : (a : Active) → s.active ≡ Some a → 1 ≤ left S p c s
+  active_left a is =
+      let whole : left_of_active c (switch_of s) s.active ≡ c.of_active (switch_of s) a =
+      ap (left_of_active c (switch_of s)) is in
+      let cost = something.active (switch_of s) a in
+      omega (arith, whole, cost)
+
+  pending_left : list_any (λ flag. flag) s.pending ≡ true → 1 ≤ left S p c s
+  pending_left some =
+      let found = some_raised s.pending some in
+      let inside : found.place < length S.routines =
+      subst (λ n. found.place < n) form.pending found.inside in
+      let pay = coming.routine found.place inside in
+      let cost = something.active on (begun found.place) in
+      let whole =
+      some_chosen c.costs.of_arrival (is_pending s) found.place (below (length S.routines))
+      (in_below (length S.routines) found.place inside) found.raised (omega (arith, pay, cost)) in
+      omega (arith, whole)
+
+  work_counts : (j : Job) → is_work S p j ≡ true → counts S p (switch_for s j) j ≡ true
+  work_counts j is =
+      let both = and_parts (not (waits j)) (nat_le p (static_priority S j)) is in
+      let high = leb-true p (static_priority S j) both.1 in
+      let own = static_le S j in
+      ap (λ b. b && (is_off (switch_for s j) || nat_le p (dynamic_priority S j))) both.0
+      ∙ ap (λ b. is_off (switch_for s j) || b)
+      (le-leb p (dynamic_priority S j) (omega (arith, high, own)))
+      ∙ or_true (is_off (switch_for s j))
+
+  jobs_left : list_any (is_work S p) s.jobs ≡ true → 1 ≤ left S p c s
+  jobs_left some =
+      let count : list_any (λ j. counts S p (switch_for s j) j) s.jobs ≡ true =
+      any_weaker (is_work S p) (λ j. counts S p (switch_for s j) j) s.jobs work_counts some in
+      let sum =
+      some_part (λ j. counts S p (switch_for s j) j) (λ j. c.of_job (switch_for s j) j)
+      c.of_section s.jobs (λ j is. something.job (switch_for s j) j is) count in
+      let whole =
+      ap
+      (λ b. cond b
+      (sum_by (part (λ j. counts S p (switch_for s j) j) (λ j. c.of_job (switch_for s j) j)
+      c.of_section) s.jobs)
+      c.of_section)
+      count in
+      omega (arith, sum, whole)
+
+  pub something_left : has_work S p s ≡ true → 1 ≤ left S p c s
+  something_left some =
+      go s.active refl (list_any (λ flag. flag) s.pending) refl some
+    where
+      go : (o : Option Active) → s.active ≡ o → (b : Bool)
+          → list_any (λ flag. flag) s.pending ≡ b
+          → (is_some o || (b || list_any (is_work S p) s.jobs)) ≡ true → 1 ≤ left S p c s
+      go (Some a) is b pends some = active_left a is
+      go None is true pends some = pending_left pends
+      go None is false pends some = jobs_left some

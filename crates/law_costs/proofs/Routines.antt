@@ -1,0 +1,231 @@
+-- An instruction of a routine takes one, by what it leaves of the routine and what it starts.
+use Rattle.std.proofs.Common.{ℕ, ◌≡◌, ◌≤◌, ◌+◌, true, false, cond, not, ◌&&◌, List, ◌∷◌, suc, refl, sym, ◌∙◌, ap, subst, arith}
+use Rattle.std.specs.Prelude.{Option, Some, None, is_some, slice_index, slice_index_or, bit_or}
+use Rattle.std.specs.List.{sum_by}
+use Rattle.std.specs.Option.{option_map}
+use Rattle.std.proofs.Math.Path.{fun_ext}
+use Rattle.osek_base.specs.declared.arrivals.Arrival.{Arrival}
+use Rattle.osek_base.specs.declared.ids.Owner.{Owner}
+use Rattle.osek_base.specs.declared.instr.Control.{Control}
+use Rattle.osek_base.specs.declared.instr.Instr.{Instr}
+use Rattle.osek_base.specs.declared.instr.Service.{Service}
+use Rattle.osek_base.specs.declared.status.Status.{Status}
+use Rattle.osek_base.specs.Blocker.{is_job}
+use Rattle.osek_base.specs.Instruction.{Context, next, plain}
+use Rattle.osek_base.specs.Proper.{IsProper}
+use Rattle.osek_base.specs.Service.{Reply, RoutineCalls, effect, first_refusal, refusals, reply_to, service}
+use Rattle.osek_base.specs.State.{Active, Job, State, interrupts_off}
+use Rattle.osek_base.specs.System.{System, instruction_at}
+use Rattle.osek_base.specs.Tick.{answered, at_values, before_execution, caller_executes, caller_of, execute_phase, executed, moved, tick}
+use Rattle.osek_base.specs.Trace.{arriving, run}
+use Rattle.osek_base.specs.Types.{ServiceCall}
+use Rattle.law_alarms.specs.Setting.{call_in}
+use Rattle.law_future.specs.Shown.{chosen_of}
+use Rattle.law_runs.proofs.RankedTick.{IsExecuting, IsRunState, before_executing, run_ordered}
+use Rattle.law_runs.proofs.RunSteps.{going_before, run_tick, state_more}
+use Rattle.law_blockers.proofs.StepLemmas.{executing_is}
+use Rattle.law_windows.specs.Work.{has_work_after, is_busy}
+use Rattle.law_windows.proofs.Routines.{behind_over}
+use Rattle.law_costs.specs.Left.{Weights, left, left_of_active, left_of_jobs, left_of_pending, on, switch_for, switch_of}
+use Rattle.law_costs.specs.Paying.{PayForStarts, start_of}
+use Rattle.law_costs.specs.Instructions.{at_instruction, behind_instruction}
+use Rattle.law_costs.specs.Routines.{PayForRoutines, RoutinesAndJobsPay, started_by, started_where}
+use Rattle.law_costs.proofs.Starts.{activated_adds, set_adds}
+use Rattle.law_costs.proofs.Switches.{all_on}
+
+-- behind a routine each job finds interrupts on
+behind_routine : (s : State) → is_some s.active ≡ true → switch_for s ≡ (λ j. on)
+behind_routine s is =
+    fun_ext (λ j. ap (λ b. cond (not b && is_job s.running j.id) (switch_of s) on) is)
+
+some_moved : (x : Context) (o : Option Active) → is_some o ≡ true
+    → is_some (option_map (moved x) o) ≡ true
+some_moved x None is = is
+some_moved x (Some a) is = refl
+
+module _ (S : System) (p : ℕ) (c : Weights) (starts : PayForStarts S p c) (s : State)
+    (good : IsRunState S s) (a : Active) (is : s.active ≡ Some a) where
+  abbrev now : List Job → ℕ
+  now jobs = left_of_jobs S p c (switch_for s) jobs
+
+  effect_adds : (call : ServiceCall)
+      → now (effect S (RoutineCalls a) s call).jobs ≤ now s.jobs + start_of c call
+  effect_adds (Service.ActivateTask None) = omega arith
+  effect_adds (Service.ActivateTask (Some t)) = activated_adds S p c starts s good.single t
+  effect_adds Service.TerminateTask = omega arith
+  effect_adds (Service.ChainTask None) = omega arith
+  effect_adds (Service.ChainTask (Some t)) = activated_adds S p c starts s good.single t
+  effect_adds Service.Schedule = omega arith
+  effect_adds Service.GetTaskId = omega arith
+  effect_adds (Service.GetTaskState o) = omega arith
+  effect_adds (Service.GetResource None) = omega arith
+  effect_adds (Service.GetResource (Some r)) = omega arith
+  effect_adds (Service.ReleaseResource None) = omega arith
+  effect_adds (Service.ReleaseResource (Some r)) = omega arith
+  effect_adds (Service.LoadShared o i) = omega arith
+  effect_adds (Service.StoreShared None i v) = omega arith
+  effect_adds (Service.StoreShared (Some r) i v) = omega arith
+  effect_adds (Service.SetEvent None m) = omega arith
+  effect_adds (Service.SetEvent (Some t) m) =
+      set_adds S p c starts s good.single good.ordered.ranked.still good.ordered.ready t
+      (bit_or (slice_index s.masks t) m) m
+  effect_adds (Service.ClearEvent m) = omega arith
+  effect_adds (Service.GetEvent o) = omega arith
+  effect_adds (Service.WaitEvent m) = omega arith
+  effect_adds (Service.SetRelAlarm None x y) = omega arith
+  effect_adds (Service.SetRelAlarm (Some b) x y) = omega arith
+  effect_adds (Service.SetAbsAlarm None x y) = omega arith
+  effect_adds (Service.SetAbsAlarm (Some b) x y) = omega arith
+  effect_adds (Service.CancelAlarm None) = omega arith
+  effect_adds (Service.CancelAlarm (Some b)) = omega arith
+  effect_adds (Service.GetAlarm o) = omega arith
+  effect_adds (Service.GetAlarmBase o) = omega arith
+
+  reply_adds : (call : ServiceCall) (o : Option Status)
+      → now (reply_to S (RoutineCalls a) s call o).state.jobs
+      ≤ now s.jobs + started_where c (reply_to S (RoutineCalls a) s call o).status call
+  reply_adds call None = effect_adds call
+  reply_adds call (Some refusal) = omega arith
+
+  service_adds : (call : ServiceCall)
+      → now (service S (RoutineCalls a) s call).state.jobs
+      ≤ now s.jobs + started_where c (service S (RoutineCalls a) s call).status call
+  unfolding service
+  service_adds call =
+      reply_adds call
+      (first_refusal ((interrupts_off s, Status.SysDisabled) ∷ refusals S (RoutineCalls a) s call))
+
+  -- ---- an instruction
+
+  module _ (who : Owner) (x : Context) where
+    abbrev there : Instr → State
+    there what = (executed S who (RoutineCalls a) x what s).state
+
+    jobs_add : (what : Instr)
+        → now (there what).jobs ≤ now s.jobs + started_by S c (RoutineCalls a) s (call_in x what)
+    jobs_add (Instr.Plain plain) = omega arith
+    jobs_add (Instr.Service call) = service_adds (at_values x call)
+    jobs_add (Instr.Control Control.DisableAllInterrupts) = omega arith
+    jobs_add (Instr.Control control) = omega arith
+
+    pending_stays : (what : Instr) → (there what).pending ≡ s.pending
+    unfolding service
+    pending_stays (Instr.Plain plain) = refl
+    pending_stays (Instr.Service call) = refl
+    pending_stays (Instr.Control Control.DisableAllInterrupts) = refl
+    pending_stays (Instr.Control control) = refl
+
+    find_on : (what : Instr) → switch_for (there what) ≡ (λ j. on)
+    unfolding service
+    find_on (Instr.Plain what) =
+        behind_routine (there (Instr.Plain what))
+        (some_moved (plain what x (s.words who)).context s.active (ap is_some is))
+    find_on (Instr.Service call) =
+        let r : Reply = service S (RoutineCalls a) s (at_values x call) in
+        behind_routine (there (Instr.Service call))
+        (some_moved (answered r.status r.results x) s.active (ap is_some is))
+    find_on (Instr.Control Control.DisableAllInterrupts) =
+        behind_routine (there (Instr.Control Control.DisableAllInterrupts))
+        (some_moved (next x) s.active (ap is_some is))
+    find_on (Instr.Control Control.EnableAllInterrupts) =
+        behind_routine (there (Instr.Control Control.EnableAllInterrupts))
+        (some_moved (next x) s.active (ap is_some is))
+    find_on (Instr.Control Control.SuspendAllInterrupts) =
+        behind_routine (there (Instr.Control Control.SuspendAllInterrupts))
+        (some_moved (next x) s.active (ap is_some is))
+    find_on (Instr.Control Control.ResumeAllInterrupts) =
+        behind_routine (there (Instr.Control Control.ResumeAllInterrupts))
+        (some_moved (next x) s.active (ap is_some is))
+    find_on (Instr.Control Control.SuspendOsInterrupts) =
+        behind_routine (there (Instr.Control Control.SuspendOsInterrupts))
+        (some_moved (next x) s.active (ap is_some is))
+    find_on (Instr.Control Control.ResumeOsInterrupts) =
+        behind_routine (there (Instr.Control Control.ResumeOsInterrupts))
+        (some_moved (next x) s.active (ap is_some is))
+    find_on (Instr.Control (Control.ShutdownOs n)) =
+        behind_routine (there (Instr.Control (Control.ShutdownOs n)))
+        (some_moved (next x) s.active (ap is_some is))
+    find_on (Instr.Control Control.ReturnFromInterrupt) =
+        all_on (there (Instr.Control Control.ReturnFromInterrupt)) refl
+
+  abbrev behind : State
+  behind = (caller_executes S (RoutineCalls a) s).state
+
+  abbrev owner : Owner
+  owner = Owner.Routine a.routine
+
+  abbrev what : Instr
+  what = instruction_at S owner a.context.place
+
+  behind_is : (execute_phase S s).state ≡ behind
+  unfolding execute_phase
+  behind_is = ap (λ o. (caller_executes S (caller_of o s.running s.jobs) s).state) is
+
+  pub routine_takes : PayForRoutines S c → (execute_phase S s).state.over ≡ false
+      → left S p c (execute_phase S s).state + 1 ≤ left S p c s
+  routine_takes pays going =
+      let same = ap (left S p c) behind_is in
+      let take = pays.takes s a is (sym (ap (λ (e : State). e.over) behind_is) ∙ going) in
+      let active : left_of_active c (switch_of s) s.active ≡ c.of_active (switch_of s) a =
+      ap (left_of_active c (switch_of s)) is in
+      let pending : left_of_pending S c behind ≡ left_of_pending S c s =
+      ap (λ flags. sum_by c.costs.of_arrival (chosen_of S (λ i. slice_index_or flags i false)))
+      (pending_stays owner a.context what) in
+      let find =
+      ap (λ find. left_of_jobs S p c find behind.jobs)
+      (find_on owner a.context what ∙ sym (behind_routine s (ap is_some is))) in
+      let jobs = jobs_add owner a.context what in
+      omega (arith, same, take, active, pending, find, jobs)
+
+-- ---- in a run
+
+module _ (S : System) (mode : ℕ) (arrivals : List Arrival) (p : ℕ) (c : Weights)
+    (proper : IsProper S) (starts : PayForStarts S p c) (routines : PayForRoutines S c) (n : ℕ)
+    (going : (run S mode arrivals n).state.over ≡ false)
+    (later : (run S mode arrivals (suc n)).state.over ≡ false) where
+  abbrev here : State
+  here = (run S mode arrivals n).state
+
+  abbrev at : State
+  at = at_instruction S mode arrivals n
+
+  at_is : (before_execution S (arriving arrivals n) here).state ≡ at
+  at_is = executing_is S mode arrivals n going
+
+  good_at : IsRunState S at
+  good_at =
+      (subst (IsExecuting S proper) at_is
+      (before_executing S proper (arriving arrivals n) here
+      (run_ordered S proper mode arrivals n))).good
+
+  goes_on : (execute_phase S at).state.over ≡ false
+  goes_on =
+      ap (λ t. (execute_phase S (tick S (arriving arrivals t) here).executing).state.over)
+      (run_tick S mode arrivals n going)
+      ∙ sym (behind_over S (arriving arrivals n) here)
+      ∙ sym (ap (λ (s : State). s.over) (state_more S mode arrivals n going)) ∙ later
+
+  active_takes : (a : Active) → at.active ≡ Some a
+      → left S p c (behind_instruction S mode arrivals n) + 1 ≤ left S p c at
+  active_takes a is = routine_takes S p c starts at good_at a is routines goes_on
+
+pub routines_and_jobs_pay : RoutinesAndJobsPay
+routines_and_jobs_pay S mode arrivals p c proper starts routines jobs = record {
+  busy = takes;
+  begun = jobs.begun;
+  ended = jobs.ended;
+}
+  where
+    takes : (n : ℕ) → (run S mode arrivals (suc n)).state.over ≡ false
+        → is_busy S mode arrivals p n ≡ true → has_work_after S mode arrivals p (suc n) ≡ true
+        → left S p c (behind_instruction S mode arrivals n) + 1
+        ≤ left S p c (at_instruction S mode arrivals n)
+    takes n later busy stands = go (at_instruction S mode arrivals n).active refl
+      where
+        go : (o : Option Active) → (at_instruction S mode arrivals n).active ≡ o
+            → left S p c (behind_instruction S mode arrivals n) + 1
+            ≤ left S p c (at_instruction S mode arrivals n)
+        go None is = jobs.busy n later is busy stands
+        go (Some a) is =
+            active_takes S mode arrivals p c proper starts routines n
+            (going_before S mode arrivals n later) later a is

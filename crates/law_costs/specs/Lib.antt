@@ -1,0 +1,4 @@
+pub mod Left
+pub mod Paying
+pub mod Instructions
+pub mod Routines

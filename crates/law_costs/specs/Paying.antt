@@ -1,0 +1,51 @@
+-- What costs have to pay, but for instructions: what comes, what a dispatch and boot begin.
+use Rattle.std.specs.Prelude.{ℕ, ◌≡◌, ◌<◌, ◌≤◌, Bool, true, false, nat_le, Some, length}
+use Rattle.std.specs.List.{filter, sum_by}
+use Rattle.osek_base.specs.declared.instr.Service.{Service}
+use Rattle.osek_base.specs.Activation.{new_job, woken}
+use Rattle.osek_base.specs.Priority.{dynamic_priority, static_priority}
+use Rattle.osek_base.specs.Reschedule.{entered}
+use Rattle.osek_base.specs.State.{Job, JobId, waits}
+use Rattle.osek_base.specs.System.{System, alarm, priority_of}
+use Rattle.osek_base.specs.Tick.{action_call}
+use Rattle.osek_base.specs.Trace.{starting_tasks}
+use Rattle.osek_base.specs.Types.{ServiceCall}
+use Rattle.law_windows.specs.Routines.{begun}
+use Rattle.law_costs.specs.Left.{Weights, on}
+
+-- whether a task is of the level
+abbrev pub is_upper : System → ℕ → ℕ → Bool
+is_upper S p t = nat_le p (priority_of S t)
+
+-- what a service starts where it isn't refused
+abbrev pub start_of : Weights → ServiceCall → ℕ
+start_of c (Service.ActivateTask (Some t)) = c.of_task t
+start_of c (Service.ChainTask (Some t)) = c.of_task t
+start_of c (Service.SetEvent (Some t) m) = c.of_event t m
+start_of c call = 0
+
+-- a dispatch takes nothing from a job that counts already, and a section that it begins is paid
+pub record PayForDispatch (S : System) (p : ℕ) (c : Weights) : Type 0 where
+  pub entering : (j : Job) → waits j ≡ false → p ≤ dynamic_priority S j
+      → c.of_job on (entered S j) ≤ c.of_job on j
+  pub beginning : (j : Job) → waits j ≡ false → dynamic_priority S j < p
+      → p ≤ dynamic_priority S (entered S j) → c.of_job on (entered S j) ≤ c.of_section
+
+-- an activation pays for a whole job, an event for what comes behind the wait that it ends
+pub record PayForStarts (S : System) (p : ℕ) (c : Weights) : Type 0 where
+  pub task : (n : JobId) → p ≤ priority_of S n.task → c.of_job on (new_job n) ≤ c.of_task n.task
+  pub event : (j : Job) (m : ℕ) → p ≤ static_priority S j → waits j ≡ true
+      → c.of_job on (woken j) ≤ c.of_event j.id.task m
+
+-- an interrupt pays for its whole routine, an expiry for what its alarm starts
+pub record PayForComing (S : System) (c : Weights) : Type 0 where
+  pub routine : (i : ℕ) → i < length S.routines
+      → c.of_active on (begun i) ≤ c.costs.of_arrival i
+  pub alarm : (a : ℕ) → a < length S.alarms
+      → start_of c (action_call (alarm S a).action) ≤ c.costs.of_expiry a
+
+-- where a window begins with the run it has the tasks of the level that start with it, or the
+-- section that the first dispatch begins
+pub record PayForBoot (S : System) (mode p : ℕ) (c : Weights) : Type 0 where
+  pub tasks : sum_by c.of_task (filter (is_upper S p) (starting_tasks S mode)) ≤ c.costs.at_boot
+  pub section : c.of_section ≤ c.costs.at_boot

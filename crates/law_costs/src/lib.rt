@@ -1,0 +1,31 @@
+//! No code: from costs to bounds. What is left of a level's work is counted in each state, by
+//! costs of who executes as it stands. All phases of a tick but its instruction add no more than
+//! what comes is said to cost.
+//!
+//! The costs are any functions (`Weights`): of the active routine as it stands, of a job as it
+//! stands, of an activation, of an event, of an interrupt and of an expiry. *Left* in a state is
+//! that of the active routine, of each pending one, and of each job that *counts*: it doesn't wait,
+//! and is of the level, or a lower one in a section, by its dynamic priority or with interrupts
+//! off. Where none counts, the greatest section that a dispatch may begin stands for them.
+//!
+//! - Costs *pay* (`Pay`) where an interrupt costs at least its routine as it starts, an activation
+//!   a new job, an event the job that it releases, an expiry what its alarm starts, a dispatch
+//!   nothing or the section that it begins, boot what starts with the mode. Then alarms, arrivals,
+//!   dispatches and starts of routines add no more than what comes costs.
+//! - Where they pay for the instructions of a run too, what is left falls phase by phase
+//!   (`costs_fall_by_phases`): the instruction of a busy tick leaves one less, with all that it
+//!   starts, and that of any other tick no more than may be where a window begins.
+//! - So costs that pay for the instructions of each run bound each window, and each response
+//!   (`costs_bound_responses`).
+//! - Of routines that is one inequality for each instruction, whatever state it finds: what it
+//!   leaves of the routine, and what it starts where it isn't refused, is one less at least
+//!   (`routines_and_jobs_pay`).
+//!
+//! That costs pay for the instructions of jobs is a premise on the states of a run. Left out are
+//! events that are set early, and alarms that pay when they are set. Nothing stands on this crate
+//! yet: it is the step before costs of programs, which a table would tell.
+#![tactic(auto)]
+
+mod laws;
+
+pub use laws::{costs_bound_responses, costs_fall_by_phases, routines_and_jobs_pay};
