@@ -4,7 +4,7 @@ use crate::notes::{write_choice, write_names};
 use crate::pieces::Piece::Text;
 use crate::source::Source;
 use crate::trees::{names, tree_of};
-use crate::unseen::first_unseen;
+use crate::unseen::mark_at;
 use oil_reader::Kind;
 use std::alloc::Global;
 use std::io::{self, Write};
@@ -26,7 +26,7 @@ fn place_of(text: &[u8], line: usize) -> usize {
 /// Why a line of an arrival list is refused.
 #[derive(Clone, Copy)]
 pub enum LineFault {
-    /// The line isn't a tick, one space and a name.
+    /// The line isn't a tick and a name.
     Syntax,
     /// No routine has the name.
     UnknownIsr,
@@ -42,8 +42,8 @@ pub enum LineFault {
 fn told(fault: LineFault) -> (&'static str, &'static str) {
     match fault {
         LineFault::Syntax => (
-            "the line isn't a tick, one space and a name",
-            "TICK ISR, as 7 Brake; no blank line, no space at the end",
+            "the line isn't a tick and a name",
+            "TICK ISR, as 7 Brake; # begins a comment",
         ),
         LineFault::UnknownIsr => ("there is no ISR of that name", "its name"),
         LineFault::Order => (
@@ -55,10 +55,20 @@ fn told(fault: LineFault) -> (&'static str, &'static str) {
     }
 }
 
-/// The place of the name on a line, behind its space.
+/// The place behind the spaces, tabs and CR that stand at a place.
+fn behind_blanks(source: Source<'_>, place: usize) -> usize {
+    for (number, byte) in source.from(place).iter().enumerate() {
+        if !matches!(*byte, b' ' | b'\t' | b'\r') {
+            return place.saturating_add(number);
+        }
+    }
+    place
+}
+
+/// The place of the name behind the tick at a place.
 fn name_place(source: Source<'_>, place: usize) -> usize {
     let digits = source.word(place).len();
-    place.saturating_add(digits).saturating_add(1)
+    behind_blanks(source, place.saturating_add(digits))
 }
 
 /// Writes which objects of a kind an OIL file has, and the one that is nearest to a name.
@@ -85,11 +95,10 @@ pub fn explain_arrivals<W: Write>(
     fault: LineFault,
     out: &mut W,
 ) -> io::Result<()> {
-    let place = place_of(irq.text, line);
+    let place = behind_blanks(irq, place_of(irq.text, line));
     let (what, allowed) = told(fault);
-    if let (LineFault::Syntax, Some(unseen)) = (fault, first_unseen(irq.from(place))) {
-        let place = place.saturating_add(unseen.place);
-        let what = [Text(unseen.name), Text(" stands in the line")];
+    if let (LineFault::Syntax, Some(mark)) = (fault, mark_at(irq.from(place))) {
+        let what = [Text(mark), Text(" stands in the line")];
         return irq.note(place, &what, "allowed", &[Text(allowed)], out);
     }
     if fault != LineFault::UnknownIsr {

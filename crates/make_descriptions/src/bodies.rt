@@ -13,6 +13,8 @@ use std::alloc::{AllocError, Global};
 struct Holding<'a> {
     held: Vec<&'a str>,
     marks: Vec<usize>,
+    /// Whether a release was wrong, so that what is held behind it isn't known.
+    is_astray: bool,
 }
 
 impl<'a> Holding<'a> {
@@ -20,6 +22,7 @@ impl<'a> Holding<'a> {
         Holding {
             held: Vec::new(alloc),
             marks: Vec::new(alloc),
+            is_astray: false,
         }
     }
 
@@ -38,6 +41,7 @@ impl<'a> Holding<'a> {
             None => false,
         };
         if !is_last {
+            self.is_astray = true;
             return Some(Wrong::NotGotLast(name));
         }
         let _ = self.held.pop();
@@ -62,7 +66,7 @@ impl<'a> Holding<'a> {
         match does {
             Does::Get(name) => self.get(name),
             Does::Release(name) => Ok(self.release(name)),
-            Does::Wait(_) | Does::Chain(_) => Ok(self.any()),
+            Does::Wait(_) | Does::Chain(_) | Does::Schedule => Ok(self.any()),
             Does::Repeat(_) => {
                 self.marks.push(self.held.len())?;
                 Ok(None)
@@ -73,26 +77,47 @@ impl<'a> Holding<'a> {
     }
 }
 
-/// What a routine can't do.
-fn barred(does: Does<'_>) -> Option<&'static str> {
+/// What a routine can't do, and why.
+fn barred<'a>(does: Does<'_>) -> Option<Wrong<'a>> {
     match does {
-        Does::Get(_) => Some("get"),
-        Does::Release(_) => Some("release"),
-        Does::Wait(_) => Some("wait"),
-        Does::Clear(_) => Some("clear"),
-        Does::Chain(_) => Some("chain"),
+        Does::Get(_) => Some(Wrong::ByRoutine("get", RESOURCES_OF_TASKS)),
+        Does::Release(_) => Some(Wrong::ByRoutine("release", RESOURCES_OF_TASKS)),
+        Does::Wait(_) => Some(Wrong::ByRoutine("wait", EVENTS_OF_TASKS)),
+        Does::Clear(_) => Some(Wrong::ByRoutine("clear", EVENTS_OF_TASKS)),
+        Does::Chain(_) => Some(Wrong::ByRoutine("chain", "it isn't a job of a task")),
+        Does::Schedule => Some(Wrong::ByRoutine("schedule", "it isn't a job of a task")),
         _ => None,
     }
 }
 
+const RESOURCES_OF_TASKS: &str = "only tasks get resources";
+
+const EVENTS_OF_TASKS: &str = "only tasks have events";
+
 /// Tells what is wrong in the body of a routine.
 pub fn tell_routine<'a>(body: &Body<'a>, faults: &mut Vec<Fault<'a>>) -> Result<(), AllocError> {
     for step in &body.steps {
-        if let Some(what) = barred(step.does) {
-            tell(faults, step.place, Wrong::ByRoutine(what))?;
+        if let Some(wrong) = barred(step.does) {
+            tell(faults, step.place, wrong)?;
         }
     }
+    tell_suspended(body, faults)?;
     tell_length(body, faults)
+}
+
+/// Tells of each step that a service is while interrupts are off: it would be refused.
+fn tell_suspended<'a>(body: &Body<'a>, faults: &mut Vec<Fault<'a>>) -> Result<(), AllocError> {
+    let mut depth: usize = 0;
+    for step in &body.steps {
+        match step.does {
+            Does::Suspend => depth = depth.saturating_add(1),
+            Does::Resume => depth = depth.saturating_sub(1),
+            Does::Work(_) | Does::Repeat(_) | Does::End => {}
+            _ if depth > 0 => tell(faults, step.place, Wrong::WhileSuspended)?,
+            _ => {}
+        }
+    }
+    Ok(())
 }
 
 /// Tells of what is held at the end of a body, and of a loop without a step.
@@ -102,7 +127,7 @@ fn tell_end<'a>(
     faults: &mut Vec<Fault<'a>>,
 ) -> Result<(), AllocError> {
     let place = body.place;
-    if let Some(first) = holding.held.first() {
+    if let (Some(first), false) = (holding.held.first(), holding.is_astray) {
         tell(faults, place, Wrong::StillHeld(*first))?;
     }
     if body.is_looped && body.steps.is_empty() {
@@ -130,6 +155,7 @@ pub fn tell_task<'a>(
         }
     }
     tell_end(body, &holding, faults)?;
+    tell_suspended(body, faults)?;
     tell_length(body, faults)
 }
 

@@ -8,7 +8,7 @@ use crate::lists::items;
 use crate::names::is_among;
 use crate::node::Node;
 use crate::routines::{ALARM, ROUTINE};
-use crate::uses::{all_events, all_resources, events_of};
+use crate::uses::{all_events, all_resources, events_of, internal_resources};
 use osek_base::{MAX_ALARMS, MAX_EVENTS, MAX_NAME, MAX_RESOURCES, MAX_ROUTINES};
 use std::alloc::{AllocError, Global};
 
@@ -127,7 +127,10 @@ fn tell_counts<'a>(
     let alarms = alarms.saturating_add(described.alarms.len());
     let routines = routines.saturating_add(described.interrupts.len());
     let events = all_events(alloc, nodes, described)?.len();
-    let resources = all_resources(alloc, described)?.len();
+    let internal = internal_resources(alloc, described)?.len();
+    let resources = all_resources(alloc, described)?
+        .len()
+        .saturating_add(internal);
     tell_count(alarms, MAX_ALARMS, "alarms", faults)?;
     tell_count(routines, MAX_ROUTINES, "interrupts", faults)?;
     tell_count(events, MAX_EVENTS, "events", faults)?;
@@ -210,6 +213,45 @@ fn tell_alarm<'a>(
     }
 }
 
+/// Tells of resources that a body gets and that are internal.
+fn tell_internal<'a>(
+    body: &Body<'a>,
+    internal: &[&str],
+    faults: &mut Vec<Fault<'a>>,
+) -> Result<(), AllocError> {
+    for step in &body.steps {
+        match step.does {
+            Does::Get(name) if is_among(internal, name) => {
+                tell(faults, step.place, Wrong::InternalResource(name))?;
+            }
+            _ => {}
+        }
+    }
+    Ok(())
+}
+
+/// Tells of modes in a list that aren't declared, or that stand there twice.
+fn tell_modes<'a>(
+    alloc: Global,
+    nodes: &'a [Node],
+    described: &Described<'a>,
+    modes: Option<usize>,
+    faults: &mut Vec<Fault<'a>>,
+) -> Result<(), AllocError> {
+    let Some(list) = modes else {
+        return Ok(());
+    };
+    let mut seen = Vec::new(alloc);
+    for node in items(alloc, nodes, list)? {
+        let name = node.text.as_str();
+        if !is_among(described.modes.as_slice(), name) {
+            tell(faults, node.place, Wrong::UnknownMode(name))?;
+        }
+        add_name(name, node.place, &mut seen, faults)?;
+    }
+    Ok(())
+}
+
 /// Tells what is wrong of a task, besides its name.
 fn tell_of_task<'a>(
     alloc: Global,
@@ -220,9 +262,13 @@ fn tell_of_task<'a>(
 ) -> Result<(), AllocError> {
     tell_references(alloc, nodes, described, &task.body, faults)?;
     tell_task(alloc, &task.body, faults)?;
+    tell_modes(alloc, nodes, described, task.modes, faults)?;
+    if let (Some(internal), true) = (task.internal, task.is_non) {
+        tell(faults, internal.place, Wrong::InternalOfNon)?;
+    }
     if task.activations > 1 && !events_of(alloc, nodes, &task.body)?.is_empty() {
         let wrong = Wrong::ExtendedActivations;
-        let place = task.place;
+        let place = task.activations_place;
         tell(faults, place, wrong)?;
     }
     Ok(())
@@ -237,8 +283,10 @@ pub fn tell_all<'a>(
 ) -> Result<(), AllocError> {
     tell_names(alloc, described, faults)?;
     tell_counts(alloc, nodes, described, faults)?;
+    let internal = internal_resources(alloc, described)?;
     for task in &described.tasks {
         tell_of_task(alloc, nodes, described, task, faults)?;
+        tell_internal(&task.body, internal.as_slice(), faults)?;
     }
     for interrupt in &described.interrupts {
         tell_references(alloc, nodes, described, &interrupt.body, faults)?;
@@ -246,6 +294,7 @@ pub fn tell_all<'a>(
     }
     for alarm in &described.alarms {
         tell_alarm(alloc, nodes, described, alarm, faults)?;
+        tell_modes(alloc, nodes, described, alarm.modes, faults)?;
     }
     Ok(())
 }

@@ -18,6 +18,11 @@ pub enum Does<'a> {
     /// The steps up to the `End` of the same depth, so many times, 1 to 1,000,000.
     Repeat(u32),
     End,
+    /// Interrupts are off up to the `Resume` of the same depth.
+    Suspend,
+    Resume,
+    /// Lets a job of greater priority run that the task keeps away.
+    Schedule,
 }
 
 /// A step, and the place of its value.
@@ -48,14 +53,31 @@ pub enum Arriving {
         jitter: u32,
         seed: u32,
     },
-    /// The number of the node of the list of ticks.
-    Listed(usize),
+    /// At each tick of a list, which has the number of a node; no two of them nearer than `least`,
+    /// where that is said.
+    Listed {
+        list: usize,
+        least: Option<u32>,
+    },
     /// Each `least` to `most` ticks behind the one before, the first behind tick 0.
     Random {
         least: u32,
         most: u32,
         seed: u32,
     },
+}
+
+impl Arriving {
+    /// The greatest distance in ticks that all such arrivals keep, where one is said. Listed ticks
+    /// alone are those of one run, and say none.
+    pub fn distance(self) -> Option<u32> {
+        match self {
+            Arriving::Periodic { period, jitter, .. } => Some(period.saturating_sub(jitter)),
+            Arriving::Random { least, .. } => Some(least),
+            Arriving::Listed { least, .. } => least,
+            Arriving::Never => None,
+        }
+    }
 }
 
 /// How the jobs of a task come about, besides those that others activate.
@@ -68,15 +90,30 @@ pub enum Release {
     Sporadic(Arriving),
 }
 
+/// The name of an internal resource, and its place.
+#[derive(Clone, Copy)]
+pub struct Internal<'a> {
+    pub name: &'a str,
+    pub place: usize,
+}
+
 #[derive(Drop)]
 pub struct Task<'a> {
     pub name: &'a str,
     pub place: usize,
     pub priority: u32,
     pub activations: u32,
+    pub activations_place: usize,
     pub is_non: bool,
     pub starts: bool,
+    /// The number of the node of the list of the modes in which it is started, by itself or by its
+    /// period; none where it is in all.
+    pub modes: Option<usize>,
+    /// The internal resource that it lists.
+    pub internal: Option<Internal<'a>>,
     pub release: Release,
+    /// The longest response time allowed, in ticks.
+    pub deadline: Option<u32>,
     pub body: Body<'a>,
 }
 
@@ -86,6 +123,8 @@ pub struct Interrupt<'a> {
     pub place: usize,
     pub priority: u32,
     pub arriving: Arriving,
+    /// The longest latency allowed, in ticks.
+    pub deadline: Option<u32>,
     pub body: Body<'a>,
 }
 
@@ -105,6 +144,8 @@ pub struct Alarm<'a> {
     pub action_place: usize,
     pub period: u32,
     pub offset: u32,
+    /// As of a task.
+    pub modes: Option<usize>,
     pub action: Action<'a>,
 }
 
@@ -112,7 +153,8 @@ pub struct Alarm<'a> {
 #[derive(Drop)]
 pub struct Described<'a> {
     pub name: &'a str,
-    pub mode: &'a str,
+    /// Its modes, at least one.
+    pub modes: Vec<&'a str>,
     /// Interrupts arrive before this tick.
     pub ticks: u32,
     pub tasks: Vec<Task<'a>>,

@@ -1,6 +1,7 @@
-//! Names in lists, and the name that no description declares.
+//! Names in lists, the one that is nearest to a word, and the name that no description declares.
 
-use std::alloc::AllocError;
+use std::alloc::{AllocError, Global};
+use strsim::osa_distance;
 
 /// The resource that is there without being declared, and that no task lists.
 pub const SCHEDULER: &str = "RES_SCHEDULER";
@@ -21,4 +22,23 @@ pub fn add<'a>(names: &mut Vec<&'a str>, name: &'a str) -> Result<(), AllocError
         names.push(name)?;
     }
     Ok(())
+}
+
+/// The name that is nearest to a word, where one is near: at most a third of the word's letters are
+/// changed.
+pub fn nearest(
+    alloc: Global,
+    word: &str,
+    names: &[&'static str],
+) -> Result<Option<&'static str>, AllocError> {
+    let mut found = None;
+    let mut least = word.len().max(3) / 3;
+    for name in names {
+        let distance = osa_distance(alloc, word, *name)?;
+        if distance < least || (distance == least && found.is_none()) {
+            found = Some(*name);
+            least = distance;
+        }
+    }
+    Ok(found)
 }

@@ -1,163 +1,59 @@
 //! The sections of a description, as they stand in the text.
 
-use crate::description::{Action, Alarm, Arriving, Described, Interrupt, Release, Task};
+use crate::checks::add_name;
+use crate::description::{Action, Alarm, Described, Internal, Interrupt, Task};
 use crate::fault::{Fault, Wrong, tell};
+use crate::lists::items;
 use crate::node::{Kind, Node};
-use crate::read_lists::tell_ticks;
+use crate::read_arrivals::{arriving, release};
+use crate::read_lists::tell_names;
 use crate::read_steps::body;
-use crate::read_tables::{Found, Table};
+use crate::read_tables::{Found, Table, number_or, part, part_alone, ticks_or, want};
+use crate::times::tell_tick;
 use osek_base::{
-    MAX_ACTIVATION, MAX_ALARMS, MAX_ROUTINE_PRIORITY, MAX_ROUTINES, MAX_TASK_PRIORITY, MAX_TASKS,
-    MAX_TICKS,
+    MAX_ACTIVATION, MAX_ALARMS, MAX_MODES, MAX_ROUTINE_PRIORITY, MAX_ROUTINES, MAX_TASK_PRIORITY,
+    MAX_TASKS, MAX_TICKS,
 };
 use std::alloc::{AllocError, Global};
 
 /// What may stand before all sections.
-pub const ROOT_KEYS: [&str; 3] = ["name", "mode", "ticks"];
+const ROOT_KEYS: [&str; 5] = ["name", "mode", "modes", "tick", "ticks"];
 
 /// The keys of a task.
-pub const TASK_KEYS: [&str; 12] = [
+const TASK_KEYS: [&str; 15] = [
     "name",
     "priority",
     "activations",
     "schedule",
+    "internal",
     "autostart",
+    "modes",
     "period",
     "offset",
     "least",
     "most",
     "seed",
+    "deadline",
     "body",
     "loop",
 ];
 
 /// The keys of an interrupt.
-pub const INTERRUPT_KEYS: [&str; 10] = [
-    "name", "priority", "period", "offset", "jitter", "seed", "ticks", "least", "most", "body",
+const INTERRUPT_KEYS: [&str; 11] = [
+    "name", "priority", "period", "offset", "jitter", "seed", "ticks", "least", "most", "deadline",
+    "body",
 ];
 
-const ALARM_KEYS: [&str; 6] = ["name", "period", "offset", "activate", "set", "event"];
+const ALARM_KEYS: [&str; 7] = [
+    "name", "period", "offset", "modes", "activate", "set", "event",
+];
 
-/// The number at a key, or another where none is there or it isn't in the range.
-fn number_or<'a>(
-    table: &Table<'a>,
-    key: &'static str,
-    range: (u32, u32),
-    other: u32,
-    faults: &mut Vec<Fault<'a>>,
-) -> Result<u32, AllocError> {
-    Ok(table.number(key, range, faults)?.unwrap_or(other))
-}
-
-/// Tells of a key that is missing.
-fn want<'a>(
-    table: &Table<'a>,
-    key: &'static str,
-    faults: &mut Vec<Fault<'a>>,
-) -> Result<(), AllocError> {
-    if table.find(key).is_none() {
-        tell(faults, table.place, Wrong::Missing(key))?;
-    }
-    Ok(())
-}
-
-/// Tells of a key that can't stand beside another.
-fn part<'a>(
-    table: &Table<'a>,
-    key: &'static str,
-    other: &'static str,
-    faults: &mut Vec<Fault<'a>>,
-) -> Result<(), AllocError> {
-    if let (Some(Found { node, .. }), Some(_)) = (table.find(key), table.find(other)) {
-        tell(faults, node.key_place, Wrong::Beside(key, other))?;
-    }
-    Ok(())
-}
-
-/// Arrivals a random distance apart.
-fn random<'a>(table: &Table<'a>, faults: &mut Vec<Fault<'a>>) -> Result<Arriving, AllocError> {
-    want(table, "least", faults)?;
-    want(table, "most", faults)?;
-    let least = number_or(table, "least", (1, MAX_TICKS), 1, faults)?;
-    let most = table
-        .number("most", (1, MAX_TICKS), faults)?
-        .unwrap_or(least);
-    if let Some(Found { node, .. }) = table.find("least") {
-        if least > most {
-            tell(faults, node.place, Wrong::LeastAboveMost)?;
-        }
-    }
-    let seed = number_or(table, "seed", (0, u32::MAX), 0, faults)?;
-    Ok(Arriving::Random { least, most, seed })
-}
-
-/// Arrivals a period apart.
-fn periodic<'a>(table: &Table<'a>, faults: &mut Vec<Fault<'a>>) -> Result<Arriving, AllocError> {
-    let period = number_or(table, "period", (1, MAX_TICKS), 1, faults)?;
-    let jitter = number_or(table, "jitter", (0, MAX_TICKS), 0, faults)?;
-    if let (Some(Found { node, .. }), true) = (table.find("jitter"), jitter >= period) {
-        tell(faults, node.place, Wrong::JitterTooGreat)?;
-    }
-    Ok(Arriving::Periodic {
-        period,
-        offset: number_or(table, "offset", (0, MAX_TICKS), 0, faults)?,
-        jitter,
-        seed: number_or(table, "seed", (0, u32::MAX), 0, faults)?,
-    })
-}
-
-/// When an interrupt arrives.
-pub fn arriving<'a>(
-    alloc: Global,
+/// The longest time that is allowed.
+pub fn deadline<'a>(
     table: &Table<'a>,
     faults: &mut Vec<Fault<'a>>,
-) -> Result<Arriving, AllocError> {
-    part(table, "ticks", "period", faults)?;
-    part(table, "least", "period", faults)?;
-    part(table, "least", "ticks", faults)?;
-    if table.find("period").is_some() {
-        return periodic(table, faults);
-    }
-    part_alone(table, "offset", "period", faults)?;
-    part_alone(table, "jitter", "period", faults)?;
-    if let Some(list) = table.list("ticks", faults)? {
-        tell_ticks(alloc, table.nodes, list.at, faults)?;
-        return Ok(Arriving::Listed(list.at));
-    }
-    if table.find("least").is_some() || table.find("most").is_some() {
-        return random(table, faults);
-    }
-    Ok(Arriving::Never)
-}
-
-/// Tells of a key that means nothing without another.
-fn part_alone<'a>(
-    table: &Table<'a>,
-    key: &'static str,
-    other: &'static str,
-    faults: &mut Vec<Fault<'a>>,
-) -> Result<(), AllocError> {
-    if let (Some(Found { node, .. }), None) = (table.find(key), table.find(other)) {
-        tell(faults, node.key_place, Wrong::Without(key, other))?;
-    }
-    Ok(())
-}
-
-/// How the jobs of a task come about.
-fn release<'a>(table: &Table<'a>, faults: &mut Vec<Fault<'a>>) -> Result<Release, AllocError> {
-    part(table, "least", "period", faults)?;
-    if table.find("period").is_some() {
-        return Ok(Release::Periodic {
-            period: number_or(table, "period", (1, MAX_TICKS), 1, faults)?,
-            offset: number_or(table, "offset", (0, MAX_TICKS), 0, faults)?,
-        });
-    }
-    part_alone(table, "offset", "period", faults)?;
-    if table.find("least").is_some() || table.find("most").is_some() {
-        return Ok(Release::Sporadic(random(table, faults)?));
-    }
-    part_alone(table, "seed", "least", faults)?;
-    Ok(Release::Others)
+) -> Result<Option<u32>, AllocError> {
+    table.ticks("deadline", (1, MAX_TICKS), faults)
 }
 
 /// Whether a task is NON.
@@ -174,28 +70,77 @@ fn is_non<'a>(table: &Table<'a>, faults: &mut Vec<Fault<'a>>) -> Result<bool, Al
     Ok(word == "NON")
 }
 
+/// The list of the modes in which something is started.
+fn modes_of<'a>(
+    alloc: Global,
+    table: &Table<'a>,
+    faults: &mut Vec<Fault<'a>>,
+) -> Result<Option<usize>, AllocError> {
+    match table.list("modes", faults)? {
+        Some(list) => {
+            tell_names(alloc, table.nodes, list, MODE_NAME, faults)?;
+            Ok(Some(list.at))
+        }
+        None => Ok(None),
+    }
+}
+
+/// The internal resource of a task.
+fn internal<'a>(
+    table: &Table<'a>,
+    faults: &mut Vec<Fault<'a>>,
+) -> Result<Option<Internal<'a>>, AllocError> {
+    match (table.name("internal", faults)?, table.find("internal")) {
+        (Some(name), Some(Found { node, .. })) => Ok(Some(Internal {
+            name,
+            place: node.place,
+        })),
+        _ => Ok(None),
+    }
+}
+
+/// Tells where modes are said of a task that nothing starts.
+fn tell_unstarted<'a>(table: &Table<'a>, faults: &mut Vec<Fault<'a>>) -> Result<(), AllocError> {
+    if table.find("autostart").is_none() {
+        part_alone(table, "modes", "period", faults)?;
+    }
+    Ok(())
+}
+
 fn task<'a>(
     alloc: Global,
     table: &Table<'a>,
     faults: &mut Vec<Fault<'a>>,
 ) -> Result<Task<'a>, AllocError> {
-    table.tell_unknown(&TASK_KEYS, "a task", faults)?;
+    let _ = table.tell_unknown(alloc, &TASK_KEYS, &[], "a task", faults)?;
     want(table, "priority", faults)?;
+    tell_unstarted(table, faults)?;
     let name = table.own_name(faults)?;
     let priority = number_or(table, "priority", (0, MAX_TASK_PRIORITY as u32), 0, faults)?;
     let activations = number_or(table, "activations", (1, MAX_ACTIVATION as u32), 1, faults)?;
+    let activations_place = match table.find("activations") {
+        Some(Found { node, .. }) => node.place,
+        None => table.place,
+    };
     let is_non = is_non(table, faults)?;
     let starts = table.is_true("autostart", faults)?;
+    let modes = modes_of(alloc, table, faults)?;
+    let internal = internal(table, faults)?;
     let release = release(table, faults)?;
+    let deadline = deadline(table, faults)?;
     let body = body(alloc, table, faults)?;
     Ok(Task {
         name,
         place: table.place,
         priority,
         activations,
+        activations_place,
         is_non,
         starts,
+        modes,
+        internal,
         release,
+        deadline,
         body,
     })
 }
@@ -205,7 +150,7 @@ fn interrupt<'a>(
     table: &Table<'a>,
     faults: &mut Vec<Fault<'a>>,
 ) -> Result<Interrupt<'a>, AllocError> {
-    table.tell_unknown(&INTERRUPT_KEYS, "an interrupt", faults)?;
+    let _ = table.tell_unknown(alloc, &INTERRUPT_KEYS, &[], "an interrupt", faults)?;
     let name = table.own_name(faults)?;
     let priority = number_or(
         table,
@@ -215,12 +160,14 @@ fn interrupt<'a>(
         faults,
     )?;
     let arriving = arriving(alloc, table, faults)?;
+    let deadline = deadline(table, faults)?;
     let body = body(alloc, table, faults)?;
     Ok(Interrupt {
         name,
         place: table.place,
         priority,
         arriving,
+        deadline,
         body,
     })
 }
@@ -236,23 +183,28 @@ fn action<'a>(
         let name = table.name("activate", faults)?.unwrap_or("");
         return Ok((node.place, Action::Activate(name)));
     }
-    want(table, "set", faults)?;
-    let place = match table.find("set") {
-        Some(Found { node, .. }) => node.place,
-        None => table.place,
+    let Some(Found { node, .. }) = table.find("set") else {
+        tell(faults, table.place, Wrong::Missing("activate or set"))?;
+        return Ok((table.place, Action::Activate("")));
     };
+    let place = node.place;
     let name = table.name("set", faults)?.unwrap_or("");
     want(table, "event", faults)?;
     let event = table.name("event", faults)?.unwrap_or("");
     Ok((place, Action::Set(name, event)))
 }
 
-fn alarm<'a>(table: &Table<'a>, faults: &mut Vec<Fault<'a>>) -> Result<Alarm<'a>, AllocError> {
-    table.tell_unknown(&ALARM_KEYS, "an alarm", faults)?;
+fn alarm<'a>(
+    alloc: Global,
+    table: &Table<'a>,
+    faults: &mut Vec<Fault<'a>>,
+) -> Result<Alarm<'a>, AllocError> {
+    let _ = table.tell_unknown(alloc, &ALARM_KEYS, &[], "an alarm", faults)?;
     want(table, "period", faults)?;
     let name = table.own_name(faults)?;
-    let period = number_or(table, "period", (1, MAX_TICKS), 1, faults)?;
-    let offset = number_or(table, "offset", (1, MAX_TICKS), period, faults)?;
+    let period = ticks_or(table, "period", (1, MAX_TICKS), 1, faults)?;
+    let offset = ticks_or(table, "offset", (1, MAX_TICKS), period, faults)?;
+    let modes = modes_of(alloc, table, faults)?;
     let (action_place, action) = action(table, faults)?;
     Ok(Alarm {
         name,
@@ -260,6 +212,7 @@ fn alarm<'a>(table: &Table<'a>, faults: &mut Vec<Fault<'a>>) -> Result<Alarm<'a>
         action_place,
         period,
         offset,
+        modes,
         action,
     })
 }
@@ -307,7 +260,7 @@ fn add_section<'a>(
         if is_full(described.alarms.len(), MAX_ALARMS, "alarms", place, faults)? {
             return Ok(false);
         }
-        described.alarms.push(alarm(table, faults)?)?;
+        described.alarms.push(alarm(alloc, table, faults)?)?;
     } else {
         tell(faults, place, Wrong::UnknownSection(key))?;
     }
@@ -321,10 +274,11 @@ pub fn described<'a>(
     faults: &mut Vec<Fault<'a>>,
 ) -> Result<Described<'a>, AllocError> {
     let root = root_of(nodes);
-    root.tell_unknown(&ROOT_KEYS, "the system", faults)?;
+    let _ = root.tell_unknown(alloc, &ROOT_KEYS, &[], "the system", faults)?;
+    tell_tick(&root, faults)?;
     let mut described = Described {
         name: root.name("name", faults)?.unwrap_or("System"),
-        mode: root.name("mode", faults)?.unwrap_or("Normal"),
+        modes: all_modes(alloc, nodes, &root, faults)?,
         ticks: end_of_arrivals(&root, faults)?,
         tasks: Vec::new(alloc),
         interrupts: Vec::new(alloc),
@@ -341,6 +295,31 @@ pub fn described<'a>(
     Ok(described)
 }
 
+const MODE_NAME: &str = "the name of a mode";
+
+/// The modes of a system: those of a list, or one.
+fn all_modes<'a>(
+    alloc: Global,
+    nodes: &'a [Node],
+    root: &Table<'a>,
+    faults: &mut Vec<Fault<'a>>,
+) -> Result<Vec<&'a str>, AllocError> {
+    let mut modes = Vec::new(alloc);
+    part(root, "modes", "mode", faults)?;
+    if let Some(list) = root.list("modes", faults)? {
+        tell_names(alloc, nodes, list, MODE_NAME, faults)?;
+        for node in items(alloc, nodes, list.at)? {
+            add_name(node.text.as_str(), node.place, &mut modes, faults)?;
+        }
+        if modes.len() > MAX_MODES {
+            tell(faults, list.node.place, Wrong::TooMany(MAX_MODES, "modes"))?;
+        }
+        return Ok(modes);
+    }
+    modes.push(root.name("mode", faults)?.unwrap_or("Normal"))?;
+    Ok(modes)
+}
+
 /// Before which tick interrupts arrive, where nothing is said.
 const DEFAULT_TICKS: u32 = 1000;
 
@@ -349,7 +328,7 @@ pub fn end_of_arrivals<'a>(
     root: &Table<'a>,
     faults: &mut Vec<Fault<'a>>,
 ) -> Result<u32, AllocError> {
-    number_or(root, "ticks", (1, MAX_TICKS), DEFAULT_TICKS, faults)
+    ticks_or(root, "ticks", (1, MAX_TICKS), DEFAULT_TICKS, faults)
 }
 
 /// What stands before all sections.

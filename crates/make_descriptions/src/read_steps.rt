@@ -1,31 +1,34 @@
 //! The steps of a body, as they stand in the text.
 
 use crate::description::{Body, Does, Step};
-use crate::fault::{Fault, Wrong, tell};
+use crate::fault::{Fault, Words, Wrong, tell};
 use crate::lists::{NO_LIST, behind};
 use crate::node::{Kind, Node};
-use crate::read_lists::tell_events;
+use crate::read_lists::tell_names;
 use crate::read_tables::{Found, Table};
 use osek_base::MAX_TICKS;
 use std::alloc::{AllocError, Global};
 
 /// What a step may be, each the key that says so.
-const STEPS: [&str; 9] = [
-    "work", "get", "release", "activate", "chain", "set", "wait", "clear", "repeat",
+const STEPS: [&str; 11] = [
+    "work", "get", "release", "activate", "chain", "set", "wait", "clear", "repeat", "suspend",
+    "schedule",
 ];
 
 /// The keys of each step.
-const WORDS: [&str; 11] = [
-    "work", "get", "release", "activate", "chain", "set", "wait", "clear", "repeat", "events",
-    "body",
+const WORDS: [&str; 13] = [
+    "work", "get", "release", "activate", "chain", "set", "wait", "clear", "repeat", "suspend",
+    "schedule", "events", "body",
 ];
 
 /// How many repeats a step may stand in: each has a register of its own to count its rounds.
 const MOST_REPEATS: usize = 2;
 
-/// The key that says what a step is, told where there is none or a second.
+/// The key that says what a step is, told where there is a second, or none and nothing was told of
+/// an unknown one.
 fn word_of<'a>(
     table: &Table<'a>,
+    has_unknown: bool,
     faults: &mut Vec<Fault<'a>>,
 ) -> Result<Option<&'static str>, AllocError> {
     let mut found: Option<&'static str> = None;
@@ -37,8 +40,8 @@ fn word_of<'a>(
             }
         }
     }
-    if found.is_none() {
-        tell(faults, table.place, Wrong::EmptyStep)?;
+    if found.is_none() && !has_unknown {
+        tell(faults, table.place, Wrong::EmptyStep(Words(&STEPS)))?;
     }
     Ok(found)
 }
@@ -55,7 +58,7 @@ fn events<'a>(
     }
     match table.list(key, faults)? {
         Some(list) => {
-            tell_events(alloc, table.nodes, list, faults)?;
+            tell_names(alloc, table.nodes, list, "the name of an event", faults)?;
             Ok(list.at)
         }
         None => Ok(NO_LIST),
@@ -90,28 +93,13 @@ fn tell_repeated<'a>(table: &Table<'a>, faults: &mut Vec<Fault<'a>>) -> Result<(
     Ok(())
 }
 
-/// What a step does that a key says.
-fn does<'a>(
+/// What a step does to what its key names.
+fn named<'a>(
     alloc: Global,
     table: &Table<'a>,
     word: &'static str,
     faults: &mut Vec<Fault<'a>>,
 ) -> Result<Does<'a>, AllocError> {
-    if word == "work" {
-        let ticks = table.number("work", (1, MAX_TICKS), faults)?;
-        return Ok(Does::Work(ticks.unwrap_or(1)));
-    }
-    if word == "repeat" {
-        tell_repeated(table, faults)?;
-        let rounds = table.number("repeat", (1, MAX_TICKS), faults)?;
-        return Ok(Does::Repeat(rounds.unwrap_or(1)));
-    }
-    if word == "wait" {
-        return Ok(Does::Wait(events(alloc, table, "wait", faults)?));
-    }
-    if word == "clear" {
-        return Ok(Does::Clear(events(alloc, table, "clear", faults)?));
-    }
     if word == "get" {
         return Ok(Does::Get(table.resource("get", faults)?.unwrap_or("")));
     }
@@ -126,16 +114,58 @@ fn does<'a>(
     })
 }
 
-/// Adds the step that a table is.
+/// What a step does that a key says.
+fn does<'a>(
+    alloc: Global,
+    table: &Table<'a>,
+    word: &'static str,
+    faults: &mut Vec<Fault<'a>>,
+) -> Result<Does<'a>, AllocError> {
+    if word == "work" {
+        let ticks = table.ticks("work", (1, MAX_TICKS), faults)?;
+        return Ok(Does::Work(ticks.unwrap_or(1)));
+    }
+    if word == "repeat" {
+        tell_repeated(table, faults)?;
+        let rounds = table.number("repeat", (1, MAX_TICKS), faults)?;
+        return Ok(Does::Repeat(rounds.unwrap_or(1)));
+    }
+    if word == "wait" {
+        return Ok(Does::Wait(events(alloc, table, "wait", faults)?));
+    }
+    if word == "clear" {
+        return Ok(Does::Clear(events(alloc, table, "clear", faults)?));
+    }
+    if word == "suspend" {
+        let _ = table.list("suspend", faults)?;
+        return Ok(Does::Suspend);
+    }
+    if word == "schedule" {
+        table.tell_untrue("schedule", faults)?;
+        return Ok(Does::Schedule);
+    }
+    named(alloc, table, word, faults)
+}
+
+/// What ends the steps that stand in one.
+fn end_of(does: Does<'_>) -> Option<Does<'static>> {
+    match does {
+        Does::Repeat(_) => Some(Does::End),
+        Does::Suspend => Some(Does::Resume),
+        _ => None,
+    }
+}
+
+/// Adds the step that a table is, and answers what ends the steps in it.
 fn add_step<'a>(
     alloc: Global,
     table: &Table<'a>,
     steps: &mut Vec<Step<'a>>,
     faults: &mut Vec<Fault<'a>>,
-) -> Result<bool, AllocError> {
-    table.tell_unknown(&WORDS, "a step", faults)?;
-    let Some(word) = word_of(table, faults)? else {
-        return Ok(false);
+) -> Result<Option<Does<'static>>, AllocError> {
+    let has_unknown = table.tell_unknown(alloc, &WORDS, &[], "a step", faults)?;
+    let Some(word) = word_of(table, has_unknown, faults)? else {
+        return Ok(None);
     };
     tell_strays(table, word, faults)?;
     let place = match table.find(word) {
@@ -144,49 +174,67 @@ fn add_step<'a>(
     };
     let does = does(alloc, table, word, faults)?;
     steps.push(Step { place, does })?;
-    Ok(word == "repeat")
+    Ok(end_of(does))
 }
 
-/// Ends the repeats that began at a depth or deeper.
-fn end_repeats<'a>(
-    open: &mut Vec<usize>,
+/// A step that others stand in: how deep it is, and what ends it.
+#[derive(Clone, Copy)]
+struct Open {
+    depth: usize,
+    end: Does<'static>,
+}
+
+/// Ends the steps that began at a depth or deeper and that others stand in.
+fn end_open<'a>(
+    open: &mut Vec<Open>,
     depth: usize,
     place: usize,
     steps: &mut Vec<Step<'a>>,
 ) -> Result<(), AllocError> {
     for _ in 0..open.len() {
-        if open.last().copied().unwrap_or(0) < depth {
+        let Some(Open { depth: begun, end }) = open.last().copied() else {
+            break;
+        };
+        if begun < depth {
             break;
         }
         let _ = open.pop();
-        steps.push(Step {
-            place,
-            does: Does::End,
-        })?;
+        steps.push(Step { place, does: end })?;
     }
     Ok(())
 }
 
-/// Adds a step that stands in so many repeats, and opens it where it is one.
+/// How many repeats are open.
+fn repeats(open: &[Open]) -> usize {
+    let mut count: usize = 0;
+    for one in open {
+        if let Does::End = one.end {
+            count = count.saturating_add(1);
+        }
+    }
+    count
+}
+
+/// Adds a step, and opens it where others stand in it.
 fn add_item<'a>(
     alloc: Global,
     table: &Table<'a>,
     depth: usize,
-    open: &mut Vec<usize>,
+    open: &mut Vec<Open>,
     steps: &mut Vec<Step<'a>>,
     faults: &mut Vec<Fault<'a>>,
 ) -> Result<(), AllocError> {
-    if !add_step(alloc, table, steps, faults)? {
+    let Some(end) = add_step(alloc, table, steps, faults)? else {
         return Ok(());
-    }
-    if open.len() >= MOST_REPEATS {
+    };
+    open.push(Open { depth, end })?;
+    if repeats(open.as_slice()) > MOST_REPEATS {
         tell(faults, table.place, Wrong::TooDeep)?;
     }
-    open.push(depth)?;
     Ok(())
 }
 
-/// The steps of a list, those in a repeat behind it.
+/// The steps of a list, those that stand in one behind it.
 fn steps_of<'a>(
     alloc: Global,
     nodes: &'a [Node],
@@ -194,14 +242,14 @@ fn steps_of<'a>(
     faults: &mut Vec<Fault<'a>>,
 ) -> Result<Vec<Step<'a>>, AllocError> {
     let mut steps = Vec::new(alloc);
-    let mut open: Vec<usize> = Vec::new(alloc);
+    let mut open: Vec<Open> = Vec::new(alloc);
     for at in list.at.saturating_add(1)..behind(nodes, list.at, list.node.depth) {
         let Some(node) = nodes.get(at) else {
             break;
         };
-        end_repeats(&mut open, node.depth, node.place, &mut steps)?;
+        end_open(&mut open, node.depth, node.place, &mut steps)?;
         let wanted = match open.last() {
-            Some(depth) => depth.saturating_add(2),
+            Some(one) => one.depth.saturating_add(2),
             None => list.node.depth.saturating_add(1),
         };
         if node.depth != wanted || !node.key.is_empty() {
@@ -214,7 +262,7 @@ fn steps_of<'a>(
             tell(faults, node.place, Wrong::NoStep)?;
         }
     }
-    end_repeats(&mut open, 0, list.node.place, &mut steps)?;
+    end_open(&mut open, 0, list.node.place, &mut steps)?;
     Ok(steps)
 }
 

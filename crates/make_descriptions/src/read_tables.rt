@@ -1,13 +1,14 @@
 //! The tables of a description, and what stands in them: each value is asked for by its key, and
 //! told where it isn't of the kind or within the range that is wanted.
 
-use crate::fault::{Fault, Wrong, tell};
+use crate::fault::{Fault, Nearest, Words, Wrong, tell};
 use crate::lists::behind;
-use crate::names::{SCHEDULER, is_among};
+use crate::names::{SCHEDULER, is_among, nearest};
 use crate::node::{Kind, Node, number_of};
+use crate::times::wrong_time;
 use osek_base::MAX_NAME;
 use osek_base::words::is_word_byte;
-use std::alloc::AllocError;
+use std::alloc::{AllocError, Global};
 
 /// What can't be a name, since it means something in programs.
 const WORDS_OF_PROGRAMS: [&str; 10] = [
@@ -56,25 +57,29 @@ impl<'a> Table<'a> {
         None
     }
 
-    /// Tells of each key that isn't among those of such a table.
+    /// Tells of each key that is neither among those of such a table nor among others, of which
+    /// something else is told. Whether there is one.
     pub fn tell_unknown(
         &self,
-        keys: &[&str],
+        alloc: Global,
+        keys: &'static [&'static str],
+        others: &[&str],
         whose: &'static str,
         faults: &mut Vec<Fault<'a>>,
-    ) -> Result<(), AllocError> {
+    ) -> Result<bool, AllocError> {
+        let before = faults.len();
         for at in self.first..self.behind {
-            if let Some(node) = self.nodes.get(at) {
-                if node.depth == self.depth && !is_among(keys, node.key.as_str()) {
-                    tell(
-                        faults,
-                        node.key_place,
-                        Wrong::UnknownKey(node.key.as_str(), whose),
-                    )?;
-                }
+            let Some(node) = self.nodes.get(at) else {
+                break;
+            };
+            let key = node.key.as_str();
+            if node.depth == self.depth && !is_among(keys, key) && !is_among(others, key) {
+                let near = Nearest(nearest(alloc, key, keys)?);
+                let wrong = Wrong::UnknownKey(key, whose, near, Words(keys));
+                tell(faults, node.key_place, wrong)?;
             }
         }
-        Ok(())
+        Ok(faults.len() > before)
     }
 
     /// The text at a key.
@@ -138,14 +143,20 @@ impl<'a> Table<'a> {
         let Some(Found { node, .. }) = self.find(key) else {
             return Ok(None);
         };
-        let (least, most) = range;
-        if let Some(number) = number_of(node) {
-            if least <= number && number <= most {
-                return Ok(Some(number));
-            }
+        number_in(node, key, range, faults)
+    }
+
+    /// The ticks at a key, from a number to another: a number, or a time.
+    pub fn ticks(
+        &self,
+        key: &'static str,
+        range: (u32, u32),
+        faults: &mut Vec<Fault<'a>>,
+    ) -> Result<Option<u32>, AllocError> {
+        match self.find(key) {
+            Some(Found { node, .. }) => ticks_of(self.nodes, node, key, range, faults),
+            None => Ok(None),
         }
-        tell(faults, node.place, Wrong::NoNumber(key, least, most))?;
-        Ok(None)
     }
 
     /// Whether a key is true. It is false where it isn't there.
@@ -164,6 +175,20 @@ impl<'a> Table<'a> {
         Ok(false)
     }
 
+    /// Tells of a key that is anything but true.
+    pub fn tell_untrue(
+        &self,
+        key: &'static str,
+        faults: &mut Vec<Fault<'a>>,
+    ) -> Result<(), AllocError> {
+        if let Some(Found { node, .. }) = self.find(key) {
+            if node.kind != Kind::Boolean(true) {
+                tell(faults, node.place, Wrong::NoTrue(key))?;
+            }
+        }
+        Ok(())
+    }
+
     /// The list at a key.
     pub fn list(
         &self,
@@ -179,6 +204,103 @@ impl<'a> Table<'a> {
         tell(faults, found.node.place, Wrong::NoList(key))?;
         Ok(None)
     }
+}
+
+/// The number at a key, or another where none is there or it isn't in the range.
+pub(crate) fn number_or<'a>(
+    table: &Table<'a>,
+    key: &'static str,
+    range: (u32, u32),
+    other: u32,
+    faults: &mut Vec<Fault<'a>>,
+) -> Result<u32, AllocError> {
+    Ok(table.number(key, range, faults)?.unwrap_or(other))
+}
+
+/// Tells of a key that is missing.
+pub(crate) fn want<'a>(
+    table: &Table<'a>,
+    key: &'static str,
+    faults: &mut Vec<Fault<'a>>,
+) -> Result<(), AllocError> {
+    if table.find(key).is_none() {
+        tell(faults, table.place, Wrong::Missing(key))?;
+    }
+    Ok(())
+}
+
+/// Tells of a key that can't stand beside another.
+pub(crate) fn part<'a>(
+    table: &Table<'a>,
+    key: &'static str,
+    other: &'static str,
+    faults: &mut Vec<Fault<'a>>,
+) -> Result<(), AllocError> {
+    if let (Some(Found { node, .. }), Some(_)) = (table.find(key), table.find(other)) {
+        tell(faults, node.key_place, Wrong::Beside(key, other))?;
+    }
+    Ok(())
+}
+
+/// Tells of a key that means nothing without another.
+pub(crate) fn part_alone<'a>(
+    table: &Table<'a>,
+    key: &'static str,
+    other: &'static str,
+    faults: &mut Vec<Fault<'a>>,
+) -> Result<(), AllocError> {
+    if let (Some(Found { node, .. }), None) = (table.find(key), table.find(other)) {
+        tell(faults, node.key_place, Wrong::Without(key, other))?;
+    }
+    Ok(())
+}
+
+/// The number that a value is, where it is in a range.
+fn number_in<'a>(
+    node: &'a Node,
+    key: &'static str,
+    range: (u32, u32),
+    faults: &mut Vec<Fault<'a>>,
+) -> Result<Option<u32>, AllocError> {
+    let (least, most) = range;
+    match number_of(node) {
+        Some(number) if least <= number && number <= most => Ok(Some(number)),
+        _ => {
+            tell(faults, node.place, Wrong::NoNumber(key, least, most))?;
+            Ok(None)
+        }
+    }
+}
+
+/// The ticks that a value is, where they are in a range.
+pub(crate) fn ticks_of<'a>(
+    nodes: &'a [Node],
+    node: &'a Node,
+    key: &'static str,
+    range: (u32, u32),
+    faults: &mut Vec<Fault<'a>>,
+) -> Result<Option<u32>, AllocError> {
+    let (least, most) = range;
+    let text = node.text.as_str();
+    match number_of(node) {
+        Some(number) if least <= number && number <= most => Ok(Some(number)),
+        _ if text.is_empty() => number_in(node, key, range, faults),
+        _ => {
+            tell(faults, node.place, wrong_time(nodes, text, key, range))?;
+            Ok(None)
+        }
+    }
+}
+
+/// The ticks at a key, or another number where none are there or they aren't in the range.
+pub(crate) fn ticks_or<'a>(
+    table: &Table<'a>,
+    key: &'static str,
+    range: (u32, u32),
+    other: u32,
+    faults: &mut Vec<Fault<'a>>,
+) -> Result<u32, AllocError> {
+    Ok(table.ticks(key, range, faults)?.unwrap_or(other))
 }
 
 /// Whether a text can be the name of an object: a word, and none that means something in programs.

@@ -50,7 +50,21 @@ pub fn all_events<'a>(
     Ok(found)
 }
 
-/// The resources of all tasks, in the order in which they stand first.
+/// The internal resources of all tasks, in the order in which they stand first.
+pub fn internal_resources<'a>(
+    alloc: Global,
+    described: &Described<'a>,
+) -> Result<Vec<&'a str>, AllocError> {
+    let mut found = Vec::new(alloc);
+    for task in &described.tasks {
+        if let Some(internal) = task.internal {
+            add(&mut found, internal.name)?;
+        }
+    }
+    Ok(found)
+}
+
+/// The resources that tasks get, in the order in which they stand first.
 pub fn all_resources<'a>(
     alloc: Global,
     described: &Described<'a>,

@@ -1,14 +1,17 @@
-//! From a description to the three texts, or to all that is wrong with it.
+//! From a description to the four texts, or to all that is wrong with it.
 
 use crate::arrival_text::{Arrivals, arrivals, write_arrivals};
+use crate::load::load_lines;
 use crate::nodes::nodes_of;
 use crate::oil_text::write_oil;
 use crate::program_text::write_programs;
+use crate::rule_text::write_rules;
 use make_descriptions::checks::tell_all;
 use make_descriptions::described;
 use make_descriptions::description::Described;
 use make_descriptions::fault::{Fault, Wrong, tell};
 use make_descriptions::node::Node;
+use make_descriptions::times::count_ticks;
 use osek_base::MAX_ARRIVALS;
 use std::alloc::{AllocError, Global};
 use std::collections::BTreeSet;
@@ -21,6 +24,9 @@ pub struct Made {
     pub oil: Vec<u8>,
     pub asm: Vec<u8>,
     pub irq: Vec<u8>,
+    pub rules: Vec<u8>,
+    /// What is told of the load, a line without its end each.
+    pub load: Vec<String>,
 }
 
 /// What is wrong, and the place in bytes.
@@ -88,7 +94,15 @@ fn written(
     write_programs(alloc, nodes, described, &mut asm)?;
     let mut irq = Vec::new(alloc);
     write_arrivals(alloc, described, arrivals, &mut irq)?;
-    Ok(Made { oil, asm, irq })
+    let mut rules = Vec::new(alloc);
+    write_rules(alloc, described, &mut rules)?;
+    Ok(Made {
+        oil,
+        asm,
+        irq,
+        rules,
+        load: load_lines(alloc, described)?,
+    })
 }
 
 /// Makes the texts of a text that is TOML.
@@ -111,7 +125,7 @@ fn make_nodes(alloc: Global, nodes: &[Node]) -> io::Result<Answer> {
 /// What comes of a text in TOML.
 #[derive(Drop)]
 pub enum TomlText {
-    /// Its keys and values.
+    /// Its keys and values, with ticks in place of times.
     Nodes(Vec<Node>),
     /// The first place where it is no TOML.
     Refused(Remark),
@@ -128,7 +142,11 @@ pub fn read_toml(alloc: Global, text: &[u8]) -> io::Result<TomlText> {
     }
     let text = std::str::from_utf8(text).unwrap_or("");
     match nodes_of(alloc, text) {
-        Ok(nodes) => Ok(TomlText::Nodes(nodes)),
+        Ok(nodes) => {
+            let mut nodes = nodes;
+            count_ticks(&mut nodes);
+            Ok(TomlText::Nodes(nodes))
+        }
         Err(ParseError::OutOfMemory) => Err(AllocError.into()),
         Err(ParseError::At(kind, from, _)) => {
             let place = text.len().saturating_sub(from);

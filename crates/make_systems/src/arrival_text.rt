@@ -115,7 +115,7 @@ impl Source {
                 jitter,
                 seed,
             } => self.periodic(period, offset, jitter, seed, found),
-            Arriving::Listed(list) => self.listed(alloc, nodes, list, found),
+            Arriving::Listed { list, .. } => self.listed(alloc, nodes, list, found),
             Arriving::Random { least, most, seed } => self.random(least, most, seed, found),
         }
     }

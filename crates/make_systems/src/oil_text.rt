@@ -1,9 +1,12 @@
 //! The OIL file of a description.
 
 use make_descriptions::description::{Action, Alarm, Described, Release, Task};
+use make_descriptions::lists::names;
 use make_descriptions::node::Node;
 use make_descriptions::routines::{ALARM, ROUTINE};
-use make_descriptions::uses::{all_events, all_resources, events_of, resources_of};
+use make_descriptions::uses::{
+    all_events, all_resources, events_of, internal_resources, resources_of,
+};
 use std::alloc::Global;
 use std::io::{self, Write};
 
@@ -27,10 +30,37 @@ fn starts(task: &Task<'_>) -> bool {
     }
 }
 
+/// Writes modes, each an APPMODE.
+fn write_listed<W: Write>(modes: &[&str], out: &mut W) -> io::Result<()> {
+    for mode in modes {
+        write!(out, " APPMODE = {mode};")?;
+    }
+    Ok(())
+}
+
+/// Writes the modes in which something is started.
+fn write_modes<W: Write>(
+    alloc: Global,
+    nodes: &[Node],
+    described: &Described<'_>,
+    modes: Option<usize>,
+    out: &mut W,
+) -> io::Result<()> {
+    let listed = match modes {
+        Some(list) => names(alloc, nodes, list)?,
+        None => Vec::new(alloc),
+    };
+    if listed.is_empty() {
+        write_listed(&described.modes, out)
+    } else {
+        write_listed(&listed, out)
+    }
+}
+
 fn write_task<W: Write>(
     alloc: Global,
     nodes: &[Node],
-    mode: &str,
+    described: &Described<'_>,
     task: &Task<'_>,
     out: &mut W,
 ) -> io::Result<()> {
@@ -43,9 +73,14 @@ fn write_task<W: Write>(
     )?;
     write!(out, "ACTIVATION = {}; AUTOSTART = ", task.activations)?;
     if starts(task) {
-        write!(out, "TRUE {{ APPMODE = {mode}; }};")?;
+        out.write_all(b"TRUE {")?;
+        write_modes(alloc, nodes, described, task.modes, out)?;
+        out.write_all(b" };")?;
     } else {
         out.write_all(b"FALSE;")?;
+    }
+    if let Some(internal) = task.internal {
+        write!(out, "\n    RESOURCE = {};", internal.name)?;
     }
     for resource in resources_of(alloc, &task.body)? {
         write!(out, "\n    RESOURCE = {resource};")?;
@@ -56,13 +91,12 @@ fn write_task<W: Write>(
     out.write_all(b" };\n")
 }
 
-/// Writes from when on and how often an alarm expires.
-fn write_times<W: Write>(first: u32, period: u32, mode: &str, out: &mut W) -> io::Result<()> {
+/// Writes from when on and how often an alarm expires, up to its modes.
+fn write_times<W: Write>(first: u32, period: u32, out: &mut W) -> io::Result<()> {
     write!(
         out,
-        "    AUTOSTART = TRUE {{ ALARMTIME = {first}; CYCLETIME = {period}; "
-    )?;
-    writeln!(out, "APPMODE = {mode}; }}; }};")
+        "    AUTOSTART = TRUE {{ ALARMTIME = {first}; CYCLETIME = {period};"
+    )
 }
 
 /// Writes the alarms that activate a task.
@@ -74,7 +108,13 @@ fn write_activation<W: Write>(name: &str, out: &mut W) -> io::Result<()> {
 }
 
 /// Writes the alarm of a task that has a period.
-fn write_task_alarm<W: Write>(mode: &str, task: &Task<'_>, out: &mut W) -> io::Result<()> {
+fn write_task_alarm<W: Write>(
+    alloc: Global,
+    nodes: &[Node],
+    described: &Described<'_>,
+    task: &Task<'_>,
+    out: &mut W,
+) -> io::Result<()> {
     let Release::Periodic { period, offset } = task.release else {
         return Ok(());
     };
@@ -82,10 +122,21 @@ fn write_task_alarm<W: Write>(mode: &str, task: &Task<'_>, out: &mut W) -> io::R
     let first = if offset == 0 { period } else { offset };
     writeln!(out, "  ALARM {ALARM}{} {{", task.name)?;
     write_activation(task.name, out)?;
-    write_times(first, period, mode, out)
+    write_times(first, period, out)?;
+    write_modes(alloc, nodes, described, task.modes, out)?;
+    out.write_all(END_OF_TIMES)
 }
 
-fn write_alarm<W: Write>(mode: &str, alarm: &Alarm<'_>, out: &mut W) -> io::Result<()> {
+/// What stands behind the modes of an alarm.
+const END_OF_TIMES: &[u8] = b" }; };\n";
+
+fn write_alarm<W: Write>(
+    alloc: Global,
+    nodes: &[Node],
+    described: &Described<'_>,
+    alarm: &Alarm<'_>,
+    out: &mut W,
+) -> io::Result<()> {
     writeln!(out, "  ALARM {} {{", alarm.name)?;
     match alarm.action {
         Action::Activate(name) => write_activation(name, out)?,
@@ -97,15 +148,22 @@ fn write_alarm<W: Write>(mode: &str, alarm: &Alarm<'_>, out: &mut W) -> io::Resu
             writeln!(out, "EVENT = {event}; }};")?;
         }
     }
-    write_times(alarm.offset, alarm.period, mode, out)
+    write_times(alarm.offset, alarm.period, out)?;
+    write_modes(alloc, nodes, described, alarm.modes, out)?;
+    out.write_all(END_OF_TIMES)
 }
 
-fn write_alarms<W: Write>(described: &Described<'_>, out: &mut W) -> io::Result<()> {
+fn write_alarms<W: Write>(
+    alloc: Global,
+    nodes: &[Node],
+    described: &Described<'_>,
+    out: &mut W,
+) -> io::Result<()> {
     for task in &described.tasks {
-        write_task_alarm(described.mode, task, out)?;
+        write_task_alarm(alloc, nodes, described, task, out)?;
     }
     for alarm in &described.alarms {
-        write_alarm(described.mode, alarm, out)?;
+        write_alarm(alloc, nodes, described, alarm, out)?;
     }
     Ok(())
 }
@@ -123,6 +181,20 @@ fn write_routines<W: Write>(described: &Described<'_>, out: &mut W) -> io::Resul
     Ok(())
 }
 
+fn write_resources<W: Write>(
+    alloc: Global,
+    described: &Described<'_>,
+    out: &mut W,
+) -> io::Result<()> {
+    for name in all_resources(alloc, described)? {
+        writeln!(out, "  RESOURCE {name} {{ RESOURCEPROPERTY = STANDARD; }};")?;
+    }
+    for name in internal_resources(alloc, described)? {
+        writeln!(out, "  RESOURCE {name} {{ RESOURCEPROPERTY = INTERNAL; }};")?;
+    }
+    Ok(())
+}
+
 /// Writes the OIL file. An error is a failed write or want of memory.
 pub fn write_oil<W: Write>(
     alloc: Global,
@@ -132,21 +204,18 @@ pub fn write_oil<W: Write>(
 ) -> io::Result<()> {
     writeln!(out, "OIL_VERSION = \"2.5\";\nCPU {} {{", described.name)?;
     out.write_all(OS)?;
-    writeln!(out, "  APPMODE {} {{}};", described.mode)?;
+    for mode in &described.modes {
+        writeln!(out, "  APPMODE {mode} {{}};")?;
+    }
     for task in &described.tasks {
-        write_task(alloc, nodes, described.mode, task, out)?;
+        write_task(alloc, nodes, described, task, out)?;
     }
     write_routines(described, out)?;
-    for resource in all_resources(alloc, described)? {
-        writeln!(
-            out,
-            "  RESOURCE {resource} {{ RESOURCEPROPERTY = STANDARD; }};"
-        )?;
-    }
+    write_resources(alloc, described, out)?;
     for event in all_events(alloc, nodes, described)? {
         writeln!(out, "  EVENT {event} {{ MASK = AUTO; }};")?;
     }
     out.write_all(CLOCK)?;
-    write_alarms(described, out)?;
+    write_alarms(alloc, nodes, described, out)?;
     out.write_all(b"};\n")
 }

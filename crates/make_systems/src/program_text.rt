@@ -117,6 +117,9 @@ fn write_step<W: Write>(
         }
         Does::Repeat(rounds) => write_repeat(rounds, labels, out),
         Does::End => write_end(labels, out),
+        Does::Suspend => out.write_all(b"      SAI\n"),
+        Does::Resume => out.write_all(b"      RAI\n"),
+        Does::Schedule => out.write_all(b"      SCHED\n"),
     }
 }
 

@@ -34,7 +34,7 @@ fn write_head<W: Write>(file: &OilFile, out: &mut W) -> io::Result<()> {
     )?;
     out.write_all(
         b"# With the OIL file: osek make --oil system.oil work.toml -o FOLDER
-# Steps: work, get, release, activate, chain, set, wait, clear and repeat. work = N takes exactly N ticks.
+# Steps: work, get, release, activate, chain, set, wait, clear, repeat, suspend and schedule. work = N takes exactly N ticks.
 
 ticks = 1000 # interrupts arrive before this tick
 ",

@@ -1,12 +1,13 @@
-//! From a work file and its OIL file to the programs and the arrival list, or to all that is wrong
-//! with the work file.
+//! From a work file and its OIL file to the programs, the arrival list and the rules, or to all that
+//! is wrong with the work file.
 
 use crate::work_checks::tell_bodies;
 use crate::work_file::{Bare, WorkFile, work_file};
 use make_descriptions::fault::{Wrong, tell};
 use make_descriptions::node::Node;
 use make_systems::{
-    Arrivals, Remark, TomlText, arrivals, read_toml, told, write_arrivals, write_programs,
+    Arrivals, Remark, TomlText, arrivals, load_lines, read_toml, told, write_arrivals,
+    write_programs, write_rules,
 };
 use oil_reader::OilFile;
 use osek_base::MAX_ARRIVALS;
@@ -18,8 +19,11 @@ use std::io;
 pub struct WorkTexts {
     pub asm: Vec<u8>,
     pub irq: Vec<u8>,
+    pub rules: Vec<u8>,
     /// A line without its end for each task and routine of which no work is told.
     pub bare: Vec<String>,
+    /// What is told of the load, likewise.
+    pub load: Vec<String>,
 }
 
 /// What comes of a work file.
@@ -51,11 +55,19 @@ fn written(
     write_programs(alloc, nodes, &work.described, &mut asm)?;
     let mut irq = Vec::new(alloc);
     write_arrivals(alloc, &work.described, arrivals, &mut irq)?;
+    let mut rules = Vec::new(alloc);
+    write_rules(alloc, &work.described, &mut rules)?;
     let mut bare = Vec::new(alloc);
     for one in &work.bare {
         bare.push(bare_line(alloc, *one)?)?;
     }
-    Ok(WorkTexts { asm, irq, bare })
+    Ok(WorkTexts {
+        asm,
+        irq,
+        rules,
+        bare,
+        load: load_lines(alloc, &work.described)?,
+    })
 }
 
 /// Makes the texts of a work file that is TOML.

@@ -1,6 +1,7 @@
 //! What stands in a work file: of tasks and routines, each by its name, their bodies, and when
 //! interrupts arrive. What isn't told works one tick.
 
+use crate::of_oil::{cyclic_alarms, has_routine, has_task, priority_of};
 use make_descriptions::checks::add_name;
 use make_descriptions::description::{
     Arriving, Body, Described, Does, Interrupt, Release, Step, Task,
@@ -8,23 +9,34 @@ use make_descriptions::description::{
 use make_descriptions::fault::{Fault, Wrong, tell};
 use make_descriptions::names::is_among;
 use make_descriptions::node::{Kind, Node};
-use make_descriptions::read_sections::{
-    INTERRUPT_KEYS, ROOT_KEYS, TASK_KEYS, arriving, end_of_arrivals, is_full, root_of,
-};
+use make_descriptions::read_arrivals::arriving;
+use make_descriptions::read_sections::{deadline, end_of_arrivals, is_full, root_of};
 use make_descriptions::read_steps::body;
 use make_descriptions::read_tables::{Found, Table};
+use make_descriptions::times::tell_tick;
 use oil_reader::OilFile;
 use osek_base::{MAX_ROUTINES, MAX_TASKS};
 use std::alloc::{AllocError, Global};
 
-/// Of the keys of a description those that the OIL file tells.
-const ROOT_OF_OIL: [&str; 2] = ["name", "mode"];
+/// The keys of a work file.
+const ROOT_KEYS: [&str; 2] = ["tick", "ticks"];
 
-const TASK_OF_OIL: [&str; 9] = [
+const TASK_KEYS: [&str; 4] = ["name", "deadline", "body", "loop"];
+
+const INTERRUPT_KEYS: [&str; 10] = [
+    "name", "period", "offset", "jitter", "seed", "ticks", "least", "most", "deadline", "body",
+];
+
+/// Of the keys of a description those that the OIL file tells.
+const ROOT_OF_OIL: [&str; 3] = ["name", "mode", "modes"];
+
+const TASK_OF_OIL: [&str; 11] = [
     "priority",
     "activations",
     "schedule",
+    "internal",
     "autostart",
+    "modes",
     "period",
     "offset",
     "least",
@@ -83,25 +95,42 @@ fn one_tick<'a>(alloc: Global, place: usize) -> Result<Body<'a>, AllocError> {
 }
 
 /// A task with a body; all else of it stands in the OIL file.
-fn task<'a>(name: &'a str, place: usize, body: Body<'a>) -> Task<'a> {
+fn task<'a>(
+    name: &'a str,
+    priority: u32,
+    place: usize,
+    deadline: Option<u32>,
+    body: Body<'a>,
+) -> Task<'a> {
     Task {
         name,
         place,
-        priority: 0,
+        priority,
         activations: 1,
+        activations_place: place,
         is_non: false,
         starts: false,
+        modes: None,
+        internal: None,
         release: Release::Others,
+        deadline,
         body,
     }
 }
 
-fn interrupt<'a>(name: &'a str, place: usize, arriving: Arriving, body: Body<'a>) -> Interrupt<'a> {
+fn interrupt<'a>(
+    name: &'a str,
+    place: usize,
+    arriving: Arriving,
+    deadline: Option<u32>,
+    body: Body<'a>,
+) -> Interrupt<'a> {
     Interrupt {
         name,
         place,
         priority: 0,
         arriving,
+        deadline,
         body,
     }
 }
@@ -123,25 +152,6 @@ fn section_name<'a>(
         tell(faults, table.place, Wrong::Missing("name"))?;
     }
     table.text("name", faults)
-}
-
-/// Whether the OIL file has a task of that name.
-fn has_task(file: &OilFile, name: &str) -> bool {
-    for task in file.tasks() {
-        if task.name.as_str() == name {
-            return true;
-        }
-    }
-    false
-}
-
-fn has_routine(file: &OilFile, name: &str) -> bool {
-    for routine in file.routines() {
-        if routine.name.as_str() == name {
-            return true;
-        }
-    }
-    false
 }
 
 /// The name of a task's section, told where the OIL file has no such task; empty where it has none.
@@ -183,16 +193,17 @@ impl<'a> WorkFile<'a> {
         faults: &mut Vec<Fault<'a>>,
     ) -> Result<Self, AllocError> {
         let root = root_of(nodes);
-        root.tell_unknown(&ROOT_KEYS, "the system", faults)?;
+        let _ = root.tell_unknown(alloc, &ROOT_KEYS, &ROOT_OF_OIL, "the system", faults)?;
         tell_of_oil(&root, &ROOT_OF_OIL, "the system", faults)?;
+        tell_tick(&root, faults)?;
         Ok(WorkFile {
             described: Described {
                 name: file.cpu().as_str(),
-                mode: "",
+                modes: Vec::new(alloc),
                 ticks: end_of_arrivals(&root, faults)?,
                 tasks: Vec::new(alloc),
                 interrupts: Vec::new(alloc),
-                alarms: Vec::new(alloc),
+                alarms: cyclic_alarms(alloc, file)?,
             },
             bare: Vec::new(alloc),
             tasks: Vec::new(alloc),
@@ -228,12 +239,19 @@ impl<'a> WorkFile<'a> {
         file: &'a OilFile,
         faults: &mut Vec<Fault<'a>>,
     ) -> Result<(), AllocError> {
-        table.tell_unknown(&TASK_KEYS, "a task", faults)?;
+        let _ = table.tell_unknown(alloc, &TASK_KEYS, &TASK_OF_OIL, "a task", faults)?;
         tell_of_oil(table, &TASK_OF_OIL, "a task", faults)?;
         let name = task_name(table, file, faults)?;
         add_name(name, name_place(table), &mut self.tasks, faults)?;
+        let deadline = deadline(table, faults)?;
         let body = self.body_of(alloc, table, "TASK", name, faults)?;
-        self.described.tasks.push(task(name, table.place, body))?;
+        self.described.tasks.push(task(
+            name,
+            priority_of(file, name),
+            table.place,
+            deadline,
+            body,
+        ))?;
         Ok(())
     }
 
@@ -244,15 +262,17 @@ impl<'a> WorkFile<'a> {
         file: &'a OilFile,
         faults: &mut Vec<Fault<'a>>,
     ) -> Result<(), AllocError> {
-        table.tell_unknown(&INTERRUPT_KEYS, "an interrupt", faults)?;
+        let others = &INTERRUPT_OF_OIL;
+        let _ = table.tell_unknown(alloc, &INTERRUPT_KEYS, others, "an interrupt", faults)?;
         tell_of_oil(table, &INTERRUPT_OF_OIL, "an interrupt", faults)?;
         let name = routine_name(table, file, faults)?;
         add_name(name, name_place(table), &mut self.routines, faults)?;
         let arriving = arriving(alloc, table, faults)?;
+        let deadline = deadline(table, faults)?;
         let body = self.body_of(alloc, table, "ISR", name, faults)?;
         self.described
             .interrupts
-            .push(interrupt(name, table.place, arriving, body))?;
+            .push(interrupt(name, table.place, arriving, deadline, body))?;
         Ok(())
     }
 
@@ -294,7 +314,9 @@ impl<'a> WorkFile<'a> {
             let name = object.name.as_str();
             if !is_among(self.tasks.as_slice(), name) {
                 let body = one_tick(alloc, 0)?;
-                self.described.tasks.push(task(name, 0, body))?;
+                self.described
+                    .tasks
+                    .push(task(name, object.priority as u32, 0, None, body))?;
                 self.bare.push(Bare {
                     kind: "TASK",
                     name,
@@ -311,7 +333,7 @@ impl<'a> WorkFile<'a> {
             let name = object.name.as_str();
             if !is_among(self.routines.as_slice(), name) {
                 let body = one_tick(alloc, 0)?;
-                let routine = interrupt(name, 0, Arriving::Never, body);
+                let routine = interrupt(name, 0, Arriving::Never, None, body);
                 self.described.interrupts.push(routine)?;
                 self.bare.push(Bare {
                     kind: "ISR",

@@ -49,6 +49,15 @@ impl Draft {
         self.text.push_str(value)
     }
 
+    /// The same of a number below 100.
+    pub(crate) fn open_number(&mut self, word: &str, number: u32) -> Result<(), AllocError> {
+        self.open_setting(word, "")?;
+        if number >= 10 {
+            self.text.push(digit(number / 10))?;
+        }
+        self.text.push(digit(number))
+    }
+
     pub(crate) fn close_setting(&mut self) -> Result<(), AllocError> {
         self.text.push_str(";\n")
     }
@@ -65,5 +74,21 @@ impl Draft {
 
     pub(crate) fn close_block(&mut self) -> Result<(), AllocError> {
         self.text.push_str("}")
+    }
+}
+
+/// The last digit of a number.
+fn digit(number: u32) -> char {
+    match number % 10 {
+        0 => '0',
+        1 => '1',
+        2 => '2',
+        3 => '3',
+        4 => '4',
+        5 => '5',
+        6 => '6',
+        7 => '7',
+        8 => '8',
+        _ => '9',
     }
 }

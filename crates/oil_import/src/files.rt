@@ -4,10 +4,13 @@ use crate::attributes::is_cpu_name;
 use crate::braces::inside;
 use crate::budgets::Budgets;
 use crate::declared::{DEFAULT_MODE, DeclaredObjects};
+use crate::defaults::Defaults;
 use crate::draft::Draft;
 use crate::items::{Item, Written};
+use crate::links::Links;
 use crate::messages::{Messages, Subject, Verdict};
 use crate::objects::depth_of;
+use crate::priorities::Priorities;
 use crate::reasons;
 use crate::settings::Importer;
 use crate::sources::Place;
@@ -38,13 +41,19 @@ fn of_cpu<'t, 'a>(items: &'t [Item<'a>], cpu: Option<usize>) -> &'t [Item<'a>] {
 }
 
 impl<'a> Importer<'a> {
-    fn new(
+    /// Nothing so far, of a CPU that has such objects.
+    pub(crate) fn new(
         alloc: Global,
         objects: &[Item<'a>],
+        defaults: Defaults<'a>,
         messages: Messages<'a>,
     ) -> Result<Self, AllocError> {
+        let depth = depth_of(objects);
         Ok(Importer {
-            objects: DeclaredObjects::new(alloc, objects, depth_of(objects))?,
+            objects: DeclaredObjects::new(alloc, objects, depth)?,
+            priorities: Priorities::new(alloc, objects, depth, &defaults)?,
+            links: Links::new(alloc, objects, depth)?,
+            defaults,
             messages,
             draft: Draft::new(alloc),
             budgets: Budgets::new(alloc),
@@ -183,11 +192,12 @@ impl<'a> Importer<'a> {
 pub(crate) fn import_items<'a>(
     alloc: Global,
     items: &[Item<'a>],
+    defaults: Defaults<'a>,
     end: Place,
     messages: Messages<'a>,
 ) -> Result<Importer<'a>, AllocError> {
     let cpu = first(items, CPU);
-    let mut importer = Importer::new(alloc, of_cpu(items, cpu), messages)?;
+    let mut importer = Importer::new(alloc, of_cpu(items, cpu), defaults, messages)?;
     importer.items(alloc, items, cpu, end)?;
     Ok(importer)
 }

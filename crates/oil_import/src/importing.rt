@@ -5,6 +5,7 @@ ghost use Rattle.std.specs.String.{string_bytes};
 ghost use Rattle.oil_printer.specs.Plain.{IsPlain};
 
 use crate::budgets::Budgets;
+use crate::defaults::Defaults;
 use crate::files::import_items;
 use crate::includes::all_tokens;
 use crate::items::{Item, items_of};
@@ -24,22 +25,40 @@ pub struct PlainOil<'a> {
     pub budgets: Budgets<'a>,
 }
 
-/// The items of all files, and the place of the end.
+/// The items of all files, the defaults among them, and the place of the end.
 fn all_items<'a>(
     alloc: Global,
     sources: &[Source<'a>],
     messages: &mut Messages<'a>,
-) -> Result<(Vec<Item<'a>>, Place), AllocError> {
+) -> Result<(Vec<Item<'a>>, Defaults<'a>, Place), AllocError> {
     let (tokens, end) = all_tokens(alloc, sources, messages)?;
     let items = items_of(alloc, &tokens, end)?;
-    Ok((items, end))
+    let defaults = Defaults::new(alloc, &tokens)?;
+    Ok((items, defaults, end))
+}
+
+/// Whether the first file is XML.
+fn is_xml(sources: &[Source<'_>]) -> bool {
+    let Some(source) = sources.first() else {
+        return false;
+    };
+    for byte in source.content() {
+        if !byte.is_ascii_whitespace() {
+            return *byte == b'<';
+        }
+    }
+    false
 }
 
 /// What files become before it is read and printed.
 fn drafted<'a>(alloc: Global, sources: &[Source<'a>]) -> Result<Importer<'a>, AllocError> {
     let mut messages = Messages::new(alloc);
-    let (items, end) = all_items(alloc, sources, &mut messages)?;
-    import_items(alloc, &items, end, messages)
+    if is_xml(sources) {
+        messages.refuse(Place::first(0), Subject::Word("XML"), reasons::XML)?;
+        return Importer::new(alloc, &[], Defaults::none(alloc), messages);
+    }
+    let (items, defaults, end) = all_items(alloc, sources, &mut messages)?;
+    import_items(alloc, &items, defaults, end, messages)
 }
 
 /// Plain OIL as it is printed, unless something was refused.

@@ -2,31 +2,37 @@
 //! out, set or refused. Where `import` answers a text, that text means a file. That the file
 //! means what the user's files mean is tested, not proved.
 //!
-//! Sections and attributes of implementations, descriptions, includes and objects of other
-//! standards are left out, defaults are set, and what can't be expressed is refused. Nothing that
-//! is proved of runs depends on this crate.
+//! Attributes of implementations, descriptions, includes and objects of other standards are left
+//! out, defaults are set, and what can't be expressed is refused. Nothing that is proved of runs
+//! depends on this crate.
 //!
 //! Files become tokens (`tokens`), in the order in which files include one another (`includes`),
 //! these become items by depth of braces (`items`). What is kept of them is written as a draft
-//! (`draft`, `settings`, `objects`, `files`), which is read and printed (`importing`). `messages`
-//! tells what was left out, set or refused, `budgets` what was left out that may be of use
-//! elsewhere.
+//! (`draft`, `settings`, `objects`, `files`), which is read and printed (`importing`). `defaults`
+//! are those of the file's own implementation, `priorities` those that are numbered anew, `links`
+//! those between resources. `messages` tells what was left out, set, kept or refused, `budgets`
+//! what was left out that may be of use elsewhere.
 #![tactic(auto)]
 
 mod attributes;
 mod braces;
 mod budgets;
 mod declared;
+mod defaults;
 mod draft;
+mod earlier;
 mod files;
 mod importing;
 mod includes;
 mod items;
+mod links;
 mod messages;
 mod objects;
+mod priorities;
 mod reasons;
 mod settings;
 mod sources;
+mod taken;
 mod tokens;
 
 pub use budgets::{Budget, Budgets};

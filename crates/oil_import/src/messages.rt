@@ -24,6 +24,8 @@ pub enum Subject<'a> {
     Object(&'a str, &'a str),
     /// `NAME = VALUE`.
     Setting(&'a str, &'a str),
+    /// `NAME = VALUE as NUMBER`, where a number stands for the value.
+    Renumbered(&'a str, &'a str, u32),
     /// A word or sign.
     Word(&'a str),
 }
@@ -44,7 +46,20 @@ pub struct Messages<'a> {
     is_refused: bool,
 }
 
+/// The rank of the messages that are told last.
+const LAST_RANK: usize = 2;
+
 impl Verdict {
+    /// Which messages are told first: 0, then the others up to [`LAST_RANK`], those of one rank in
+    /// the order of the text.
+    fn rank(self) -> usize {
+        match self {
+            Verdict::Refused => 0,
+            Verdict::Kept => 1,
+            Verdict::LeftOut | Verdict::Set => LAST_RANK,
+        }
+    }
+
     fn text(self) -> &'static str {
         match self {
             Verdict::LeftOut => "left out",
@@ -112,13 +127,35 @@ impl<'a> Messages<'a> {
         self.tell(place, Verdict::LeftOut, subject, reason)
     }
 
-    /// Writes a line `FILE:LINE:COLUMN: VERDICT: SUBJECT: REASON` for each message. An error is a
-    /// failed write.
+    /// Writes a line `FILE:LINE:COLUMN: VERDICT: SUBJECT: REASON` for each message, first for what
+    /// is refused, then for what is kept, and behind all how many there are of each verdict. An
+    /// error is a failed write.
     pub fn write<W: Write>(&self, sources: &[Source<'_>], out: &mut W) -> io::Result<()> {
-        for message in &self.list {
-            write_message(message, sources, out)?;
+        if self.list.is_empty() {
+            return Ok(());
         }
-        Ok(())
+        for rank in 0..=LAST_RANK {
+            for message in &self.list {
+                if message.verdict.rank() == rank {
+                    write_message(message, sources, out)?;
+                }
+            }
+        }
+        writeln!(
+            out,
+            "{} refused, {} kept, {} set, {} left out",
+            self.count(Verdict::Refused),
+            self.count(Verdict::Kept),
+            self.count(Verdict::Set),
+            self.count(Verdict::LeftOut)
+        )
+    }
+
+    fn count(&self, verdict: Verdict) -> usize {
+        self.list
+            .iter()
+            .filter(|message| message.verdict == verdict)
+            .count()
     }
 }
 
@@ -126,6 +163,7 @@ fn write_subject<W: Write>(subject: Subject<'_>, out: &mut W) -> io::Result<()> 
     match subject {
         Subject::Object(kind, name) => write!(out, "{kind} {name}"),
         Subject::Setting(name, value) => write!(out, "{name} = {value}"),
+        Subject::Renumbered(name, value, number) => write!(out, "{name} = {value} as {number}"),
         Subject::Word(word) => write!(out, "{word}"),
     }
 }

@@ -3,11 +3,14 @@
 use crate::attributes::{attribute_of, is_of_communication, kind_of, value_of};
 use crate::braces::inside;
 use crate::declared::is_scheduler;
+use crate::earlier::EarlierAttributes;
 use crate::items::{Item, Written};
-use crate::messages::Subject;
+use crate::links::LINKED;
+use crate::messages::{Subject, Verdict};
 use crate::reasons;
-use crate::settings::{EarlierAttributes, Importer, is_one};
+use crate::settings::Importer;
 use crate::sources::Place;
+use crate::taken::is_one;
 use oil_reader::{AttributeName, Kind, attributes_of};
 use std::alloc::{AllocError, Global};
 
@@ -17,6 +20,22 @@ struct ImportedObject<'a> {
     kind: Kind,
     name: &'a str,
     end: Place,
+}
+
+/// Whether an attribute says that a resource is linked.
+fn is_linked(attribute: AttributeName, item: &Item<'_>) -> bool {
+    match item.written {
+        Written::Word(value) => attribute == AttributeName::ResourceProperty && value == LINKED,
+        _ => false,
+    }
+}
+
+/// Whether a value is that of an attribute that activates a task, sets an event or runs code.
+fn is_action(value: &str) -> bool {
+    matches!(
+        value,
+        "ACTIVATETASK" | "SETEVENT" | "ALARMCALLBACK" | "COMCALLBACK" | "NMCALLBACK"
+    )
 }
 
 /// Why an attribute that isn't known is left out.
@@ -67,7 +86,7 @@ impl<'a> Importer<'a> {
         attributes: &[Item<'a>],
     ) -> Result<(), AllocError> {
         let Some(kind) = kind_of(item.word) else {
-            return self.other_object(item);
+            return self.other_object(item, attributes);
         };
         if self.refuse_form(item)? {
             return Ok(());
@@ -114,8 +133,28 @@ impl<'a> Importer<'a> {
             .refuse(item.written_place, subject_of(item), reason)
     }
 
-    /// Something among the objects of a CPU that is none.
-    fn other_object(&mut self, item: &Item<'a>) -> Result<(), AllocError> {
+    /// Refuses what activates a task, sets an event or runs code, in the braces of an object whose
+    /// kind isn't known, and answers whether there is such a thing.
+    fn refuse_actions(&mut self, items: &[Item<'a>]) -> Result<bool, AllocError> {
+        let mut is_refused = false;
+        for item in items {
+            if let Written::Word(value) = item.written {
+                if is_action(value) {
+                    self.messages
+                        .refuse(item.place, subject_of(item), reasons::OTHER_ACTION)?;
+                    is_refused = true;
+                }
+            }
+        }
+        Ok(is_refused)
+    }
+
+    /// Something among the objects of a CPU that is none. Nothing is told of it beside what is refused
+    /// of it.
+    fn other_object(&mut self, item: &Item<'a>, attributes: &[Item<'a>]) -> Result<(), AllocError> {
+        if item.fault.is_none() && self.refuse_actions(attributes)? {
+            return Ok(());
+        }
         let reason = match item.written {
             Written::Name(_) | Written::Nothing if item.fault.is_some() => {
                 let _ = self.refuse_form(item)?;
@@ -150,6 +189,8 @@ impl<'a> Importer<'a> {
                 }
             }
         }
+        self.list_linked(alloc, object, &seen)?;
+        self.refuse_default_activations(object, &seen)?;
         self.set_all_missing(scope, &seen, object.end)
     }
 
@@ -188,6 +229,57 @@ impl<'a> Importer<'a> {
         )
     }
 
+    /// Refuses a resource that is linked to none that is there, to an internal one, or in a circle.
+    fn refuse_link(&mut self, name: &str, item: &Item<'a>) -> Result<(), AllocError> {
+        let is_there = match self.links.root(name) {
+            Some(root) => self.objects.find(Kind::Resource, root).is_some(),
+            None => false,
+        };
+        if is_there {
+            return Ok(());
+        }
+        self.messages
+            .refuse(item.written_place, subject_of(item), reasons::NO_LINK)
+    }
+
+    /// Has a task that lists a linked resource list all that are linked to the same one.
+    fn list_linked(
+        &mut self,
+        alloc: Global,
+        object: ImportedObject<'a>,
+        seen: &EarlierAttributes<'a>,
+    ) -> Result<(), AllocError> {
+        if object.kind != Kind::Task {
+            return Ok(());
+        }
+        let listed = seen.names(alloc, AttributeName::TaskResource)?;
+        for name in self.links.besides(alloc, listed.as_slice())? {
+            let subject = Subject::Setting("RESOURCE", name);
+            self.messages
+                .tell(object.end, Verdict::Set, subject, reasons::ONE_CEILING)?;
+            self.draft.setting("RESOURCE", name)?;
+        }
+        Ok(())
+    }
+
+    /// Refuses several activations that a default gives a task that lists an event.
+    fn refuse_default_activations(
+        &mut self,
+        object: ImportedObject<'a>,
+        seen: &EarlierAttributes<'a>,
+    ) -> Result<(), AllocError> {
+        let Some(value) = self.defaults.of(AttributeName::Activation) else {
+            return Ok(());
+        };
+        let is_missing = object.kind == Kind::Task && !seen.has(AttributeName::Activation);
+        if !is_missing || is_one(value) || self.objects.is_basic(object.name) {
+            return Ok(());
+        }
+        let subject = Subject::Setting("ACTIVATION", value);
+        self.messages
+            .refuse(object.end, subject, reasons::ONE_ACTIVATION)
+    }
+
     /// An attribute of an object, and its block.
     fn attribute(
         &mut self,
@@ -204,7 +296,14 @@ impl<'a> Importer<'a> {
         if attribute == AttributeName::Activation {
             self.refuse_activations(object, item, value)?;
         }
-        self.draft.open_setting(item.word, value)?;
+        match self.priorities.renumbered(attribute, value) {
+            Some(becomes) => self.draft.open_number(item.word, becomes)?,
+            None => self.draft.open_setting(item.word, value)?,
+        }
+        if is_linked(attribute, item) {
+            self.refuse_link(object.name, item)?;
+            return self.draft.close_setting();
+        }
         let scope = block_of(attribute, value);
         if scope.is_empty() {
             self.block(alloc, scope, item.end, block)?;

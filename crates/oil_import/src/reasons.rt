@@ -22,7 +22,12 @@ pub(crate) const OTHER_VERSION: &str = "read as 2.5";
 
 pub(crate) const NO_VERSION: &str = "it is missing";
 
-pub(crate) const IMPLEMENTATION: &str = "what an implementation adds isn't read";
+pub(crate) const IMPLEMENTATION: &str = "only the defaults of attributes are read in it";
+
+pub(crate) const IMPLEMENTED: &str = "it is missing, and the IMPLEMENTATION has that default";
+
+pub(crate) const BLOCK_OF_DEFAULT: &str =
+    "it is missing, and the block of an IMPLEMENTATION's default isn't read";
 
 pub(crate) const OUTSIDE: &str = "nothing but a CPU is read here";
 
@@ -78,13 +83,29 @@ pub(crate) const DEFAULT_MODE: &str = "it is there without being declared";
 
 pub(crate) const UNKNOWN_REFERENCE: &str = "no object of that kind has the name";
 
-pub(crate) const EXTENDED_STATUS: &str = "there is only extended status, EXTENDED";
+pub(crate) const EXTENDED_STATUS: &str = "EXTENDED or STANDARD is wanted";
+
+pub(crate) const STANDARD_STATUS: &str = "read as EXTENDED, so more errors are found here";
+
+pub(crate) const RENUMBERED: &str = "only the order of priorities counts; they are numbered anew";
+
+pub(crate) const COUNTS: &str = "a counter counts to 1 to 2147483647";
+
+pub(crate) const NOT_ZERO: &str = "it is 1 or more";
+
+pub(crate) const OTHER_ACTION: &str =
+    "it is load that has to be expressed: give an ALARM or an ISR that does it";
+
+pub(crate) const XML: &str =
+    "this is XML; of AUTOSAR's descriptions (ARXML) none is read, only OIL";
 
 pub(crate) const SWITCH: &str = "TRUE or FALSE is wanted";
 
-pub(crate) const PRIORITIES_OF_TASKS: &str = "a task's priority is 0 to 63";
+pub(crate) const PRIORITIES_OF_TASKS: &str =
+    "a task's priority is 0 to 63; greater ones are numbered anew if at most 64 differ";
 
-pub(crate) const PRIORITIES_OF_ROUTINES: &str = "a routine's priority is 0 to 31";
+pub(crate) const PRIORITIES_OF_ROUTINES: &str =
+    "a routine's priority is 0 to 31; greater ones are numbered anew if at most 32 differ";
 
 pub(crate) const SCHEDULES: &str = "NON or FULL is wanted";
 
@@ -92,8 +113,15 @@ pub(crate) const ACTIVATIONS: &str = "a task has 1 to 15 activations";
 
 pub(crate) const CATEGORIES: &str = "there are only routines of category 2";
 
-pub(crate) const PROPERTIES: &str =
-    "a resource is STANDARD or INTERNAL; linked ones can't be expressed";
+pub(crate) const PROPERTIES: &str = "a resource is STANDARD, INTERNAL or LINKED";
+
+pub(crate) const LINKED: &str =
+    "a resource of its own; who lists one that is linked lists all, so their ceiling is one";
+
+pub(crate) const NO_LINK: &str =
+    "it is linked to no standard resource: to none, to an internal one, or in a circle";
+
+pub(crate) const ONE_CEILING: &str = "it is linked to one in the list, and their ceiling is one";
 
 pub(crate) const MASKS: &str = "AUTO or 1 to 4294967295 is wanted";
 

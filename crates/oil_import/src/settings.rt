@@ -1,164 +1,37 @@
 //! OIL: standard objects and their attributes. The value of an attribute, and what stands where it
 //! is missing.
 
-use crate::attributes::{default_of, is_hook, is_of_hook_code, named_by, reason_against, value_of};
+use crate::attributes::{default_of, is_of_hook_code, named_by, reason_against};
 use crate::budgets::Budgets;
 use crate::declared::{DEFAULT_MODE, DeclaredObjects, is_scheduler};
+use crate::defaults::Defaults;
 use crate::draft::Draft;
+use crate::earlier::EarlierAttributes;
 use crate::items::{Item, Written};
-use crate::messages::{Message, Messages, Subject, Verdict};
+use crate::links::{LINKED, Links};
+use crate::messages::{Messages, Subject, Verdict};
+use crate::priorities::Priorities;
 use crate::reasons;
 use crate::sources::Place;
-use oil_reader::{AttributeName, Kind, Value};
-use std::alloc::{AllocError, Global};
+use crate::taken::{
+    NOTHING, Taken, automatic, bent, implemented, is_accepted, is_standard, kept, out_of_counts,
+    renumbered, set, untaken, without_hook_code,
+};
+use oil_reader::{AttributeName, Kind};
+use std::alloc::AllocError;
 
 /// An import so far.
 #[derive(Drop)]
 pub(crate) struct Importer<'a> {
     pub objects: DeclaredObjects<'a>,
+    pub priorities: Priorities,
+    pub links: Links<'a>,
+    pub defaults: Defaults<'a>,
     pub messages: Messages<'a>,
     pub draft: Draft,
     pub budgets: Budgets<'a>,
     /// Whether the mode is named that is there without being declared.
     pub needs_default_mode: bool,
-}
-
-/// The attributes that an object or a block has had so far, those that list names once a name.
-#[derive(Drop)]
-pub(crate) struct EarlierAttributes<'a> {
-    list: Vec<Had<'a>>,
-}
-
-/// An attribute, and the value that was taken for it.
-#[derive(Clone, Copy)]
-struct Had<'a> {
-    attribute: AttributeName,
-    value: Option<&'a str>,
-}
-
-impl<'a> EarlierAttributes<'a> {
-    pub(crate) fn new(alloc: Global) -> Self {
-        EarlierAttributes {
-            list: Vec::new(alloc),
-        }
-    }
-
-    pub(crate) fn has(&self, attribute: AttributeName) -> bool {
-        for had in &self.list {
-            if had.attribute == attribute {
-                return true;
-            }
-        }
-        false
-    }
-
-    fn lists(&self, attribute: AttributeName, name: &str) -> bool {
-        for had in &self.list {
-            if had.attribute == attribute && had.value == Some(name) {
-                return true;
-            }
-        }
-        false
-    }
-
-    fn add(&mut self, attribute: AttributeName, value: Option<&'a str>) -> Result<(), AllocError> {
-        if value.is_some() || !self.has(attribute) {
-            self.list.push(Had { attribute, value })?;
-        }
-        Ok(())
-    }
-}
-
-/// What becomes of an attribute: the value that it has, where it has one, and what is told of it.
-#[derive(Clone, Copy)]
-struct Taken<'a> {
-    value: Option<&'a str>,
-    message: Option<Message<'a>>,
-}
-
-const NOTHING: Taken<'static> = Taken {
-    value: None,
-    message: None,
-};
-
-/// An attribute that nothing is taken for, and why.
-fn untaken<'a>(
-    place: Place,
-    verdict: Verdict,
-    subject: Subject<'a>,
-    reason: &'static str,
-) -> Taken<'a> {
-    Taken {
-        value: None,
-        message: Some(Message {
-            place,
-            verdict,
-            subject,
-            reason,
-        }),
-    }
-}
-
-/// A value that is set for an attribute of that word, and why.
-fn set<'a>(place: Place, word: &'a str, value: &'a str, reason: &'static str) -> Taken<'a> {
-    Taken {
-        value: Some(value),
-        message: Some(Message {
-            place,
-            verdict: Verdict::Set,
-            subject: Subject::Setting(word, value),
-            reason,
-        }),
-    }
-}
-
-/// The value for AUTO.
-fn automatic<'a>(attribute: AttributeName, item: &Item<'a>) -> Taken<'a> {
-    let place = item.written_place;
-    match default_of(attribute) {
-        Some(value) => set(place, item.word, value, reasons::AUTOMATIC),
-        None => {
-            let subject = Subject::Setting(item.word, "AUTO");
-            untaken(place, Verdict::Refused, subject, reasons::NOT_CHOSEN)
-        }
-    }
-}
-
-/// What a value says here that it may not say elsewhere.
-fn meaning(attribute: AttributeName, value: &str) -> Option<&'static str> {
-    if is_hook(attribute) && value == "TRUE" {
-        return Some(reasons::HOOK);
-    }
-    if attribute == AttributeName::TicksPerBase && !is_one(value) {
-        return Some(reasons::DIVIDES);
-    }
-    None
-}
-
-/// A value that is taken as it is written, and what it says here.
-fn kept<'a>(attribute: AttributeName, item: &Item<'a>, value: &'a str) -> Taken<'a> {
-    let message = match meaning(attribute, value) {
-        Some(reason) => Some(Message {
-            place: item.place,
-            verdict: Verdict::Kept,
-            subject: Subject::Setting(item.word, value),
-            reason,
-        }),
-        None => None,
-    };
-    Taken {
-        value: Some(value),
-        message,
-    }
-}
-
-/// What is said of an attribute that is left out, since it asks for the code of hooks.
-fn without_hook_code<'a>(item: &Item<'a>, value: &'a str) -> Taken<'a> {
-    if value == "FALSE" {
-        return NOTHING;
-    }
-    let subject = Subject::Setting(item.word, value);
-    untaken(item.place, Verdict::LeftOut, subject, reasons::NO_HOOK_CODE)
 }
 
 impl<'a> Importer<'a> {
@@ -196,19 +69,28 @@ impl<'a> Importer<'a> {
         if value == "AUTO" && attribute != AttributeName::EventMask {
             return automatic(attribute, item);
         }
+        if let Some(becomes) = self.priorities.renumbered(attribute, value) {
+            return renumbered(item, value, becomes);
+        }
+        let subject = Subject::Setting(item.word, value);
+        if is_standard(attribute, value) {
+            return bent(item, "EXTENDED", subject, reasons::STANDARD_STATUS);
+        }
+        if attribute == AttributeName::ResourceProperty && value == LINKED {
+            return bent(item, "STANDARD", subject, reasons::LINKED);
+        }
         if !is_accepted(attribute, value) {
-            let subject = Subject::Setting(item.word, value);
             let reason = reason_against(attribute);
+            return untaken(item.written_place, Verdict::Refused, subject, reason);
+        }
+        if let Some(reason) = out_of_counts(attribute, value) {
             return untaken(item.written_place, Verdict::Refused, subject, reason);
         }
         let Some(kind) = named_by(attribute) else {
             return kept(attribute, item, value);
         };
         match self.against(attribute, kind, value, seen) {
-            Some((verdict, reason)) => {
-                let subject = Subject::Setting(item.word, value);
-                untaken(item.written_place, verdict, subject, reason)
-            }
+            Some((verdict, reason)) => { untaken(item.written_place, verdict, subject, reason) }
             None => kept(attribute, item, value),
         }
     }
@@ -242,6 +124,12 @@ impl<'a> Importer<'a> {
     /// What stands for an attribute that is missing, before the end of its object or block.
     fn missing(&self, attribute: AttributeName, end: Place) -> Taken<'a> {
         let word = attribute.word();
+        if let Some(value) = self.defaults.of(attribute) {
+            if self.priorities.renumbered(attribute, value).is_some() {
+                return set(end, word, value, reasons::IMPLEMENTED);
+            }
+            return implemented(attribute, value, end);
+        }
         if let Some(value) = default_of(attribute) {
             return set(end, word, value, reasons::MISSING);
         }
@@ -300,25 +188,15 @@ impl<'a> Importer<'a> {
         end: Place,
     ) -> Result<(), AllocError> {
         let taken = self.missing(attribute, end);
-        match self.tell(attribute, taken)? {
-            Some(value) => self.draft.setting(attribute.word(), value),
-            None => Ok(()),
+        let Some(value) = self.tell(attribute, taken)? else {
+            return Ok(());
+        };
+        match self.priorities.renumbered(attribute, value) {
+            Some(becomes) => {
+                self.draft.open_number(attribute.word(), becomes)?;
+                self.draft.close_setting()
+            }
+            None => self.draft.setting(attribute.word(), value),
         }
-    }
-}
-
-/// Whether an attribute takes that word.
-fn is_accepted(attribute: AttributeName, word: &str) -> bool {
-    match value_of(word) {
-        Some(value) => attribute.accepts(value),
-        None => false,
-    }
-}
-
-/// Whether a word is the number 1.
-pub(crate) fn is_one(word: &str) -> bool {
-    match value_of(word) {
-        Some(Value::Number(number)) => number == 1,
-        _ => false,
     }
 }
