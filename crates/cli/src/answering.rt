@@ -4,20 +4,24 @@ use crate::bounding::write_searched;
 use clap::Error as LineError;
 use clap::error::ErrorKind;
 use cli_answers::{
-    Texts, Verdict, answer_import, explain_fault, explain_verdict, make_files, read_texts,
-    status_of, system_of, write_cut, write_cuts, write_lines, write_shown, write_view,
+    StoredRun, Texts, Verdict, answer_import, as_written, explain_fault, explain_verdict, is_free,
+    make_files, read_texts, status_of, store_runs, system_of, write_cut, write_cuts, write_lines,
+    write_shown, write_view,
 };
 use cli_requests::{
-    Asked, DONE, Files, Folder, Question, REFUSED, REFUSED_LINE, Request, WRITE_FAILED,
-    explain_unread, folder_of, read_line, with_files,
+    Asked, BoundsLine, DONE, Files, Folder, Question, REFUSED, REFUSED_LINE, Request, Rules,
+    WRITE_FAILED, explain_unread, folder_of, read_line, with_files,
 };
+use cli_rules::{RuleReading, read_rules, write_refused};
 use cli_tables::{BoundsAsked, SearchWatch};
+use explain_texts::Source;
+use oil_reader::read_oil;
 use std::alloc::{AllocError, Global};
 use std::convert::AsStr;
 use std::io::{self, Write};
 use system_gen::class_of;
 use tracer::RunFault;
-use view_runs::Progress;
+use view_runs::{Progress, Showing};
 
 /// Writes the conformance class of a system.
 fn write_class<O: Write>(
@@ -30,12 +34,14 @@ fn write_class<O: Write>(
     Ok(Verdict::Done)
 }
 
-/// Writes the answer to a question.
+/// Writes the answer to a question. Runs that are to be stored are added.
 fn write_answer<'q, O: Write, E: Write>(
     alloc: Global,
     texts: &Texts,
     request: &'q Request<'q>,
+    rules: &'q Rules<'q>,
     progress: &mut Progress<'_, E>,
+    runs: &mut Vec<StoredRun>,
     out: &mut O,
 ) -> Result<Verdict<'q>, RunFault> {
     match request.question {
@@ -43,7 +49,7 @@ fn write_answer<'q, O: Write, E: Write>(
             write_lines(alloc, texts, line, lines, from, progress, out)
         }
         Question::View { line, view } => {
-            write_view(alloc, texts, line, view, request.limits(), progress, out)
+            write_view(alloc, texts, line, view, rules.limits(), progress, out)
         }
         Question::Check { priority, is_whole } => {
             write_cut(alloc, &system_of(alloc, texts)?, priority, is_whole, out)
@@ -56,35 +62,139 @@ fn write_answer<'q, O: Write, E: Write>(
         Question::Bounds(line) => {
             let asked = BoundsAsked {
                 line,
-                limits: request.limits(),
+                said: rules.distances.as_slice(),
+                limits: rules.limits(),
                 is_explained: request.is_explained,
             };
             let mut watch = SearchWatch::new(progress);
-            let distances = request.distances.as_slice();
-            write_searched(alloc, texts, asked, distances, &mut watch, out)
+            write_searched(alloc, texts, asked, rules, &mut watch, runs, out)
         }
     }
 }
 
-/// Answers a request over its texts, and gives the exit status.
-fn answer_texts<O: Write, E: Write>(
+/// How it is shown how far a request is: on a terminal, or where the line asks for it.
+fn showing_of(request: &Request<'_>, is_terminal: bool) -> Showing {
+    if is_terminal {
+        Showing::OneLine
+    } else if request.tells_progress {
+        Showing::Lines
+    } else {
+        Showing::Nowhere
+    }
+}
+
+/// Answers a request over its texts, by rules, and gives the exit status.
+fn answer_by<F: Files, O: Write, E: Write>(
     alloc: Global,
     request: &Request<'_>,
+    rules: &Rules<'_>,
     texts: &Texts,
+    files: &mut F,
     out: &mut O,
     err: &mut E,
     shows_progress: bool,
 ) -> Result<u8, RunFault> {
-    let mut progress = Progress::new(&mut *err, shows_progress);
-    let outcome = write_answer(alloc, texts, request, &mut progress, out);
+    let showing = showing_of(request, shows_progress);
+    let mut progress = Progress::new(&mut *err, showing);
+    let mut runs = Vec::new(alloc);
+    let outcome = write_answer(alloc, texts, request, rules, &mut progress, &mut runs, out);
     progress.end();
     let verdict = outcome?;
     out.flush()?;
+    let stored = store_runs(alloc, texts, &runs, files, err)?;
     let _ = verdict.write_lines(err);
     if request.is_explained {
         explain_verdict(alloc, request, texts, &verdict, err);
     }
-    Ok(verdict.status())
+    Ok(if stored == DONE {
+        verdict.status()
+    } else {
+        stored
+    })
+}
+
+/// Answers a request over its texts, by its rules and those of a text, and gives the exit status.
+fn answer_ruled<F: Files, O: Write, E: Write>(
+    alloc: Global,
+    request: &Request<'_>,
+    text: &[u8],
+    texts: &Texts,
+    files: &mut F,
+    out: &mut O,
+    err: &mut E,
+    shows_progress: bool,
+) -> Result<u8, RunFault> {
+    let file = read_oil(alloc, &texts.oil)?;
+    match read_rules(alloc, &file, text)? {
+        RuleReading::Read(rules) => {
+            let rules = request.rules.over(alloc, &rules)?;
+            answer_by(
+                alloc,
+                request,
+                &rules,
+                texts,
+                files,
+                out,
+                err,
+                shows_progress,
+            )
+        }
+        RuleReading::Refused(faults) => {
+            let name = request.rules_file.name();
+            let source = Source { name, text };
+            let _ = write_refused(alloc, &file, source, &faults, request.is_explained, err);
+            Ok(REFUSED)
+        }
+    }
+}
+
+/// Whether the folder that a run is to be stored in is free. If it isn't, that is told.
+fn can_store<F: Files, E: Write>(
+    alloc: Global,
+    request: &Request<'_>,
+    files: &mut F,
+    err: &mut E,
+) -> Result<bool, AllocError> {
+    match request.question {
+        Question::Bounds(
+            BoundsLine {
+                into: Some(folder),
+                ..
+            },
+        ) => is_free(alloc, files, folder, err),
+        _ => Ok(true),
+    }
+}
+
+/// Answers a request over its texts, and gives the exit status.
+fn answer_texts<F: Files, O: Write, E: Write>(
+    alloc: Global,
+    request: &Request<'_>,
+    texts: &Texts,
+    files: &mut F,
+    out: &mut O,
+    err: &mut E,
+    shows_progress: bool,
+) -> Result<u8, RunFault> {
+    if !can_store(alloc, request, files, err)? {
+        return Ok(WRITE_FAILED);
+    }
+    match &texts.rules {
+        None => {
+            let rules = &request.rules;
+            answer_by(
+                alloc,
+                request,
+                rules,
+                texts,
+                files,
+                out,
+                err,
+                shows_progress,
+            )
+        }
+        Some(text) => answer_ruled(alloc, request, text, texts, files, out, err, shows_progress),
+    }
 }
 
 /// Writes the line of a refusal, and gives the exit status. Where it is wanted, an explanation
@@ -113,9 +223,12 @@ fn answer<F: Files, O: Write, E: Write>(
     shows_progress: bool,
 ) -> u8 {
     match read_texts(alloc, request, files) {
-        Ok(texts) => match answer_texts(alloc, request, &texts, out, err, shows_progress) {
+        Ok(texts) => match answer_texts(alloc, request, &texts, files, out, err, shows_progress) {
             Ok(status) => status,
-            Err(fault) => refuse(alloc, request, &texts, fault, err),
+            Err(fault) => {
+                let fault = as_written(fault, &texts);
+                refuse(alloc, request, &texts, fault, err)
+            }
         },
         Err(unread) => {
             let _ = writeln!(err, "{unread}");
@@ -199,9 +312,13 @@ fn answer_folder<S: AsStr, F: Files, O: Write, E: Write>(
     err: &mut E,
     shows_progress: bool,
 ) -> Result<u8, AllocError> {
+    let rules = folder.rules(alloc)?;
     let whole = with_files(alloc, words, folder, true)?;
     let short = with_files(alloc, words, folder, false)?;
-    let asked = read_either(alloc, whole.as_slice(), short.as_slice());
+    let mut asked = read_either(alloc, whole.as_slice(), short.as_slice());
+    if let Ok(Asked::System(request)) = &mut asked {
+        request.take_rules_of(rules.as_str());
+    }
     Ok(answer_asked(alloc, asked, files, out, err, shows_progress))
 }
 
@@ -219,7 +336,8 @@ fn is_short(asked: &Result<Asked<'_>, LineError>) -> bool {
 /// a limit is broken. For 1 and 4 one line says on `err` what it was, for 6 and of a refused import
 /// a line for each limit and refusal. Where the line asks for it, an explanation of the
 /// refusal, of the denial or of what is undecided follows on `err`. With `shows_progress` a long
-/// run says on `err`, on one line that is written over and taken away, how far it is.
+/// run says on `err`, on one line that is written over and taken away, how far it is; else on lines
+/// of its own where the line asks for it.
 pub fn command<S: AsStr, F: Files, O: Write, E: Write>(
     alloc: Global,
     words: &[S],

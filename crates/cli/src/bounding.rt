@@ -2,8 +2,8 @@
 
 ghost use Rattle.osek_base.specs.Separable.{Separable};
 
-use cli_answers::{Texts, Verdict, system_of, write_denial};
-use cli_requests::{BoundsLine, Distance};
+use cli_answers::{StoredRun, Texts, Verdict, system_of, write_denial};
+use cli_requests::Rules;
 use cli_tables::{
     BoundsAsked, SearchWatch, all_distances, distance_fault, mode_id, unknown_figure, write_found,
 };
@@ -21,11 +21,12 @@ use view_runs::{Limit, unknown_limit};
 const VISITS_OF_STATE: u64 = 100;
 
 /// How far a search goes.
-fn extent_of(line: BoundsLine<'_>) -> Extent {
+fn extent_of(rules: &Rules<'_>) -> Extent {
+    let states = rules.most_states();
     Extent {
-        nodes: line.states as usize,
-        visits: VISITS_OF_STATE * u64::from(line.states),
-        cap: line.longest,
+        nodes: states as usize,
+        visits: VISITS_OF_STATE * u64::from(states),
+        cap: rules.longest_time(),
     }
 }
 
@@ -50,8 +51,9 @@ fn write_upper<'v, O: Write, E: Write>(
     system: &System,
     priority: u8,
     asked: BoundsAsked<'v>,
-    distances: &[Distance<'_>],
+    rules: &Rules<'_>,
     watch: &mut SearchWatch<'_, '_, E>,
+    runs: &mut Vec<StoredRun>,
     out: &mut O,
 ) -> Result<Verdict<'v>, RunFault> {
     if let Err(denial) = check_isolation(system, priority) {
@@ -61,11 +63,11 @@ fn write_upper<'v, O: Write, E: Write>(
         return Ok(Verdict::NoLimit(name));
     }
     let mode = mode_id(alloc, texts, system, asked.line.mode)?;
-    let distances = all_distances(alloc, system, distances)?;
-    let extent = extent_of(asked.line);
+    let distances = all_distances(alloc, system, &rules.distances)?;
+    let extent = extent_of(rules);
     let found = find_upper_bounds(alloc, system, priority, mode, &distances, extent, watch)?;
     let UpperBounds { part, bounds } = found;
-    write_found(alloc, &part, mode, &distances, bounds, asked, out)
+    write_found(alloc, &part, mode, &distances, bounds, asked, runs, out)
 }
 
 /// Writes the bounds of all runs in a mode.
@@ -74,18 +76,19 @@ fn write_whole<'v, O: Write, E: Write>(
     texts: &Texts,
     system: &System,
     asked: BoundsAsked<'v>,
-    distances: &[Distance<'_>],
+    rules: &Rules<'_>,
     watch: &mut SearchWatch<'_, '_, E>,
+    runs: &mut Vec<StoredRun>,
     out: &mut O,
 ) -> Result<Verdict<'v>, RunFault> {
     if let Some(name) = unknown_limit(system, asked.limits.times) {
         return Ok(Verdict::NoLimit(name));
     }
     let mode = mode_id(alloc, texts, system, asked.line.mode)?;
-    let distances = all_distances(alloc, system, distances)?;
-    let extent = extent_of(asked.line);
+    let distances = all_distances(alloc, system, &rules.distances)?;
+    let extent = extent_of(rules);
     let found = find_bounds(alloc, system, mode, &distances, extent, watch)?;
-    write_found(alloc, system, mode, &distances, found, asked, out)
+    write_found(alloc, system, mode, &distances, found, asked, runs, out)
 }
 
 /// Writes the bounds that are asked for, or what names nothing of the system.
@@ -94,31 +97,36 @@ fn write_asked<'v, O: Write, E: Write>(
     texts: &Texts,
     system: &System,
     asked: BoundsAsked<'v>,
-    distances: &[Distance<'v>],
+    rules: &Rules<'v>,
     watch: &mut SearchWatch<'_, '_, E>,
+    runs: &mut Vec<StoredRun>,
     out: &mut O,
 ) -> Result<Verdict<'v>, RunFault> {
-    if let Some(fault) = distance_fault(system, distances) {
+    if let Some(fault) = distance_fault(system, &rules.distances) {
         return Ok(Verdict::NoDistance(fault));
     }
     if let Some(wanted) = unknown_figure(system, asked.line) {
         return Ok(Verdict::NoFigure(wanted));
     }
     match asked.line.upper {
-        Some(priority) => write_upper(alloc, texts, system, priority, asked, distances, watch, out),
-        None => write_whole(alloc, texts, system, asked, distances, watch, out),
+        Some(priority) => write_upper(
+            alloc, texts, system, priority, asked, rules, watch, runs, out,
+        ),
+        None => write_whole(alloc, texts, system, asked, rules, watch, runs, out),
     }
 }
 
-/// Writes the bounds of all runs in a mode, or how far the search for them came.
+/// Writes the bounds of all runs in a mode, or how far the search for them came. Adds runs that are
+/// to be stored.
 pub fn write_searched<'v, O: Write, E: Write>(
     alloc: Global,
     texts: &Texts,
     asked: BoundsAsked<'v>,
-    distances: &[Distance<'v>],
+    rules: &Rules<'v>,
     watch: &mut SearchWatch<'_, '_, E>,
+    runs: &mut Vec<StoredRun>,
     out: &mut O,
 ) -> Result<Verdict<'v>, RunFault> {
     let system = system_of(alloc, texts)?;
-    write_asked(alloc, texts, &system, asked, distances, watch, out)
+    write_asked(alloc, texts, &system, asked, rules, watch, runs, out)
 }

@@ -4,18 +4,23 @@ ghost use Rattle.std.specs.Prelude.{IfOk};
 ghost use Rattle.std.specs.String.{string_bytes};
 ghost use Rattle.cli_answers.specs.ModeNames.{IsModeName};
 
-use cli_requests::{Files, Request, Unread, read_file};
+use crate::arrival_lines::{plain_arrivals, written_fault};
+use cli_requests::{Files, Request, RulesFile, Unread, read_file, read_if_there};
 use oil_reader::read_oil;
 use osek_base::System;
 use std::alloc::Global;
 use tracer::{RunFault, read_system};
 
-/// The bytes of a request's files. Where no run is asked for, the arrival list is empty.
+/// The bytes of a request's files. Where no run is asked for, the arrival list is empty. There are
+/// rules where a file has them.
 #[derive(Drop)]
 pub struct Texts {
     pub oil: Vec<u8>,
     pub asm: Vec<u8>,
     pub irq: Vec<u8>,
+    /// The arrival list as it is read.
+    pub plain_irq: Vec<u8>,
+    pub rules: Option<Vec<u8>>,
 }
 
 /// Reads the files of a request.
@@ -30,7 +35,29 @@ pub fn read_texts<'a, F: Files>(
         Some(line) => read_file(alloc, files, line.irq)?,
         None => Vec::new(alloc),
     };
-    Ok(Texts { oil, asm, irq })
+    let Ok(plain_irq) = plain_arrivals(alloc, &irq) else {
+        return Err(Unread::Memory);
+    };
+    let rules = match request.rules_file {
+        RulesFile::Nowhere => None,
+        RulesFile::Named(name) => Some(read_file(alloc, files, name)?),
+        RulesFile::Beside(name) => read_if_there(alloc, files, name)?,
+    };
+    Ok(Texts {
+        oil,
+        asm,
+        irq,
+        plain_irq,
+        rules,
+    })
+}
+
+/// A fault at its place in the texts as they are written.
+pub fn as_written(fault: RunFault, texts: &Texts) -> RunFault {
+    match fault {
+        RunFault::Irq(fault) => RunFault::Irq(written_fault(&texts.irq, fault)),
+        fault => fault,
+    }
 }
 
 /// The name of a run's mode: the one that its line has, or else the only one of the OIL file. It is

@@ -2,10 +2,11 @@
 //! what makes or imports these. The mode of a run has the name that its line says, or that of the
 //! only one (`mode_of`); all else is tested.
 //!
-//! It reads the texts that a request names, has them run, checked, listed or made, and writes
-//! what becomes of it.
+//! It reads the texts that a request names, has them run, checked, listed, made or stored, and
+//! writes what becomes of it.
 #![tactic(auto)]
 
+mod arrival_lines;
 mod explaining;
 mod imports;
 mod inputs;
@@ -15,14 +16,16 @@ mod making;
 mod partitions;
 mod runs;
 mod showing;
+mod storing;
 mod verdict;
 mod works;
 
 pub use explaining::{explain_fault, explain_verdict};
 pub use imports::answer_import;
-pub use inputs::{Texts, mode_of, read_texts, system_of};
+pub use inputs::{Texts, as_written, mode_of, read_texts, system_of};
 pub use making::make_files;
 pub use partitions::{Stretch, stretches, write_cut, write_cuts, write_denial};
 pub use runs::{write_lines, write_view};
 pub use showing::write_shown;
+pub use storing::{StoredRun, is_free, store_runs};
 pub use verdict::{DistanceFault, Verdict, status_of};

@@ -1,4 +1,4 @@
-//! What is made of a description: the three files of a system, or the places of all that is wrong.
+//! What is made of a description: the four files of a system, or the places of all that is wrong.
 
 use crate::works::make_beside;
 use cli_requests::{
@@ -30,7 +30,7 @@ pub(crate) fn write_remarks<E: Write>(
 }
 
 /// Writes a file into a folder. False where that failed, which is told.
-fn write_file<F: Files, E: Write>(
+pub(crate) fn write_file<F: Files, E: Write>(
     alloc: Global,
     files: &mut F,
     folder: &str,
@@ -48,11 +48,15 @@ fn write_file<F: Files, E: Write>(
     }
 }
 
-/// Writes the files of a system, in the order of their names, into a folder, and gives the exit
-/// status.
+/// The name of the file of rules in a folder.
+const RULES: &str = "rules.txt";
+
+/// Writes the files of a system, in the order of their names, and its rules into a folder, and gives
+/// the exit status.
 pub(crate) fn write_files<F: Files, E: Write>(
     alloc: Global,
     texts: [&[u8]; 3],
+    rules: &[u8],
     files: &mut F,
     folder: &str,
     err: &mut E,
@@ -62,10 +66,13 @@ pub(crate) fn write_files<F: Files, E: Write>(
             return Ok(WRITE_FAILED);
         }
     }
+    if !write_file(alloc, files, folder, RULES, rules, err)? {
+        return Ok(WRITE_FAILED);
+    }
     Ok(DONE)
 }
 
-/// Writes the files of a system, where the program's own reader takes them.
+/// Writes the files of a system, where the program's own reader takes them, and tells the load.
 fn write_made<F: Files, E: Write>(
     alloc: Global,
     made: &Made,
@@ -82,7 +89,13 @@ fn write_made<F: Files, E: Write>(
         made.asm.as_slice(),
         made.irq.as_slice(),
     ];
-    write_files(alloc, texts, files, folder, err)
+    let status = write_files(alloc, texts, &made.rules, files, folder, err)?;
+    if status == DONE {
+        for line in &made.load {
+            let _ = writeln!(err, "{line}");
+        }
+    }
+    Ok(status)
 }
 
 /// Makes the files of the description that a text is.

@@ -25,10 +25,15 @@ pub fn write_lines<O: Write, E: Write>(
     progress: &mut Progress<'_, E>,
     out: &mut O,
 ) -> Result<Verdict<'static>, RunFault> {
-    let Texts { oil, asm, irq } = texts;
+    let Texts {
+        oil,
+        asm,
+        plain_irq,
+        ..
+    } = texts;
     let mode = mode_of(alloc, texts, line.mode)?;
     let ticks = line.ticks.min(MAX_TICKS);
-    let input = TraceInput::new(oil, asm, irq, mode.as_str(), ticks);
+    let input = TraceInput::new(oil, asm, plain_irq, mode.as_str(), ticks);
     let shown = LinesFrom::new(&mut *out, from);
     let mut sink = StdSink::new(LineWatch::new(shown, progress, ticks));
     match lines {
@@ -124,7 +129,7 @@ pub fn write_view<'v, O: Write, E: Write>(
     let system = system_of(alloc, texts)?;
     let mode = mode_of(alloc, texts, line.mode)?;
     let input = RunInput {
-        irqs: &texts.irq,
+        irqs: &texts.plain_irq,
         mode: mode.as_str(),
         ticks: line.ticks,
     };

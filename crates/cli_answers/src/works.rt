@@ -1,4 +1,4 @@
-//! What is made of an OIL file and a work file: the three files of a system, or what is wrong with
+//! What is made of an OIL file and a work file: the four files of a system, or what is wrong with
 //! either.
 
 use crate::making::{refuse_unread, write_files, write_remarks};
@@ -38,7 +38,7 @@ fn write_fault<E: Write>(
 }
 
 /// Writes the OIL file as it is, and the files beside it, where they are a system. Behind that a
-/// line tells of each task and routine that works one tick.
+/// line tells of each task and routine that works one tick, and then of the load.
 fn write_beside<F: Files, E: Write>(
     alloc: Global,
     texts: MakeTexts<'_>,
@@ -51,10 +51,14 @@ fn write_beside<F: Files, E: Write>(
         return Ok(REFUSED);
     }
     let bytes = [texts.oil.text, made.asm.as_slice(), made.irq.as_slice()];
-    let status = write_files(alloc, bytes, files, texts.line.folder, err)?;
+    let folder = texts.line.folder;
+    let status = write_files(alloc, bytes, &made.rules, files, folder, err)?;
     if status == DONE {
         for line in &made.bare {
             let _ = writeln!(err, "{}: {line}", texts.work.name);
+        }
+        for line in &made.load {
+            let _ = writeln!(err, "{line}");
         }
     }
     Ok(status)

@@ -8,32 +8,32 @@ use clap::error::ErrorKind;
 use osek_base::MAX_TICKS;
 use std::alloc::Global;
 use std::fmt;
-use view_figure_texts::{Form, is_column, place_of};
+use view_figure_texts::{Form, is_measure, place_of};
 
 /// How many states may be kept at most, and how many where nothing is said.
-pub(crate) const MAX_STATES: u32 = 100_000_000;
+pub const MAX_STATES: u32 = 100_000_000;
 
-const USUAL_STATES: u32 = 1_000_000;
+pub(crate) const USUAL_STATES: u32 = 1_000_000;
 
 /// The greatest time from which on none is told, in ticks, and the one where nothing is said.
-pub(crate) const MAX_LONGEST: u32 = 65_535;
+pub const MAX_LONGEST: u32 = 65_535;
 
-const USUAL_LONGEST: u32 = 10_000;
+pub(crate) const USUAL_LONGEST: u32 = 10_000;
 
 /// The bounds that are asked for.
 #[derive(Clone, Copy)]
 pub struct BoundsLine<'a> {
     /// None for the only one.
     pub mode: Option<&'a str>,
-    /// How many states may be kept, 1 to 100,000,000.
-    pub states: u32,
-    /// The time from which on none is told, 1 to 65,535 ticks.
-    pub longest: u32,
     /// The priority from which on the part by itself is searched; None for the whole system.
     pub upper: Option<u8>,
     pub form: Form,
     /// The figure of which a run is wanted in place of the tables, if one is.
     pub witness: Option<Wanted<'a>>,
+    /// The folder that it is stored in, if it isn't written.
+    pub into: Option<&'a str>,
+    /// The folder that runs of all figures are stored in, if they are wanted.
+    pub witnesses: Option<&'a str>,
 }
 
 /// A figure of which a run is wanted that shows it.
@@ -80,11 +80,11 @@ pub struct Distance<'a> {
 pub(crate) fn searched<'a>(matches: &ArgMatches<'a>) -> BoundsLine<'a> {
     BoundsLine {
         mode: matches.get_str("MODE"),
-        states: matches.get_one::<u32>("states").unwrap_or(USUAL_STATES),
-        longest: matches.get_one::<u32>("longest").unwrap_or(USUAL_LONGEST),
         upper: matches.get_one::<u8>("upper"),
         form: form(matches),
         witness: figure_wanted(matches),
+        into: matches.get_str("into"),
+        witnesses: matches.get_str("witnesses"),
     }
 }
 
@@ -97,10 +97,13 @@ fn figure_wanted<'a>(matches: &ArgMatches<'a>) -> Option<Wanted<'a>> {
 }
 
 /// Why a line is refused that wants a run of a figure: no column has it, and it is no place of a
-/// service.
+/// service; or that wants one stored, and says none.
 pub(crate) fn figure_fault(matches: &ArgMatches<'_>) -> Option<&'static str> {
-    let word = figure_wanted(matches)?.column?;
-    (!is_column(word) && place_of(word).is_none()).then_some(help::NO_FIGURE)
+    let Some(wanted) = figure_wanted(matches) else {
+        return matches.get_str("into").map(|_folder| help::NO_RUN);
+    };
+    let word = wanted.column?;
+    (!is_measure(word) && place_of(word).is_none()).then_some(help::NO_FIGURE)
 }
 
 /// A distance of that text, ROUTINE=TICKS.

@@ -6,6 +6,9 @@ use std::convert::AsStr;
 /// The names of a system's files in their folder: the OIL file, the programs and the arrival list.
 pub const NAMES: [&str; 3] = ["system.oil", "programs.asm", "arrivals.irq"];
 
+/// The name of a system's rules in its folder.
+const RULES: &str = "rules.txt";
+
 /// How many of these files a subcommand reads, 0 where it takes no folder.
 fn file_count(subcommand: &str) -> usize {
     match subcommand {
@@ -70,6 +73,11 @@ impl Folder<'_> {
             None => false,
         };
         is_irq || self.folder.has(number)
+    }
+
+    /// The name of the file in which the rules of its system are, where it has them.
+    pub fn rules(&self, alloc: Global) -> Result<String, AllocError> {
+        format!(in alloc; "{}/{RULES}", self.folder.value)
     }
 }
 

@@ -44,6 +44,9 @@ pub(crate) const FIRST: &str = "The first tick that counts, 0 to 1000000; 0 unle
 pub(crate) const LAST: &str =
     "The tick behind the last that counts, 0 to 1000000; the run's end unless it is said";
 
+pub(crate) const LIMITS_FILE: &str =
+    "A file of rules, whose limits hold where the line says nothing else; with --in the folder's rules.txt unless it is said";
+
 pub(crate) const LIMIT: &str =
     "Exits with 6 where a response of the task, or the latency of the routine, takes more ticks";
 
@@ -68,6 +71,9 @@ pub(crate) const OTHER_IRQ: &str =
     "Beside --in: the arrival list that is read in place of the folder's arrivals.irq";
 
 pub(crate) const NO_FOLDER: &str = "--irq stands once, beside --in FOLDER";
+
+pub(crate) const PROGRESS: &str =
+    "Says on standard error, a line now and then, how far it is; on a terminal it does so without being told";
 
 pub(crate) const EXPLAIN: &str =
     "Says behind a refusal or a denial, on standard error, where it is and what would be allowed";
@@ -131,6 +137,9 @@ error: a line for each mistake, as an event that a task waits for and doesn't li
 Example:
   osek show system.oil programs.asm";
 
+pub(crate) const RULES_FILE: &str =
+    "A file of rules, which hold where the line says nothing else; with --in the folder's rules.txt unless it is said";
+
 pub(crate) const APART: &str =
     "Interrupts of the routine come at least so many ticks apart, 1 to 1000000; 1 unless it is said";
 
@@ -160,6 +169,14 @@ pub(crate) const BOUNDS_NO_REFUSAL: &str =
 pub(crate) const WITNESS: &str =
     "In place of the tables: the arrival list of a run that shows the figure; FIGURE greatest, blocked, blockers, jobs, refused, errors, latency, losses, longest, comes or the place of a service";
 
+pub(crate) const INTO: &str =
+    "Beside --witness: the folder that the run is stored in, with its system, in place of being printed";
+
+pub(crate) const NO_RUN: &str = "--into stands beside --witness NAME";
+
+pub(crate) const WITNESSES: &str =
+    "Stores a run of each figure of which one is known, each in a folder of its own in this folder, with its system";
+
 pub(crate) const NO_FIGURE: &str =
     "a witness is NAME or NAME=FIGURE, with FIGURE greatest, blocked, blockers, jobs, refused, errors, latency, losses, longest, comes or the place of a service";
 
@@ -175,8 +192,14 @@ Example, interrupts of Crank at least 20 ticks apart:
 Held to limits, for scripts:
   osek bounds system.oil programs.asm Normal --apart Crank=20 --limit Inject=30 --no-loss
 
+The same by a file of rules, with the lines `apart Crank 20`, `limit Inject greatest 30` and `no-loss`:
+  osek bounds system.oil programs.asm Normal --rules rules.txt
+
 A run in which a response of the task Inject takes as many ticks; their number stands on standard error:
-  osek bounds system.oil programs.asm Normal --apart Crank=20 --witness Inject > longest.irq";
+  osek bounds system.oil programs.asm Normal --apart Crank=20 --witness Inject > longest.irq
+
+The same run with its system in a folder, for `osek timeline --in longest`:
+  osek bounds system.oil programs.asm Normal --apart Crank=20 --witness Inject --into longest";
 
 pub(crate) const FILE: &str =
     "The description, in TOML: tasks, interrupts and alarms; with --oil the bodies of tasks and interrupts";
@@ -185,7 +208,7 @@ pub(crate) const OIL_OF_WORK: &str =
     "The OIL file of the system; FILE then tells how long its tasks and routines work, and when interrupts arrive";
 
 pub(crate) const FOLDER: &str =
-    "The folder that system.oil, programs.asm and arrivals.irq are written to";
+    "The folder that system.oil, programs.asm, arrivals.irq and rules.txt are written to";
 
 pub(crate) const MAKE_EXAMPLE: &str =
     "What is wrong is told with its places, all at once, and nothing is written then.

@@ -16,17 +16,19 @@ mod lines;
 mod man_page;
 mod reading;
 mod request;
+mod rules;
 mod status;
 mod subcommand;
 mod unread;
 mod zsh_completions;
 
-pub use bounds_line::{BoundsLine, Distance, Wanted};
+pub use bounds_line::{BoundsLine, Distance, MAX_LONGEST, MAX_STATES, Wanted};
 pub use folder::{Folder, NAMES, folder_of, with_files};
 pub use host_files::{FileFault, Files, HostFiles, Refusal};
 pub use reading::read_line;
 pub use request::{
-    Asked, ImportLine, Lines, MakeLine, Question, Request, RunLine, StatsLine, View,
+    Asked, ImportLine, Lines, MakeLine, Question, Request, RulesFile, RunLine, StatsLine, View,
 };
+pub use rules::Rules;
 pub use status::{BROKEN, DENIED, DONE, REFUSED, REFUSED_LINE, UNDECIDED, WRITE_FAILED};
-pub use unread::{Unread, explain_unread, read_file};
+pub use unread::{Unread, explain_unread, read_file, read_if_there};

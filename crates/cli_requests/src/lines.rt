@@ -27,12 +27,16 @@ const SYSTEM: [Argument; 4] = [
     Argument::Flag("explain", help::EXPLAIN),
 ];
 
+/// Whether it is told how far a run or a search is.
+const PROGRESS: Argument = Argument::Flag("progress", help::PROGRESS);
+
 /// What a run is of besides its system.
-const RUN: [Argument; 4] = [
+const RUN: [Argument; 5] = [
     Argument::Word("IRQ", Takes::Text, help::IRQ),
     MODE,
     Argument::Word("TICKS", TICKS, help::TICKS),
     Argument::Option("irq", "FILE", Takes::Text, help::OTHER_IRQ),
+    PROGRESS,
 ];
 
 /// Which ticks of a run are shown.
@@ -50,7 +54,7 @@ const ONE_FORM: Exclusion = Exclusion {
 /// A run stands in place of tables, whose figures are held to limits.
 const NO_TABLES: Exclusion = Exclusion {
     name: "witness",
-    others: &["csv", "json", "limit", "no-loss", "no-refusal"],
+    others: &["csv", "json", "limit", "no-loss", "no-refusal", "witnesses"],
 };
 
 fn trace() -> Subcommand {
@@ -119,6 +123,7 @@ fn stats() -> Subcommand {
                 Argument::Flag("json", help::JSON),
                 Argument::Option("from", "TICK", TICKS, help::FIRST),
                 Argument::Option("to", "TICK", TICKS, help::LAST),
+                Argument::Option("rules", "FILE", Takes::Text, help::LIMITS_FILE),
                 Argument::Option("limit", "NAME=TICKS", Takes::Texts, help::LIMIT),
                 Argument::Flag("no-loss", help::NO_LOSS),
                 Argument::Flag("no-refusal", help::NO_REFUSAL),
@@ -177,8 +182,11 @@ fn bounds() -> Subcommand {
             &SYSTEM,
             &[
                 MODE,
+                Argument::Option("rules", "FILE", Takes::Text, help::RULES_FILE),
                 Argument::Option("apart", "ROUTINE=TICKS", Takes::Texts, help::APART),
                 Argument::Option("witness", "NAME[=FIGURE]", Takes::Text, help::WITNESS),
+                Argument::Option("into", "FOLDER", Takes::Text, help::INTO),
+                Argument::Option("witnesses", "FOLDER", Takes::Text, help::WITNESSES),
                 Argument::Option("states", "N", Takes::Number(1, MAX_STATES), help::STATES),
                 Argument::Option(
                     "longest",
@@ -192,6 +200,7 @@ fn bounds() -> Subcommand {
                 Argument::Option("limit", "NAME=TICKS", Takes::Texts, help::BOUNDS_LIMIT),
                 Argument::Flag("no-loss", help::BOUNDS_NO_LOSS),
                 Argument::Flag("no-refusal", help::BOUNDS_NO_REFUSAL),
+                PROGRESS,
             ],
         ],
         exclusions: &[ONE_FORM, NO_TABLES],

@@ -7,8 +7,9 @@ use crate::help;
 use crate::lines::lines;
 use crate::man_page::man_page;
 use crate::request::{
-    Asked, ImportLine, Lines, MakeLine, Question, Request, RunLine, StatsLine, View,
+    Asked, ImportLine, Lines, MakeLine, Question, Request, RulesFile, RunLine, StatsLine, View,
 };
+use crate::rules::Rules;
 use crate::zsh_completions::zsh_completions;
 use clap::error::ErrorKind;
 use clap::{ArgMatches, Command, Error};
@@ -107,6 +108,26 @@ fn times<'a>(alloc: Global, matches: &ArgMatches<'a>) -> Result<Vec<Limit<'a>>, 
     Ok(times)
 }
 
+/// What a line says of interrupts, limits and a search.
+fn rules<'a>(alloc: Global, matches: &ArgMatches<'a>) -> Result<Rules<'a>, Fault> {
+    Ok(Rules {
+        distances: distances(alloc, matches)?,
+        times: times(alloc, matches)?,
+        no_loss: matches.get_flag("no-loss"),
+        no_refusal: matches.get_flag("no-refusal"),
+        longest: matches.get_one::<u32>("longest"),
+        states: matches.get_one::<u32>("states"),
+    })
+}
+
+/// The file of rules that a line names.
+fn rules_file<'a>(matches: &ArgMatches<'a>) -> RulesFile<'a> {
+    match matches.get_str("rules") {
+        Some(name) => RulesFile::Named(name),
+        None => RulesFile::Nowhere,
+    }
+}
+
 /// Why a line that names a folder, or an arrival list beside it, is refused: both were taken for
 /// the files already, so this is a second one, or no folder is named.
 fn folder_fault(matches: &ArgMatches<'_>) -> Option<&'static str> {
@@ -193,10 +214,9 @@ fn request_of<'a>(
         } else {
             question.without_mode()
         },
-        times: times(alloc, matches)?,
-        no_loss: matches.get_flag("no-loss"),
-        no_refusal: matches.get_flag("no-refusal"),
-        distances: distances(alloc, matches)?,
+        rules: rules(alloc, matches)?,
+        rules_file: rules_file(matches),
+        tells_progress: matches.get_flag("progress"),
         is_explained: matches.get_flag("explain"),
     })
 }

@@ -1,8 +1,9 @@
 //! What a command line asks for.
 
-use crate::bounds_line::{BoundsLine, Distance};
+use crate::bounds_line::BoundsLine;
 use crate::help;
-use view_figure_texts::{Form, Limit, Limits};
+use crate::rules::Rules;
+use view_figure_texts::Form;
 use view_timelines::MAX_DRAWN;
 
 /// What a run is of besides its system: the name of its arrival list, the mode, and how many ticks,
@@ -102,6 +103,15 @@ impl<'a> Question<'a> {
         }
     }
 
+    /// Whether rules of a file are looked at.
+    fn goes_by_rules(&self) -> bool {
+        match *self {
+            Question::View { view, .. } => matches!(view, View::Stats(_)),
+            Question::Bounds(_) => true,
+            _ => false,
+        }
+    }
+
     /// What the run is of, where one is asked for.
     pub fn run_line(&self) -> Option<RunLine<'a>> {
         match *self {
@@ -164,24 +174,41 @@ pub struct Request<'a> {
     pub oil: &'a str,
     pub asm: &'a str,
     pub question: Question<'a>,
-    /// The limits on times that figures are held to.
-    pub times: Vec<Limit<'a>>,
-    /// Whether a lost interrupt is told by the exit status.
-    pub no_loss: bool,
-    /// Whether a refused activation or action is.
-    pub no_refusal: bool,
-    /// The distances that interrupts keep.
-    pub distances: Vec<Distance<'a>>,
+    /// What the line says of interrupts, limits and a search.
+    pub rules: Rules<'a>,
+    /// The file that says it of the rest.
+    pub rules_file: RulesFile<'a>,
+    /// Whether it is told in lines how far a run or a search is.
+    pub tells_progress: bool,
     pub is_explained: bool,
 }
 
 impl<'a> Request<'a> {
-    /// What figures are held to.
-    pub fn limits(&'a self) -> Limits<'a> {
-        Limits {
-            times: self.times.as_slice(),
-            no_loss: self.no_loss,
-            no_refusal: self.no_refusal,
+    /// Takes a folder's file of rules, where its question goes by rules and the line names no other
+    /// file.
+    pub fn take_rules_of(&mut self, name: &'a str) {
+        if let (true, RulesFile::Nowhere) = (self.question.goes_by_rules(), self.rules_file) {
+            self.rules_file = RulesFile::Beside(name);
+        }
+    }
+}
+
+/// The file of rules beside a line.
+#[derive(Clone, Copy)]
+pub enum RulesFile<'a> {
+    Nowhere,
+    /// The line names it.
+    Named(&'a str),
+    /// A folder may have it.
+    Beside(&'a str),
+}
+
+impl<'a> RulesFile<'a> {
+    /// Its name, empty where there is none.
+    pub fn name(&self) -> &'a str {
+        match *self {
+            RulesFile::Nowhere => "",
+            RulesFile::Named(name) | RulesFile::Beside(name) => name,
         }
     }
 }

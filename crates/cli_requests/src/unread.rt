@@ -27,6 +27,20 @@ pub fn read_file<'a, F: Files>(
     }
 }
 
+/// Reads a file that may be missing.
+pub fn read_if_there<'a, F: Files>(
+    alloc: Global,
+    files: &mut F,
+    name: &'a str,
+) -> Result<Option<Vec<u8>>, Unread<'a>> {
+    match files.read(alloc, name) {
+        Ok(bytes) => Ok(Some(bytes)),
+        Err(FileFault::Refused(Refusal::Missing)) => Ok(None),
+        Err(FileFault::Refused(refusal)) => Err(Unread::File(name, refusal)),
+        Err(FileFault::Memory) => Err(Unread::Memory),
+    }
+}
+
 /// What is said of a file that can't be read.
 fn refusal_text(refusal: Refusal) -> &'static str {
     match refusal {

@@ -5,14 +5,14 @@ use Rattle.std.proofs.Common.{refl, ap, sym, subst, arith}
 use Rattle.std.proofs.lemmas.Bool.{false≢true, ltb-false, ltb-true}
 use Rattle.osek_base.specs.Names.{number_of}
 use Rattle.osek_base.specs.System.{System}
-use Rattle.view_figure_texts.specs.declared.bound_kinds.Column.{Column}
-use Rattle.view_figure_texts.specs.declared.bound_kinds.Kind.{Kind}
+use Rattle.view_measures.specs.declared.measure.Measure.{Measure}
+use Rattle.view_measures.specs.Kinds.{count_of, names_of}
+use Rattle.view_measures.specs.Measures.{figure, kind_of}
 use Rattle.view_figure_texts.specs.declared.limits.Limit.{Limit}
 use Rattle.view_figure_texts.specs.declared.limits.Limits.{Limits}
-use Rattle.view_figure_texts.specs.Tables.{count_of, names_of}
 use Rattle.search_witnesses.specs.declared.findings.Findings.{Findings}
 use Rattle.cli_tables.specs.declared.cells.Cell.{Cell}
-use Rattle.cli_tables.specs.Broken.{broken_line, broken_text, coming_line, coming_lines, coming_of, is_within, line_of_kind, line_of_object, line_unless_within, loss_lines, may_come, refusal_lines, time_lines}
+use Rattle.cli_tables.specs.Broken.{broken_line, broken_text, coming_line, coming_lines, coming_of, is_within, line_of_measure, line_of_thing, line_unless_within, loss_lines, may_come, refusal_lines, time_lines}
 use Rattle.cli_tables.specs.Cells.{cell_of}
 use Rattle.cli_tables.specs.Kept.{AreKept, KeepsTime, NoneComes}
 use Rattle.cli_tables.specs.Texts.{each_below}
@@ -90,48 +90,48 @@ unfolding coming_line
 without_line name what cell h = rw h refl
 
 module _ (S : System) (f : Findings) where
-  no_object : (column : Column) (limit : Limit) (number : Option ℕ)
-      → line_of_object S f column limit number ≡ []
-      → IfSome number (λ k. IsTrue (is_within (cell_of f column k) limit.ticks))
-  no_object column limit None h = tt
-  no_object column limit (Some k) h = no_line limit.name.now (cell_of f column k) limit.ticks h
+  no_thing : (measure : Measure) (limit : Limit) (number : Option ℕ)
+      → line_of_thing f measure limit number ≡ []
+      → IfSome number (λ k. IsTrue (is_within (cell_of f (figure measure k)) limit.ticks))
+  no_thing measure limit None h = tt
+  no_thing measure limit (Some k) h = no_line limit.name.now (cell_of f (figure measure k)) limit.ticks h
 
-  kept_object : (column : Column) (limit : Limit) (number : Option ℕ)
-      → IfSome number (λ k. IsTrue (is_within (cell_of f column k) limit.ticks))
-      → line_of_object S f column limit number ≡ []
-  kept_object column limit None h = refl
-  kept_object column limit (Some k) h =
-      kept_line limit.name.now (cell_of f column k) limit.ticks h
+  kept_thing : (measure : Measure) (limit : Limit) (number : Option ℕ)
+      → IfSome number (λ k. IsTrue (is_within (cell_of f (figure measure k)) limit.ticks))
+      → line_of_thing f measure limit number ≡ []
+  kept_thing measure limit None h = refl
+  kept_thing measure limit (Some k) h =
+      kept_line limit.name.now (cell_of f (figure measure k)) limit.ticks h
 
-  no_kind : (kind : Kind) (column : Column) (limit : Limit)
-      → line_of_kind S f kind column limit ≡ [] → KeepsTime S f kind column limit
-  unfolding line_of_kind
-  no_kind kind column limit h =
-      no_object column limit (number_of limit.name.now (names_of S kind)) h
+  no_measure : (measure : Measure) (limit : Limit)
+      → line_of_measure S f measure limit ≡ [] → KeepsTime S f measure limit
+  unfolding line_of_measure
+  no_measure measure limit h =
+      no_thing measure limit (number_of limit.name.now (names_of S (kind_of measure))) h
 
-  kept_kind : (kind : Kind) (column : Column) (limit : Limit)
-      → KeepsTime S f kind column limit → line_of_kind S f kind column limit ≡ []
-  unfolding line_of_kind
-  kept_kind kind column limit h =
-      kept_object column limit (number_of limit.name.now (names_of S kind)) h
+  kept_measure : (measure : Measure) (limit : Limit)
+      → KeepsTime S f measure limit → line_of_measure S f measure limit ≡ []
+  unfolding line_of_measure
+  kept_measure measure limit h =
+      kept_thing measure limit (number_of limit.name.now (names_of S (kind_of measure))) h
 
   abbrev Keeps : Limit → Type 0
   Keeps limit =
-      KeepsTime S f Kind.Task Column.Response limit
-      × KeepsTime S f Kind.Routine Column.Latency limit
+      KeepsTime S f Measure.Response limit
+      × KeepsTime S f Measure.Latency limit
 
   no_limit : (limit : Limit) → time_lines S f limit ≡ [] → Keeps limit
   unfolding time_lines
   no_limit limit h =
-      let parts = both_empty (line_of_kind S f Kind.Task Column.Response limit)
-      (line_of_kind S f Kind.Routine Column.Latency limit) h in
-      (no_kind Kind.Task Column.Response limit parts.0, no_kind Kind.Routine Column.Latency limit parts.1)
+      let parts = both_empty (line_of_measure S f Measure.Response limit)
+      (line_of_measure S f Measure.Latency limit) h in
+      (no_measure Measure.Response limit parts.0, no_measure Measure.Latency limit parts.1)
 
   kept_limit : (limit : Limit) → Keeps limit → time_lines S f limit ≡ []
   unfolding time_lines
   kept_limit limit h =
-      both_of _ _ (kept_kind Kind.Task Column.Response limit h.0)
-      (kept_kind Kind.Routine Column.Latency limit h.1)
+      both_of _ _ (kept_measure Measure.Response limit h.0)
+      (kept_measure Measure.Latency limit h.1)
 
   no_times : (limits : List Limit) → flat_map (time_lines S f) limits ≡ [] → AllByRecursion Keeps limits
   no_times [] h = tt
@@ -143,19 +143,19 @@ module _ (S : System) (f : Findings) where
   kept_times [] h = refl
   kept_times (limit ∷ limits) h = both_of _ _ (kept_limit limit h.0) (kept_times limits h.1)
 
-  none_come : (kind : Kind) (column : Column) (what : List ℕ)
-      → coming_lines S f kind column what ≡ [] → NoneComes S f kind column
+  none_come : (measure : Measure) (what : List ℕ)
+      → coming_lines S f measure what ≡ [] → NoneComes S f measure
   unfolding coming_lines coming_of
-  none_come kind column what h number less =
-      nothing_comes _ what (cell_of f column number)
-      (each_empty (coming_of S f kind column what) (count_of S kind) h number less)
+  none_come measure what h number less =
+      nothing_comes _ what (cell_of f (figure measure number))
+      (each_empty (coming_of S f measure what) (count_of S (kind_of measure)) h number less)
 
-  without_lines : (kind : Kind) (column : Column) (what : List ℕ)
-      → NoneComes S f kind column → coming_lines S f kind column what ≡ []
+  without_lines : (measure : Measure) (what : List ℕ)
+      → NoneComes S f measure → coming_lines S f measure what ≡ []
   unfolding coming_lines coming_of
-  without_lines kind column what h =
-      empty_each (coming_of S f kind column what) (count_of S kind)
-      (λ number less. without_line _ what (cell_of f column number) (h number less))
+  without_lines measure what h =
+      empty_each (coming_of S f measure what) (count_of S (kind_of measure))
+      (λ number less. without_line _ what (cell_of f (figure measure number)) (h number less))
 
   -- ---- all of them
 
@@ -169,13 +169,13 @@ module _ (S : System) (f : Findings) where
       record {
         times = no_times limits.times.now first.0;
         losses = λ is.
-            none_come Kind.Routine Column.Loss _
+            none_come Measure.Loss _
             (chosen limits.no_loss (loss_lines S f) first.1 is);
         refusals = λ is.
-            none_come Kind.Task Column.Refusal _
+            none_come Measure.Refusal _
             (both_empty _ _ (chosen limits.no_refusal (refusal_lines S f) last.1 is)).0;
         actions = λ is.
-            none_come Kind.Alarm Column.RefusedAction _
+            none_come Measure.RefusedAction _
             (both_empty _ _ (chosen limits.no_refusal (refusal_lines S f) last.1 is)).1;
       }
 
@@ -185,10 +185,10 @@ module _ (S : System) (f : Findings) where
       both_of _ _
       (both_of _ _ (kept_times limits.times.now k.times)
       (choice limits.no_loss (loss_lines S f)
-      (λ is. without_lines Kind.Routine Column.Loss _ (k.losses is))))
+      (λ is. without_lines Measure.Loss _ (k.losses is))))
       (choice limits.no_refusal (refusal_lines S f)
-      (λ is. both_of _ _ (without_lines Kind.Task Column.Refusal _ (k.refusals is))
-      (without_lines Kind.Alarm Column.RefusedAction _ (k.actions is))))
+      (λ is. both_of _ _ (without_lines Measure.Refusal _ (k.refusals is))
+      (without_lines Measure.RefusedAction _ (k.actions is))))
 
   empty_where_kept : (limits : Limits) → (broken_text S f limits ≡ []) ↔ AreKept S f limits
   empty_where_kept limits = (kept_from limits, empty_from limits)

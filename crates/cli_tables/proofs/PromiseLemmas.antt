@@ -1,56 +1,48 @@
 -- What cells promise is so.
-use Rattle.std.specs.Prelude.{ℕ, ◌≡◌, Bool, true, false, cond, IsTrue, List, nat_lt}
-use Rattle.std.proofs.Common.{◌∙◌, ap, refl, sym}
+use Rattle.std.specs.Prelude.{ℕ, ◌≡◌, ◌<◌, Bool, true, false, cond, IsTrue, List}
+use Rattle.std.proofs.Common.{refl, subst}
 use Rattle.std.proofs.lemmas.Bool.{ltb-true}
 use Rattle.osek_base.specs.System.{System}
-use Rattle.view_figure_texts.specs.declared.bound_kinds.Column.{Column}
-use Rattle.search_nodes.specs.declared.figure.Figure.{Figure}
-use Rattle.search_nodes.specs.Figures.{one_if, told}
+use Rattle.view_measures.specs.declared.figure.Figure.{Figure}
+use Rattle.view_measures.specs.declared.measure.Measure.{Measure}
+use Rattle.view_measures.specs.declared.measure.Sort.{Sort}
+use Rattle.view_measures.specs.Measures.{sort_of}
+use Rattle.search_peaks.specs.Peaks.{is_below, is_number_below, is_sort_below, told}
 use Rattle.search_witnesses.specs.declared.findings.Findings.{Findings}
 use Rattle.search_witnesses.specs.Findings.{AreFindings, is_endless, is_reached}
-use Rattle.search_witnesses.specs.Shown.{is_below}
 use Rattle.cli_tables.specs.declared.cells.Cell.{Cell}
-use Rattle.cli_tables.specs.Cells.{cell_below, cell_of, figure_of}
-use Rattle.cli_tables.specs.Promises.{IsTold, Promises}
+use Rattle.cli_tables.specs.Cells.{cell_below, cell_of}
+use Rattle.cli_tables.specs.Promises.{IsPromised, Promises}
 
--- something that is told comes or not
-one_again : (b : Bool) → one_if (nat_lt 0 (one_if b)) ≡ one_if b
-one_again true = refl
-one_again false = refl
+-- a time below the cap is less
+below_by_sort : (cap : ℕ) (measure : Measure) (n : ℕ) → IsTrue (is_number_below cap measure n)
+    → IsTrue (is_sort_below cap (sort_of measure) n)
+below_by_sort cap Measure.Blockers n h = refl
+below_by_sort cap other n h = h
+
+less_than_cap : (cap : ℕ) (measure : Measure) (n : ℕ) → sort_of measure ≡ Sort.Time
+    → IsTrue (is_number_below cap measure n) → n < cap
+less_than_cap cap measure n is h =
+    ltb-true n cap (subst (λ s. IsTrue (is_sort_below cap s n)) is (below_by_sort cap measure n h))
 
 module _ (S : System) (mode : ℕ) (distances : List ℕ) (f : Findings)
     (are : AreFindings S mode distances f) where
   -- what is told is marked as reached where it is so
-  told_so : (figure : Figure) → IsTrue (is_below f.bounds.cap f.bounds.peaks figure)
-      → IsTold S mode distances f.bounds figure (told f.bounds.peaks figure) (is_reached f figure)
-  told_so figure below = record { same = refl; below = below; shown = are.reached figure }
+  promised_so : (figure : Figure) → IsTrue (is_below f.bounds.cap f.bounds.peaks figure)
+      → IsPromised S mode distances f.bounds figure (is_reached f figure)
+  promised_so figure below = record { below = below; shown = are.reached figure }
 
-  comes_so : (figure : Figure) (b : Bool) → told f.bounds.peaks figure ≡ one_if b
+  by_sort : (figure : Figure) (sort : Sort) → sort_of figure.measure ≡ sort
       → IsTrue (is_below f.bounds.cap f.bounds.peaks figure)
-      → IsTold S mode distances f.bounds figure (one_if (nat_lt 0 (told f.bounds.peaks figure))) (is_reached f figure)
-  comes_so figure b is below =
-      record {
-        same = ap (λ n. one_if (nat_lt 0 n)) is ∙ one_again b ∙ sym is;
-        below = below;
-        shown = are.reached figure;
-      }
-
-  below_so : (column : Column) (n : ℕ)
-      → IsTrue (is_below f.bounds.cap f.bounds.peaks (figure_of column n))
-      → Promises S mode distances f.bounds (figure_of column n)
-      (cell_below column (told f.bounds.peaks (figure_of column n)) (is_reached f (figure_of column n)))
-  below_so Column.Response n h = (ltb-true _ _ h, told_so (Figure.Response n) h)
-  below_so Column.Blocked n h = (ltb-true _ _ h, told_so (Figure.Blocked n) h)
-  below_so Column.Blockers n h = told_so (Figure.Blockers n) h
-  below_so Column.Jobs n h = told_so (Figure.Jobs n) h
-  below_so Column.Refusal n h = comes_so (Figure.Refusal n) _ refl h
-  below_so Column.Latency n h = (ltb-true _ _ h, told_so (Figure.Latency n) h)
-  below_so Column.Loss n h = comes_so (Figure.Loss n) _ refl h
-  below_so Column.Hold n h = (ltb-true _ _ h, told_so (Figure.Hold n) h)
-  below_so Column.RefusedAction n h = comes_so (Figure.RefusedAction n) _ refl h
-  below_so Column.Errors n h = comes_so (Figure.Errors n) _ refl h
-  below_so Column.RoutineErrors n h = comes_so (Figure.RoutineErrors n) _ refl h
-  below_so Column.Shutdown n h = comes_so Figure.Shutdown _ refl h
+      → Promises S mode distances f.bounds figure
+      (cell_below sort (told f.bounds.peaks figure) (is_reached f figure))
+  by_sort figure Sort.Time is h = (
+    refl,
+    less_than_cap f.bounds.cap figure.measure (told f.bounds.peaks figure) is h,
+    promised_so figure h,
+  )
+  by_sort figure Sort.Count is h = (refl, promised_so figure h)
+  by_sort figure Sort.Coming is h = (refl, promised_so figure h)
 
   -- what is told without an end, below the cap, or above it
   by_end : (figure : Figure) (told : Cell) (ends below : Bool)
@@ -62,9 +54,7 @@ module _ (S : System) (mode : ℕ) (distances : List ℕ) (f : Findings)
   by_end figure told false true unbounded within is = within refl
   by_end figure told false false unbounded within is = is
 
-  pub promised : (column : Column) (n : ℕ)
-      → Promises S mode distances f.bounds (figure_of column n) (cell_of f column n)
-  promised column n =
-      by_end (figure_of column n) _ (is_endless f (figure_of column n))
-      (is_below f.bounds.cap f.bounds.peaks (figure_of column n))
-      (are.endless (figure_of column n)) (below_so column n) refl
+  pub promised : (figure : Figure) → Promises S mode distances f.bounds figure (cell_of f figure)
+  promised figure =
+      by_end figure _ (is_endless f figure) (is_below f.bounds.cap f.bounds.peaks figure)
+      (are.endless figure) (by_sort figure (sort_of figure.measure) refl) refl

@@ -3,11 +3,11 @@ use Rattle.std.specs.Prelude.{ℕ, Bool, true, false, ◌&&◌, not, nat_le, if�
 use Rattle.std.specs.List.{flat_map, list_all}
 use Rattle.osek_base.specs.Names.{number_of}
 use Rattle.osek_base.specs.System.{System}
-use Rattle.view_figure_texts.specs.declared.bound_kinds.Column.{Column}
-use Rattle.view_figure_texts.specs.declared.bound_kinds.Kind.{Kind}
+use Rattle.view_measures.specs.declared.measure.Measure.{Measure}
+use Rattle.view_measures.specs.Kinds.{count_of, name_of, names_of}
+use Rattle.view_measures.specs.Measures.{figure, kind_of}
 use Rattle.view_figure_texts.specs.declared.limits.Limit.{Limit}
 use Rattle.view_figure_texts.specs.declared.limits.Limits.{Limits}
-use Rattle.view_figure_texts.specs.Tables.{count_of, name_of, names_of}
 use Rattle.search_witnesses.specs.declared.findings.Findings.{Findings}
 use Rattle.cli_tables.specs.declared.cells.Cell.{Cell}
 use Rattle.cli_tables.specs.Cells.{cell_of}
@@ -25,24 +25,24 @@ unfoldable pub broken_line : List ℕ → Cell → ℕ → List ℕ
 broken_line name cell most =
     codes "broken: " ++ name ++ codes " " ++ shown_text cell ++ codes " of " ++ decimal most ++ codes "\n"
 
--- of a limit on what is told of an object
+-- of a limit on what is told of a thing
 unfoldable pub line_unless_within : List ℕ → Cell → ℕ → List ℕ
 line_unless_within name cell most = if is_within cell most then [] else broken_line name cell most
 
-abbrev pub line_of_object : System → Findings → Column → Limit → Option ℕ → List ℕ
-line_of_object S f column limit None = []
-line_of_object S f column limit (Some number) =
-    line_unless_within limit.name.now (cell_of f column number) limit.ticks
+abbrev pub line_of_thing : Findings → Measure → Limit → Option ℕ → List ℕ
+line_of_thing f measure limit None = []
+line_of_thing f measure limit (Some number) =
+    line_unless_within limit.name.now (cell_of f (figure measure number)) limit.ticks
 
--- of the object of a kind that has the limit's name, where one has
-unfoldable pub line_of_kind : System → Findings → Kind → Column → Limit → List ℕ
-line_of_kind S f kind column limit =
-    line_of_object S f column limit (number_of limit.name.now (names_of S kind))
+-- of the thing of a measure that has the limit's name, where one has
+unfoldable pub line_of_measure : System → Findings → Measure → Limit → List ℕ
+line_of_measure S f measure limit =
+    line_of_thing f measure limit (number_of limit.name.now (names_of S (kind_of measure)))
 
 -- of a task's response, and of a routine's latency
 unfoldable pub time_lines : System → Findings → Limit → List ℕ
 time_lines S f limit =
-    line_of_kind S f Kind.Task Column.Response limit ++ line_of_kind S f Kind.Routine Column.Latency limit
+    line_of_measure S f Measure.Response limit ++ line_of_measure S f Measure.Latency limit
 
 -- ---- what may not come
 
@@ -66,23 +66,24 @@ coming_line name what cell =
     then codes "broken: " ++ name ++ codes " " ++ what ++ unless_known (is_shown cell) ++ codes "\n"
     else []
 
--- of an object
-unfoldable pub coming_of : System → Findings → Kind → Column → List ℕ → ℕ → List ℕ
-coming_of S f kind column what number =
-    coming_line (name_of S kind number) what (cell_of f column number)
+-- of a thing
+unfoldable pub coming_of : System → Findings → Measure → List ℕ → ℕ → List ℕ
+coming_of S f measure what number =
+    coming_line (name_of S (kind_of measure) number) what (cell_of f (figure measure number))
 
--- of all objects of a kind
-unfoldable pub coming_lines : System → Findings → Kind → Column → List ℕ → List ℕ
-coming_lines S f kind column what = each_below (coming_of S f kind column what) (count_of S kind)
+-- of all things of a measure
+unfoldable pub coming_lines : System → Findings → Measure → List ℕ → List ℕ
+coming_lines S f measure what =
+    each_below (coming_of S f measure what) (count_of S (kind_of measure))
 
 -- of losses, and of refusals
 unfoldable pub loss_lines : System → Findings → List ℕ
-loss_lines S f = coming_lines S f Kind.Routine Column.Loss (codes "loss")
+loss_lines S f = coming_lines S f Measure.Loss (codes "loss")
 
 unfoldable pub refusal_lines : System → Findings → List ℕ
 refusal_lines S f =
-    coming_lines S f Kind.Task Column.Refusal (codes "refusal")
-    ++ coming_lines S f Kind.Alarm Column.RefusedAction (codes "refusal")
+    coming_lines S f Measure.Refusal (codes "refusal")
+    ++ coming_lines S f Measure.RefusedAction (codes "refusal")
 
 -- ---- all of them
 

@@ -5,9 +5,11 @@ use Rattle.osek_base.specs.Names.{owner_name}
 use Rattle.osek_base.specs.Tick.{status_number}
 use Rattle.osek_base.specs.System.{System}
 use Rattle.seen_ticks.specs.declared.failures.Failure.{Failure}
-use Rattle.view_figure_texts.specs.declared.bound_kinds.Column.{Column}
-use Rattle.view_figure_texts.specs.declared.bound_kinds.Kind.{Kind}
-use Rattle.view_figure_texts.specs.Tables.{column_word, columns_of, count_of, kind_word, kinds, name_of}
+use Rattle.view_measures.specs.declared.kind.Kind.{Kind}
+use Rattle.view_measures.specs.declared.measure.Measure.{Measure}
+use Rattle.view_measures.specs.Kinds.{count_of, kind_word, kinds, name_of}
+use Rattle.view_measures.specs.Measures.{figure, kind_of, measures_of}
+use Rattle.view_figure_texts.specs.Tables.{measure_word}
 use Rattle.search_witnesses.specs.declared.findings.Findings.{Findings}
 use Rattle.cli_tables.specs.Cells.{cell_of}
 use Rattle.cli_tables.specs.Texts.{each_below, number_text, service_standing, standing_of}
@@ -17,15 +19,16 @@ unfoldable pub line : List ℕ → List ℕ → List ℕ → List ℕ → List �
 line kind name figure value standing =
     kind ++ codes "," ++ name ++ codes "," ++ figure ++ codes "," ++ value ++ codes "," ++ standing ++ codes "\n"
 
--- the line of a figure
-unfoldable pub figure_line : System → Findings → Kind → ℕ → Column → List ℕ
-figure_line S f kind number column =
-    let cell = cell_of f column number in
-    line (kind_word kind) (name_of S kind number) (column_word column) (number_text cell) (standing_of cell)
+-- the line of a figure, by the number of its thing and its measure
+unfoldable pub figure_line : System → Findings → ℕ → Measure → List ℕ
+figure_line S f number measure =
+    let kind = kind_of measure in
+    let cell = cell_of f (figure measure number) in
+    line (kind_word kind) (name_of S kind number) (measure_word measure) (number_text cell) (standing_of cell)
 
--- the lines of an object; of all objects of a kind
+-- the lines of a thing of a kind; of all of them
 unfoldable pub object_lines : System → Findings → Kind → ℕ → List ℕ
-object_lines S f kind number = flat_map (figure_line S f kind number) (columns_of kind)
+object_lines S f kind number = flat_map (figure_line S f number) (measures_of kind)
 
 unfoldable pub kind_lines : System → Findings → Kind → List ℕ
 kind_lines S f kind = each_below (object_lines S f kind) (count_of S kind)

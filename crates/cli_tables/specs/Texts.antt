@@ -1,9 +1,12 @@
 -- What is written of a figure.
-use Rattle.std.specs.Prelude.{ℕ, zero, suc, Bool, List, [], ◌++◌, if◌then◌else◌, codes, decimal}
-use Rattle.search_nodes.specs.Figures.{one_if}
+use Rattle.std.specs.Prelude.{ℕ, zero, suc, Bool, cond, List, [], ◌++◌, if◌then◌else◌, codes, decimal}
 use Rattle.search_witnesses.specs.declared.findings.Findings.{Findings}
 use Rattle.search_witnesses.specs.Findings.{is_failing}
 use Rattle.cli_tables.specs.declared.cells.Cell.{Cell}
+
+-- 1 for what may come, and 0 for what doesn't
+abbrev pub number_of : Bool → ℕ
+number_of comes = cond comes 1 0
 
 -- the figure as a number, where one is told
 abbrev pub number_text : Cell → List ℕ
@@ -11,7 +14,7 @@ number_text (Cell.Time ticks reached) = decimal ticks
 number_text Cell.Above = []
 number_text Cell.Unbounded = []
 number_text (Cell.Count value reached) = decimal value
-number_text (Cell.Coming comes reached) = decimal (one_if comes)
+number_text (Cell.Coming comes reached) = decimal (number_of comes)
 
 abbrev pub reached_or : Bool → List ℕ → List ℕ
 reached_or reached other = if reached then codes "reached" else other
@@ -40,7 +43,7 @@ shown_text (Cell.Time ticks reached) = sign_of reached ++ decimal ticks
 shown_text Cell.Above = codes "above"
 shown_text Cell.Unbounded = codes "unbounded"
 shown_text (Cell.Count value reached) = sign_of reached ++ decimal value
-shown_text (Cell.Coming comes reached) = sign_of reached ++ decimal (one_if comes)
+shown_text (Cell.Coming comes reached) = sign_of reached ++ decimal (number_of comes)
 
 -- the texts of the numbers below n
 abbrev pub each_below : (ℕ → List ℕ) → ℕ → List ℕ

@@ -11,7 +11,7 @@ ghost use Rattle.cli_tables.specs.Broken.{
   coming_of,
   is_shown,
   is_within,
-  line_of_kind,
+  line_of_measure,
   line_unless_within,
   loss_lines,
   may_come,
@@ -28,7 +28,8 @@ use crate::told::cell;
 use osek_base::System;
 use search_witnesses::Findings;
 use std::alloc::{AllocError, Global};
-use view_figure_texts::{Column, Kind, Limit, Limits};
+use view_figure_texts::{Limit, Limits};
+use view_measures::{Figure, Measure};
 
 /// Whether a figure is told as a time of so many ticks at most.
 fn is_within(cell: Cell, most: u32) -> bool
@@ -72,23 +73,23 @@ fn push_unless_within(
     push_broken(text, name, cell, most)
 }
 
-/// Appends the line of a limit, where an object of a kind has its name, and what is told of that in
-/// a column isn't within it.
-#[tactic(auto, unfolding(crate::specs::Broken::line_of_kind))]
+/// Appends the line of a limit, where a thing of a measure has its name, and what is told of that
+/// isn't within it.
+#[tactic(auto, unfolding(crate::specs::Broken::line_of_measure))]
 fn push_time(
     text: &mut String,
     system: &System,
     found: &Findings,
-    kind: Kind,
-    column: Column,
+    measure: Measure,
     limit: &Limit<'_>,
 ) -> Result<(), AllocError>
     ensures { OnOk result (string_bytes text.new
-        ≡ string_bytes text.old ++ line_of_kind system.now found.now kind column limit.now) }
+        ≡ string_bytes text.old ++ line_of_measure system.now found.now measure limit.now) }
 {
-    match number_of(system, kind, limit.name) {
+    match number_of(system, measure.kind(), limit.name) {
         Some(number) => {
-            push_unless_within(text, limit.name, cell(found, column, number), limit.ticks)
+            let cell = cell(found, Figure { measure, number });
+            push_unless_within(text, limit.name, cell, limit.ticks)
         }
         None => Ok(()),
     }
@@ -105,8 +106,8 @@ fn push_limit(
     ensures { OnOk result (string_bytes text.new
         ≡ string_bytes text.old ++ time_lines system.now found.now limit.now) }
 {
-    push_time(text, system, found, Kind::Task, Column::Response, limit)?;
-    push_time(text, system, found, Kind::Routine, Column::Latency, limit)
+    push_time(text, system, found, Measure::Response, limit)?;
+    push_time(text, system, found, Measure::Latency, limit)
 }
 
 /// Appends the lines of all limits on times.
@@ -169,26 +170,22 @@ fn push_coming(text: &mut String, name: &str, what: &str, cell: Cell) -> Result<
     text.push_str("\n")
 }
 
-/// Appends a line for each object of a kind of which what is told in a column may come.
+/// Appends a line for each thing of which a measure tells that it may come.
 #[tactic(auto, unfolding(crate::specs::Broken::coming_lines, crate::specs::Broken::coming_of), using(crate::proofs::TextLemmas::each_more))]
 fn push_all_coming(
     text: &mut String,
     system: &System,
     found: &Findings,
-    kind: Kind,
-    column: Column,
+    measure: Measure,
     what: &str,
 ) -> Result<(), AllocError>
     ensures { OnOk result (string_bytes text.new
-        ≡ string_bytes text.old ++ coming_lines system.now found.now kind column what.now) }
+        ≡ string_bytes text.old ++ coming_lines system.now found.now measure what.now) }
 {
+    let kind = measure.kind();
     for number in 0..kind.count(system) {
-        push_coming(
-            text,
-            kind.name(system, number),
-            what,
-            cell(found, column, number),
-        )?;
+        let cell = cell(found, Figure { measure, number });
+        push_coming(text, kind.name(system, number), what, cell)?;
     }
     Ok(())
 }
@@ -199,7 +196,7 @@ fn push_losses(text: &mut String, system: &System, found: &Findings) -> Result<(
     ensures { OnOk result
         (string_bytes text.new ≡ string_bytes text.old ++ loss_lines system.now found.now) }
 {
-    push_all_coming(text, system, found, Kind::Routine, Column::Loss, "loss")
+    push_all_coming(text, system, found, Measure::Loss, "loss")
 }
 
 /// Appends the lines of refusals, by task and by alarm.
@@ -208,15 +205,8 @@ fn push_refusals(text: &mut String, system: &System, found: &Findings) -> Result
     ensures { OnOk result
         (string_bytes text.new ≡ string_bytes text.old ++ refusal_lines system.now found.now) }
 {
-    push_all_coming(text, system, found, Kind::Task, Column::Refusal, "refusal")?;
-    push_all_coming(
-        text,
-        system,
-        found,
-        Kind::Alarm,
-        Column::RefusedAction,
-        "refusal",
-    )
+    push_all_coming(text, system, found, Measure::Refusal, "refusal")?;
+    push_all_coming(text, system, found, Measure::RefusedAction, "refusal")
 }
 
 /// Appends the lines of all limits that aren't kept: those on times first, in the order of the

@@ -2,14 +2,19 @@
 
 ghost use Rattle.std.specs.Prelude.{◌≡◌, ◌++◌, OnOk};
 ghost use Rattle.std.specs.String.{string_bytes};
-ghost use Rattle.search_nodes.specs.Figures.{one_if};
 ghost use Rattle.cli_tables.specs.Cells.{cell_below};
-ghost use Rattle.cli_tables.specs.Texts.{number_text, reached_or, shown_text, standing_of};
+ghost use Rattle.cli_tables.specs.Texts.{
+  number_of,
+  number_text,
+  reached_or,
+  shown_text,
+  standing_of,
+};
 
 use crate::numbers::{push_number, push_signed, sign_of};
 use itoa::Buffer;
 use std::alloc::AllocError;
-use view_figure_texts::Column;
+use view_measures::Sort;
 
 /// What is told of a figure.
 #[derive(Clone, Copy)]
@@ -35,28 +40,23 @@ pub(crate) fn reached_or(is_reached: bool, other: &'static str) -> &'static str
 
 /// 1 for what may come, and 0 for what doesn't.
 fn number_of(comes: bool) -> u32
-    ensures { result ≡ one_if comes }
+    ensures { result ≡ number_of comes }
 {
     if comes { 1 } else { 0 }
 }
 
 impl Cell {
-    /// What a column tells below the cap of a figure that is told so.
-    pub(crate) fn below(column: Column, value: u32, is_reached: bool) -> Self
-        ensures { result ≡ cell_below column value is_reached }
+    /// What is told below the cap of a figure whose number is of a sort.
+    pub(crate) fn below(sort: Sort, value: u32, is_reached: bool) -> Self
+        ensures { result ≡ cell_below sort value is_reached }
     {
-        match column {
-            Column::Response | Column::Blocked | Column::Latency | Column::Hold => Cell::Time {
+        match sort {
+            Sort::Time => Cell::Time {
                 ticks: value,
                 is_reached,
             },
-            Column::Blockers | Column::Jobs => Cell::Count { value, is_reached },
-            Column::Refusal
-            | Column::Loss
-            | Column::RefusedAction
-            | Column::Errors
-            | Column::RoutineErrors
-            | Column::Shutdown => Cell::Coming {
+            Sort::Count => Cell::Count { value, is_reached },
+            Sort::Coming => Cell::Coming {
                 comes: value > 0,
                 is_reached,
             },

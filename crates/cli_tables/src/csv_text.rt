@@ -3,7 +3,9 @@
 ghost use Rattle.std.specs.Prelude.{◌≡◌, ◌++◌, IfOk, OnOk, codes, length};
 ghost use Rattle.std.specs.List.{flat_map};
 ghost use Rattle.std.specs.String.{string_bytes};
-ghost use Rattle.view_figure_texts.specs.Tables.{kinds};
+ghost use Rattle.view_measures.specs.Kinds.{kind_word, kinds, name_of as thing_name};
+ghost use Rattle.view_figure_texts.specs.Tables.{measure_word as word_of_measure};
+ghost use Rattle.cli_tables.specs.Cells.{cell_of};
 ghost use Rattle.cli_tables.specs.CsvText.{
   csv_text,
   failure_line,
@@ -13,7 +15,7 @@ ghost use Rattle.cli_tables.specs.CsvText.{
   object_lines,
   service_line,
 };
-ghost use Rattle.cli_tables.specs.Texts.{each_below};
+ghost use Rattle.cli_tables.specs.Texts.{each_below, number_text, standing_of};
 
 use crate::failed_service::name_of;
 use crate::told::{cell, service_standing};
@@ -22,32 +24,48 @@ use osek_base::System;
 use search_witnesses::Findings;
 use seen_ticks::Failure;
 use std::alloc::{AllocError, Global};
-use view_figure_texts::{Column, KINDS, Kind};
+use view_figure_texts::measure_word;
+use view_measures::{Figure, KINDS, Kind};
 
-/// Appends the line of a figure.
-#[tactic(auto, unfolding(crate::specs::CsvText::figure_line, crate::specs::CsvText::line))]
-fn push_figure(
+/// Appends the line of a figure of a thing of a kind.
+#[tactic(auto, unfolding(crate::specs::CsvText::line))]
+fn push_line_of(
     text: &mut String,
     system: &System,
     found: &Findings,
     kind: Kind,
-    number: usize,
-    column: Column,
+    figure: Figure,
 ) -> Result<(), AllocError>
     ensures { OnOk result (string_bytes text.new
-        ≡ string_bytes text.old ++ figure_line system.now found.now kind number column) }
+        ≡ string_bytes text.old ++ line (kind_word kind) (thing_name system.now kind figure.number)
+        (word_of_measure figure.measure) (number_text (cell_of found.now figure))
+        (standing_of (cell_of found.now figure))) }
 {
-    let cell = cell(found, column, number);
+    let cell = cell(found, figure);
     text.push_str(kind.word())?;
     text.push_str(",")?;
-    text.push_str(kind.name(system, number))?;
+    text.push_str(kind.name(system, figure.number))?;
     text.push_str(",")?;
-    text.push_str(column.word())?;
+    text.push_str(measure_word(figure.measure))?;
     text.push_str(",")?;
     cell.push_number(text)?;
     text.push_str(",")?;
     text.push_str(cell.standing())?;
     text.push_str("\n")
+}
+
+/// Appends the line of a figure.
+#[tactic(auto, unfolding(crate::specs::CsvText::figure_line))]
+fn push_figure(
+    text: &mut String,
+    system: &System,
+    found: &Findings,
+    figure: Figure,
+) -> Result<(), AllocError>
+    ensures { OnOk result (string_bytes text.new
+        ≡ string_bytes text.old ++ figure_line system.now found.now figure.number figure.measure) }
+{
+    push_line_of(text, system, found, figure.measure.kind(), figure)
 }
 
 /// Appends the lines of an object.
@@ -62,8 +80,12 @@ fn push_object(
     ensures { OnOk result (string_bytes text.new
         ≡ string_bytes text.old ++ object_lines system.now found.now kind number) }
 {
-    for column in kind.columns() {
-        push_figure(text, system, found, kind, number, *column)?;
+    for measure in kind.measures() {
+        let figure = Figure {
+            measure: *measure,
+            number,
+        };
+        push_figure(text, system, found, figure)?;
     }
     Ok(())
 }

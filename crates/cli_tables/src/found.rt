@@ -1,13 +1,15 @@
 //! What is written of what a search has found: bounds, the run that is wanted, or how far it came.
 
+use crate::apart::write_unsaid;
 use crate::asked::BoundsAsked;
 use crate::broken::broken_bounds;
 use crate::csv_text::csv_of;
 use crate::json_text::json_of;
 use crate::remarks::write_remarks;
+use crate::storing::{Storing, store_all};
 use crate::witnessing::write_witness;
 use crate::writing::{write_decided, write_undecided, write_up_to};
-use cli_answers::Verdict;
+use cli_answers::{StoredRun, Verdict};
 use osek_base::{ModeId, System};
 use search::{Obstacle, Outcome, Progress};
 use search_nodes::Bounds;
@@ -17,37 +19,37 @@ use std::io::Write;
 use tracer::RunFault;
 use view_figure_texts::Form;
 
-/// Writes the bounds of a system in a form.
+/// Writes the bounds of a system in the form that is asked for.
 fn write_bounds<O: Write>(
     alloc: Global,
     system: &System,
     found: &Findings,
     progress: Progress,
-    form: Form,
+    asked: BoundsAsked<'_>,
     out: &mut O,
 ) -> Result<(), RunFault> {
-    match form {
-        Form::Table => write_decided(system, found, progress, out)?,
+    match asked.line.form {
+        Form::Table => write_decided(system, asked.said, found, progress, out)?,
         Form::Csv => out.write_all(csv_of(alloc, system, found)?.as_bytes())?,
-        Form::Json => out.write_all(json_of(alloc, system, found)?.as_slice())?,
+        Form::Json => out.write_all(json_of(alloc, system, asked.said, found)?.as_slice())?,
     }
     Ok(())
 }
 
-/// What is said of figures where it is asked for. The only write that can fail there is for want of
-/// memory.
+/// What is said of distances that nobody said, and of figures where it is asked for. The only write
+/// that can fail there is for want of memory.
 fn remarks_of(
     alloc: Global,
     system: &System,
     found: &Findings,
-    is_explained: bool,
+    asked: BoundsAsked<'_>,
 ) -> Result<Vec<u8>, RunFault> {
     let mut remarks = Vec::new(alloc);
-    if is_explained {
-        match write_remarks(system, found, &mut remarks) {
-            Ok(()) => {}
-            Err(_) => return Err(RunFault::Memory),
-        }
+    if write_unsaid(system, asked.said, &mut remarks).is_err() {
+        return Err(RunFault::Memory);
+    }
+    if asked.is_explained && write_remarks(system, found, &mut remarks).is_err() {
+        return Err(RunFault::Memory);
     }
     Ok(remarks)
 }
@@ -66,11 +68,11 @@ fn write_open<'v, O: Write>(
     let found = Findings::untried(alloc, bounds);
     write_undecided(obstacle, progress, out)?;
     if asked.line.form == Form::Table && asked.line.witness.is_none() {
-        write_up_to(system, &found, progress, out)?;
+        write_up_to(system, asked.said, &found, progress, out)?;
     }
     Ok(Verdict::Searched {
         is_decided: false,
-        remarks: remarks_of(alloc, system, &found, asked.is_explained)?,
+        remarks: remarks_of(alloc, system, &found, asked)?,
     })
 }
 
@@ -83,9 +85,9 @@ fn write_held<'v, O: Write>(
     asked: BoundsAsked<'v>,
     out: &mut O,
 ) -> Result<Verdict<'v>, RunFault> {
-    let remarks = remarks_of(alloc, system, found, asked.is_explained)?;
+    let remarks = remarks_of(alloc, system, found, asked)?;
     let broken = broken_bounds(alloc, system, found, &asked.limits)?;
-    write_bounds(alloc, system, found, progress, asked.line.form, out)?;
+    write_bounds(alloc, system, found, progress, asked, out)?;
     if broken.is_empty() {
         Ok(Verdict::Searched {
             is_decided: true,
@@ -97,7 +99,7 @@ fn write_held<'v, O: Write>(
 }
 
 /// Writes what was found of a system: its bounds, or the run that is wanted, or how far the search
-/// came.
+/// came. Runs that are to be stored are added.
 pub fn write_found<'v, O: Write>(
     alloc: Global,
     system: &System,
@@ -105,6 +107,7 @@ pub fn write_found<'v, O: Write>(
     distances: &[u32],
     bounds: Bounds,
     asked: BoundsAsked<'v>,
+    runs: &mut Vec<StoredRun>,
     out: &mut O,
 ) -> Result<Verdict<'v>, RunFault> {
     let progress = match bounds.outcome {
@@ -114,8 +117,19 @@ pub fn write_found<'v, O: Write>(
         }
     };
     if let Some(wanted) = asked.line.witness {
-        return write_witness(alloc, system, mode, distances, &bounds, wanted, out);
+        return write_witness(
+            alloc, system, mode, distances, &bounds, wanted, asked, runs, out,
+        );
     }
     let found = Findings::of(alloc, system, mode, distances, bounds)?;
+    if let Some(folder) = asked.line.witnesses {
+        let storing = Storing {
+            system,
+            mode,
+            distances,
+            folder,
+        };
+        store_all(alloc, &storing, &found, runs)?;
+    }
     write_held(alloc, system, &found, progress, asked, out)
 }

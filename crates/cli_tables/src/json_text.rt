@@ -1,14 +1,18 @@
-//! Bounds as JSON: an object by kinds, in each one by names, and in each of these one by columns.
+//! Bounds as JSON: an object by kinds, in each one by names, and in each of these one by columns;
+//! and the distances that they hold under.
 
 use crate::cells::Cell;
+use crate::distances::said_of;
 use crate::failed_service::name_of;
 use crate::told::{cell, service_standing};
+use cli_requests::Distance;
 use osek_base::System;
 use search_witnesses::Findings;
 use seen_ticks::Failure;
 use serde_json::{Map, Value};
 use std::alloc::{AllocError, Global};
-use view_figure_texts::{KINDS, Kind};
+use view_figure_texts::measure_word;
+use view_measures::{Figure, KINDS, Kind};
 
 fn put(
     alloc: Global,
@@ -41,9 +45,13 @@ fn value_of(alloc: Global, cell: Cell) -> Result<Value, AllocError> {
 
 fn object(alloc: Global, found: &Findings, kind: Kind, number: usize) -> Result<Value, AllocError> {
     let mut figures = Map::new(alloc);
-    for column in kind.columns() {
-        let value = value_of(alloc, cell(found, *column, number))?;
-        put(alloc, &mut figures, column.word(), value)?;
+    for measure in kind.measures() {
+        let figure = Figure {
+            measure: *measure,
+            number,
+        };
+        let value = value_of(alloc, cell(found, figure))?;
+        put(alloc, &mut figures, measure_word(*measure), value)?;
     }
     Ok(Value::Object(figures))
 }
@@ -90,8 +98,32 @@ fn services(alloc: Global, system: &System, found: &Findings) -> Result<Value, A
     Ok(Value::Array(services))
 }
 
-/// The text of all figures, and of the services that may be answered other than E_OK.
-pub fn json_of(alloc: Global, system: &System, found: &Findings) -> Result<Vec<u8>, AllocError> {
+/// The distance of a routine, and whether it is said.
+fn distance(alloc: Global, said: Option<u32>) -> Result<Value, AllocError> {
+    let mut told = Map::new(alloc);
+    put(alloc, &mut told, "ticks", Value::from(said.unwrap_or(1)))?;
+    put(alloc, &mut told, "said", Value::Bool(said.is_some()))?;
+    Ok(Value::Object(told))
+}
+
+/// The distances of all routines, by names.
+fn distances(alloc: Global, system: &System, said: &[Distance<'_>]) -> Result<Value, AllocError> {
+    let mut distances = Map::new(alloc);
+    for name in &system.names().routines {
+        let told = distance(alloc, said_of(said, name.as_str()))?;
+        put(alloc, &mut distances, name.as_str(), told)?;
+    }
+    Ok(Value::Object(distances))
+}
+
+/// The text of the distances, of all figures, and of the services that may be answered other than
+/// E_OK.
+pub fn json_of(
+    alloc: Global,
+    system: &System,
+    said: &[Distance<'_>],
+    found: &Findings,
+) -> Result<Vec<u8>, AllocError> {
     let mut kinds = Map::new(alloc);
     for kind in &KINDS {
         let objects = objects(alloc, system, found, *kind)?;
@@ -99,6 +131,7 @@ pub fn json_of(alloc: Global, system: &System, found: &Findings) -> Result<Vec<u
     }
     let services = services(alloc, system, found)?;
     put(alloc, &mut kinds, "service", services)?;
+    put(alloc, &mut kinds, "apart", distances(alloc, system, said)?)?;
     let mut text = Value::Object(kinds).to_vec_pretty(alloc)?;
     text.push(b'\n')?;
     Ok(text)

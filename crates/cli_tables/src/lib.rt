@@ -2,7 +2,7 @@
 //! what it means, which limits break, or a run that shows a figure.
 //!
 //! - A search's mode and distances are exactly those asked for (`mode_id`, `all_distances`).
-//! - `cell`: exactly what is told in a column of an object, and what that promises is so of findings
+//! - `cell`: exactly what is told of a figure, and what that promises is so of findings
 //!   (`Promises`). A number is what the bounds tell, and a time is below the cap; where a run is
 //!   said to show it, one does, or it is 0. A time that is said to have no bound has none.
 //! - `csv_of`: exactly a line for each figure, and for each service that may be answered other than
@@ -12,6 +12,7 @@
 //! - Tables, JSON and remarks go by the same cells. How they are laid out is tested.
 #![tactic(auto)]
 
+mod apart;
 mod asked;
 mod broken;
 mod cells;
@@ -25,11 +26,13 @@ mod naming;
 mod numbers;
 mod remarks;
 mod search_watch;
+mod storing;
 mod table;
 mod told;
 mod witnessing;
 mod writing;
 
+pub use apart::write_apart;
 pub use asked::{BoundsAsked, mode_id, unknown_figure};
 pub use broken::broken_bounds;
 pub use csv_text::csv_of;

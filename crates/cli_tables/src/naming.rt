@@ -1,16 +1,16 @@
-//! Figures by the names of objects and the words of columns.
+//! Figures by the names of objects and the words of measures.
 
 ghost use Rattle.std.specs.Prelude.{◌≡◌};
 ghost use Rattle.osek_base.specs.Names.{number_of};
-ghost use Rattle.view_figure_texts.specs.Tables.{names_of};
+ghost use Rattle.view_measures.specs.Kinds.{names_of};
 
 use crate::failed_service::name_of;
-use crate::told::figure_of;
 use osek_base::System;
-use search_nodes::{Bounds, Figure};
-use view_figure_texts::{KINDS, Kind, column_of, place_of};
+use search_nodes::Bounds;
+use view_figure_texts::{measure_of, measure_word, place_of};
+use view_measures::{Figure, KINDS, Kind};
 
-/// A figure, with the words of its kind and of its column.
+/// A figure, with the words of its kind and of its measure.
 #[derive(Clone, Copy)]
 pub struct NamedFigure {
     pub figure: Figure,
@@ -31,15 +31,15 @@ pub(crate) fn number_of(system: &System, kind: Kind, name: &str) -> Option<usize
 }
 
 /// The figure of that name and word, of the first kind that has them, in the order of the tables;
-/// where no word is said, of the first column.
+/// where no word is said, of the first measure.
 pub fn figure_named(system: &System, name: &str, word: Option<&str>) -> Option<NamedFigure> {
     for kind in &KINDS {
         if let Some(number) = number_of(system, *kind, name) {
-            if let Some(column) = column_of(*kind, word) {
+            if let Some(measure) = measure_of(*kind, word) {
                 return Some(NamedFigure {
-                    figure: figure_of(column, number),
+                    figure: Figure { measure, number },
                     kind: kind.word(),
-                    column: column.word(),
+                    column: measure_word(measure),
                 });
             }
         }
@@ -47,7 +47,7 @@ pub fn figure_named(system: &System, name: &str, word: Option<&str>) -> Option<N
     None
 }
 
-/// Whether a word may be asked for of the thing of a name: that of a column, or of a task or
+/// Whether a word may be asked for of the thing of a name: that of a measure, or of a task or
 /// routine the place of a service.
 pub fn is_known(system: &System, name: &str, word: Option<&str>) -> bool {
     if figure_named(system, name, word).is_some() {

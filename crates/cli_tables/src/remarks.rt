@@ -6,38 +6,39 @@ use osek_base::System;
 use search::{Obstacle, Outcome};
 use search_witnesses::Findings;
 use std::io::{self, Write};
-use view_figure_texts::{Column, KINDS, Kind};
+use view_figure_texts::measure_word;
+use view_measures::{Figure, KINDS, Measure};
 
-/// What it means where a figure of a column may come, and what would change it.
-fn meaning(column: Column) -> &'static str {
-    match column {
-        Column::Refusal =>
+/// What it means where something may come, and what would change it.
+fn meaning(measure: Measure) -> &'static str {
+    match measure {
+        Measure::Refusal =>
             "an activation finds as many jobs as ACTIVATION allows; a greater ACTIVATION or greater distances may change it",
-        Column::Loss => "an interrupt finds one pending; a greater distance may change it",
-        Column::RefusedAction =>
+        Measure::Loss => "an interrupt finds one pending; a greater distance may change it",
+        Measure::RefusedAction =>
             "its task has as many jobs as ACTIVATION allows, or none that its event could be set for",
-        Column::Errors | Column::RoutineErrors =>
+        Measure::Errors | Measure::RoutineErrors =>
             "a service is answered other than E_OK; --witness shows a run in which one is",
-        Column::Shutdown => "some run ends by a ShutdownOS",
-        Column::Response
-        | Column::Blocked
-        | Column::Blockers
-        | Column::Jobs
-        | Column::Latency
-        | Column::Hold => "it lasts",
+        Measure::Shutdown => "some run ends by a ShutdownOS",
+        Measure::Response
+        | Measure::Blocked
+        | Measure::Blockers
+        | Measure::Jobs
+        | Measure::Latency
+        | Measure::Hold => "it lasts",
     }
 }
 
-/// What a number of a column bounds.
-fn limited(column: Column) -> &'static str {
-    match column {
-        Column::Blockers => "no job has more",
+/// What a number of a measure bounds.
+fn limited(measure: Measure) -> &'static str {
+    match measure {
+        Measure::Blockers => "no job has more",
         _ => "no run has more at once",
     }
 }
 
 /// Writes what is told of a figure, and what it means.
-fn write_meaning<W: Write>(cell: Cell, column: Column, cap: u32, out: &mut W) -> io::Result<()> {
+fn write_meaning<W: Write>(cell: Cell, measure: Measure, cap: u32, out: &mut W) -> io::Result<()> {
     match cell {
         Cell::Above => writeln!(
             out,
@@ -54,16 +55,16 @@ fn write_meaning<W: Write>(cell: Cell, column: Column, cap: u32, out: &mut W) ->
         Cell::Count { value, .. } => writeln!(
             out,
             "<={value}: {}, and none is known that has as many",
-            limited(column)
+            limited(measure)
         ),
         Cell::Coming {
             is_reached: true,
             ..
-        } => writeln!(out, "1: {}", meaning(column)),
+        } => writeln!(out, "1: {}", meaning(measure)),
         Cell::Coming { .. } => writeln!(
             out,
             "<=1: it may be, though no run is known: {}",
-            meaning(column)
+            meaning(measure)
         ),
     }
 }
@@ -72,18 +73,18 @@ fn write_meaning<W: Write>(cell: Cell, column: Column, cap: u32, out: &mut W) ->
 fn write_remark<W: Write>(
     system: &System,
     found: &Findings,
-    kind: Kind,
-    column: Column,
-    number: usize,
+    figure: Figure,
     out: &mut W,
 ) -> io::Result<()> {
-    let cell = cell(found, column, number);
+    let cell = cell(found, figure);
     if cell.is_plain() {
         return Ok(());
     }
+    let Figure { measure, number } = figure;
+    let kind = measure.kind();
     let name = kind.name(system, number);
-    write!(out, "{} {name}: {} ", kind.word(), column.word())?;
-    write_meaning(cell, column, found.bounds.cap, out)
+    write!(out, "{} {name}: {} ", kind.word(), measure_word(measure))?;
+    write_meaning(cell, measure, found.bounds.cap, out)
 }
 
 /// What a search stopped at.
@@ -113,8 +114,12 @@ pub fn write_remarks<W: Write>(system: &System, found: &Findings, out: &mut W) -
     }
     for kind in &KINDS {
         for number in 0..kind.count(system) {
-            for column in kind.columns() {
-                write_remark(system, found, *kind, *column, number, out)?;
+            for measure in kind.measures() {
+                let figure = Figure {
+                    measure: *measure,
+                    number,
+                };
+                write_remark(system, found, figure, out)?;
             }
         }
     }

@@ -7,7 +7,8 @@ use itoa::Buffer;
 use osek_base::System;
 use search_witnesses::Findings;
 use std::io::{self, Write};
-use view_figure_texts::{KINDS, Kind, width_of};
+use view_figure_texts::measure_word;
+use view_measures::{Figure, KINDS, Kind, width_of};
 
 /// How many bytes a column has, with the space before it.
 const WIDTH: usize = 12;
@@ -33,8 +34,8 @@ fn write_cell<W: Write>(cell: Cell, out: &mut W) -> io::Result<()> {
 
 fn write_heading<W: Write>(kind: Kind, width: usize, out: &mut W) -> io::Result<()> {
     write_name(kind.word(), width, out)?;
-    for column in kind.columns() {
-        write!(out, " {:>11}", column.word())?;
+    for measure in kind.measures() {
+        write!(out, " {:>11}", measure_word(*measure))?;
     }
     out.write_all(b"\n")
 }
@@ -48,8 +49,12 @@ fn write_line<W: Write>(
     out: &mut W,
 ) -> io::Result<()> {
     write_name(kind.name(system, number), width, out)?;
-    for column in kind.columns() {
-        write_cell(cell(found, *column, number), out)?;
+    for measure in kind.measures() {
+        let figure = Figure {
+            measure: *measure,
+            number,
+        };
+        write_cell(cell(found, figure), out)?;
     }
     out.write_all(b"\n")
 }

@@ -1,27 +1,51 @@
-//! What is written of a run that shows a figure: its arrivals, and how many ticks show it.
+//! A run that shows a figure: its arrivals, and how many ticks show it.
 
+use crate::asked::BoundsAsked;
 use crate::failed_service::service_text;
 use crate::naming::{NamedFigure, figure_named, service_named};
 use arrival_reader::print_arrivals;
-use cli_answers::Verdict;
+use cli_answers::{StoredRun, Verdict};
 use cli_requests::Wanted;
-use osek_base::{Arrivals, ModeId, System};
-use search_nodes::{Bounds, Figure};
+use osek_base::{ModeId, System};
+use search_nodes::Bounds;
 use search_witnesses::{Endless, Witness, find_endless, find_failing, find_witness};
 use std::alloc::{AllocError, Global};
 use std::io::Write;
 use tracer::RunFault;
+use view_measures::{Figure, Measure};
 
-/// Writes arrivals as a text that is read as them again.
-fn write_arrivals<O: Write>(
-    alloc: Global,
-    system: &System,
-    arrivals: &Arrivals,
-    out: &mut O,
-) -> Result<(), RunFault> {
-    let text = print_arrivals(alloc, system, arrivals)?;
-    out.write_all(text.as_bytes())?;
-    Ok(())
+/// A run that shows a figure, or in whose last tick a service is answered as it is told.
+#[derive(Drop)]
+pub(crate) struct ShownRun {
+    /// The text of its arrivals.
+    pub arrivals: String,
+    /// The line of its ticks and of what it shows; where that has no bound, another one with the
+    /// ticks that can come again and again.
+    pub lines: String,
+}
+
+impl ShownRun {
+    /// Adds the run as it is stored in a folder, with the line of its mode.
+    pub(crate) fn store(
+        self,
+        system: &System,
+        mode: ModeId,
+        folder: String,
+        runs: &mut Vec<StoredRun>,
+    ) -> Result<(), AllocError> {
+        let mut told = self.lines;
+        if let Some(name) = system.names().modes.get(mode.number() as usize) {
+            told.push_str("mode: ")?;
+            told.push_str(name.as_str())?;
+            told.push_str("\n")?;
+        }
+        runs.push(StoredRun {
+            folder,
+            arrivals: self.arrivals,
+            told,
+        })?;
+        Ok(())
+    }
 }
 
 /// The line of the ticks of a run and of the figure that it shows.
@@ -37,7 +61,7 @@ fn line_of(
         kind,
         column,
     } = named;
-    let value = figure.told(&found.peaks);
+    let value = found.peaks.told(figure);
     format!(in alloc; "{} ticks: {kind} {name} {column} {value}\n", witness.ticks)
 }
 
@@ -51,8 +75,8 @@ fn endless_of(
     found: &Bounds,
     figure: Figure,
 ) -> Result<Option<Endless>, AllocError> {
-    match figure {
-        Figure::Response(task) => find_endless(alloc, system, mode, distances, found, task),
+    match figure.measure {
+        Measure::Response => find_endless(alloc, system, mode, distances, found, figure.number),
         _ => Ok(None),
     }
 }
@@ -67,48 +91,20 @@ fn add_endless(alloc: Global, endless: &Endless, lines: &mut String) -> Result<(
     lines.push_str(&line)
 }
 
-/// Writes the arrivals of a run in whose last tick a service is answered as it is told.
-fn write_failing<'v, O: Write>(
+/// A run that shows what is told of a figure of that name, if one is known.
+pub(crate) fn run_of(
     alloc: Global,
     system: &System,
     mode: ModeId,
     distances: &[u32],
     found: &Bounds,
-    wanted: Wanted<'v>,
-    out: &mut O,
-) -> Result<Verdict<'v>, RunFault> {
-    let Some(number) = service_named(system, found, wanted.name, wanted.column) else {
-        return Ok(Verdict::NoFigure(wanted));
-    };
-    let Some(failure) = found.peaks.failures().get(number) else {
-        return Ok(Verdict::NoFigure(wanted));
-    };
-    let Some(witness) = find_failing(alloc, system, mode, distances, found, number)? else {
-        return Ok(Verdict::NoWitness(wanted));
-    };
-    let service = service_text(alloc, system, failure)?;
-    let line = format!(in alloc; "{} ticks: service {service}\n", witness.ticks)?;
-    write_arrivals(alloc, system, &witness.arrivals, out)?;
-    Ok(Verdict::Witnessed(line))
-}
-
-/// Writes the arrivals of a run that shows what is told of a figure, or of a service.
-pub(crate) fn write_witness<'v, O: Write>(
-    alloc: Global,
-    system: &System,
-    mode: ModeId,
-    distances: &[u32],
-    found: &Bounds,
-    wanted: Wanted<'v>,
-    out: &mut O,
-) -> Result<Verdict<'v>, RunFault> {
-    let Some(named) = figure_named(system, wanted.name, wanted.column) else {
-        return write_failing(alloc, system, mode, distances, found, wanted, out);
-    };
+    named: NamedFigure,
+    name: &str,
+) -> Result<Option<ShownRun>, RunFault> {
     let Some(witness) = find_witness(alloc, system, mode, distances, found, named.figure)? else {
-        return Ok(Verdict::NoWitness(wanted));
+        return Ok(None);
     };
-    let mut lines = line_of(alloc, found, named, wanted.name, &witness)?;
+    let mut lines = line_of(alloc, found, named, name, &witness)?;
     let endless = endless_of(alloc, system, mode, distances, found, named.figure)?;
     let mut arrivals = &witness.arrivals;
     if let Some(endless) = &endless {
@@ -117,6 +113,62 @@ pub(crate) fn write_witness<'v, O: Write>(
             arrivals = &endless.arrivals;
         }
     }
-    write_arrivals(alloc, system, arrivals, out)?;
+    let arrivals = print_arrivals(alloc, system, arrivals)?;
+    Ok(Some(ShownRun { arrivals, lines }))
+}
+
+/// A run in whose last tick the service of a number is answered as it is told, if one is known.
+pub(crate) fn failing_run(
+    alloc: Global,
+    system: &System,
+    mode: ModeId,
+    distances: &[u32],
+    found: &Bounds,
+    number: usize,
+) -> Result<Option<ShownRun>, RunFault> {
+    let Some(failure) = found.peaks.failures().get(number) else {
+        return Ok(None);
+    };
+    let Some(witness) = find_failing(alloc, system, mode, distances, found, number)? else {
+        return Ok(None);
+    };
+    let service = service_text(alloc, system, failure)?;
+    let lines = format!(in alloc; "{} ticks: service {service}\n", witness.ticks)?;
+    let arrivals = print_arrivals(alloc, system, &witness.arrivals)?;
+    Ok(Some(ShownRun { arrivals, lines }))
+}
+
+/// Writes the arrivals of a run that shows what is told of a figure, or of a service, or has it
+/// stored.
+pub(crate) fn write_witness<'v, O: Write>(
+    alloc: Global,
+    system: &System,
+    mode: ModeId,
+    distances: &[u32],
+    found: &Bounds,
+    wanted: Wanted<'v>,
+    asked: BoundsAsked<'v>,
+    runs: &mut Vec<StoredRun>,
+    out: &mut O,
+) -> Result<Verdict<'v>, RunFault> {
+    let Wanted { name, column } = wanted;
+    let shown = match figure_named(system, name, column) {
+        Some(named) => run_of(alloc, system, mode, distances, found, named, name)?,
+        None => match service_named(system, found, name, column) {
+            Some(number) => failing_run(alloc, system, mode, distances, found, number)?,
+            None => return Ok(Verdict::NoFigure(wanted)),
+        },
+    };
+    let Some(shown) = shown else {
+        return Ok(Verdict::NoWitness(wanted));
+    };
+    let lines = format!(in alloc; "{}", shown.lines)?;
+    match asked.line.into {
+        Some(folder) => {
+            let folder = format!(in alloc; "{folder}")?;
+            shown.store(system, mode, folder, runs)?;
+        }
+        None => out.write_all(shown.arrivals.as_bytes())?,
+    }
     Ok(Verdict::Witnessed(lines))
 }

@@ -1,6 +1,8 @@
 //! How far a search for bounds came.
 
+use crate::apart::write_apart;
 use crate::table::write_tables;
+use cli_requests::Distance;
 use osek_base::System;
 use search::{Obstacle, Progress};
 use search_witnesses::Findings;
@@ -15,25 +17,30 @@ fn reason(obstacle: Obstacle) -> &'static str {
     }
 }
 
-/// Writes how many states a system comes to, and the tables. An error is a failed write.
+/// Writes how many states a system comes to, under which distances, and the tables. An error is a
+/// failed write.
 pub fn write_decided<W: Write>(
     system: &System,
+    said: &[Distance<'_>],
     found: &Findings,
     progress: Progress,
     out: &mut W,
 ) -> io::Result<()> {
     writeln!(out, "decided: {} states", progress.nodes)?;
+    write_apart(system, said, out)?;
     write_tables(system, found, out)
 }
 
-/// Writes the tables of what no run of so many ticks shows more of as a search that stopped before
-/// its end has tried, where these are any. An error is a failed write.
+/// Writes the distances, and the tables of what no run of so many ticks shows more of as a search
+/// that stopped before its end has tried, where these are any. An error is a failed write.
 pub fn write_up_to<W: Write>(
     system: &System,
+    said: &[Distance<'_>],
     found: &Findings,
     progress: Progress,
     out: &mut W,
 ) -> io::Result<()> {
+    write_apart(system, said, out)?;
     if progress.levels == 0 {
         return Ok(());
     }

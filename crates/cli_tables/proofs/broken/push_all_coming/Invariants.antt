@@ -8,4 +8,4 @@ abbrev pub invariant-loop-number : goal.invariant-loop-number
 invariant-loop-number l =
     string_bytes l.text
     ≡ string_bytes l.fn.text
-    ++ each_below (coming_of l.system l.found l.kind l.column l.what) l.number
+    ++ each_below (coming_of l.system l.found l.measure l.what) l.number

@@ -1,7 +1,7 @@
 use Rattle.std.proofs.Common.{◌≡◌, ◌++◌, drop}
 use Rattle.std.specs.List.{flat_map}
 use Rattle.std.specs.String.{string_bytes}
-use Rattle.view_figure_texts.specs.Tables.{kinds}
+use Rattle.view_measures.specs.Kinds.{kinds}
 use Rattle.cli_tables.specs.CsvText.{kind_lines}
 use Rattle.cli_tables.proofs.csv_text.push_kinds.Given as goal
 

@@ -1,7 +1,7 @@
 use Rattle.std.proofs.Common.{◌≡◌, ◌+◌, drop}
 use Rattle.std.specs.Option.{option_map}
 use Rattle.osek_base.specs.Names.{number_of}
-use Rattle.view_figure_texts.specs.Tables.{names_of}
+use Rattle.view_measures.specs.Kinds.{names_of}
 use Rattle.cli_tables.proofs.naming.number_of.Given as goal
 
 -- the number among all is that among those that are left

@@ -1,5 +1,4 @@
 use Rattle.std.proofs.Common.{subst, sym}
-use Rattle.cli_tables.specs.Cells.{figure_of}
 use Rattle.cli_tables.specs.Promises.{Promises}
 use Rattle.cli_tables.proofs.PromiseLemmas.{promised}
 use Rattle.cli_tables.proofs.told.cell.Goals as goal
@@ -7,6 +6,5 @@ use Rattle.cli_tables.proofs.told.cell.Goals as goal
 pub returns-clause-promises : goal.returns-clause-promises
 returns-clause-promises c =
     λ S mode distances are.
-    subst (Promises S mode distances c.args.found.now.bounds (figure_of c.args.column c.args.number))
-    (sym c.told_cell.ensures)
-    (promised S mode distances c.args.found.now are c.args.column c.args.number)
+    subst (Promises S mode distances c.args.found.now.bounds c.args.figure)
+    (sym c.told_cell.ensures) (promised S mode distances c.args.found.now are c.args.figure)
