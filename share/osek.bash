@@ -4,16 +4,16 @@
 _osek_options() {
   case $1 in
     '') echo '--help --version --man --completions' ;;
-    trace) echo '--help --in --explain --irq --from --to --blocking' ;;
-    upper) echo '--help --in --explain --irq --alone' ;;
-    vcd) echo '--help --in --explain --irq --from --to' ;;
-    timeline) echo '--help --in --explain --irq --from --to --rows --perfetto' ;;
-    stats) echo '--help --in --explain --irq --csv --json --from --to --limit --no-loss --no-refusal' ;;
+    trace) echo '--help --in --explain --irq --progress --from --to --blocking' ;;
+    upper) echo '--help --in --explain --irq --progress --alone' ;;
+    vcd) echo '--help --in --explain --irq --progress --from --to' ;;
+    timeline) echo '--help --in --explain --irq --progress --from --to --rows --perfetto' ;;
+    stats) echo '--help --in --explain --irq --progress --csv --json --from --to --rules --limit --no-loss --no-refusal' ;;
     check) echo '--help --in --explain --all' ;;
     partitions) echo '--help --in --explain --joined' ;;
     class) echo '--help --in --explain' ;;
     show) echo '--help --in --explain' ;;
-    bounds) echo '--help --in --explain --apart --witness --states --longest --upper --csv --json --limit --no-loss --no-refusal' ;;
+    bounds) echo '--help --in --explain --rules --apart --witness --into --witnesses --states --longest --upper --csv --json --limit --no-loss --no-refusal --progress' ;;
     make) echo '--help --output --oil' ;;
     import) echo '--help --work' ;;
   esac
@@ -42,7 +42,7 @@ _osek() {
       mapfile -t COMPREPLY < <(compgen -W 'bash zsh' -- "$word")
       return
       ;;
-    --in | -o | --output)
+    --in | --into | --witnesses | -o | --output)
       compopt -o filenames 2> /dev/null
       mapfile -t COMPREPLY < <(compgen -d -- "$word")
       return
