@@ -1,7 +1,7 @@
 //! What is wrong in a body, step by step: what its caller may not do, and resources that aren't got
 //! and released in pairs.
 
-use crate::description::{Body, Does, Step};
+use crate::description::{Body, Does, LIMITED_WAIT, Step};
 use crate::fault::{Fault, Wrong, tell};
 use crate::names::is_among;
 use crate::work::Work;
@@ -66,7 +66,7 @@ impl<'a> Holding<'a> {
         match does {
             Does::Get(name) => self.get(name),
             Does::Release(name) => Ok(self.release(name)),
-            Does::Wait(_) | Does::Chain(_) | Does::Schedule => Ok(self.any()),
+            Does::Wait { .. } | Does::Chain(_) | Does::Schedule => Ok(self.any()),
             Does::Repeat(_) => {
                 self.marks.push(self.held.len())?;
                 Ok(None)
@@ -82,7 +82,7 @@ fn barred<'a>(does: Does<'_>) -> Option<Wrong<'a>> {
     match does {
         Does::Get(_) => Some(Wrong::ByRoutine("get", RESOURCES_OF_TASKS)),
         Does::Release(_) => Some(Wrong::ByRoutine("release", RESOURCES_OF_TASKS)),
-        Does::Wait(_) => Some(Wrong::ByRoutine("wait", EVENTS_OF_TASKS)),
+        Does::Wait { .. } => Some(Wrong::ByRoutine("wait", EVENTS_OF_TASKS)),
         Does::Clear(_) => Some(Wrong::ByRoutine("clear", EVENTS_OF_TASKS)),
         Does::Chain(_) => Some(Wrong::ByRoutine("chain", "it isn't a job of a task")),
         Does::Schedule => Some(Wrong::ByRoutine("schedule", "it isn't a job of a task")),
@@ -171,6 +171,7 @@ fn instructions(does: Does<'_>) -> usize {
     match does {
         Does::Work(ticks) => Work::of(ticks).instructions(),
         Does::Repeat(_) | Does::End => 2,
+        _ if does.is_limited_wait() => LIMITED_WAIT,
         _ => 1,
     }
 }

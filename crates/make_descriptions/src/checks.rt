@@ -7,8 +7,8 @@ use crate::fault::{Fault, Wrong, tell};
 use crate::lists::items;
 use crate::names::is_among;
 use crate::node::Node;
-use crate::routines::{ALARM, ROUTINE};
-use crate::uses::{all_events, all_resources, events_of, internal_resources};
+use crate::routines::{ALARM, ROUTINE, TIMEOUT};
+use crate::uses::{all_events, all_resources, events_of, has_limited_wait, internal_resources};
 use osek_base::{MAX_ALARMS, MAX_EVENTS, MAX_NAME, MAX_RESOURCES, MAX_ROUTINES};
 use std::alloc::{AllocError, Global};
 
@@ -86,22 +86,57 @@ fn tell_names<'a>(
             Release::Sporadic(_) => tell_made(task, ROUTINE, interrupts.as_slice(), faults)?,
             Release::Others => {}
         }
+        if has_limited_wait(&task.body) {
+            tell_made(task, TIMEOUT, alarms.as_slice(), faults)?;
+        }
     }
     Ok(())
 }
 
-/// How many tasks have an alarm of their own, and how many a routine.
-fn made(described: &Described<'_>) -> (usize, usize) {
-    let mut alarms: usize = 0;
-    let mut routines: usize = 0;
+/// Tells where the event of a task's limited waits has the name of another.
+fn tell_timeouts<'a>(
+    alloc: Global,
+    nodes: &'a [Node],
+    described: &Described<'a>,
+    faults: &mut Vec<Fault<'a>>,
+) -> Result<(), AllocError> {
+    let events = all_events(alloc, nodes, described)?;
     for task in &described.tasks {
-        match task.release {
-            Release::Periodic { .. } => alarms = alarms.saturating_add(1),
-            Release::Sporadic(_) => routines = routines.saturating_add(1),
-            Release::Others => {}
+        if has_limited_wait(&task.body) && has_made(events.as_slice(), TIMEOUT, task.name) {
+            tell(faults, task.place, Wrong::MadeTwice(TIMEOUT, task.name))?;
         }
     }
-    (alarms, routines)
+    Ok(())
+}
+
+/// How many objects are made for tasks.
+#[derive(Clone, Copy)]
+struct MadeObjects {
+    /// Alarms of periods.
+    periods: usize,
+    /// Alarms of limited waits, and as many events.
+    timeouts: usize,
+    routines: usize,
+}
+
+/// How many objects are made for the tasks of a description.
+fn made(described: &Described<'_>) -> MadeObjects {
+    let mut made = MadeObjects {
+        periods: 0,
+        timeouts: 0,
+        routines: 0,
+    };
+    for task in &described.tasks {
+        match task.release {
+            Release::Periodic { .. } => made.periods = made.periods.saturating_add(1),
+            Release::Sporadic(_) => made.routines = made.routines.saturating_add(1),
+            Release::Others => {}
+        }
+        if has_limited_wait(&task.body) {
+            made.timeouts = made.timeouts.saturating_add(1);
+        }
+    }
+    made
 }
 
 fn tell_count<'a>(
@@ -123,10 +158,16 @@ fn tell_counts<'a>(
     described: &Described<'a>,
     faults: &mut Vec<Fault<'a>>,
 ) -> Result<(), AllocError> {
-    let (alarms, routines) = made(described);
-    let alarms = alarms.saturating_add(described.alarms.len());
-    let routines = routines.saturating_add(described.interrupts.len());
-    let events = all_events(alloc, nodes, described)?.len();
+    let made = made(described);
+    let alarms = described
+        .alarms
+        .len()
+        .saturating_add(made.periods)
+        .saturating_add(made.timeouts);
+    let routines = described.interrupts.len().saturating_add(made.routines);
+    let events = all_events(alloc, nodes, described)?
+        .len()
+        .saturating_add(made.timeouts);
     let internal = internal_resources(alloc, described)?.len();
     let resources = all_resources(alloc, described)?
         .len()
@@ -282,6 +323,7 @@ pub fn tell_all<'a>(
     faults: &mut Vec<Fault<'a>>,
 ) -> Result<(), AllocError> {
     tell_names(alloc, described, faults)?;
+    tell_timeouts(alloc, nodes, described, faults)?;
     tell_counts(alloc, nodes, described, faults)?;
     let internal = internal_resources(alloc, described)?;
     for task in &described.tasks {

@@ -1,6 +1,6 @@
 //! What a body costs: its ticks, and how often it makes a job of a task.
 
-use crate::description::{Body, Does};
+use crate::description::{Body, Does, LIMITED_WAIT};
 use std::alloc::{AllocError, Global};
 
 /// How many ticks a body executes from its first step to its end; of one that is repeated for ever,
@@ -27,6 +27,7 @@ pub fn ticks_of(alloc: Global, body: &Body<'_>) -> Result<u64, AllocError> {
                 ticks = ticks.saturating_add(1);
                 end = 0;
             }
+            does if does.is_limited_wait() => ticks = ticks.saturating_add(LIMITED_WAIT as u64),
             _ => ticks = ticks.saturating_add(1),
         }
     }

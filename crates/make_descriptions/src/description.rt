@@ -12,8 +12,9 @@ pub enum Does<'a> {
     Chain(&'a str),
     /// Sets events for a task. The number is that of the node of the list of their names.
     Set(&'a str, usize),
-    /// Waits for events, or clears them.
-    Wait(usize),
+    /// Waits for events, where `within` is said no longer than so many ticks, 1 to 1,000,000.
+    Wait { events: usize, within: Option<u32> },
+    /// Clears events.
     Clear(usize),
     /// The steps up to the `End` of the same depth, so many times, 1 to 1,000,000.
     Repeat(u32),
@@ -23,6 +24,23 @@ pub enum Does<'a> {
     Resume,
     /// Lets a job of greater priority run that the task keeps away.
     Schedule,
+}
+
+/// The instructions of a limited wait, a tick each: the ticks are loaded, an alarm is set, the task
+/// waits, the alarm is cancelled, and its event is cleared.
+pub const LIMITED_WAIT: usize = 5;
+
+impl Does<'_> {
+    /// Whether it waits no longer than so many ticks, for which its task has an alarm and an event.
+    pub fn is_limited_wait(self) -> bool {
+        matches!(
+            self,
+            Does::Wait {
+                within: Some(_),
+                ..
+            }
+        )
+    }
 }
 
 /// A step, and the place of its value.

@@ -113,6 +113,8 @@ pub enum Wrong<'a> {
     ByRoutine(&'static str, &'static str),
     #[error("a task that has events has activations = 1")]
     ExtendedActivations,
+    #[error("within needs an alarm and an event that this file makes; an OIL file has its own")]
+    LimitBesideOil,
     #[error("{0} is held already")]
     HeldAlready(&'a str),
     #[error("{0} isn't the resource that was got last and is held")]

@@ -16,10 +16,13 @@ const STEPS: [&str; 11] = [
 ];
 
 /// The keys of each step.
-const WORDS: [&str; 13] = [
+const WORDS: [&str; 14] = [
     "work", "get", "release", "activate", "chain", "set", "wait", "clear", "repeat", "suspend",
-    "schedule", "events", "body",
+    "schedule", "events", "body", "within",
 ];
+
+/// The keys that say more of a step, each with the step that it stands beside.
+const MORE: [(&str, &str); 3] = [("events", "set"), ("body", "repeat"), ("within", "wait")];
 
 /// How many repeats a step may stand in: each has a register of its own to count its rounds.
 const MOST_REPEATS: usize = 2;
@@ -65,20 +68,18 @@ fn events<'a>(
     }
 }
 
-/// Tells of `events` at a step that sets none, and of `body` at one that repeats none.
+/// Tells of each key that says more of another step than this.
 fn tell_strays<'a>(
     table: &Table<'a>,
     word: &'static str,
     faults: &mut Vec<Fault<'a>>,
 ) -> Result<(), AllocError> {
-    if let Some(Found { node, .. }) = table.find("events") {
-        if word != "set" {
-            tell(faults, node.key_place, Wrong::Beside("events", word))?;
-        }
-    }
-    if let Some(Found { node, .. }) = table.find("body") {
-        if word != "repeat" {
-            tell(faults, node.key_place, Wrong::Beside("body", word))?;
+    for more in &MORE {
+        let (key, step) = *more;
+        if let Some(Found { node, .. }) = table.find(key) {
+            if word != step {
+                tell(faults, node.key_place, Wrong::Beside(key, word))?;
+            }
         }
     }
     Ok(())
@@ -131,7 +132,9 @@ fn does<'a>(
         return Ok(Does::Repeat(rounds.unwrap_or(1)));
     }
     if word == "wait" {
-        return Ok(Does::Wait(events(alloc, table, "wait", faults)?));
+        let events = events(alloc, table, "wait", faults)?;
+        let within = table.ticks("within", (1, MAX_TICKS), faults)?;
+        return Ok(Does::Wait { events, within });
     }
     if word == "clear" {
         return Ok(Does::Clear(events(alloc, table, "clear", faults)?));

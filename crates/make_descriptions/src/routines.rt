@@ -10,6 +10,10 @@ pub const ROUTINE: &str = "Isr";
 /// What stands before a task's name in the name of its alarm.
 pub const ALARM: &str = "Alarm";
 
+/// What stands before a task's name in the names of the alarm that ends its waits, and of the event
+/// that this alarm sets.
+pub const TIMEOUT: &str = "Timeout";
+
 /// A routine's name, in two parts, and when its interrupt arrives.
 #[derive(Clone, Copy)]
 pub struct Routine<'a> {

@@ -14,13 +14,23 @@ pub fn events_of<'a>(
 ) -> Result<Vec<&'a str>, AllocError> {
     let mut found = Vec::new(alloc);
     for step in &body.steps {
-        if let Does::Wait(list) | Does::Clear(list) = step.does {
-            for name in names(alloc, nodes, list)? {
+        if let Does::Wait { events, .. } | Does::Clear(events) = step.does {
+            for name in names(alloc, nodes, events)? {
                 add(&mut found, name)?;
             }
         }
     }
     Ok(found)
+}
+
+/// Whether a body has a limited wait.
+pub fn has_limited_wait(body: &Body<'_>) -> bool {
+    for step in &body.steps {
+        if step.does.is_limited_wait() {
+            return true;
+        }
+    }
+    false
 }
 
 /// The resources that a body gets, each once: those that its task lists, so not RES_SCHEDULER.

@@ -3,9 +3,9 @@
 use make_descriptions::description::{Action, Alarm, Described, Release, Task};
 use make_descriptions::lists::names;
 use make_descriptions::node::Node;
-use make_descriptions::routines::{ALARM, ROUTINE};
+use make_descriptions::routines::{ALARM, ROUTINE, TIMEOUT};
 use make_descriptions::uses::{
-    all_events, all_resources, events_of, internal_resources, resources_of,
+    all_events, all_resources, events_of, has_limited_wait, internal_resources, resources_of,
 };
 use std::alloc::Global;
 use std::io::{self, Write};
@@ -88,6 +88,9 @@ fn write_task<W: Write>(
     for event in events_of(alloc, nodes, &task.body)? {
         write!(out, "\n    EVENT = {event};")?;
     }
+    if has_limited_wait(&task.body) {
+        write!(out, "\n    EVENT = {TIMEOUT}{};", task.name)?;
+    }
     out.write_all(b" };\n")
 }
 
@@ -153,6 +156,14 @@ fn write_alarm<W: Write>(
     out.write_all(END_OF_TIMES)
 }
 
+/// Writes the alarm that ends the limited waits of a task.
+fn write_timeout<W: Write>(name: &str, out: &mut W) -> io::Result<()> {
+    writeln!(out, "  ALARM {TIMEOUT}{name} {{")?;
+    write!(out, "    COUNTER = Clock; ACTION = SETEVENT {{ ")?;
+    writeln!(out, "TASK = {name}; EVENT = {TIMEOUT}{name}; }};")?;
+    out.write_all(b"    AUTOSTART = FALSE; };\n")
+}
+
 fn write_alarms<W: Write>(
     alloc: Global,
     nodes: &[Node],
@@ -164,6 +175,11 @@ fn write_alarms<W: Write>(
     }
     for alarm in &described.alarms {
         write_alarm(alloc, nodes, described, alarm, out)?;
+    }
+    for task in &described.tasks {
+        if has_limited_wait(&task.body) {
+            write_timeout(task.name, out)?;
+        }
     }
     Ok(())
 }
@@ -195,6 +211,16 @@ fn write_resources<W: Write>(
     Ok(())
 }
 
+/// Writes the events of limited waits.
+fn write_timeout_events<W: Write>(described: &Described<'_>, out: &mut W) -> io::Result<()> {
+    for task in &described.tasks {
+        if has_limited_wait(&task.body) {
+            writeln!(out, "  EVENT {TIMEOUT}{} {{ MASK = AUTO; }};", task.name)?;
+        }
+    }
+    Ok(())
+}
+
 /// Writes the OIL file. An error is a failed write or want of memory.
 pub fn write_oil<W: Write>(
     alloc: Global,
@@ -215,6 +241,7 @@ pub fn write_oil<W: Write>(
     for event in all_events(alloc, nodes, described)? {
         writeln!(out, "  EVENT {event} {{ MASK = AUTO; }};")?;
     }
+    write_timeout_events(described, out)?;
     out.write_all(CLOCK)?;
     write_alarms(alloc, nodes, described, out)?;
     out.write_all(b"};\n")

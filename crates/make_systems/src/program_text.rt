@@ -1,15 +1,15 @@
 //! The programs of a description.
 //!
 //! Each step is one instruction, so one tick, but for these: `work` is as many ticks as it says,
-//! and `repeat` is two before its first round and two behind each. Registers: r1 and r2 are those
-//! of `work`, r4 and r5 count rounds, r6 is 1 in a repeat, and r7 is never written, so it is 0, as
-//! at each job's and routine's beginning.
+//! `repeat` is two before its first round and two behind each, and a limited wait is five.
+//! Registers: r1 and r2 are those of `work` and of limits, r4 and r5 count rounds, r6 is 1 in a
+//! repeat, and r7 is never written, so it is 0, as at each job's and routine's beginning.
 
 use make_descriptions::Work;
 use make_descriptions::description::{Body, Described, Does, Release};
 use make_descriptions::lists::names;
 use make_descriptions::node::Node;
-use make_descriptions::routines::ROUTINE;
+use make_descriptions::routines::{ROUTINE, TIMEOUT};
 use std::alloc::Global;
 use std::io::{self, Write};
 
@@ -90,9 +90,29 @@ fn write_end<W: Write>(labels: &mut ProgramLabels, out: &mut W) -> io::Result<()
     writeln!(out, "      JNE {register}, r7, L{label}")
 }
 
+/// Writes a wait, which an alarm of the task ends so many ticks behind the one that sets it.
+fn write_limited<W: Write>(
+    alloc: Global,
+    nodes: &[Node],
+    task: &str,
+    events: usize,
+    ticks: u32,
+    out: &mut W,
+) -> io::Result<()> {
+    writeln!(out, "      ; within {ticks}")?;
+    writeln!(out, "      LI r1, {ticks}")?;
+    writeln!(out, "      SREL {TIMEOUT}{task}, r1, r7")?;
+    write!(out, "      WAIT {TIMEOUT}{task} + ")?;
+    write_events(alloc, nodes, events, out)?;
+    writeln!(out, "      CANA {TIMEOUT}{task}")?;
+    writeln!(out, "      CLRE {TIMEOUT}{task}")
+}
+
+/// Writes a step of a task or routine.
 fn write_step<W: Write>(
     alloc: Global,
     nodes: &[Node],
+    owner: &str,
     does: Does<'_>,
     labels: &mut ProgramLabels,
     out: &mut W,
@@ -107,10 +127,13 @@ fn write_step<W: Write>(
             write!(out, "      SETE {name}, ")?;
             write_events(alloc, nodes, list, out)
         }
-        Does::Wait(list) => {
-            out.write_all(b"      WAIT ")?;
-            write_events(alloc, nodes, list, out)
-        }
+        Does::Wait { events, within } => match within {
+            Some(ticks) => write_limited(alloc, nodes, owner, events, ticks, out),
+            None => {
+                out.write_all(b"      WAIT ")?;
+                write_events(alloc, nodes, events, out)
+            }
+        },
         Does::Clear(list) => {
             out.write_all(b"      CLRE ")?;
             write_events(alloc, nodes, list, out)
@@ -126,12 +149,13 @@ fn write_step<W: Write>(
 fn write_steps<W: Write>(
     alloc: Global,
     nodes: &[Node],
+    owner: &str,
     body: &Body<'_>,
     out: &mut W,
 ) -> io::Result<()> {
     let mut labels = ProgramLabels::new(alloc);
     for step in &body.steps {
-        write_step(alloc, nodes, step.does, &mut labels, out)?;
+        write_step(alloc, nodes, owner, step.does, &mut labels, out)?;
     }
     Ok(())
 }
@@ -147,10 +171,10 @@ fn write_task<W: Write>(
     writeln!(out, ".task {name}")?;
     if body.is_looped {
         out.write_all(b"again:\n")?;
-        write_steps(alloc, nodes, body, out)?;
+        write_steps(alloc, nodes, name, body, out)?;
         return out.write_all(b"      JMP again\n\n");
     }
-    write_steps(alloc, nodes, body, out)?;
+    write_steps(alloc, nodes, name, body, out)?;
     out.write_all(b"      TERM\nlast: JMP last\n\n")
 }
 
@@ -167,7 +191,7 @@ pub fn write_programs<W: Write>(
     }
     for interrupt in &described.interrupts {
         writeln!(out, ".isr {}", interrupt.name)?;
-        write_steps(alloc, nodes, &interrupt.body, out)?;
+        write_steps(alloc, nodes, interrupt.name, &interrupt.body, out)?;
         out.write_all(b"      RETI\n\n")?;
     }
     for task in &described.tasks {

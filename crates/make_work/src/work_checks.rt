@@ -159,14 +159,24 @@ impl<'a> Beside<'a> {
         for step in &body.steps {
             match step.does {
                 Does::Get(name) => self.tell_resource(task, owner, name, step.place, faults)?,
-                Does::Wait(list) | Does::Clear(list) => {
-                    self.tell_events(alloc, task, owner, list, faults)?;
+                Does::Wait { events, .. } | Does::Clear(events) => {
+                    self.tell_events(alloc, task, owner, events, faults)?;
                 }
                 _ => {}
             }
         }
         Ok(())
     }
+}
+
+/// Tells of each limited wait: its alarm and its event aren't the OIL file's.
+fn tell_limits<'a>(body: &Body<'a>, faults: &mut Vec<Fault<'a>>) -> Result<(), AllocError> {
+    for step in &body.steps {
+        if step.does.is_limited_wait() {
+            tell(faults, step.place, Wrong::LimitBesideOil)?;
+        }
+    }
+    Ok(())
 }
 
 /// Tells what is wrong of the bodies of a work file.
@@ -181,6 +191,7 @@ pub(crate) fn tell_bodies<'a>(
     for task in &described.tasks {
         beside.tell_named(alloc, &task.body, faults)?;
         tell_task(alloc, &task.body, faults)?;
+        tell_limits(&task.body, faults)?;
         if let Some(object) = beside.task(task.name) {
             beside.tell_listed(alloc, object, task.name, &task.body, faults)?;
         }
