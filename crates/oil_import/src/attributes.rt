@@ -48,7 +48,7 @@ fn is_name(word: &str) -> bool {
     }
 }
 
-fn are_word_bytes(bytes: &[u8]) -> bool {
+pub(crate) fn are_word_bytes(bytes: &[u8]) -> bool {
     for byte in bytes {
         if !is_word_byte(*byte) {
             return false;

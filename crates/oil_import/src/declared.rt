@@ -4,6 +4,7 @@
 use crate::attributes::{is_object_name, kind_of};
 use crate::braces::inside;
 use crate::items::{Item, Written};
+use crate::long_names::reason_against_name;
 use crate::reasons;
 use oil_reader::Kind;
 use osek_base::{
@@ -117,7 +118,7 @@ impl<'a> DeclaredObjects<'a> {
     /// Why no object of that kind and name can be declared besides.
     pub(crate) fn refusal(&self, kind: Kind, name: &str) -> Option<&'static str> {
         if !is_object_name(name) {
-            return Some(reasons::BAD_NAME);
+            return Some(reason_against_name(name));
         }
         if self.find(kind, name).is_some() {
             return Some(reasons::TWICE);

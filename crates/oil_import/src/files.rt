@@ -8,6 +8,7 @@ use crate::defaults::Defaults;
 use crate::draft::Draft;
 use crate::items::{Item, Written};
 use crate::links::Links;
+use crate::long_names::reason_against_name;
 use crate::messages::{Messages, Subject, Verdict};
 use crate::objects::depth_of;
 use crate::priorities::Priorities;
@@ -117,7 +118,8 @@ impl<'a> Importer<'a> {
         if !is_cpu_name(name) {
             let subject = Subject::Object(CPU, name);
             let place = item.written_place;
-            self.messages.refuse(place, subject, reasons::BAD_NAME)?;
+            self.messages
+                .refuse(place, subject, reason_against_name(name))?;
         }
         self.draft.open_file(name)?;
         let depth = depth_of(objects);

@@ -9,6 +9,7 @@ use crate::defaults::Defaults;
 use crate::files::import_items;
 use crate::includes::all_tokens;
 use crate::items::{Item, items_of};
+use crate::long_names::shorten;
 use crate::messages::{Messages, Subject};
 use crate::reasons;
 use crate::settings::Importer;
@@ -32,7 +33,8 @@ fn all_items<'a>(
     messages: &mut Messages<'a>,
 ) -> Result<(Vec<Item<'a>>, Defaults<'a>, Place), AllocError> {
     let (tokens, end) = all_tokens(alloc, sources, messages)?;
-    let items = items_of(alloc, &tokens, end)?;
+    let mut items = items_of(alloc, &tokens, end)?;
+    shorten(alloc, &mut items, messages)?;
     let defaults = Defaults::new(alloc, &tokens)?;
     Ok((items, defaults, end))
 }

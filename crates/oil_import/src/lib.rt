@@ -9,9 +9,9 @@
 //! Files become tokens (`tokens`), in the order in which files include one another (`includes`),
 //! these become items by depth of braces (`items`). What is kept of them is written as a draft
 //! (`draft`, `settings`, `objects`, `files`), which is read and printed (`importing`). `defaults`
-//! are those of the file's own implementation, `priorities` those that are numbered anew, `links`
-//! those between resources. `messages` tells what was left out, set, kept or refused, `budgets`
-//! what was left out that may be of use elsewhere.
+//! are those of the file's own implementation, `priorities` those that are numbered anew,
+//! `long_names` those whose end is taken, `links` those between resources. `messages` tells what
+//! was left out, set, kept or refused, `budgets` what was left out that may be of use elsewhere.
 #![tactic(auto)]
 
 mod attributes;
@@ -26,6 +26,7 @@ mod importing;
 mod includes;
 mod items;
 mod links;
+mod long_names;
 mod messages;
 mod objects;
 mod priorities;

@@ -26,6 +26,8 @@ pub enum Subject<'a> {
     Setting(&'a str, &'a str),
     /// `NAME = VALUE as NUMBER`, where a number stands for the value.
     Renumbered(&'a str, &'a str, u32),
+    /// `KIND NAME as NAME`, where a shorter name stands for another.
+    Shortened(&'a str, &'a str, &'a str),
     /// A word or sign.
     Word(&'a str),
 }
@@ -164,6 +166,7 @@ fn write_subject<W: Write>(subject: Subject<'_>, out: &mut W) -> io::Result<()> 
         Subject::Object(kind, name) => write!(out, "{kind} {name}"),
         Subject::Setting(name, value) => write!(out, "{name} = {value}"),
         Subject::Renumbered(name, value, number) => write!(out, "{name} = {value} as {number}"),
+        Subject::Shortened(kind, name, short) => write!(out, "{kind} {name} as {short}"),
         Subject::Word(word) => write!(out, "{word}"),
     }
 }

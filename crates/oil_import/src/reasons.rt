@@ -42,6 +42,11 @@ pub(crate) const NO_VALUE: &str = "a value is wanted behind it";
 pub(crate) const BAD_NAME: &str =
     "a name is a letter or _, then letters, digits and _, at most 32; INVALID and r0 to r7 are none";
 
+pub(crate) const LONG: &str = "a name has at most 32 letters here";
+
+pub(crate) const NO_END: &str =
+    "a name has at most 32 letters, and the end of this one is no name, or another's too";
+
 pub(crate) const UNKNOWN_KIND: &str = "there are no objects of that kind";
 
 pub(crate) const COMMUNICATION: &str = "communication and network management are left out";
