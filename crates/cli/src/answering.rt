@@ -1,12 +1,13 @@
 //! Answers to command lines: what is asked is written, and then how it ended.
 
 use crate::bounding::write_searched;
+use crate::stored::{Stored, store};
 use clap::Error as LineError;
 use clap::error::ErrorKind;
 use cli_answers::{
     StoredRun, Texts, Verdict, answer_import, as_written, explain_fault, explain_verdict, is_free,
-    make_files, read_texts, status_of, store_runs, system_of, write_cut, write_cuts, write_lines,
-    write_shown, write_view,
+    make_files, read_texts, status_of, system_of, write_cut, write_cuts, write_lines, write_shown,
+    write_view,
 };
 use cli_requests::{
     Asked, BoundsLine, DONE, Files, Folder, Question, REFUSED, REFUSED_LINE, Request, Rules,
@@ -61,14 +62,35 @@ fn write_answer<'q, O: Write, E: Write>(
         Question::Show => write_shown(alloc, request, texts, out),
         Question::Bounds(line) => {
             let asked = BoundsAsked {
+                request,
                 line,
                 said: rules.distances.as_slice(),
                 limits: rules.limits(),
-                is_explained: request.is_explained,
             };
             let mut watch = SearchWatch::new(progress);
             write_searched(alloc, texts, asked, rules, &mut watch, runs, out)
         }
+    }
+}
+
+/// Writes the answer to a question: into the page, where a line names a file for it, or to `out`.
+fn write_where<'q, O: Write, E: Write>(
+    alloc: Global,
+    texts: &Texts,
+    request: &'q Request<'q>,
+    rules: &'q Rules<'q>,
+    progress: &mut Progress<'_, E>,
+    stored: &mut Stored,
+    out: &mut O,
+) -> Result<Verdict<'q>, RunFault> {
+    let Stored { runs, page } = stored;
+    match request.question.output() {
+        Some(_) => match write_answer(alloc, texts, request, rules, progress, runs, page) {
+            // The only write that can fail there is for want of memory.
+            Err(RunFault::Write) => Err(RunFault::Memory),
+            outcome => outcome,
+        },
+        None => write_answer(alloc, texts, request, rules, progress, runs, out),
     }
 }
 
@@ -96,12 +118,12 @@ fn answer_by<F: Files, O: Write, E: Write>(
 ) -> Result<u8, RunFault> {
     let showing = showing_of(request, shows_progress);
     let mut progress = Progress::new(&mut *err, showing);
-    let mut runs = Vec::new(alloc);
-    let outcome = write_answer(alloc, texts, request, rules, &mut progress, &mut runs, out);
+    let mut kept = Stored::new(alloc);
+    let outcome = write_where(alloc, texts, request, rules, &mut progress, &mut kept, out);
     progress.end();
     let verdict = outcome?;
     out.flush()?;
-    let stored = store_runs(alloc, texts, &runs, files, err)?;
+    let stored = store(alloc, request, texts, &kept, files, err)?;
     let _ = verdict.write_lines(err);
     if request.is_explained {
         explain_verdict(alloc, request, texts, &verdict, err);

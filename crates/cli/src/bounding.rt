@@ -3,6 +3,7 @@
 ghost use Rattle.osek_base.specs.Separable.{Separable};
 
 use cli_answers::{StoredRun, Texts, Verdict, system_of, write_denial};
+use cli_report::write_report;
 use cli_requests::Rules;
 use cli_tables::{
     BoundsAsked, SearchWatch, all_distances, distance_fault, mode_id, unknown_figure, write_found,
@@ -70,7 +71,7 @@ fn write_upper<'v, O: Write, E: Write>(
     write_found(alloc, &part, mode, &distances, bounds, asked, runs, out)
 }
 
-/// Writes the bounds of all runs in a mode.
+/// Writes the bounds of all runs in a mode, as tables or as a page.
 fn write_whole<'v, O: Write, E: Write>(
     alloc: Global,
     texts: &Texts,
@@ -88,7 +89,10 @@ fn write_whole<'v, O: Write, E: Write>(
     let distances = all_distances(alloc, system, &rules.distances)?;
     let extent = extent_of(rules);
     let found = find_bounds(alloc, system, mode, &distances, extent, watch)?;
-    write_found(alloc, system, mode, &distances, found, asked, runs, out)
+    match asked.line.page {
+        Some(_) => write_report(alloc, texts, system, mode, &distances, found, asked, out),
+        None => write_found(alloc, system, mode, &distances, found, asked, runs, out),
+    }
 }
 
 /// Writes the bounds that are asked for, or what names nothing of the system.

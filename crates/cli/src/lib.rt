@@ -1,9 +1,10 @@
 //! The command line of `osek`: answers lines over any files and streams, and has every run
-//! searched for `bounds`. No contract but safety: it is tested.
+//! searched for `bounds` and `report`. No contract but safety: it is tested.
 #![tactic(auto)]
 
 mod answering;
 mod bounding;
+mod stored;
 
 pub use answering::command;
 pub use bounding::write_searched;

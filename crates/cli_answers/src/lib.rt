@@ -23,6 +23,7 @@ mod works;
 pub use explaining::{explain_fault, explain_verdict};
 pub use imports::answer_import;
 pub use inputs::{Texts, as_written, mode_of, read_texts, system_of};
+pub use lines_from::LinesFrom;
 pub use making::make_files;
 pub use partitions::{Stretch, stretches, write_cut, write_cuts, write_denial};
 pub use runs::{write_lines, write_view};

@@ -6,14 +6,14 @@ use std::io::{self, Write};
 /// A stream of a trace, of which the lines of the ticks before one are left out. What is written by
 /// one call begins with a line, until that tick is reached, and so with the number of a tick.
 #[derive(Drop)]
-pub(crate) struct LinesFrom<O> {
+pub struct LinesFrom<O> {
     out: O,
     from: u32,
 }
 
 impl<O> LinesFrom<O> {
     /// The lines of the ticks from `from` on go on to `out`; from 0 on all do.
-    pub(crate) fn new(out: O, from: u32) -> Self {
+    pub fn new(out: O, from: u32) -> Self {
         LinesFrom { out, from }
     }
 }

@@ -42,7 +42,9 @@ pub(crate) enum Argument {
     Flag(&'static str, &'static str),
     /// `--name VALUE`, with what the help calls the value.
     Option(&'static str, &'static str, Takes, &'static str),
-    /// The same with a letter, `-n VALUE`, where it has to be there, of any text.
+    /// The same with a letter, `-n VALUE`, of any text.
+    Lettered(char, &'static str, &'static str, &'static str),
+    /// The same where it has to be there.
     Required(char, &'static str, &'static str, &'static str),
 }
 
@@ -61,6 +63,10 @@ fn option<'a>(alloc: Global, name: &'a str, value: &'a str, takes: Takes) -> Arg
         .value_parser(takes.parser())
 }
 
+fn lettered<'a>(alloc: Global, letter: char, name: &'a str, value: &'a str) -> Arg<'a> {
+    option(alloc, name, value, Takes::Text).short(letter)
+}
+
 impl Argument {
     /// By which it is read.
     pub(crate) fn name(&self) -> &'static str {
@@ -69,6 +75,7 @@ impl Argument {
             | Argument::Words(name, _)
             | Argument::Flag(name, _)
             | Argument::Option(name, _, _, _)
+            | Argument::Lettered(_, name, _, _)
             | Argument::Required(_, name, _, _) => name,
         }
     }
@@ -80,6 +87,7 @@ impl Argument {
             | Argument::Words(_, help)
             | Argument::Flag(_, help)
             | Argument::Option(_, _, _, help)
+            | Argument::Lettered(_, _, _, help)
             | Argument::Required(_, _, _, help) => help,
         }
     }
@@ -88,15 +96,19 @@ impl Argument {
     pub(crate) fn is_word(&self) -> bool {
         match *self {
             Argument::Word(_, _, _) | Argument::Words(_, _) => true,
-            Argument::Flag(_, _) | Argument::Option(_, _, _, _) | Argument::Required(_, _, _, _) =>
-                false,
+            Argument::Flag(_, _)
+            | Argument::Option(_, _, _, _)
+            | Argument::Lettered(_, _, _, _)
+            | Argument::Required(_, _, _, _) => false,
         }
     }
 
     /// What the help calls the value of an option that has one.
     pub(crate) fn value(&self) -> Option<&'static str> {
         match *self {
-            Argument::Option(_, value, _, _) | Argument::Required(_, _, value, _) => Some(value),
+            Argument::Option(_, value, _, _)
+            | Argument::Lettered(_, _, value, _)
+            | Argument::Required(_, _, value, _) => Some(value),
             Argument::Word(_, _, _) | Argument::Words(_, _) | Argument::Flag(_, _) => None,
         }
     }
@@ -104,7 +116,9 @@ impl Argument {
     /// The letter of an option that has one.
     pub(crate) fn letter(&self) -> Option<char> {
         match *self {
-            Argument::Required(letter, _, _, _) => Some(letter),
+            Argument::Lettered(letter, _, _, _) | Argument::Required(letter, _, _, _) => Some(
+                letter,
+            ),
             Argument::Word(_, _, _)
             | Argument::Words(_, _)
             | Argument::Flag(_, _)
@@ -134,9 +148,11 @@ impl Argument {
             Argument::Option(name, value, takes, help) => {
                 option(alloc, name, value, takes).help(help)
             }
+            Argument::Lettered(letter, name, value, help) => {
+                lettered(alloc, letter, name, value).help(help)
+            }
             Argument::Required(letter, name, value, help) => {
-                option(alloc, name, value, Takes::Text)
-                    .short(letter)
+                lettered(alloc, letter, name, value)
                     .required(true)
                     .help(help)
             }

@@ -34,6 +34,15 @@ pub struct BoundsLine<'a> {
     pub into: Option<&'a str>,
     /// The folder that runs of all figures are stored in, if they are wanted.
     pub witnesses: Option<&'a str>,
+    /// The page that is wanted in place of the tables, if one is.
+    pub page: Option<Page<'a>>,
+}
+
+/// A page for a review.
+#[derive(Clone, Copy)]
+pub struct Page<'a> {
+    /// The name of the file that it is written to; None for standard output.
+    pub output: Option<&'a str>,
 }
 
 /// A figure of which a run is wanted that shows it.
@@ -85,6 +94,16 @@ pub(crate) fn searched<'a>(matches: &ArgMatches<'a>) -> BoundsLine<'a> {
         witness: figure_wanted(matches),
         into: matches.get_str("into"),
         witnesses: matches.get_str("witnesses"),
+        page: None,
+    }
+}
+
+/// The bounds that are asked for as a page.
+pub(crate) fn reported<'a>(matches: &ArgMatches<'a>) -> BoundsLine<'a> {
+    let output = matches.get_str("output");
+    BoundsLine {
+        page: Some(Page { output }),
+        ..searched(matches)
     }
 }
 

@@ -13,7 +13,7 @@ const RULES: &str = "rules.txt";
 fn file_count(subcommand: &str) -> usize {
     match subcommand {
         "trace" | "upper" | "vcd" | "timeline" | "stats" => 3,
-        "check" | "partitions" | "class" | "show" | "bounds" => 2,
+        "check" | "partitions" | "class" | "show" | "bounds" | "report" => 2,
         _ => 0,
     }
 }

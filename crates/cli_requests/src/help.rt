@@ -201,6 +201,19 @@ A run in which a response of the task Inject takes as many ticks; their number s
 The same run with its system in a folder, for `osek timeline --in longest`:
   osek bounds system.oil programs.asm Normal --apart Crank=20 --witness Inject --into longest";
 
+pub(crate) const PAGE: &str =
+    "The file that the page is written to; standard output unless it is said";
+
+pub(crate) const REPORT_EXAMPLE: &str =
+    "One HTML page that needs nothing else: the bounds of all runs with what they promise, the limits, the distances, the
+cuts, pictures of the worst cases, and the system. Statuses are as of `bounds`.
+
+Example, of the folder engine and its rules:
+  osek report --in engine -o report.html
+
+Held to limits:
+  osek report system.oil programs.asm Normal --apart Crank=20 --limit Inject=30 --no-loss -o report.html";
+
 pub(crate) const FILE: &str =
     "The description, in TOML: tasks, interrupts and alarms; with --oil the bodies of tasks and interrupts";
 
@@ -249,12 +262,13 @@ pub(crate) const STATUSES: &str = "Exit status:
   2  a refused command line
   3  a denied partition; standard output has the denial
   4  a failed write
-  5  an undecided search of `bounds`; standard output has how far it came
-  6  a limit of `stats` or `bounds` is broken; standard error has a line for each
+  5  an undecided search of `bounds` or `report`; standard output, or the page, has how far it came
+  6  a limit of `stats`, `bounds` or `report` is broken; standard error has a line for each
 
 `osek SUBCOMMAND --help` tells the words of a subcommand.";
 
-pub(crate) const VERSION: &str = "0.1.0";
+/// The version of the program.
+pub const VERSION: &str = "0.1.0";
 
 pub(crate) const LONG_VERSION: &str = "0.1.0
 Proofs: a Rattle kit with the logic dac8208d650f15bf checks them, and `rt run` builds what is proved alone.

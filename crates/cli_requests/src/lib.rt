@@ -22,8 +22,9 @@ mod subcommand;
 mod unread;
 mod zsh_completions;
 
-pub use bounds_line::{BoundsLine, Distance, MAX_LONGEST, MAX_STATES, Wanted};
+pub use bounds_line::{BoundsLine, Distance, MAX_LONGEST, MAX_STATES, Page, Wanted};
 pub use folder::{Folder, NAMES, folder_of, with_files};
+pub use help::VERSION;
 pub use host_files::{FileFault, Files, HostFiles, Refusal};
 pub use reading::read_line;
 pub use request::{

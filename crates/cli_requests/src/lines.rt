@@ -30,6 +30,24 @@ const SYSTEM: [Argument; 4] = [
 /// Whether it is told how far a run or a search is.
 const PROGRESS: Argument = Argument::Flag("progress", help::PROGRESS);
 
+/// How interrupts come in every run.
+const APART: Argument = Argument::Option("apart", "ROUTINE=TICKS", Takes::Texts, help::APART);
+
+/// How far a search through every run goes.
+const STATES: Argument = Argument::Option(
+    "states",
+    "N",
+    Takes::Number(1, MAX_STATES),
+    help::STATES,
+);
+
+const LONGEST: Argument = Argument::Option(
+    "longest",
+    "TICKS",
+    Takes::Number(1, MAX_LONGEST),
+    help::LONGEST,
+);
+
 /// What a run is of besides its system.
 const RUN: [Argument; 5] = [
     Argument::Word("IRQ", Takes::Text, help::IRQ),
@@ -183,17 +201,12 @@ fn bounds() -> Subcommand {
             &[
                 MODE,
                 Argument::Option("rules", "FILE", Takes::Text, help::RULES_FILE),
-                Argument::Option("apart", "ROUTINE=TICKS", Takes::Texts, help::APART),
+                APART,
                 Argument::Option("witness", "NAME[=FIGURE]", Takes::Text, help::WITNESS),
                 Argument::Option("into", "FOLDER", Takes::Text, help::INTO),
                 Argument::Option("witnesses", "FOLDER", Takes::Text, help::WITNESSES),
-                Argument::Option("states", "N", Takes::Number(1, MAX_STATES), help::STATES),
-                Argument::Option(
-                    "longest",
-                    "TICKS",
-                    Takes::Number(1, MAX_LONGEST),
-                    help::LONGEST,
-                ),
+                STATES,
+                LONGEST,
                 Argument::Option("upper", "P", PRIORITY, help::BOUNDS_UPPER),
                 Argument::Flag("csv", help::BOUNDS_CSV),
                 Argument::Flag("json", help::BOUNDS_JSON),
@@ -204,6 +217,30 @@ fn bounds() -> Subcommand {
             ],
         ],
         exclusions: &[ONE_FORM, NO_TABLES],
+    }
+}
+
+fn report() -> Subcommand {
+    Subcommand {
+        name: "report",
+        about: "Writes a page for a review: a system, its cuts, its bounds and its worst cases",
+        example: help::REPORT_EXAMPLE,
+        arguments: &[
+            &SYSTEM,
+            &[
+                MODE,
+                Argument::Lettered('o', "output", "FILE", help::PAGE),
+                Argument::Option("rules", "FILE", Takes::Text, help::RULES_FILE),
+                APART,
+                STATES,
+                LONGEST,
+                Argument::Option("limit", "NAME=TICKS", Takes::Texts, help::BOUNDS_LIMIT),
+                Argument::Flag("no-loss", help::BOUNDS_NO_LOSS),
+                Argument::Flag("no-refusal", help::BOUNDS_NO_REFUSAL),
+                PROGRESS,
+            ],
+        ],
+        exclusions: &[],
     }
 }
 
@@ -240,7 +277,7 @@ pub(crate) fn shared() -> [&'static [Argument]; 4] {
 }
 
 /// All of them, in the order of the help.
-pub(crate) fn subcommands() -> [Subcommand; 12] {
+pub(crate) fn subcommands() -> [Subcommand; 13] {
     [
         trace(),
         upper(),
@@ -252,6 +289,7 @@ pub(crate) fn subcommands() -> [Subcommand; 12] {
         class(),
         show(),
         bounds(),
+        report(),
         make(),
         import(),
     ]

@@ -1,7 +1,7 @@
 //! Reads what a command line asks for.
 
 use crate::bash_completions::bash_completions;
-use crate::bounds_line::{distances, figure_fault, searched};
+use crate::bounds_line::{distances, figure_fault, reported, searched};
 use crate::fault::Fault;
 use crate::help;
 use crate::lines::lines;
@@ -172,6 +172,7 @@ fn question_of<'a>(subcommand: &str, matches: &ArgMatches<'a>) -> Question<'a> {
         "class" => Question::Class,
         "show" => Question::Show,
         "bounds" => Question::Bounds(searched(matches)),
+        "report" => Question::Bounds(reported(matches)),
         _ => trace(matches),
     }
 }

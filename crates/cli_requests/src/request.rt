@@ -90,7 +90,7 @@ pub enum Question<'a> {
     Class,
     /// What generation made, and what is surely a mistake.
     Show,
-    /// The greatest times of all runs.
+    /// The greatest times of all runs, or a page with these and all else that is told of a system.
     Bounds(BoundsLine<'a>),
 }
 
@@ -121,6 +121,14 @@ impl<'a> Question<'a> {
             | Question::Class
             | Question::Show
             | Question::Bounds(_) => None,
+        }
+    }
+
+    /// The name of the file that the answer is written to, where it is one.
+    pub fn output(&self) -> Option<&'a str> {
+        match *self {
+            Question::Bounds(line) => line.page?.output,
+            _ => None,
         }
     }
 

@@ -123,8 +123,8 @@ impl Cell {
         }
     }
 
-    /// Appends the figure as a table prints it.
-    pub(crate) fn push_shown(self, text: &mut String) -> Result<(), AllocError>
+    /// Appends the figure as a table prints it. The only error is want of memory.
+    pub fn push_shown(self, text: &mut String) -> Result<(), AllocError>
         ensures { OnOk result
             (string_bytes text.new ≡ string_bytes text.old ++ shown_text self) }
     {

@@ -10,7 +10,7 @@ use osek_base::{Name, System};
 use std::alloc::{AllocError, Global};
 
 /// The first of some distances that is of a routine.
-pub(crate) fn said_of(distances: &[Distance<'_>], routine: &str) -> Option<u32>
+pub fn said_of(distances: &[Distance<'_>], routine: &str) -> Option<u32>
     ensures { result ≡ said_of distances.now routine.now }
 {
     for distance in distances {

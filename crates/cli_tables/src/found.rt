@@ -48,14 +48,39 @@ fn remarks_of(
     if write_unsaid(system, asked.said, &mut remarks).is_err() {
         return Err(RunFault::Memory);
     }
-    if asked.is_explained && write_remarks(system, found, &mut remarks).is_err() {
+    if asked.request.is_explained && write_remarks(system, found, &mut remarks).is_err() {
         return Err(RunFault::Memory);
     }
     Ok(remarks)
 }
 
-/// Writes how far a search came that stopped before its end, and at what. Nothing is promised of
-/// its figures, so no limit is told to be broken.
+/// What is told on standard error, and by the exit status, of a search that has come to its end or
+/// not: which limits the bounds break. Of one that hasn't, nothing is promised of its figures, so no
+/// limit is told to be broken.
+pub fn verdict_of<'v>(
+    alloc: Global,
+    system: &System,
+    found: &Findings,
+    asked: BoundsAsked<'v>,
+) -> Result<Verdict<'v>, RunFault> {
+    let remarks = remarks_of(alloc, system, found, asked)?;
+    if let Outcome::Undecided(..) = found.bounds.outcome {
+        return Ok(Verdict::Searched {
+            is_decided: false,
+            remarks,
+        });
+    }
+    let broken = broken_bounds(alloc, system, found, &asked.limits)?;
+    if !broken.is_empty() {
+        return Ok(Verdict::Exceeded { remarks, broken });
+    }
+    Ok(Verdict::Searched {
+        is_decided: true,
+        remarks,
+    })
+}
+
+/// Writes how far a search came that stopped before its end, and at what.
 fn write_open<'v, O: Write>(
     alloc: Global,
     system: &System,
@@ -70,10 +95,7 @@ fn write_open<'v, O: Write>(
     if asked.line.form == Form::Table && asked.line.witness.is_none() {
         write_up_to(system, asked.said, &found, progress, out)?;
     }
-    Ok(Verdict::Searched {
-        is_decided: false,
-        remarks: remarks_of(alloc, system, &found, asked)?,
-    })
+    verdict_of(alloc, system, &found, asked)
 }
 
 /// Writes bounds, and tells which limits they break.
@@ -85,17 +107,9 @@ fn write_held<'v, O: Write>(
     asked: BoundsAsked<'v>,
     out: &mut O,
 ) -> Result<Verdict<'v>, RunFault> {
-    let remarks = remarks_of(alloc, system, found, asked)?;
-    let broken = broken_bounds(alloc, system, found, &asked.limits)?;
+    let verdict = verdict_of(alloc, system, found, asked)?;
     write_bounds(alloc, system, found, progress, asked, out)?;
-    if broken.is_empty() {
-        Ok(Verdict::Searched {
-            is_decided: true,
-            remarks,
-        })
-    } else {
-        Ok(Verdict::Exceeded { remarks, broken })
-    }
+    Ok(verdict)
 }
 
 /// Writes what was found of a system: its bounds, or the run that is wanted, or how far the search

@@ -16,12 +16,16 @@ use view_measures::{Figure, Measure};
 
 /// A run that shows a figure, or in whose last tick a service is answered as it is told.
 #[derive(Drop)]
-pub(crate) struct ShownRun {
+pub struct ShownRun {
     /// The text of its arrivals.
     pub arrivals: String,
     /// The line of its ticks and of what it shows; where that has no bound, another one with the
     /// ticks that can come again and again.
     pub lines: String,
+    /// The tick in which what it shows begins.
+    pub first: u32,
+    /// The tick behind the last of it, at most 1,000,000.
+    pub end: u32,
 }
 
 impl ShownRun {
@@ -92,7 +96,7 @@ fn add_endless(alloc: Global, endless: &Endless, lines: &mut String) -> Result<(
 }
 
 /// A run that shows what is told of a figure of that name, if one is known.
-pub(crate) fn run_of(
+pub fn run_of(
     alloc: Global,
     system: &System,
     mode: ModeId,
@@ -107,14 +111,23 @@ pub(crate) fn run_of(
     let mut lines = line_of(alloc, found, named, name, &witness)?;
     let endless = endless_of(alloc, system, mode, distances, found, named.figure)?;
     let mut arrivals = &witness.arrivals;
+    let mut first = witness.ticks.saturating_sub(found.peaks.told(named.figure));
+    let mut end = witness.ticks;
     if let Some(endless) = &endless {
         add_endless(alloc, endless, &mut lines)?;
+        first = endless.from;
+        end = endless.until;
         if endless.until > witness.ticks {
             arrivals = &endless.arrivals;
         }
     }
     let arrivals = print_arrivals(alloc, system, arrivals)?;
-    Ok(Some(ShownRun { arrivals, lines }))
+    Ok(Some(ShownRun {
+        arrivals,
+        lines,
+        first,
+        end,
+    }))
 }
 
 /// A run in whose last tick the service of a number is answered as it is told, if one is known.
@@ -135,7 +148,12 @@ pub(crate) fn failing_run(
     let service = service_text(alloc, system, failure)?;
     let lines = format!(in alloc; "{} ticks: service {service}\n", witness.ticks)?;
     let arrivals = print_arrivals(alloc, system, &witness.arrivals)?;
-    Ok(Some(ShownRun { arrivals, lines }))
+    Ok(Some(ShownRun {
+        arrivals,
+        lines,
+        first: witness.ticks.saturating_sub(1),
+        end: witness.ticks,
+    }))
 }
 
 /// Writes the arrivals of a run that shows what is told of a figure, or of a service, or has it

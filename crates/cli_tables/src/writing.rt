@@ -4,7 +4,7 @@ use crate::apart::write_apart;
 use crate::table::write_tables;
 use cli_requests::Distance;
 use osek_base::System;
-use search::{Obstacle, Progress};
+use search::{Obstacle, Outcome, Progress};
 use search_witnesses::Findings;
 use std::io::{self, Write};
 
@@ -17,6 +17,20 @@ fn reason(obstacle: Obstacle) -> &'static str {
     }
 }
 
+/// Writes how many states a system comes to. An error is a failed write.
+fn write_end<W: Write>(progress: Progress, out: &mut W) -> io::Result<()> {
+    writeln!(out, "decided: {} states", progress.nodes)
+}
+
+/// Writes whether a search has come to its end, and how many states it kept. An error is a failed
+/// write.
+pub fn write_outcome<W: Write>(outcome: Outcome, out: &mut W) -> io::Result<()> {
+    match outcome {
+        Outcome::Decided(progress) => write_end(progress, out),
+        Outcome::Undecided(obstacle, progress) => write_undecided(obstacle, progress, out),
+    }
+}
+
 /// Writes how many states a system comes to, under which distances, and the tables. An error is a
 /// failed write.
 pub fn write_decided<W: Write>(
@@ -26,7 +40,7 @@ pub fn write_decided<W: Write>(
     progress: Progress,
     out: &mut W,
 ) -> io::Result<()> {
-    writeln!(out, "decided: {} states", progress.nodes)?;
+    write_end(progress, out)?;
     write_apart(system, said, out)?;
     write_tables(system, found, out)
 }

@@ -1,0 +1,25 @@
+//! A page for a review: one HTML text, which needs nothing else, with a system, its cuts, its bounds
+//! and what they promise, its limits, and pictures of its worst cases. No contract but safety: it is
+//! tested.
+//!
+//! What is told is what the other subcommands tell, by the same functions. All that isn't the page's
+//! own goes through `Escaped`, so that no name of a file or a text of a system can be taken for HTML.
+#![tactic(auto)]
+
+mod bounds;
+mod cuts;
+mod distances;
+mod heading;
+mod limits;
+mod output;
+mod page;
+mod picture;
+mod pieces;
+mod report;
+mod script;
+mod style;
+mod system;
+mod worst_cases;
+
+pub use output::store_page;
+pub use page::write_report;
