@@ -73,7 +73,8 @@ fn write_answer<'q, O: Write, E: Write>(
     }
 }
 
-/// Writes the answer to a question: into the page, where a line names a file for it, or to `out`.
+/// Writes the answer to a question to `out`. A page is made first, and stays there where a line names
+/// a file for it.
 fn write_where<'q, O: Write, E: Write>(
     alloc: Global,
     texts: &Texts,
@@ -84,14 +85,19 @@ fn write_where<'q, O: Write, E: Write>(
     out: &mut O,
 ) -> Result<Verdict<'q>, RunFault> {
     let Stored { runs, page } = stored;
-    match request.question.output() {
-        Some(_) => match write_answer(alloc, texts, request, rules, progress, runs, page) {
-            // The only write that can fail there is for want of memory.
-            Err(RunFault::Write) => Err(RunFault::Memory),
-            outcome => outcome,
-        },
-        None => write_answer(alloc, texts, request, rules, progress, runs, out),
+    let Some(asked) = request.question.page() else {
+        return write_answer(alloc, texts, request, rules, progress, runs, out);
+    };
+    let verdict = match write_answer(alloc, texts, request, rules, progress, runs, page) {
+        Ok(verdict) => verdict,
+        // The only write that can fail there is for want of memory.
+        Err(RunFault::Write) => return Err(RunFault::Memory),
+        Err(fault) => return Err(fault),
+    };
+    if asked.output.is_none() {
+        out.write_all(page)?;
     }
+    Ok(verdict)
 }
 
 /// How it is shown how far a request is: on a terminal, or where the line asks for it.

@@ -2,7 +2,7 @@
 
 use cli_answers::{StoredRun, Texts, store_runs};
 use cli_report::store_page;
-use cli_requests::{Files, Request};
+use cli_requests::{Files, Page, Request};
 use std::alloc::{AllocError, Global};
 use std::io::Write;
 
@@ -10,7 +10,7 @@ use std::io::Write;
 #[derive(Drop)]
 pub(crate) struct Stored {
     pub(crate) runs: Vec<StoredRun>,
-    /// The page that a line names a file for; empty where there is none.
+    /// The page that is wanted; empty where there is none.
     pub(crate) page: Vec<u8>,
 }
 
@@ -33,8 +33,8 @@ pub(crate) fn store<F: Files, E: Write>(
     files: &mut F,
     err: &mut E,
 ) -> Result<u8, AllocError> {
-    match request.question.output() {
-        Some(path) if !stored.page.is_empty() => {
+    match request.question.page() {
+        Some(Page { output: Some(path) }) if !stored.page.is_empty() => {
             store_page(alloc, path, &stored.page, files, err)
         }
         _ => store_runs(alloc, texts, &stored.runs, files, err),

@@ -1,6 +1,6 @@
 //! What a command line asks for.
 
-use crate::bounds_line::BoundsLine;
+use crate::bounds_line::{BoundsLine, Page};
 use crate::help;
 use crate::rules::Rules;
 use view_figure_texts::Form;
@@ -124,10 +124,10 @@ impl<'a> Question<'a> {
         }
     }
 
-    /// The name of the file that the answer is written to, where it is one.
-    pub fn output(&self) -> Option<&'a str> {
+    /// The page that is wanted, where one is.
+    pub fn page(&self) -> Option<Page<'a>> {
         match *self {
-            Question::Bounds(line) => line.page?.output,
+            Question::Bounds(line) => line.page,
             _ => None,
         }
     }
