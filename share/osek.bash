@@ -14,6 +14,7 @@ _osek_options() {
     class) echo '--help --in --explain' ;;
     show) echo '--help --in --explain' ;;
     bounds) echo '--help --in --explain --rules --apart --witness --into --witnesses --states --longest --upper --csv --json --limit --no-loss --no-refusal --progress' ;;
+    report) echo '--help --in --explain --output --rules --apart --states --longest --limit --no-loss --no-refusal --progress' ;;
     make) echo '--help --output --oil' ;;
     import) echo '--help --work' ;;
   esac
@@ -23,7 +24,7 @@ _osek_options() {
 # or names of files.
 _osek() {
   local word=${COMP_WORDS[COMP_CWORD]} before=${COMP_WORDS[COMP_CWORD - 1]} subcommand='' at
-  local subcommands='trace upper vcd timeline stats check partitions class show bounds make import help'
+  local subcommands='trace upper vcd timeline stats check partitions class show bounds report make import help'
   # Bash makes a word of its own of a `=`.
   if [ "$word" = = ]; then
     word=''
