@@ -4,13 +4,14 @@ use Rattle.std.specs.Prelude.{slice_index_or}
 use Rattle.std.specs.List.{filter, sum_by, list_any}
 use Rattle.std.proofs.lemmas.Bool.{le-leb}
 use Rattle.std.proofs.lemmas.List.Sums.{sum_by-cons, sum_by_push}
+use Rattle.osek_base.specs.declared.arrivals.Arrival.{Arrival}
 use Rattle.osek_base.specs.Activation.{activated}
 use Rattle.osek_base.specs.Lists.{below}
 use Rattle.osek_base.specs.Proper.{IsProper}
 use Rattle.osek_base.specs.State.{State}
 use Rattle.osek_base.specs.System.{System, priority_of}
 use Rattle.osek_base.specs.Tick.{is_pending}
-use Rattle.osek_base.specs.Trace.{all_activated, boot, starting_tasks}
+use Rattle.osek_base.specs.Trace.{all_activated, boot, run, starting_tasks}
 use Rattle.law_runs.proofs.Foremost.{idle_priority}
 use Rattle.law_runs.proofs.RankedMoves.{made_job}
 use Rattle.law_runs.proofs.Single.{IsSingle}
@@ -20,6 +21,11 @@ use Rattle.law_costs.specs.Left.{Weights, counts, left, left_of_active, left_of_
 use Rattle.law_costs.specs.Paying.{PayForBoot, PayForDispatch, PayForStarts, is_upper}
 use Rattle.law_costs.proofs.Dispatch.{high_parts, is_high, reschedule_less}
 use Rattle.law_costs.proofs.Switches.{all_on}
+
+pub boot_state : (S : System) (mode : ℕ) (arrivals : List Arrival)
+    → (run S mode arrivals 0).state ≡ (boot S mode).state
+unfolding run
+boot_state S mode arrivals = refl
 
 -- ---- what activations leave alone
 
@@ -31,7 +37,8 @@ activated_active : (S : System) (t : ℕ) (s : State) → (activated S t s).acti
 unfolding activated
 activated_active S t s = refl
 
-all_switch : (S : System) (ts : List ℕ) (s : State) → switch_of (all_activated S ts s) ≡ switch_of s
+pub all_switch : (S : System) (ts : List ℕ) (s : State)
+    → switch_of (all_activated S ts s) ≡ switch_of s
 all_switch S [] s = refl
 all_switch S (t ∷ ts) s = all_switch S ts (activated S t s) ∙ activated_switch S t s
 

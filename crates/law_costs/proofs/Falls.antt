@@ -1,5 +1,5 @@
 -- What is left falls phase by phase, where costs pay for instructions; so they bound responses.
-use Rattle.std.proofs.Common.{ℕ, zero, suc, ◌≡◌, ◌≤◌, ◌+◌, Bool, true, false, not, ◌||◌, List, [], ◌∷◌, length, refl, ◌∙◌, ap, arith}
+use Rattle.std.proofs.Common.{ℕ, zero, suc, ◌≡◌, ◌≤◌, ◌+◌, true, false, not, ◌||◌, List, [], ◌∷◌, length, ◌∙◌, ap, arith}
 use Rattle.std.specs.Prelude.{◌==◌}
 use Rattle.std.specs.List.{AllByRecursion, filter, sum_by}
 use Rattle.std.proofs.lemmas.Bool.{and_from}
@@ -10,7 +10,7 @@ use Rattle.osek_base.specs.Proper.{IsProper}
 use Rattle.osek_base.specs.State.{State}
 use Rattle.osek_base.specs.System.{System}
 use Rattle.osek_base.specs.Tick.{execute_phase}
-use Rattle.osek_base.specs.Trace.{arriving, boot, run}
+use Rattle.osek_base.specs.Trace.{arriving, run}
 use Rattle.law_runs.proofs.Foremost.{self_equal}
 use Rattle.law_runs.proofs.FormedTick.{run_form}
 use Rattle.law_runs.proofs.Lists.{all_weaker}
@@ -21,18 +21,18 @@ use Rattle.law_future.proofs.Arrivals.{in_filter}
 use Rattle.law_alarms.specs.Expiries.{expires}
 use Rattle.law_windows.specs.Work.{has_work_after, is_busy}
 use Rattle.law_windows.specs.Coming.{coming, first_cost}
+use Rattle.law_windows.proofs.Before.{or_true}
 use Rattle.law_windows.proofs.Expiring.{gaps_bound_responses}
 use Rattle.law_windows.proofs.Phases.{phases_make_a_potential}
 use Rattle.law_costs.specs.Left.{Weights, left}
-use Rattle.law_costs.specs.Instructions.{CostsBoundResponses, CostsFallByPhases, Pay, PayForInstructions, at_instruction, behind_instruction}
-use Rattle.law_costs.proofs.Boot.{boot_less}
+use Rattle.law_costs.specs.Jobs.{at_instruction}
+use Rattle.law_costs.specs.Laws.{CostsBoundResponses, CostsFallByPhases, Pay}
+use Rattle.law_costs.proofs.Boot.{boot_less, boot_state}
+use Rattle.law_costs.proofs.Instructions.{PayForInstructions, behind_instruction}
+use Rattle.law_costs.proofs.Jobs.{jobs_pay}
 use Rattle.law_costs.proofs.Positive.{something_left}
 use Rattle.law_costs.proofs.Ticks.{before_adds, behind_less}
 use Rattle.law_costs.proofs.Totals.{sum_within}
-
-or_true : (b : Bool) → (b || true) ≡ true
-or_true true = refl
-or_true false = refl
 
 each_in : (xs : List ℕ) → AllByRecursion (λ x. is_in x xs ≡ true) xs
 each_in [] = tt
@@ -41,11 +41,6 @@ each_in (x ∷ xs) = (
   all_weaker (λ y. is_in y xs ≡ true) (λ y. is_in y (x ∷ xs) ≡ true) xs
       (λ y is. ap (λ b. (x == y) || b) is ∙ or_true (x == y)) (each_in xs),
 )
-
-boot_state : (S : System) (mode : ℕ) (arrivals : List Arrival)
-    → (run S mode arrivals 0).state ≡ (boot S mode).state
-unfolding run
-boot_state S mode arrivals = refl
 
 module _ (S : System) (mode : ℕ) (arrivals : List Arrival) (p : ℕ) (c : Weights)
     (proper : IsProper S) (pay : Pay S mode p c) where
@@ -135,7 +130,7 @@ module _ (S : System) (mode : ℕ) (arrivals : List Arrival) (p : ℕ) (c : Weig
         omega (arith, less, low)
 
 pub costs_fall_by_phases : CostsFallByPhases
-costs_fall_by_phases S mode arrivals p c proper pay pays = record {
+costs_fall_by_phases S mode arrivals p c proper pay jobs = record {
   positive = λ n going stands.
       something_left S p c pay.something pay.coming (run S mode arrivals n).state
       (run_form S proper mode arrivals n) stands;
@@ -145,6 +140,9 @@ costs_fall_by_phases S mode arrivals p c proper pay pays = record {
   behind = falls S mode arrivals p c proper pay pays;
   begun = begins S mode arrivals p c proper pay pays;
 }
+  where
+    pays : PayForInstructions S mode arrivals p c
+    pays = jobs_pay S mode arrivals p c proper pay.dispatch pay.starts pay.routines jobs
 
 pub costs_bound_responses : CostsBoundResponses
 costs_bound_responses S mode distances p c least most proper pay enough paid =
@@ -155,7 +153,6 @@ costs_bound_responses S mode distances p c least most proper pay enough paid =
           phases_make_a_potential S mode arrivals p c.costs
           (λ n. left S p c (run S mode arrivals n).state)
           (λ n. left S p c (at_instruction S mode arrivals n))
-          (costs_fall_by_phases S mode arrivals p c proper pay
-          (paid arrivals keep).instructions);
+          (costs_fall_by_phases S mode arrivals p c proper pay (paid arrivals keep).jobs);
       sooner = (paid arrivals keep).sooner;
     })

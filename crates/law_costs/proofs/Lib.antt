@@ -1,4 +1,5 @@
 pub mod Totals
+pub mod Parts
 pub mod Switches
 pub mod Dispatch
 pub mod Flags
@@ -6,5 +7,17 @@ pub mod Starts
 pub mod Ticks
 pub mod Boot
 pub mod Positive
+pub mod Instructions
 pub mod Falls
 pub mod Routines
+pub mod JobStarts
+pub mod JobTakes
+pub mod ServicesKeep
+pub mod Low
+pub mod Running
+pub mod Executed
+pub mod Work
+pub mod Kept
+pub mod Quiet
+pub mod Executor
+pub mod Jobs

@@ -15,26 +15,13 @@ use Rattle.law_runs.proofs.Formed.{HasForm}
 use Rattle.law_runs.proofs.Lists.{clash}
 use Rattle.law_windows.specs.Routines.{begun}
 use Rattle.law_windows.specs.Work.{has_work, is_work}
+use Rattle.law_windows.proofs.Before.{or_true}
 use Rattle.law_costs.specs.Left.{Weights, counts, is_off, left, left_of_active, on, switch_for, switch_of}
-use Rattle.law_costs.specs.Instructions.{CostSomething}
-use Rattle.law_costs.specs.Paying.{PayForComing}
+use Rattle.law_costs.specs.Paying.{CostSomething, PayForComing}
+use Rattle.law_costs.proofs.Parts.{any_weaker}
 use Rattle.law_costs.proofs.Totals.{part}
 
 -- ---- lists
-
-or_true : (b : Bool) → (b || true) ≡ true
-or_true true = refl
-or_true false = refl
-
-any_weaker : {X : Type 0} (q r : X → Bool) (xs : List X) → ((x : X) → q x ≡ true → r x ≡ true)
-    → list_any q xs ≡ true → list_any r xs ≡ true
-any_weaker q r [] weaker some = some
-any_weaker q r (x ∷ xs) weaker some = go (q x) refl some (any_weaker q r xs weaker)
-  where
-    go : (b : Bool) → q x ≡ b → (b || list_any q xs) ≡ true
-        → (list_any q xs ≡ true → list_any r xs ≡ true) → (r x || list_any r xs) ≡ true
-    go true is some rest = ap (λ b. b || list_any r xs) (weaker x is)
-    go false is some rest = ap (λ b. r x || b) (rest some) ∙ or_true (r x)
 
 some_part : {X : Type 0} (q : X → Bool) (f : X → ℕ) (d : ℕ) (xs : List X)
     → ((x : X) → q x ≡ true → 1 ≤ f x) → list_any q xs ≡ true → 1 ≤ sum_by (part q f d) xs
@@ -54,7 +41,7 @@ some_part q f d (x ∷ xs) dear some = go (q x) refl some (some_part q f d xs de
         let others = rest some in
         omega (arith, whole, others)
 
-in_below : (n i : ℕ) → i < n → is_in i (below n) ≡ true
+pub in_below : (n i : ℕ) → i < n → is_in i (below n) ≡ true
 in_below zero i low = absurd (omega (arith, low))
 in_below (suc n) i low =
     list_any-append (λ m. m == i) (below n) (n ∷ []) ∙ go (cases_lt i n) (in_below n i)
@@ -91,12 +78,12 @@ some_chosen f test i (x ∷ xs) among is dear =
     go false here among rest = more (test x) (rest among)
 
 -- some flag is raised
-record IsRaised (flags : List Bool) : Type 0 where
-  place : ℕ
-  inside : place < length flags
-  raised : slice_index_or flags place false ≡ true
+pub record IsRaised (flags : List Bool) : Type 0 where
+  pub place : ℕ
+  pub inside : place < length flags
+  pub raised : slice_index_or flags place false ≡ true
 
-some_raised : (flags : List Bool) → list_any (λ flag. flag) flags ≡ true → IsRaised flags
+pub some_raised : (flags : List Bool) → list_any (λ flag. flag) flags ≡ true → IsRaised flags
 some_raised [] some = clash (sym some)
 some_raised (true ∷ flags) some = record { place = 0; inside = omega arith; raised = refl }
 some_raised (false ∷ flags) some =
@@ -105,6 +92,18 @@ some_raised (false ∷ flags) some =
     record { place = suc later.place; inside = omega (arith, inside); raised = later.raised }
 
 -- ---- a state
+
+module _ (S : System) (p : ℕ) (s : State) where
+  -- a job of the level counts where it stands
+  pub work_counts : (j : Job) → is_work S p j ≡ true → counts S p (switch_for s j) j ≡ true
+  work_counts j is =
+      let both = and_parts (not (waits j)) (nat_le p (static_priority S j)) is in
+      let high = leb-true p (static_priority S j) both.1 in
+      let own = static_le S j in
+      ap (λ b. b && (is_off (switch_for s j) || nat_le p (dynamic_priority S j))) both.0
+      ∙ ap (λ b. is_off (switch_for s j) || b)
+      (le-leb p (dynamic_priority S j) (omega (arith, high, own)))
+      ∙ or_true (is_off (switch_for s j))
 
 module _ (S : System) (p : ℕ) (c : Weights) (something : CostSomething S p c)
     (coming : PayForComing S c) (s : State) (form : HasForm S s) where
@@ -127,20 +126,11 @@ module _ (S : System) (p : ℕ) (c : Weights) (something : CostSomething S p c)
       (in_below (length S.routines) found.place inside) found.raised (omega (arith, pay, cost)) in
       omega (arith, whole)
 
-  work_counts : (j : Job) → is_work S p j ≡ true → counts S p (switch_for s j) j ≡ true
-  work_counts j is =
-      let both = and_parts (not (waits j)) (nat_le p (static_priority S j)) is in
-      let high = leb-true p (static_priority S j) both.1 in
-      let own = static_le S j in
-      ap (λ b. b && (is_off (switch_for s j) || nat_le p (dynamic_priority S j))) both.0
-      ∙ ap (λ b. is_off (switch_for s j) || b)
-      (le-leb p (dynamic_priority S j) (omega (arith, high, own)))
-      ∙ or_true (is_off (switch_for s j))
-
   jobs_left : list_any (is_work S p) s.jobs ≡ true → 1 ≤ left S p c s
   jobs_left some =
       let count : list_any (λ j. counts S p (switch_for s j) j) s.jobs ≡ true =
-      any_weaker (is_work S p) (λ j. counts S p (switch_for s j) j) s.jobs work_counts some in
+      any_weaker (is_work S p) (λ j. counts S p (switch_for s j) j) s.jobs (work_counts S p s)
+      some in
       let sum =
       some_part (λ j. counts S p (switch_for s j) j) (λ j. c.of_job (switch_for s j) j)
       c.of_section s.jobs (λ j is. something.job (switch_for s j) j is) count in

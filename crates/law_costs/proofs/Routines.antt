@@ -1,10 +1,9 @@
 -- An instruction of a routine takes one, by what it leaves of the routine and what it starts.
-use Rattle.std.proofs.Common.{ℕ, ◌≡◌, ◌≤◌, ◌+◌, true, false, cond, not, ◌&&◌, List, ◌∷◌, suc, refl, sym, ◌∙◌, ap, subst, arith}
+use Rattle.std.proofs.Common.{ℕ, ◌≡◌, ◌≤◌, ◌+◌, true, false, cond, not, ◌&&◌, List, ◌∷◌, refl, sym, ◌∙◌, ap, arith}
 use Rattle.std.specs.Prelude.{Option, Some, None, is_some, slice_index, slice_index_or, bit_or}
 use Rattle.std.specs.List.{sum_by}
 use Rattle.std.specs.Option.{option_map}
 use Rattle.std.proofs.Math.Path.{fun_ext}
-use Rattle.osek_base.specs.declared.arrivals.Arrival.{Arrival}
 use Rattle.osek_base.specs.declared.ids.Owner.{Owner}
 use Rattle.osek_base.specs.declared.instr.Control.{Control}
 use Rattle.osek_base.specs.declared.instr.Instr.{Instr}
@@ -12,33 +11,26 @@ use Rattle.osek_base.specs.declared.instr.Service.{Service}
 use Rattle.osek_base.specs.declared.status.Status.{Status}
 use Rattle.osek_base.specs.Blocker.{is_job}
 use Rattle.osek_base.specs.Instruction.{Context, next, plain}
-use Rattle.osek_base.specs.Proper.{IsProper}
 use Rattle.osek_base.specs.Service.{Reply, RoutineCalls, effect, first_refusal, refusals, reply_to, service}
 use Rattle.osek_base.specs.State.{Active, Job, State, interrupts_off}
 use Rattle.osek_base.specs.System.{System, instruction_at}
-use Rattle.osek_base.specs.Tick.{answered, at_values, before_execution, caller_executes, caller_of, execute_phase, executed, moved, tick}
-use Rattle.osek_base.specs.Trace.{arriving, run}
+use Rattle.osek_base.specs.Tick.{answered, at_values, caller_executes, caller_of, execute_phase, executed, moved}
 use Rattle.osek_base.specs.Types.{ServiceCall}
 use Rattle.law_alarms.specs.Setting.{call_in}
 use Rattle.law_future.specs.Shown.{chosen_of}
-use Rattle.law_runs.proofs.RankedTick.{IsExecuting, IsRunState, before_executing, run_ordered}
-use Rattle.law_runs.proofs.RunSteps.{going_before, run_tick, state_more}
-use Rattle.law_blockers.proofs.StepLemmas.{executing_is}
-use Rattle.law_windows.specs.Work.{has_work_after, is_busy}
-use Rattle.law_windows.proofs.Routines.{behind_over}
+use Rattle.law_runs.proofs.RankedTick.{IsRunState}
 use Rattle.law_costs.specs.Left.{Weights, left, left_of_active, left_of_jobs, left_of_pending, on, switch_for, switch_of}
 use Rattle.law_costs.specs.Paying.{PayForStarts, start_of}
-use Rattle.law_costs.specs.Instructions.{at_instruction, behind_instruction}
-use Rattle.law_costs.specs.Routines.{PayForRoutines, RoutinesAndJobsPay, started_by, started_where}
+use Rattle.law_costs.specs.Routines.{PayForRoutines, started_by, started_where}
 use Rattle.law_costs.proofs.Starts.{activated_adds, set_adds}
 use Rattle.law_costs.proofs.Switches.{all_on}
 
 -- behind a routine each job finds interrupts on
-behind_routine : (s : State) → is_some s.active ≡ true → switch_for s ≡ (λ j. on)
+pub behind_routine : (s : State) → is_some s.active ≡ true → switch_for s ≡ (λ j. on)
 behind_routine s is =
     fun_ext (λ j. ap (λ b. cond (not b && is_job s.running j.id) (switch_of s) on) is)
 
-some_moved : (x : Context) (o : Option Active) → is_some o ≡ true
+pub some_moved : (x : Context) (o : Option Active) → is_some o ≡ true
     → is_some (option_map (moved x) o) ≡ true
 some_moved x None is = is
 some_moved x (Some a) is = refl
@@ -115,7 +107,7 @@ module _ (S : System) (p : ℕ) (c : Weights) (starts : PayForStarts S p c) (s :
     pending_stays (Instr.Control Control.DisableAllInterrupts) = refl
     pending_stays (Instr.Control control) = refl
 
-    find_on : (what : Instr) → switch_for (there what) ≡ (λ j. on)
+    pub find_on : (what : Instr) → switch_for (there what) ≡ (λ j. on)
     unfolding service
     find_on (Instr.Plain what) =
         behind_routine (there (Instr.Plain what))
@@ -176,56 +168,3 @@ module _ (S : System) (p : ℕ) (c : Weights) (starts : PayForStarts S p c) (s :
       (find_on owner a.context what ∙ sym (behind_routine s (ap is_some is))) in
       let jobs = jobs_add owner a.context what in
       omega (arith, same, take, active, pending, find, jobs)
-
--- ---- in a run
-
-module _ (S : System) (mode : ℕ) (arrivals : List Arrival) (p : ℕ) (c : Weights)
-    (proper : IsProper S) (starts : PayForStarts S p c) (routines : PayForRoutines S c) (n : ℕ)
-    (going : (run S mode arrivals n).state.over ≡ false)
-    (later : (run S mode arrivals (suc n)).state.over ≡ false) where
-  abbrev here : State
-  here = (run S mode arrivals n).state
-
-  abbrev at : State
-  at = at_instruction S mode arrivals n
-
-  at_is : (before_execution S (arriving arrivals n) here).state ≡ at
-  at_is = executing_is S mode arrivals n going
-
-  good_at : IsRunState S at
-  good_at =
-      (subst (IsExecuting S proper) at_is
-      (before_executing S proper (arriving arrivals n) here
-      (run_ordered S proper mode arrivals n))).good
-
-  goes_on : (execute_phase S at).state.over ≡ false
-  goes_on =
-      ap (λ t. (execute_phase S (tick S (arriving arrivals t) here).executing).state.over)
-      (run_tick S mode arrivals n going)
-      ∙ sym (behind_over S (arriving arrivals n) here)
-      ∙ sym (ap (λ (s : State). s.over) (state_more S mode arrivals n going)) ∙ later
-
-  active_takes : (a : Active) → at.active ≡ Some a
-      → left S p c (behind_instruction S mode arrivals n) + 1 ≤ left S p c at
-  active_takes a is = routine_takes S p c starts at good_at a is routines goes_on
-
-pub routines_and_jobs_pay : RoutinesAndJobsPay
-routines_and_jobs_pay S mode arrivals p c proper starts routines jobs = record {
-  busy = takes;
-  begun = jobs.begun;
-  ended = jobs.ended;
-}
-  where
-    takes : (n : ℕ) → (run S mode arrivals (suc n)).state.over ≡ false
-        → is_busy S mode arrivals p n ≡ true → has_work_after S mode arrivals p (suc n) ≡ true
-        → left S p c (behind_instruction S mode arrivals n) + 1
-        ≤ left S p c (at_instruction S mode arrivals n)
-    takes n later busy stands = go (at_instruction S mode arrivals n).active refl
-      where
-        go : (o : Option Active) → (at_instruction S mode arrivals n).active ≡ o
-            → left S p c (behind_instruction S mode arrivals n) + 1
-            ≤ left S p c (at_instruction S mode arrivals n)
-        go None is = jobs.busy n later is busy stands
-        go (Some a) is =
-            active_takes S mode arrivals p c proper starts routines n
-            (going_before S mode arrivals n later) later a is

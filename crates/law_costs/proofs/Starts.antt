@@ -27,7 +27,7 @@ use Rattle.law_costs.proofs.Dispatch.{high_parts, is_high}
 use Rattle.law_costs.proofs.Switches.{idle_on}
 use Rattle.law_costs.proofs.Totals.{total_kept, total_more}
 
-stopped : (o : Option JobId) (n : JobId) → (o ≡ Some n → ⊥) → is_job o n ≡ false
+pub stopped : (o : Option JobId) (n : JobId) → (o ≡ Some n → ⊥) → is_job o n ≡ false
 stopped None n other = refl
 stopped (Some r) n other = go (same_id r n) refl
   where
@@ -79,60 +79,61 @@ module _ (S : System) (p : ℕ) (c : Weights) (pays : PayForStarts S p c) where
         omega (arith, more, one)
 
     module _ (still : AllByRecursion IsStill s.jobs) (ready : HasReady s.running s.jobs) where
-      woken_adds : (t set m : ℕ) (j : Job) (js : List Job) → jobs_of t s.jobs ≡ j ∷ js
-          → waits j ≡ true
-          → now (jobs_but j.id s.jobs ++ woken j ∷ []) ≤ now s.jobs + c.of_event t m
-      woken_adds t set m j js are waiting =
-          let more =
-          total_more (λ k. counts S p (switch_for s k) k) (λ k. c.of_job (switch_for s k) k)
-          c.of_section (jobs_but j.id s.jobs) (woken j) in
-          let others =
-          total_kept (λ k. counts S p (switch_for s k) k) (λ k. c.of_job (switch_for s k) k)
-          c.of_section (λ k. not (same_id k.id j.id)) s.jobs
-          (uncounted s.jobs
-          (all_passing (λ k. counts S p (switch_for s k) k ≡ false) (λ k. same_id k.id j.id) s.jobs
-          (subst (AllByRecursion (λ k. counts S p (switch_for s k) k ≡ false))
-          (sym (those_of S s single t j js are waiting)) (itself, tt)))) in
-          let one =
-          idle_part s (woken j) (c.of_event t m) idle
-          (new_part (woken j) (c.of_event t m) pay) in
-          omega (arith, more, others, one)
-        where
-          itself : counts S p (switch_for s j) j ≡ false
-          itself =
-              ap (λ b. not b && (is_off (switch_for s j) || nat_le p (dynamic_priority S j)))
-              waiting
+      -- a job that waits, and what is paid for its release
+      module _ (t m : ℕ) (j : Job) (js : List Job) (are : jobs_of t s.jobs ≡ j ∷ js)
+          (waiting : waits j ≡ true) where
+        there : (P : Job → Type 0) → AllByRecursion P s.jobs → P j
+        there P all =
+            (found P (λ k. same_id k.id j.id) s.jobs j all
+            (found_there S s single t j js are waiting)).0
 
-          uncounted : (ks : List Job)
-              → AllByRecursion
-              (λ k. same_id k.id j.id ≡ true → counts S p (switch_for s k) k ≡ false) ks
-              → AllByRecursion
-              (λ k. not (same_id k.id j.id) ≡ false → counts S p (switch_for s k) k ≡ false) ks
-          uncounted [] all = tt
-          uncounted (k ∷ ks) all =
-              (λ is. all.0 (was_not (same_id k.id j.id) is), uncounted ks all.1)
+        idle : is_job s.running j.id ≡ false
+        idle =
+            stopped s.running j.id
+            (λ runs.
+            clash (sym waiting ∙ there (λ k. s.running ≡ Some k.id → waits k ≡ false) ready runs))
 
-          there : (P : Job → Type 0) → AllByRecursion P s.jobs → P j
-          there P all =
-              (found P (λ k. same_id k.id j.id) s.jobs j all
-              (found_there S s single t j js are waiting)).0
+        level : dynamic_priority S j ≡ static_priority S j
+        level =
+            let rest = there IsStill still waiting in
+            idle_priority S j rest.0 rest.1
 
-          idle : is_job s.running j.id ≡ false
-          idle =
-              stopped s.running j.id
-              (λ runs.
-              clash (sym waiting ∙ there (λ k. s.running ≡ Some k.id → waits k ≡ false) ready runs))
+        pub woken_part : left_of_job S p c (λ l. on) (woken j) ≤ c.of_event t m
+        woken_part =
+            new_part (woken j) (c.of_event t m)
+            (λ is.
+            subst (λ u. c.of_job on (woken j) ≤ c.of_event u m)
+            (first_task S s single t j js are waiting)
+            (pays.event j m (subst (λ k. p ≤ k) level (high_parts S p c (woken j) is).1) waiting))
 
-          level : dynamic_priority S j ≡ static_priority S j
-          level =
-              let rest = there IsStill still waiting in
-              idle_priority S j rest.0 rest.1
+        itself : counts S p (switch_for s j) j ≡ false
+        itself =
+            ap (λ b. not b && (is_off (switch_for s j) || nat_le p (dynamic_priority S j))) waiting
 
-          pay : is_high S p c (woken j) ≡ true → c.of_job on (woken j) ≤ c.of_event t m
-          pay is =
-              subst (λ u. c.of_job on (woken j) ≤ c.of_event u m)
-              (first_task S s single t j js are waiting)
-              (pays.event j m (subst (λ k. p ≤ k) level (high_parts S p c (woken j) is).1) waiting)
+        uncounted : (ks : List Job)
+            → AllByRecursion
+            (λ k. same_id k.id j.id ≡ true → counts S p (switch_for s k) k ≡ false) ks
+            → AllByRecursion
+            (λ k. not (same_id k.id j.id) ≡ false → counts S p (switch_for s k) k ≡ false) ks
+        uncounted [] all = tt
+        uncounted (k ∷ ks) all =
+            (λ is. all.0 (was_not (same_id k.id j.id) is), uncounted ks all.1)
+
+        woken_adds : now (jobs_but j.id s.jobs ++ woken j ∷ []) ≤ now s.jobs + c.of_event t m
+        woken_adds =
+            let more =
+            total_more (λ k. counts S p (switch_for s k) k) (λ k. c.of_job (switch_for s k) k)
+            c.of_section (jobs_but j.id s.jobs) (woken j) in
+            let others =
+            total_kept (λ k. counts S p (switch_for s k) k) (λ k. c.of_job (switch_for s k) k)
+            c.of_section (λ k. not (same_id k.id j.id)) s.jobs
+            (uncounted s.jobs
+            (all_passing (λ k. counts S p (switch_for s k) k ≡ false) (λ k. same_id k.id j.id)
+            s.jobs
+            (subst (AllByRecursion (λ k. counts S p (switch_for s k) k ≡ false))
+            (sym (those_of S s single t j js are waiting)) (itself, tt)))) in
+            let one = idle_part s (woken j) (c.of_event t m) idle woken_part in
+            omega (arith, more, others, one)
 
       pub set_adds : (t set m : ℕ)
           → now (released_by set (jobs_of t s.jobs) (with_events t set s)).jobs
@@ -152,7 +153,7 @@ module _ (S : System) (p : ℕ) (c : Weights) (pays : PayForStarts S p c) where
                   let waiting : waits j ≡ true = met_waits set j.waits_for met in
                   subst (λ ks. now ks ≤ now s.jobs + c.of_event t m)
                   (sym (released_jobs S (with_events t set s) single t j js are waiting))
-                  (woken_adds t set m j js are waiting)
+                  (woken_adds t m j js are waiting)
 
   -- ---- alarms
 

@@ -11,10 +11,6 @@ use Rattle.law_costs.specs.Left.{Switch, on, switch_for, switch_of}
 none_of : (n : ℕ) → nat_lt 0 n ≡ false → n ≡ 0
 none_of n h = grind (arith, h)
 
--- a switch by its parts
-switch : Bool → ℕ → ℕ → Switch
-switch disabled all os = record { disabled = disabled; suspended_all = all; suspended_os = os }
-
 pub on_of : (s : State) → interrupts_off s ≡ false → switch_of s ≡ on
 on_of s off = go s.disabled (nat_lt 0 s.suspended_all) (nat_lt 0 s.suspended_os) refl refl refl off
   where

@@ -5,6 +5,7 @@ use Rattle.std.specs.List.{AllByRecursion, filter, find, list_any, sum_by}
 use Rattle.std.proofs.lemmas.List.Folds.{list_any-append}
 use Rattle.std.proofs.lemmas.List.Sums.{sum_by-cons, sum_by_push}
 use Rattle.law_runs.proofs.Lists.{Pairs, all_weaker, clash, none_some, some_inside}
+use Rattle.law_windows.proofs.Before.{or_true}
 
 -- ---- what passes
 
@@ -267,10 +268,6 @@ pub found_counts : {X : Type 0} (q t : X → Bool) (xs : List X) (x : X) → fin
 found_counts q t [] x is on = absurd (none_some x is)
 found_counts q t (y ∷ xs) x is on = go (t y) is (λ later. found_counts q t xs x later on)
   where
-    or_true : (b : Bool) → (b || true) ≡ true
-    or_true true = refl
-    or_true false = refl
-
     go : (b : Bool) → cond b (Some y) (find t xs) ≡ Some x
         → (find t xs ≡ Some x → list_any q xs ≡ true) → (q y || list_any q xs) ≡ true
     go true found rest =
@@ -282,10 +279,6 @@ pub found_mapped : {X : Type 0} (q t : X → Bool) (g : X → X) (xs : List X) (
 found_mapped q t g [] x is on = absurd (none_some x is)
 found_mapped q t g (y ∷ xs) x is on = go (t y) is (λ later. found_mapped q t g xs x later on)
   where
-    or_true : (b : Bool) → (b || true) ≡ true
-    or_true true = refl
-    or_true false = refl
-
     go : (b : Bool) → cond b (Some y) (find t xs) ≡ Some x
         → (find t xs ≡ Some x → list_any q (map g xs) ≡ true)
         → (q (g y) || list_any q (map g xs)) ≡ true

@@ -1,4 +1,5 @@
 pub mod Left
 pub mod Paying
-pub mod Instructions
 pub mod Routines
+pub mod Jobs
+pub mod Laws

@@ -5,13 +5,13 @@ use Rattle.osek_base.specs.declared.instr.Service.{Service}
 use Rattle.osek_base.specs.Activation.{new_job, woken}
 use Rattle.osek_base.specs.Priority.{dynamic_priority, static_priority}
 use Rattle.osek_base.specs.Reschedule.{entered}
-use Rattle.osek_base.specs.State.{Job, JobId, waits}
+use Rattle.osek_base.specs.State.{Active, Job, JobId, waits}
 use Rattle.osek_base.specs.System.{System, alarm, priority_of}
 use Rattle.osek_base.specs.Tick.{action_call}
 use Rattle.osek_base.specs.Trace.{starting_tasks}
 use Rattle.osek_base.specs.Types.{ServiceCall}
 use Rattle.law_windows.specs.Routines.{begun}
-use Rattle.law_costs.specs.Left.{Weights, on}
+use Rattle.law_costs.specs.Left.{Switch, Weights, counts, on}
 
 -- whether a task is of the level
 abbrev pub is_upper : System → ℕ → ℕ → Bool
@@ -24,12 +24,19 @@ start_of c (Service.ChainTask (Some t)) = c.of_task t
 start_of c (Service.SetEvent (Some t) m) = c.of_event t m
 start_of c call = 0
 
--- a dispatch takes nothing from a job that counts already, and a section that it begins is paid
+-- who executes costs something: the active routine, and a job that counts
+pub record CostSomething (S : System) (p : ℕ) (c : Weights) : Type 0 where
+  pub active : (w : Switch) (a : Active) → 1 ≤ c.of_active w a
+  pub job : (w : Switch) (j : Job) → counts S p w j ≡ true → 1 ≤ c.of_job w j
+
+-- a dispatch takes nothing from a job that counts already; a section that it begins is paid, and no
+-- more than may be where a window begins
 pub record PayForDispatch (S : System) (p : ℕ) (c : Weights) : Type 0 where
   pub entering : (j : Job) → waits j ≡ false → p ≤ dynamic_priority S j
       → c.of_job on (entered S j) ≤ c.of_job on j
   pub beginning : (j : Job) → waits j ≡ false → dynamic_priority S j < p
       → p ≤ dynamic_priority S (entered S j) → c.of_job on (entered S j) ≤ c.of_section
+  pub section : c.of_section ≤ c.costs.at_begin
 
 -- an activation pays for a whole job, an event for what comes behind the wait that it ends
 pub record PayForStarts (S : System) (p : ℕ) (c : Weights) : Type 0 where

@@ -1,6 +1,6 @@
 //! No code: from costs to bounds. What is left of a level's work is counted in each state, by
-//! costs of who executes as it stands. All phases of a tick but its instruction add no more than
-//! what comes is said to cost.
+//! costs of who executes as it stands. Costs that pay for what comes, and for each instruction by
+//! what it leaves of its own job or routine, bound each window and each response.
 //!
 //! The costs are any functions (`Weights`): of the active routine as it stands, of a job as it
 //! stands, of an activation, of an event, of an interrupt and of an expiry. *Left* in a state is
@@ -12,20 +12,20 @@
 //!   a new job, an event the job that it releases, an expiry what its alarm starts, a dispatch
 //!   nothing or the section that it begins, boot what starts with the mode. Then alarms, arrivals,
 //!   dispatches and starts of routines add no more than what comes costs.
-//! - Where they pay for the instructions of a run too, what is left falls phase by phase
-//!   (`costs_fall_by_phases`): the instruction of a busy tick leaves one less, with all that it
-//!   starts, and that of any other tick no more than may be where a window begins.
-//! - So costs that pay for the instructions of each run bound each window, and each response
-//!   (`costs_bound_responses`).
 //! - Of routines that is one inequality for each instruction, whatever state it finds: what it
 //!   leaves of the routine, and what it starts where it isn't refused, is one less at least
-//!   (`routines_and_jobs_pay`).
+//!   (`PayForRoutines`).
+//! - Of jobs it is the same of each instruction that one executes in a run, where the job counts;
+//!   and of a task below the level, in a section or not, what it leaves and starts is no more than
+//!   may be where a window begins (`PayForJobs`). Nothing is asked of whole states.
+//! - So what is left falls phase by phase (`costs_fall_by_phases`), and such costs bound each
+//!   window and each response (`costs_bound_responses`).
 //!
-//! That costs pay for the instructions of jobs is a premise on the states of a run. Left out are
-//! events that are set early, and alarms that pay when they are set. Nothing stands on this crate
-//! yet: it is the step before costs of programs, which a table would tell.
+//! That costs pay for the instructions of the jobs of each run is a premise. Left out are events
+//! that are set early, and alarms that pay when they are set. Nothing stands on this crate yet: it
+//! is the step before costs of programs, which a table would tell.
 #![tactic(auto)]
 
 mod laws;
 
-pub use laws::{costs_bound_responses, costs_fall_by_phases, routines_and_jobs_pay};
+pub use laws::{costs_bound_responses, costs_fall_by_phases};

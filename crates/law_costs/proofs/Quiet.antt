@@ -1,0 +1,142 @@
+-- A state in which no work stands: what is left is that of a running job below the level.
+use Rattle.std.proofs.Common.{ℕ, ◌≡◌, ◌<◌, ◌≤◌, inl, inr, Bool, true, false, cond, not, ◌&&◌, ◌||◌, refl, sym, ◌∙◌, ap, arith}
+use Rattle.std.specs.Prelude.{Option, Some, None, is_some, nat_le}
+use Rattle.std.specs.List.{AllByRecursion, list_any, sum_by}
+use Rattle.std.proofs.lemmas.Bool.{cases_lt, le-leb}
+use Rattle.osek_base.specs.Priority.{dynamic_priority}
+use Rattle.osek_base.specs.State.{Active, Job, State, job_of, same_id, waits}
+use Rattle.osek_base.specs.System.{System, priority_of}
+use Rattle.law_runs.proofs.Lists.{all_both, all_weaker, any_none, clash, found}
+use Rattle.law_runs.proofs.Ranked.{raised_above}
+use Rattle.law_runs.proofs.RankedTick.{IsRunState}
+use Rattle.law_windows.specs.Work.{has_work, is_work}
+use Rattle.law_costs.specs.Left.{Weights, counts, is_off, left, left_of_active, left_of_job, left_of_jobs, on, switch_for, switch_of}
+use Rattle.law_costs.proofs.Dispatch.{high_parts}
+use Rattle.law_costs.proofs.JobStarts.{left_of_others}
+use Rattle.law_costs.proofs.JobTakes.{Runs, sum_is}
+use Rattle.law_costs.proofs.Low.{AreLow, IsLow}
+use Rattle.law_costs.proofs.Parts.{of_found, sum_none}
+use Rattle.law_costs.proofs.Running.{IsResting}
+use Rattle.law_costs.proofs.Totals.{none_any}
+use Rattle.law_costs.proofs.Work.{none_left}
+
+-- no routine is active or pending, and no job of the level is ready
+pub record IsUnbusy (S : System) (p : ℕ) (s : State) : Type 0 where
+  pub active : s.active ≡ None
+  pub pending : list_any (λ flag. flag) s.pending ≡ false
+  pub jobs : AllByRecursion (λ k. is_work S p k ≡ false) s.jobs
+
+pub unbusy : (S : System) (p : ℕ) (s : State) → has_work S p s ≡ false → IsUnbusy S p s
+unbusy S p s none = go s.active (list_any (λ flag. flag) s.pending) refl refl none
+  where
+    go : (o : Option Active) (b : Bool) → s.active ≡ o → list_any (λ flag. flag) s.pending ≡ b
+        → (is_some o || (b || list_any (is_work S p) s.jobs)) ≡ false → IsUnbusy S p s
+    go (Some a) b is pends none = clash none
+    go None true is pends none = clash none
+    go None false is pends none =
+        record { active = is; pending = pends; jobs = any_none (is_work S p) s.jobs none }
+
+-- then none stands
+pub not_busy : (S : System) (p : ℕ) (s : State) → IsUnbusy S p s → has_work S p s ≡ true → ⊥
+not_busy S p s quiet some =
+    clash
+    (sym some
+    ∙ ap (λ o. is_some o || (list_any (λ flag. flag) s.pending || list_any (is_work S p) s.jobs))
+    quiet.active
+    ∙ ap (λ b. b || list_any (is_work S p) s.jobs) quiet.pending
+    ∙ none_any (is_work S p) s.jobs quiet.jobs)
+
+-- a ready job that is no work is below the level
+pub lower : (S : System) (p : ℕ) (k : Job) → waits k ≡ false → is_work S p k ≡ false
+    → priority_of S k.id.task < p
+lower S p k ready none = elim (cases_lt (priority_of S k.id.task) p) [
+  | inl low ↦ low
+  | inr high ↦
+      clash
+      (sym (le-leb p (priority_of S k.id.task) high)
+      ∙ sym (ap (λ b. not b && nat_le p (priority_of S k.id.task)) ready) ∙ none)
+]
+
+-- where no job is ready, the section that a dispatch may begin stands for them
+pub none_counts_left : (S : System) (p : ℕ) (c : Weights) (s : State) → IsUnbusy S p s
+    → IsResting s → c.of_section ≤ c.costs.at_begin → left S p c s ≤ c.costs.at_begin
+none_counts_left S p c s quiet rests section =
+    let active : left_of_active c (switch_of s) s.active ≡ 0 =
+    ap (left_of_active c (switch_of s)) quiet.active in
+    let pending = none_left S c s quiet.pending in
+    let none : left_of_jobs S p c (switch_for s) s.jobs ≡ c.of_section =
+    ap (λ b. cond b (sum_by (left_of_job S p c (switch_for s)) s.jobs) c.of_section)
+    (none_any (λ k. counts S p (switch_for s k) k) s.jobs
+    (all_weaker (λ k. waits k ≡ true) (λ k. counts S p (switch_for s k) k ≡ false) s.jobs
+    (λ k h.
+    ap (λ b. not b && (is_off (switch_for s k) || nat_le p (dynamic_priority S k))) h)
+    rests.none)) in
+    omega (arith, active, pending, none, section)
+
+module _ (S : System) (p : ℕ) (c : Weights) (s : State) (good : IsRunState S s)
+    (low : AreLow S p c s) (quiet : IsUnbusy S p s) (j : Job) (runs : Runs s j.id)
+    (there : job_of j.id s.jobs ≡ Some j) where
+  member : (P : Job → Type 0) → AllByRecursion P s.jobs → P j
+  member P all = (found P (λ k. same_id k.id j.id) s.jobs j all there).0
+
+  ready : waits j ≡ false
+  ready = member (λ k. s.running ≡ Some k.id → waits k ≡ false) good.ordered.ready runs.runs
+
+  -- the running job is below the level
+  pub is_lower : priority_of S j.id.task < p
+  is_lower = lower S p j ready (member (λ k. is_work S p k ≡ false) quiet.jobs)
+
+  other_none : (k : Job) → is_work S p k ≡ false → IsLow S p c s.running (switch_for s) k
+      → same_id k.id j.id ≡ false → left_of_job S p c (λ l. on) k ≡ 0
+  other_none k none h other = go (counts S p on k) refl
+    where
+      go : (b : Bool) → counts S p on k ≡ b → cond b (c.of_job on k) 0 ≡ 0
+      go false is = refl
+      go true is =
+          let parts = high_parts S p c k is in
+          let high = parts.1 in
+          let under = lower S p k parts.0 none in
+          let beneath =
+          h.beneath j.id runs.runs other (raised_above S k parts.0 (omega (arith, high, under))) in
+          let own = is_lower in
+          absurd (omega (arith, beneath, own, high))
+
+  -- nothing is left of the others
+  pub none_beside : left_of_others S p c j.id s.jobs ≡ 0
+  none_beside =
+      sum_none (left_of_job S p c (λ l. on)) (λ k. same_id k.id j.id) s.jobs
+      (all_weaker (λ k. (is_work S p k ≡ false) × IsLow S p c s.running (switch_for s) k)
+      (λ k. same_id k.id j.id ≡ false → left_of_job S p c (λ l. on) k ≡ 0) s.jobs
+      (λ k h. other_none k h.0 h.1)
+      (all_both (λ k. is_work S p k ≡ false) (IsLow S p c s.running (switch_for s)) s.jobs
+      quiet.jobs low))
+
+  -- and of it no more than may be where a window begins
+  own_little : of_found (left_of_job S p c (switch_for s)) (Some j) ≤ c.costs.at_begin
+  own_little = go (counts S p (switch_for s j) j) refl
+    where
+      go : (b : Bool) → counts S p (switch_for s j) j ≡ b
+          → cond b (c.of_job (switch_for s j) j) 0 ≤ c.costs.at_begin
+      go false is = omega arith
+      go true is = (member (IsLow S p c s.running (switch_for s)) low).little is_lower is
+
+  pub little_left : c.of_section ≤ c.costs.at_begin → left S p c s ≤ c.costs.at_begin
+  little_left section =
+      let active : left_of_active c (switch_of s) s.active ≡ 0 =
+      ap (left_of_active c (switch_of s)) quiet.active in
+      let pending = none_left S c s quiet.pending in
+      let jobs = go (list_any (λ k. counts S p (switch_for s k) k) s.jobs) in
+      omega (arith, active, pending, jobs)
+    where
+      go : (b : Bool)
+          → cond b (sum_by (left_of_job S p c (switch_for s)) s.jobs) c.of_section
+          ≤ c.costs.at_begin
+      go true =
+          let whole = sum_is S p c s j.id runs good.single in
+          let beside = none_beside in
+          let own = own_little in
+          let same : of_found (left_of_job S p c (switch_for s)) (job_of j.id s.jobs)
+          ≡ of_found (left_of_job S p c (switch_for s)) (Some j) =
+          ap (of_found (left_of_job S p c (switch_for s))) there in
+          omega (arith, whole, beside, own, same)
+      go false = section

@@ -1,0 +1,58 @@
+-- Costs of jobs, by one inequality for each instruction that a job executes in a run.
+use Rattle.std.specs.Prelude.{ℕ, suc, ◌+◌, ◌≡◌, ◌<◌, ◌≤◌, true, false, if◌then◌else◌, List, Option, Some, None}
+use Rattle.osek_base.specs.declared.arrivals.Arrival.{Arrival}
+use Rattle.osek_base.specs.Service.{JobCalls}
+use Rattle.osek_base.specs.State.{Job, State, job_of}
+use Rattle.osek_base.specs.System.{System, priority_of}
+use Rattle.osek_base.specs.Tick.{caller_executes, executor}
+use Rattle.osek_base.specs.Trace.{run}
+use Rattle.law_alarms.specs.Setting.{call_by}
+use Rattle.law_blockers.specs.Steps.{step_at}
+use Rattle.law_costs.specs.Left.{Switch, Weights, counts, is_off, switch_of}
+use Rattle.law_costs.specs.Routines.{started_by}
+
+-- ---- what an instruction of a job leaves and starts
+
+-- where a job no longer counts: the section that a dispatch may begin, if interrupts were off
+abbrev pub left_of_section : Weights → Switch → ℕ
+left_of_section c before = if is_off before then c.of_section else 0
+
+-- of a job behind its instruction, by the switch before and behind that: its cost, if it counts
+abbrev pub left_of_own : System → ℕ → Weights → Switch → Switch → Option Job → ℕ
+left_of_own S p c before w None = left_of_section c before
+left_of_own S p c before w (Some j) =
+    if counts S p w j then c.of_job w j else left_of_section c before
+
+-- the state behind an instruction that a job executes in a state, and what is left of it there
+abbrev pub behind : System → State → Job → State
+behind S s j = (caller_executes S (JobCalls j) s).state
+
+abbrev pub left_behind : System → ℕ → Weights → State → Job → ℕ
+left_behind S p c s j =
+    left_of_own S p c (switch_of s) (switch_of (behind S s j)) (job_of j.id (behind S s j).jobs)
+
+-- what the instruction starts
+abbrev pub started : System → Weights → State → Job → ℕ
+started S c s j = started_by S c (JobCalls j) s (call_by S (JobCalls j))
+
+-- ---- what is asked
+
+-- what is left of a job behind an instruction that it executes, and what that starts, is
+pub record PaysIn (S : System) (p : ℕ) (c : Weights) (s : State) (j : Job) : Type 0 where
+  -- one less at least, where the job counts
+  pub takes : counts S p (switch_of s) j ≡ true
+      → left_behind S p c s j + (started S c s j + 1) ≤ c.of_job (switch_of s) j
+  -- no more than may be where a window begins, where its task is below the level
+  pub begins : priority_of S j.id.task < p
+      → left_behind S p c s j + started S c s j ≤ c.costs.at_begin
+
+-- the state at the instruction of tick n
+abbrev pub at_instruction : System → ℕ → List Arrival → ℕ → State
+at_instruction S mode arrivals n = (step_at S mode arrivals n).executing
+
+-- so it is of each instruction that a job executes in a run
+abbrev pub PayForJobs : System → ℕ → List Arrival → ℕ → Weights → Type 0
+PayForJobs S mode arrivals p c =
+    (n : ℕ) (j : Job) → (run S mode arrivals (suc n)).state.over ≡ false
+    → executor (at_instruction S mode arrivals n) ≡ JobCalls j
+    → PaysIn S p c (at_instruction S mode arrivals n) j
