@@ -73,8 +73,8 @@ fn write_answer<'q, O: Write, E: Write>(
     }
 }
 
-/// Writes the answer to a question to `out`. A page is made first, and stays there where a line names
-/// a file for it.
+/// Writes the answer to a question to `out`. A page is made first, and stays there where a line
+/// names a file for it.
 fn write_where<'q, O: Write, E: Write>(
     alloc: Global,
     texts: &Texts,

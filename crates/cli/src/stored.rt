@@ -2,7 +2,7 @@
 
 use cli_answers::{StoredRun, Texts, store_runs};
 use cli_report::store_page;
-use cli_requests::{Files, Page, Request};
+use cli_requests::{DONE, Files, Request};
 use std::alloc::{AllocError, Global};
 use std::io::Write;
 
@@ -33,10 +33,13 @@ pub(crate) fn store<F: Files, E: Write>(
     files: &mut F,
     err: &mut E,
 ) -> Result<u8, AllocError> {
-    match request.question.page() {
-        Some(Page { output: Some(path) }) if !stored.page.is_empty() => {
+    let Some(asked) = request.question.page() else {
+        return store_runs(alloc, texts, &stored.runs, files, err);
+    };
+    match asked.output {
+        Some(path) if !stored.page.is_empty() => {
             store_page(alloc, path, &stored.page, files, err)
         }
-        _ => store_runs(alloc, texts, &stored.runs, files, err),
+        _ => Ok(DONE),
     }
 }

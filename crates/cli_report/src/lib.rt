@@ -1,9 +1,10 @@
-//! A page for a review: one HTML text, which needs nothing else, with a system, its cuts, its bounds
-//! and what they promise, its limits, and pictures of its worst cases. No contract but safety: it is
-//! tested.
+//! A page for a review: one HTML text, which needs nothing else, with a system, its cuts, its
+//! bounds and what they promise, its limits, and pictures of its worst cases. No contract but
+//! safety: it is tested.
 //!
-//! What is told is what the other subcommands tell, by the same functions. All that isn't the page's
-//! own goes through `Escaped`, so that no name of a file or a text of a system can be taken for HTML.
+//! What is told is what the other subcommands tell, by the same functions. All that isn't the
+//! page's own goes through `Escaped`, so that no name of a file or a text of a system can be taken
+//! for HTML. Pictures are SVG, and escape their names themselves.
 #![tactic(auto)]
 
 mod bounds;

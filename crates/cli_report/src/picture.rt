@@ -101,8 +101,8 @@ fn without_style(svg: &str) -> Option<(&str, &str)> {
     Some((head, body))
 }
 
-/// Writes a picture into the page; what is the same in all, in the first alone. An error is a failed
-/// write.
+/// Writes a picture into the page; what is the same in all, in the first alone. An error is a
+/// failed write.
 fn write_svg<O: Write>(svg: &str, is_first: bool, out: &mut O) -> io::Result<()> {
     match without_style(svg) {
         Some((head, body)) if !is_first => {

@@ -1,6 +1,7 @@
 //! How a page looks: on light and on dark ground, and printed.
 
-/// The style of the page. Pictures have their own, for light ground; on dark ground they are turned.
+/// The style of the page. Pictures have their own, for light ground; on dark ground they are
+/// turned.
 pub(crate) const STYLE: &str = r##":root { color-scheme: light dark; --ink: #1b1b1b;
   --soft: #555; --ground: #fff; --line: #ccc; --band: #f3f3f3; --good: #00613f; --bad: #a63c00;
   --link: #00558a; }
@@ -39,7 +40,8 @@ figure { margin: 1.5rem 0; padding-top: 0.5rem; border-top: 1px solid var(--line
 .asked { min-height: 4.4em; white-space: pre-wrap; font: 0.85rem/1.4 ui-monospace, monospace; }
 .cursor { fill: none; stroke: #d55e00; stroke-width: 1.5; pointer-events: none; }
 @media print {
-  body { max-width: none; padding: 0; font-size: 9pt; }
+  html { font-size: 9pt; }
+  body { max-width: none; padding: 0; }
   nav, .tools, .asked, details, .cursor { display: none; }
   h2 { break-after: avoid; }
   figure, tr { break-inside: avoid; }

@@ -55,8 +55,8 @@ fn remarks_of(
 }
 
 /// What is told on standard error, and by the exit status, of a search that has come to its end or
-/// not: which limits the bounds break. Of one that hasn't, nothing is promised of its figures, so no
-/// limit is told to be broken.
+/// not: which limits the bounds break. Of one that hasn't, nothing is promised of its figures, so
+/// no limit is told to be broken.
 pub fn verdict_of<'v>(
     alloc: Global,
     system: &System,
