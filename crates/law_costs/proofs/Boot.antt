@@ -42,7 +42,7 @@ pub all_switch : (S : System) (ts : List ℕ) (s : State)
 all_switch S [] s = refl
 all_switch S (t ∷ ts) s = all_switch S ts (activated S t s) ∙ activated_switch S t s
 
-all_active : (S : System) (ts : List ℕ) (s : State) → (all_activated S ts s).active ≡ s.active
+pub all_active : (S : System) (ts : List ℕ) (s : State) → (all_activated S ts s).active ≡ s.active
 all_active S [] s = refl
 all_active S (t ∷ ts) s = all_active S ts (activated S t s) ∙ activated_active S t s
 

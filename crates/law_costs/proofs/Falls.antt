@@ -25,11 +25,12 @@ use Rattle.law_windows.proofs.Before.{or_true}
 use Rattle.law_windows.proofs.Expiring.{gaps_bound_responses}
 use Rattle.law_windows.proofs.Phases.{phases_make_a_potential}
 use Rattle.law_costs.specs.Left.{Weights, left}
-use Rattle.law_costs.specs.Jobs.{at_instruction}
+use Rattle.law_costs.specs.Known.{Known, at_instruction}
 use Rattle.law_costs.specs.Laws.{CostsBoundResponses, CostsFallByPhases, Pay}
 use Rattle.law_costs.proofs.Boot.{boot_less, boot_state}
 use Rattle.law_costs.proofs.Instructions.{PayForInstructions, behind_instruction}
 use Rattle.law_costs.proofs.Jobs.{jobs_pay}
+use Rattle.law_costs.proofs.Known.{known_jobs_pay, known_routines_pay, run_known}
 use Rattle.law_costs.proofs.Positive.{something_left}
 use Rattle.law_costs.proofs.Ticks.{before_adds, behind_less}
 use Rattle.law_costs.proofs.Totals.{sum_within}
@@ -43,7 +44,7 @@ each_in (x ∷ xs) = (
 )
 
 module _ (S : System) (mode : ℕ) (arrivals : List Arrival) (p : ℕ) (c : Weights)
-    (proper : IsProper S) (pay : Pay S mode p c) where
+    (known : Known) (proper : IsProper S) (pay : Pay S mode p c known) where
   abbrev here : ℕ → State
   here n = (run S mode arrivals n).state
 
@@ -130,22 +131,26 @@ module _ (S : System) (mode : ℕ) (arrivals : List Arrival) (p : ℕ) (c : Weig
         omega (arith, less, low)
 
 pub costs_fall_by_phases : CostsFallByPhases
-costs_fall_by_phases S mode arrivals p c proper pay jobs = record {
+costs_fall_by_phases S mode arrivals p c known proper stays pay = record {
   positive = λ n going stands.
-      something_left S p c pay.something pay.coming (run S mode arrivals n).state
-      (run_form S proper mode arrivals n) stands;
-  boot = λ stands. boots S mode arrivals p c proper pay;
-  before = λ n going stands. before S mode arrivals p c proper pay n going;
-  woken = λ n going none busy. woken S mode arrivals p c proper pay pays n going none;
-  behind = falls S mode arrivals p c proper pay pays;
-  begun = begins S mode arrivals p c proper pay pays;
+      something_left S p c known stays pay.something pay.coming (run S mode arrivals n).state
+      (run_form S proper mode arrivals n) (run_known S known proper stays mode arrivals n going)
+      stands;
+  boot = λ stands. boots S mode arrivals p c known proper pay;
+  before = λ n going stands. before S mode arrivals p c known proper pay n going;
+  woken = λ n going none busy. woken S mode arrivals p c known proper pay pays n going none;
+  behind = falls S mode arrivals p c known proper pay pays;
+  begun = begins S mode arrivals p c known proper pay pays;
 }
   where
     pays : PayForInstructions S mode arrivals p c
-    pays = jobs_pay S mode arrivals p c proper pay.dispatch pay.starts pay.routines jobs
+    pays =
+        jobs_pay S mode arrivals p c proper pay.dispatch pay.starts
+        (known_routines_pay S known proper stays mode arrivals c pay.routines)
+        (known_jobs_pay S known proper stays mode arrivals p c pay.jobs)
 
 pub costs_bound_responses : CostsBoundResponses
-costs_bound_responses S mode distances p c least most proper pay enough paid =
+costs_bound_responses S mode distances p c known least most proper stays pay enough sooner =
     gaps_bound_responses S mode distances p c.costs least most proper enough
     (λ arrivals keep. record {
       left = λ n. left S p c (run S mode arrivals n).state;
@@ -153,6 +158,6 @@ costs_bound_responses S mode distances p c least most proper pay enough paid =
           phases_make_a_potential S mode arrivals p c.costs
           (λ n. left S p c (run S mode arrivals n).state)
           (λ n. left S p c (at_instruction S mode arrivals n))
-          (costs_fall_by_phases S mode arrivals p c proper pay (paid arrivals keep).jobs);
-      sooner = (paid arrivals keep).sooner;
+          (costs_fall_by_phases S mode arrivals p c known proper stays pay);
+      sooner = sooner arrivals keep;
     })

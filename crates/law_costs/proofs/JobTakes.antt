@@ -84,7 +84,7 @@ pub record Runs (s : State) (n : JobId) : Type 0 where
   pub idle : s.active ≡ None
   pub runs : s.running ≡ Some n
 
-module _ (S : System) (p : ℕ) (c : Weights) (s : State) (n : JobId) (runs : Runs s n) where
+module _ (S : System) (s : State) (n : JobId) (runs : Runs s n) where
   pub other_switch : (k : Job) → same_id k.id n ≡ false → switch_for s k ≡ on
   other_switch k other =
       idle_on s k (ap (λ o. is_job o k.id) runs.runs ∙ other_way S k.id n other)
@@ -96,6 +96,7 @@ module _ (S : System) (p : ℕ) (c : Weights) (s : State) (n : JobId) (runs : Ru
       ∙ ap (λ o. is_job o k.id) runs.runs
       ∙ ap (λ m. same_id n m) (same_ids k.id n own) ∙ same_self n)
 
+module _ (S : System) (p : ℕ) (c : Weights) (s : State) (n : JobId) (runs : Runs s n) where
   -- of all jobs it is that of the running one, and of the others with interrupts on
   pub sum_is : IsSingle S s → sum_by (left_of_job S p c (switch_for s)) s.jobs
       ≡ of_found (left_of_job S p c (switch_for s)) (job_of n s.jobs)
@@ -107,7 +108,7 @@ module _ (S : System) (p : ℕ) (c : Weights) (s : State) (n : JobId) (runs : Ru
       (λ x y h is. subst (λ m. same_id y.id m ≡ false) (same_ids x.id n is) h.apart) single.pairs)
       (all_any (λ k. same_id k.id n ≡ false
       → left_of_job S p c (switch_for s) k ≡ left_of_job S p c (λ l. on) k) s.jobs
-      (λ k other. ap (λ w. cond (counts S p w k) (c.of_job w k) 0) (other_switch k other)))
+      (λ k other. ap (λ w. cond (counts S p w k) (c.of_job w k) 0) (other_switch S s n runs k other)))
 
 -- ---- an instruction
 
@@ -141,7 +142,7 @@ module _ (S : System) (p : ℕ) (c : Weights) (starts : PayForStarts S p c) (s :
   own_less (Some k) is =
       subst (λ w. cond (counts S p w k) (c.of_job w k) 0
       ≤ left_of_own S p c (switch_of s) (switch_of e) (Some k))
-      (sym (own_switch S p c e j.id after k own)) (go (counts S p (switch_of e) k))
+      (sym (own_switch S e j.id after k own)) (go (counts S p (switch_of e) k))
     where
       own : same_id k.id j.id ≡ true
       own =
@@ -168,7 +169,7 @@ module _ (S : System) (p : ℕ) (c : Weights) (starts : PayForStarts S p c) (s :
       found (λ l. counted e l ≡ false) (λ l. same_id l.id j.id) e.jobs k
       (any_none (counted e) e.jobs none) is in
       let out : counts S p (switch_of e) k ≡ false =
-      ap (λ w. counts S p w k) (sym (own_switch S p c e j.id after k both.1)) ∙ both.0 in
+      ap (λ w. counts S p w k) (sym (own_switch S e j.id after k both.1)) ∙ both.0 in
       let own : left_of_own S p c (switch_of s) (switch_of e) (Some k)
       ≡ left_of_section c (switch_of s) =
       ap (λ b. cond b (c.of_job (switch_of e) k) (left_of_section c (switch_of s))) out in
@@ -205,7 +206,7 @@ module _ (S : System) (p : ℕ) (c : Weights) (starts : PayForStarts S p c) (s :
       → (list_any (counted e) e.jobs ≡ false → is_off (switch_of s) ≡ true)
       → left S p c e + 1 ≤ left S p c s
   job_takes counting stands =
-      let own = own_switch S p c s j.id here j (same_self j.id) in
+      let own = own_switch S s j.id here j (same_self j.id) in
       let take = pays.takes counting in
       let idle = unactive s calls.idle in
       let none = unactive e after.idle in

@@ -1,4 +1,4 @@
--- Costs that pay for routines in any state, and for jobs in a run, pay for its instructions.
+-- Costs that pay for the routines and jobs of a run pay for its instructions.
 use Rattle.std.proofs.Common.{ℕ, suc, ◌≡◌, ◌<◌, ◌≤◌, ◌+◌, ◌⊎◌, inl, inr, Bool, true, false, not, ◌&&◌, ◌||◌, length, refl, sym, ◌∙◌, ap, subst, arith}
 use Rattle.std.specs.Prelude.{List, Some, None, is_some, nat_le}
 use Rattle.std.specs.List.{list_any}
@@ -25,12 +25,13 @@ use Rattle.law_blockers.proofs.StepLemmas.{executing_is}
 use Rattle.law_windows.specs.Work.{has_work, is_busy, is_work}
 use Rattle.law_costs.specs.Left.{Weights, counts, is_off, left, switch_for, switch_of}
 use Rattle.law_costs.specs.Paying.{PayForDispatch, PayForStarts}
-use Rattle.law_costs.specs.Jobs.{PayForJobs, PaysIn, at_instruction, behind}
-use Rattle.law_costs.specs.Routines.{PayForRoutines}
+use Rattle.law_costs.specs.Known.{at_instruction}
+use Rattle.law_costs.specs.Jobs.{PaysIn, behind}
 use Rattle.law_costs.proofs.Executor.{may_where_on, neither, nobody_idle, nobody_rests, there_is, work_parts}
-use Rattle.law_costs.proofs.Instructions.{PayForInstructions, behind_instruction}
+use Rattle.law_costs.proofs.Instructions.{PayForInstructions, PayForRunJobs, PayForRunRoutines, behind_instruction}
+use Rattle.law_costs.proofs.InTicks.{executed_is, executing}
 use Rattle.law_costs.proofs.JobTakes.{Runs, behind_active, behind_pending, job_begins, job_takes}
-use Rattle.law_costs.proofs.Kept.{at_kept, at_led, behind_led, executed_is, executing, goes_on, run_kept}
+use Rattle.law_costs.proofs.Kept.{at_kept, at_led, behind_led, run_kept}
 use Rattle.law_costs.proofs.Parts.{any_weaker}
 use Rattle.law_costs.proofs.Positive.{work_counts}
 use Rattle.law_costs.proofs.Quiet.{IsUnbusy, is_lower, little_left, none_beside, none_counts_left, not_busy, unbusy}
@@ -40,7 +41,7 @@ use Rattle.law_costs.proofs.Work.{none_left, none_pends, pending_behind, work_be
 
 module _ (S : System) (mode : ℕ) (arrivals : List Arrival) (p : ℕ) (c : Weights)
     (proper : IsProper S) (dispatch : PayForDispatch S p c) (starts : PayForStarts S p c)
-    (jobs : PayForJobs S mode arrivals p c) (n : ℕ)
+    (jobs : PayForRunJobs S mode arrivals p c) (n : ℕ)
     (later : (run S mode arrivals (suc n)).state.over ≡ false) where
   abbrev here : State
   here = (run S mode arrivals n).state
@@ -58,7 +59,7 @@ module _ (S : System) (mode : ℕ) (arrivals : List Arrival) (p : ℕ) (c : Weig
   going = going_before S mode arrivals n later
 
   good : IsRunState S at
-  good = (executing S p c proper dispatch starts mode arrivals jobs n later).good
+  good = (executing S proper mode arrivals n going).good
 
   next_is : next ≡ (tick S (arriving arrivals n) here).after
   next_is = state_more S mode arrivals n going
@@ -186,7 +187,7 @@ module _ (S : System) (mode : ℕ) (arrivals : List Arrival) (p : ℕ) (c : Weig
         dispatched =
             (found (λ k. at.running ≡ Some k.id → IsDispatched S at.jobs k)
             (λ k. same_id k.id j.id) at.jobs j
-            ((executing S p c proper dispatch starts mode arrivals jobs n later).dispatched may)
+            ((executing S proper mode arrivals n going).dispatched may)
             calls.found).0 calls.runs
 
         unwork : (k : Job) → (waits k ≡ false → dynamic_priority S k ≤ dynamic_priority S j)
@@ -216,7 +217,7 @@ module _ (S : System) (mode : ℕ) (arrivals : List Arrival) (p : ℕ) (c : Weig
 
     job_begun : IsUnbusy S p at → has_work S p next ≡ true → left S p c e ≤ c.costs.at_begin
     job_begun quiet some =
-        let low = (at_kept S p c proper dispatch starts mode arrivals jobs n later).low in
+        let low = (at_kept S p c proper dispatch mode arrivals jobs n later).low in
         let begin =
         job_begins S p c starts at good j calls single pays
         (is_lower S p c at good low quiet j runs calls.found)
@@ -233,7 +234,7 @@ module _ (S : System) (mode : ℕ) (arrivals : List Arrival) (p : ℕ) (c : Weig
 
     rests : IsResting at
     rests =
-        nobody_rests at (at_led S p c proper dispatch starts mode arrivals jobs n later)
+        nobody_rests at (at_led S p c proper dispatch mode arrivals jobs n later)
         (nobody_idle at nobody) nobody
 
     nobody_unbusy : IsUnbusy S p at
@@ -253,7 +254,7 @@ module _ (S : System) (mode : ℕ) (arrivals : List Arrival) (p : ℕ) (c : Weig
 
   -- ---- any instruction
 
-  takes : PayForRoutines S c → is_busy S mode arrivals p n ≡ true → has_work S p next ≡ true
+  takes : PayForRunRoutines S mode arrivals c → is_busy S mode arrivals p n ≡ true → has_work S p next ≡ true
       → left S p c e + 1 ≤ left S p c at
   takes routines stood some = go (executor at) refl (executor_calls at)
     where
@@ -261,8 +262,7 @@ module _ (S : System) (mode : ℕ) (arrivals : List Arrival) (p : ℕ) (c : Weig
           → left S p c e + 1 ≤ left S p c at
       go (JobCalls j) is by = job_busy j is stood some
       go (RoutineCalls a) is by =
-          routine_takes S p c starts at good a by routines
-          (goes_on S p c proper dispatch starts mode arrivals jobs n later)
+          routine_takes S p c starts at good a by (routines n a later is)
       go NobodyCalls is by = absurd (not_busy S p at (nobody_unbusy is) stood)
 
   begins : IsUnbusy S p at → has_work S p next ≡ true → left S p c e ≤ c.costs.at_begin
@@ -276,7 +276,7 @@ module _ (S : System) (mode : ℕ) (arrivals : List Arrival) (p : ℕ) (c : Weig
 
   ends : IsUnbusy S p next → left S p c next ≤ c.costs.at_begin
   ends quiet =
-      go (behind_led S p c proper dispatch starts mode arrivals jobs n later
+      go (behind_led S p c proper dispatch mode arrivals jobs n later
       (ap is_some quiet.active))
     where
       go : IsResting next ⊎ HasRunning next.running next.jobs → left S p c next ≤ c.costs.at_begin
@@ -284,13 +284,14 @@ module _ (S : System) (mode : ℕ) (arrivals : List Arrival) (p : ℕ) (c : Weig
       go (inr h) =
           let there = there_is next h in
           little_left S p c next (run_ordered S proper mode arrivals (suc n))
-          (run_kept S p c proper dispatch starts mode arrivals jobs (suc n) later).low quiet
+          (run_kept S p c proper dispatch mode arrivals jobs (suc n) later).low quiet
           there.job (record { idle = quiet.active; runs = there.runs }) there.found
           dispatch.section
 
 pub jobs_pay : (S : System) (mode : ℕ) (arrivals : List Arrival) (p : ℕ) (c : Weights)
-    → IsProper S → PayForDispatch S p c → PayForStarts S p c → PayForRoutines S c
-    → PayForJobs S mode arrivals p c → PayForInstructions S mode arrivals p c
+    → IsProper S → PayForDispatch S p c → PayForStarts S p c
+    → PayForRunRoutines S mode arrivals c → PayForRunJobs S mode arrivals p c
+    → PayForInstructions S mode arrivals p c
 jobs_pay S mode arrivals p c proper dispatch starts routines jobs = record {
   busy = λ n later stood some.
       takes S mode arrivals p c proper dispatch starts jobs n later routines stood some;

@@ -13,11 +13,16 @@ pub mod Routines
 pub mod JobStarts
 pub mod JobTakes
 pub mod ServicesKeep
+pub mod JobsKeep
+pub mod InstructionKeeps
 pub mod Low
 pub mod Running
 pub mod Executed
 pub mod Work
+pub mod InTicks
 pub mod Kept
 pub mod Quiet
 pub mod Executor
 pub mod Jobs
+pub mod KnownTick
+pub mod Known

@@ -1,7 +1,7 @@
 -- Where work stands, something is left.
 use Rattle.std.proofs.Common.{ℕ, zero, suc, ◌≡◌, ◌<◌, ◌≤◌, ◌⊎◌, inl, inr, Bool, true, false, cond, not, ◌&&◌, ◌||◌, nat_le, List, [], ◌∷◌, length, refl, sym, ◌∙◌, ap, subst, arith}
-use Rattle.std.specs.Prelude.{Option, Some, None, is_some, ◌==◌, slice_index_or}
-use Rattle.std.specs.List.{filter, list_any, sum_by}
+use Rattle.std.specs.Prelude.{IfSome, Option, Some, None, is_some, ◌==◌, slice_index_or}
+use Rattle.std.specs.List.{AllByRecursion, filter, list_any, sum_by}
 use Rattle.std.proofs.lemmas.Bool.{and_parts, cases_lt, eq-eqb, le-leb, leb-true}
 use Rattle.std.proofs.lemmas.List.Folds.{list_any-append}
 use Rattle.std.proofs.lemmas.List.Sums.{sum_by-cons}
@@ -12,21 +12,24 @@ use Rattle.osek_base.specs.System.{System}
 use Rattle.osek_base.specs.Tick.{is_pending}
 use Rattle.law_runs.proofs.Foremost.{equal, static_le}
 use Rattle.law_runs.proofs.Formed.{HasForm}
-use Rattle.law_runs.proofs.Lists.{clash}
+use Rattle.law_runs.proofs.Lists.{all_weaker, clash}
 use Rattle.law_windows.specs.Routines.{begun}
 use Rattle.law_windows.specs.Work.{has_work, is_work}
 use Rattle.law_windows.proofs.Before.{or_true}
 use Rattle.law_costs.specs.Left.{Weights, counts, is_off, left, left_of_active, on, switch_for, switch_of}
+use Rattle.law_costs.specs.Known.{IsKnownJob, IsKnownRoutine, Known, StaysKnown}
 use Rattle.law_costs.specs.Paying.{CostSomething, PayForComing}
+use Rattle.law_costs.proofs.KnownTick.{HasKnown, known_jobs}
 use Rattle.law_costs.proofs.Parts.{any_weaker}
 use Rattle.law_costs.proofs.Totals.{part}
 
 -- ---- lists
 
 some_part : {X : Type 0} (q : X → Bool) (f : X → ℕ) (d : ℕ) (xs : List X)
-    → ((x : X) → q x ≡ true → 1 ≤ f x) → list_any q xs ≡ true → 1 ≤ sum_by (part q f d) xs
+    → AllByRecursion (λ x. q x ≡ true → 1 ≤ f x) xs → list_any q xs ≡ true
+    → 1 ≤ sum_by (part q f d) xs
 some_part q f d [] dear some = clash (sym some)
-some_part q f d (x ∷ xs) dear some = go (q x) refl some (some_part q f d xs dear)
+some_part q f d (x ∷ xs) dear some = go (q x) refl some (some_part q f d xs dear.1)
   where
     go : (b : Bool) → q x ≡ b → (b || list_any q xs) ≡ true
         → (list_any q xs ≡ true → 1 ≤ sum_by (part q f d) xs)
@@ -34,7 +37,7 @@ some_part q f d (x ∷ xs) dear some = go (q x) refl some (some_part q f d xs de
     go true is some rest =
         let whole = sum_by-cons (part q f d) x xs in
         let first : part q f d x ≡ f x = ap (λ b. cond b (f x) 0) is in
-        let cost = dear x is in
+        let cost = dear.0 is in
         omega (arith, whole, first, cost)
     go false is some rest =
         let whole = sum_by-cons (part q f d) x xs in
@@ -105,13 +108,15 @@ module _ (S : System) (p : ℕ) (s : State) where
       (le-leb p (dynamic_priority S j) (omega (arith, high, own)))
       ∙ or_true (is_off (switch_for s j))
 
-module _ (S : System) (p : ℕ) (c : Weights) (something : CostSomething S p c)
-    (coming : PayForComing S c) (s : State) (form : HasForm S s) where
+module _ (S : System) (p : ℕ) (c : Weights) (known : Known) (stays : StaysKnown S known)
+    (something : CostSomething S p c known) (coming : PayForComing S c) (s : State)
+    (form : HasForm S s) (here : HasKnown S known s) where
   active_left : (a : Active) → s.active ≡ Some a → 1 ≤ left S p c s
   active_left a is =
       let whole : left_of_active c (switch_of s) s.active ≡ c.of_active (switch_of s) a =
       ap (left_of_active c (switch_of s)) is in
-      let cost = something.active (switch_of s) a in
+      let cost =
+      something.active (switch_of s) a (subst (λ o. IfSome o (IsKnownRoutine known (switch_of s))) is here.active) in
       omega (arith, whole, cost)
 
   pending_left : list_any (λ flag. flag) s.pending ≡ true → 1 ≤ left S p c s
@@ -120,7 +125,7 @@ module _ (S : System) (p : ℕ) (c : Weights) (something : CostSomething S p c)
       let inside : found.place < length S.routines =
       subst (λ n. found.place < n) form.pending found.inside in
       let pay = coming.routine found.place inside in
-      let cost = something.active on (begun found.place) in
+      let cost = something.active on (begun found.place) (stays.started found.place inside) in
       let whole =
       some_chosen c.costs.of_arrival (is_pending s) found.place (below (length S.routines))
       (in_below (length S.routines) found.place inside) found.raised (omega (arith, pay, cost)) in
@@ -133,7 +138,11 @@ module _ (S : System) (p : ℕ) (c : Weights) (something : CostSomething S p c)
       some in
       let sum =
       some_part (λ j. counts S p (switch_for s j) j) (λ j. c.of_job (switch_for s j) j)
-      c.of_section s.jobs (λ j is. something.job (switch_for s j) j is) count in
+      c.of_section s.jobs
+      (all_weaker (λ j. IsKnownJob known (switch_for s j) j)
+      (λ j. counts S p (switch_for s j) j ≡ true → 1 ≤ c.of_job (switch_for s j) j) s.jobs
+      (λ j h is. something.job (switch_for s j) j h is) (known_jobs S known s form here))
+      count in
       let whole =
       ap
       (λ b. cond b

@@ -86,7 +86,7 @@ module _ (S : System) (p : ℕ) (c : Weights) (s : State) (good : IsRunState S s
   pub is_lower : priority_of S j.id.task < p
   is_lower = lower S p j ready (member (λ k. is_work S p k ≡ false) quiet.jobs)
 
-  other_none : (k : Job) → is_work S p k ≡ false → IsLow S p c s.running (switch_for s) k
+  other_none : (k : Job) → is_work S p k ≡ false → IsLow S p c s.running (switch_for s k) k
       → same_id k.id j.id ≡ false → left_of_job S p c (λ l. on) k ≡ 0
   other_none k none h other = go (counts S p on k) refl
     where
@@ -105,10 +105,10 @@ module _ (S : System) (p : ℕ) (c : Weights) (s : State) (good : IsRunState S s
   pub none_beside : left_of_others S p c j.id s.jobs ≡ 0
   none_beside =
       sum_none (left_of_job S p c (λ l. on)) (λ k. same_id k.id j.id) s.jobs
-      (all_weaker (λ k. (is_work S p k ≡ false) × IsLow S p c s.running (switch_for s) k)
+      (all_weaker (λ k. (is_work S p k ≡ false) × IsLow S p c s.running (switch_for s k) k)
       (λ k. same_id k.id j.id ≡ false → left_of_job S p c (λ l. on) k ≡ 0) s.jobs
       (λ k h. other_none k h.0 h.1)
-      (all_both (λ k. is_work S p k ≡ false) (IsLow S p c s.running (switch_for s)) s.jobs
+      (all_both (λ k. is_work S p k ≡ false) (λ k. IsLow S p c s.running (switch_for s k) k) s.jobs
       quiet.jobs low))
 
   -- and of it no more than may be where a window begins
@@ -118,7 +118,7 @@ module _ (S : System) (p : ℕ) (c : Weights) (s : State) (good : IsRunState S s
       go : (b : Bool) → counts S p (switch_for s j) j ≡ b
           → cond b (c.of_job (switch_for s j) j) 0 ≤ c.costs.at_begin
       go false is = omega arith
-      go true is = (member (IsLow S p c s.running (switch_for s)) low).little is_lower is
+      go true is = (member (λ k. IsLow S p c s.running (switch_for s k) k) low).little is_lower is
 
   pub little_left : c.of_section ≤ c.costs.at_begin → left S p c s ≤ c.costs.at_begin
   little_left section =

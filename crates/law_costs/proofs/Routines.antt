@@ -1,39 +1,26 @@
 -- An instruction of a routine takes one, by what it leaves of the routine and what it starts.
-use Rattle.std.proofs.Common.{ℕ, ◌≡◌, ◌≤◌, ◌+◌, true, false, cond, not, ◌&&◌, List, ◌∷◌, refl, sym, ◌∙◌, ap, arith}
+use Rattle.std.proofs.Common.{ℕ, ◌≡◌, ◌≤◌, ◌+◌, false, List, ◌∷◌, refl, sym, ◌∙◌, ap, arith}
 use Rattle.std.specs.Prelude.{Option, Some, None, is_some, slice_index, slice_index_or, bit_or}
 use Rattle.std.specs.List.{sum_by}
-use Rattle.std.specs.Option.{option_map}
-use Rattle.std.proofs.Math.Path.{fun_ext}
 use Rattle.osek_base.specs.declared.ids.Owner.{Owner}
 use Rattle.osek_base.specs.declared.instr.Control.{Control}
 use Rattle.osek_base.specs.declared.instr.Instr.{Instr}
 use Rattle.osek_base.specs.declared.instr.Service.{Service}
 use Rattle.osek_base.specs.declared.status.Status.{Status}
-use Rattle.osek_base.specs.Blocker.{is_job}
-use Rattle.osek_base.specs.Instruction.{Context, next, plain}
-use Rattle.osek_base.specs.Service.{Reply, RoutineCalls, effect, first_refusal, refusals, reply_to, service}
+use Rattle.osek_base.specs.Instruction.{Context}
+use Rattle.osek_base.specs.Service.{RoutineCalls, effect, first_refusal, refusals, reply_to, service}
 use Rattle.osek_base.specs.State.{Active, Job, State, interrupts_off}
 use Rattle.osek_base.specs.System.{System, instruction_at}
-use Rattle.osek_base.specs.Tick.{answered, at_values, caller_executes, caller_of, execute_phase, executed, moved}
+use Rattle.osek_base.specs.Tick.{at_values, caller_executes, caller_of, execute_phase, executed}
 use Rattle.osek_base.specs.Types.{ServiceCall}
 use Rattle.law_alarms.specs.Setting.{call_in}
 use Rattle.law_future.specs.Shown.{chosen_of}
 use Rattle.law_runs.proofs.RankedTick.{IsRunState}
-use Rattle.law_costs.specs.Left.{Weights, left, left_of_active, left_of_jobs, left_of_pending, on, switch_for, switch_of}
+use Rattle.law_costs.specs.Left.{Weights, left, left_of_active, left_of_jobs, left_of_pending, switch_for, switch_of}
 use Rattle.law_costs.specs.Paying.{PayForStarts, start_of}
-use Rattle.law_costs.specs.Routines.{PayForRoutines, started_by, started_where}
+use Rattle.law_costs.specs.Routines.{TakesIn, started_by, started_where}
 use Rattle.law_costs.proofs.Starts.{activated_adds, set_adds}
-use Rattle.law_costs.proofs.Switches.{all_on}
-
--- behind a routine each job finds interrupts on
-pub behind_routine : (s : State) → is_some s.active ≡ true → switch_for s ≡ (λ j. on)
-behind_routine s is =
-    fun_ext (λ j. ap (λ b. cond (not b && is_job s.running j.id) (switch_of s) on) is)
-
-pub some_moved : (x : Context) (o : Option Active) → is_some o ≡ true
-    → is_some (option_map (moved x) o) ≡ true
-some_moved x None is = is
-some_moved x (Some a) is = refl
+use Rattle.law_costs.proofs.Switches.{behind_routine, find_on}
 
 module _ (S : System) (p : ℕ) (c : Weights) (starts : PayForStarts S p c) (s : State)
     (good : IsRunState S s) (a : Active) (is : s.active ≡ Some a) where
@@ -107,39 +94,6 @@ module _ (S : System) (p : ℕ) (c : Weights) (starts : PayForStarts S p c) (s :
     pending_stays (Instr.Control Control.DisableAllInterrupts) = refl
     pending_stays (Instr.Control control) = refl
 
-    pub find_on : (what : Instr) → switch_for (there what) ≡ (λ j. on)
-    unfolding service
-    find_on (Instr.Plain what) =
-        behind_routine (there (Instr.Plain what))
-        (some_moved (plain what x (s.words who)).context s.active (ap is_some is))
-    find_on (Instr.Service call) =
-        let r : Reply = service S (RoutineCalls a) s (at_values x call) in
-        behind_routine (there (Instr.Service call))
-        (some_moved (answered r.status r.results x) s.active (ap is_some is))
-    find_on (Instr.Control Control.DisableAllInterrupts) =
-        behind_routine (there (Instr.Control Control.DisableAllInterrupts))
-        (some_moved (next x) s.active (ap is_some is))
-    find_on (Instr.Control Control.EnableAllInterrupts) =
-        behind_routine (there (Instr.Control Control.EnableAllInterrupts))
-        (some_moved (next x) s.active (ap is_some is))
-    find_on (Instr.Control Control.SuspendAllInterrupts) =
-        behind_routine (there (Instr.Control Control.SuspendAllInterrupts))
-        (some_moved (next x) s.active (ap is_some is))
-    find_on (Instr.Control Control.ResumeAllInterrupts) =
-        behind_routine (there (Instr.Control Control.ResumeAllInterrupts))
-        (some_moved (next x) s.active (ap is_some is))
-    find_on (Instr.Control Control.SuspendOsInterrupts) =
-        behind_routine (there (Instr.Control Control.SuspendOsInterrupts))
-        (some_moved (next x) s.active (ap is_some is))
-    find_on (Instr.Control Control.ResumeOsInterrupts) =
-        behind_routine (there (Instr.Control Control.ResumeOsInterrupts))
-        (some_moved (next x) s.active (ap is_some is))
-    find_on (Instr.Control (Control.ShutdownOs n)) =
-        behind_routine (there (Instr.Control (Control.ShutdownOs n)))
-        (some_moved (next x) s.active (ap is_some is))
-    find_on (Instr.Control Control.ReturnFromInterrupt) =
-        all_on (there (Instr.Control Control.ReturnFromInterrupt)) refl
-
   abbrev behind : State
   behind = (caller_executes S (RoutineCalls a) s).state
 
@@ -153,11 +107,10 @@ module _ (S : System) (p : ℕ) (c : Weights) (starts : PayForStarts S p c) (s :
   unfolding execute_phase
   behind_is = ap (λ o. (caller_executes S (caller_of o s.running s.jobs) s).state) is
 
-  pub routine_takes : PayForRoutines S c → (execute_phase S s).state.over ≡ false
+  pub routine_takes : TakesIn S c s a
       → left S p c (execute_phase S s).state + 1 ≤ left S p c s
-  routine_takes pays going =
+  routine_takes take =
       let same = ap (left S p c) behind_is in
-      let take = pays.takes s a is (sym (ap (λ (e : State). e.over) behind_is) ∙ going) in
       let active : left_of_active c (switch_of s) s.active ≡ c.of_active (switch_of s) a =
       ap (left_of_active c (switch_of s)) is in
       let pending : left_of_pending S c behind ≡ left_of_pending S c s =
@@ -165,6 +118,6 @@ module _ (S : System) (p : ℕ) (c : Weights) (starts : PayForStarts S p c) (s :
       (pending_stays owner a.context what) in
       let find =
       ap (λ find. left_of_jobs S p c find behind.jobs)
-      (find_on owner a.context what ∙ sym (behind_routine s (ap is_some is))) in
+      (find_on S s a is owner a.context what ∙ sym (behind_routine s (ap is_some is))) in
       let jobs = jobs_add owner a.context what in
       omega (arith, same, take, active, pending, find, jobs)

@@ -1,17 +1,17 @@
 -- What holds of each job, and of each job as it becomes ready, holds behind a service too.
-use Rattle.std.proofs.Common.{◌≡◌, Bool, true, false, cond, not, List, [], ◌∷◌, refl, sym, ◌∙◌, ap, subst}
+use Rattle.std.proofs.Common.{◌≡◌, Bool, true, false, cond, not, List, [], ◌∷◌, map, refl, sym, ◌∙◌, ap, subst}
 use Rattle.std.specs.Prelude.{ℕ, Option, Some, None, ◌==◌, slice_index, bit_or}
-use Rattle.std.specs.List.{AllByRecursion}
+use Rattle.std.specs.List.{AllByRecursion, filter}
 use Rattle.osek_base.specs.declared.instr.Service.{Service}
 use Rattle.osek_base.specs.declared.status.Status.{Status}
-use Rattle.osek_base.specs.Activation.{activated, released}
+use Rattle.osek_base.specs.Activation.{activated, new_job, released, woken}
 use Rattle.osek_base.specs.Service.{Caller, JobCalls, NobodyCalls, RoutineCalls, caller_ended, effect, event_awaited, event_set, events_cleared, first_refusal, gets, given_up, is_met, is_outranked, meets, refusals, released_by, releases, reply_to, service, waiting_for, with_caller, with_events}
 use Rattle.osek_base.specs.State.{Job, JobId, State, interrupts_off, jobs_but, jobs_of, same_id, waits, with_job}
 use Rattle.osek_base.specs.System.{System}
 use Rattle.osek_base.specs.Types.{ServiceCall}
-use Rattle.law_runs.proofs.Foremost.{AreApart}
+use Rattle.law_runs.proofs.Foremost.{AreApart, only}
 use Rattle.law_runs.proofs.Known.{met_waits}
-use Rattle.law_runs.proofs.Lists.{all_append, all_kept, all_map, all_weaker, clash, cond_case, pairs_weaker}
+use Rattle.law_runs.proofs.Lists.{EitherWay, Pairs, all_append, all_both, all_filter, all_kept, all_map, all_weaker, clash, cond_case, either_way, pairs_weaker}
 use Rattle.law_runs.proofs.RankedMoves.{IsNewest, made_job, made_newest, woken_jobs, woken_newest}
 use Rattle.law_runs.proofs.RankedTick.{IsRunState}
 use Rattle.law_runs.proofs.Single.{IsSoundPair}
@@ -33,8 +33,25 @@ others_changed P n change ids jobs all =
     one k true is h other = clash (sym is ∙ ap (λ m. same_id m n) (sym (ids k)) ∙ other)
     one k false is h other = h other
 
+-- what holds of each job as it becomes ready: as it is made, and as its wait ends
+pub record HoldsOfReady (S : System) (running : Option JobId) (P : Job → Type 0) : Type 0 where
+  pub made : (n : JobId) → IsNewest S running (new_job n) → P (new_job n)
+  pub freed : (j : Job) → waits j ≡ true → IsNewest S running (woken j) → P j → P (woken j)
+
+pub others_ready : (S : System) (running : Option JobId) (P : Job → Type 0) (n : JobId)
+    → HoldsOfReady S running P → HoldsOfReady S running (IsOther P n)
+others_ready S running P n ready = record {
+  made = λ m new other. ready.made m new;
+  freed = λ j waiting new h other. ready.freed j waiting new (h other);
+}
+
+all_unmapped : (P : Job → Type 0) (f : Job → Job) (jobs : List Job)
+    → AllByRecursion P (map f jobs) → AllByRecursion (λ k. P (f k)) jobs
+all_unmapped P f [] all = tt
+all_unmapped P f (k ∷ jobs) all = (all.0, all_unmapped P f jobs all.1)
+
 module _ (S : System) (s : State) (good : IsRunState S s) (P : Job → Type 0)
-    (new : (k : Job) → IsNewest S s.running k → P k) (all : AllByRecursion P s.jobs) where
+    (ready : HoldsOfReady S s.running P) (all : AllByRecursion P s.jobs) where
   -- ---- jobs that become ready
 
   pub activates : (t : ℕ) (jobs : List Job) → AllByRecursion P jobs
@@ -42,7 +59,7 @@ module _ (S : System) (s : State) (good : IsRunState S s) (P : Job → Type 0)
   unfolding activated
   activates t jobs each =
       all_append P jobs (made_job S t s ∷ []) each
-      (new (made_job S t s) (made_newest S t s good.single), tt)
+      (ready.made (made_job S t s).id (made_newest S t s good.single), tt)
 
   releases_one : (set t : ℕ) (j : Job)
       → ((Q : Job → Type 0) → AllByRecursion Q s.jobs → Q j) → waits j ≡ true
@@ -51,10 +68,29 @@ module _ (S : System) (s : State) (good : IsRunState S s) (P : Job → Type 0)
   releases_one set t j member waiting =
       all_append P (jobs_but j.id s.jobs) (woken_jobs S j s)
       (all_kept P (λ k. not (same_id k.id j.id)) s.jobs all)
-      (all_weaker (IsNewest S s.running) P (woken_jobs S j s) new
-      (woken_newest S j s member waiting
-      (pairs_weaker (IsSoundPair S) AreApart s.jobs (λ x y h. h.apart) good.single.pairs)
-      good.ordered))
+      (all_map (λ k. (k ≡ j) × (P k × IsNewest S s.running (woken k))) P woken those
+      (λ k h. ready.freed k (ap waits h.0 ∙ waiting) h.1.1 h.1.0)
+      (all_both (λ k. k ≡ j) (λ k. P k × IsNewest S s.running (woken k)) those itself
+      (all_both P (λ k. IsNewest S s.running (woken k)) those
+      (all_kept P (λ k. same_id k.id j.id) s.jobs all)
+      (all_unmapped (IsNewest S s.running) woken those
+      (woken_newest S j s member waiting apart good.ordered)))))
+    where
+      those : List Job
+      those = filter (λ k. same_id k.id j.id) s.jobs
+
+      apart : Pairs AreApart s.jobs
+      apart = pairs_weaker (IsSoundPair S) AreApart s.jobs (λ x y h. h.apart) good.single.pairs
+
+      itself : AllByRecursion (λ k. k ≡ j) those
+      itself =
+          all_weaker
+          (λ k. (same_id k.id j.id ≡ true → k ≡ j) × (same_id k.id j.id ≡ true)) (λ k. k ≡ j) those
+          (λ k h. h.0 h.1)
+          (all_filter (λ k. same_id k.id j.id ≡ true → k ≡ j) (λ k. same_id k.id j.id) s.jobs
+          (only j s.jobs
+          (member (λ k. AllByRecursion (EitherWay AreApart k) s.jobs)
+          (either_way AreApart s.jobs apart))))
 
   pub sets : (t m : ℕ) → AllByRecursion P (event_set t m s).jobs
   sets t m = go (jobs_of t s.jobs) refl

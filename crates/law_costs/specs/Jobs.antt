@@ -1,14 +1,11 @@
--- Costs of jobs, by one inequality for each instruction that a job executes in a run.
-use Rattle.std.specs.Prelude.{ℕ, suc, ◌+◌, ◌≡◌, ◌<◌, ◌≤◌, true, false, if◌then◌else◌, List, Option, Some, None}
-use Rattle.osek_base.specs.declared.arrivals.Arrival.{Arrival}
+-- Costs of jobs, by one inequality for each instruction of a known job.
+use Rattle.std.specs.Prelude.{ℕ, ◌+◌, ◌≡◌, ◌<◌, ◌≤◌, true, if◌then◌else◌, Option, Some, None}
 use Rattle.osek_base.specs.Service.{JobCalls}
 use Rattle.osek_base.specs.State.{Job, State, job_of}
 use Rattle.osek_base.specs.System.{System, priority_of}
-use Rattle.osek_base.specs.Tick.{caller_executes, executor}
-use Rattle.osek_base.specs.Trace.{run}
 use Rattle.law_alarms.specs.Setting.{call_by}
-use Rattle.law_blockers.specs.Steps.{step_at}
 use Rattle.law_costs.specs.Left.{Switch, Weights, counts, is_off, switch_of}
+use Rattle.law_costs.specs.Known.{Executes, IsKnownJob, Known, behind_by}
 use Rattle.law_costs.specs.Routines.{started_by}
 
 -- ---- what an instruction of a job leaves and starts
@@ -25,7 +22,7 @@ left_of_own S p c before w (Some j) =
 
 -- the state behind an instruction that a job executes in a state, and what is left of it there
 abbrev pub behind : System → State → Job → State
-behind S s j = (caller_executes S (JobCalls j) s).state
+behind S s j = behind_by S (JobCalls j) s
 
 abbrev pub left_behind : System → ℕ → Weights → State → Job → ℕ
 left_behind S p c s j =
@@ -46,13 +43,8 @@ pub record PaysIn (S : System) (p : ℕ) (c : Weights) (s : State) (j : Job) : T
   pub begins : priority_of S j.id.task < p
       → left_behind S p c s j + started S c s j ≤ c.costs.at_begin
 
--- the state at the instruction of tick n
-abbrev pub at_instruction : System → ℕ → List Arrival → ℕ → State
-at_instruction S mode arrivals n = (step_at S mode arrivals n).executing
-
--- so it is of each instruction that a job executes in a run
-abbrev pub PayForJobs : System → ℕ → List Arrival → ℕ → Weights → Type 0
-PayForJobs S mode arrivals p c =
-    (n : ℕ) (j : Job) → (run S mode arrivals (suc n)).state.over ≡ false
-    → executor (at_instruction S mode arrivals n) ≡ JobCalls j
-    → PaysIn S p c (at_instruction S mode arrivals n) j
+-- so it is where a known job executes, whatever state it finds
+abbrev pub PayForJobs : System → ℕ → Weights → Known → Type 0
+PayForJobs S p c known =
+    (s : State) (j : Job) → Executes S (JobCalls j) s → IsKnownJob known (switch_of s) j
+    → PaysIn S p c s j

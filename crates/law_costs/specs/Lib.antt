@@ -1,4 +1,5 @@
 pub mod Left
+pub mod Known
 pub mod Paying
 pub mod Routines
 pub mod Jobs

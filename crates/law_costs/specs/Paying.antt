@@ -12,6 +12,7 @@ use Rattle.osek_base.specs.Trace.{starting_tasks}
 use Rattle.osek_base.specs.Types.{ServiceCall}
 use Rattle.law_windows.specs.Routines.{begun}
 use Rattle.law_costs.specs.Left.{Switch, Weights, counts, on}
+use Rattle.law_costs.specs.Known.{IsKnownJob, IsKnownRoutine, Known}
 
 -- whether a task is of the level
 abbrev pub is_upper : System → ℕ → ℕ → Bool
@@ -24,10 +25,11 @@ start_of c (Service.ChainTask (Some t)) = c.of_task t
 start_of c (Service.SetEvent (Some t) m) = c.of_event t m
 start_of c call = 0
 
--- who executes costs something: the active routine, and a job that counts
-pub record CostSomething (S : System) (p : ℕ) (c : Weights) : Type 0 where
-  pub active : (w : Switch) (a : Active) → 1 ≤ c.of_active w a
-  pub job : (w : Switch) (j : Job) → counts S p w j ≡ true → 1 ≤ c.of_job w j
+-- who is known costs something: a routine, and a job that counts
+pub record CostSomething (S : System) (p : ℕ) (c : Weights) (known : Known) : Type 0 where
+  pub active : (w : Switch) (a : Active) → IsKnownRoutine known w a → 1 ≤ c.of_active w a
+  pub job : (w : Switch) (j : Job) → IsKnownJob known w j → counts S p w j ≡ true
+      → 1 ≤ c.of_job w j
 
 -- a dispatch takes nothing from a job that counts already; a section that it begins is paid, and no
 -- more than may be where a window begins

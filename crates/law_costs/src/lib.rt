@@ -28,4 +28,4 @@
 
 mod laws;
 
-pub use laws::{costs_bound_responses, costs_fall_by_phases};
+pub use laws::{costs_bound_responses, costs_fall_by_phases, runs_are_known};

@@ -1,0 +1,76 @@
+-- Which jobs and routines a run can come to: tests that what begins passes, and what goes on too.
+use Rattle.std.specs.Prelude.{ℕ, ◌≡◌, ◌<◌, Bool, true, false, List, IfSome, length}
+use Rattle.osek_base.specs.declared.arrivals.Arrival.{Arrival}
+use Rattle.osek_base.specs.Activation.{new_job, woken}
+use Rattle.osek_base.specs.GoodState.{IsGood, IsShaped}
+use Rattle.osek_base.specs.Reschedule.{entered}
+use Rattle.osek_base.specs.Service.{Caller, JobCalls, RoutineCalls}
+use Rattle.osek_base.specs.State.{Active, Job, JobId, State, job_of, waits}
+use Rattle.osek_base.specs.System.{System}
+use Rattle.osek_base.specs.Tick.{caller_executes, executor}
+use Rattle.osek_base.specs.Trace.{run}
+use Rattle.law_blockers.specs.Steps.{step_at}
+use Rattle.law_windows.specs.Routines.{begun}
+use Rattle.law_costs.specs.Left.{Switch, on, switch_of}
+
+-- ---- tests
+
+-- of a job or a routine that finds that switch. They may pass more than any run comes to
+pub record Known : Type 0 where
+  pub job : Switch → Job → Bool
+  pub routine : Switch → Active → Bool
+
+abbrev pub IsKnownJob : Known → Switch → Job → Type 0
+IsKnownJob known w j = known.job w j ≡ true
+
+abbrev pub IsKnownRoutine : Known → Switch → Active → Type 0
+IsKnownRoutine known w a = known.routine w a ≡ true
+
+-- ---- an instruction
+
+-- the state behind one that a caller executes in a state
+abbrev pub behind_by : System → Caller → State → State
+behind_by S who s = (caller_executes S who s).state
+
+-- in a good state it's that caller who executes, and the run isn't over behind it
+pub record Executes (S : System) (who : Caller) (s : State) : Type 0 where
+  pub good : IsGood S s
+  pub shaped : IsShaped S s
+  pub calls : executor s ≡ who
+  pub goes_on : (behind_by S who s).over ≡ false
+
+-- ---- what is known stays known
+
+pub record StaysKnown (S : System) (known : Known) : Type 0 where
+  -- a new job, and a routine as it starts
+  pub fresh : (n : JobId) → n.task < length S.tasks → IsKnownJob known on (new_job n)
+  pub started : (i : ℕ) → i < length S.routines → IsKnownRoutine known on (begun i)
+  -- a known job that is dispatched, and one whose wait ends
+  pub dispatched : (j : Job) → waits j ≡ false → IsKnownJob known on j
+      → IsKnownJob known on (entered S j)
+  pub freed : (j : Job) → waits j ≡ true → IsKnownJob known on j → IsKnownJob known on (woken j)
+  -- a known job that executes, whatever state it finds, if it is there behind its instruction
+  pub job : (s : State) (j : Job) → Executes S (JobCalls j) s → IsKnownJob known (switch_of s) j
+      → IfSome (job_of j.id (behind_by S (JobCalls j) s).jobs)
+      (IsKnownJob known (switch_of (behind_by S (JobCalls j) s)))
+  -- and a known routine
+  pub routine : (s : State) (a : Active) → Executes S (RoutineCalls a) s
+      → IsKnownRoutine known (switch_of s) a
+      → IfSome (behind_by S (RoutineCalls a) s).active
+      (IsKnownRoutine known (switch_of (behind_by S (RoutineCalls a) s)))
+
+-- ---- the law
+
+-- the state at the instruction of tick n
+abbrev pub at_instruction : System → ℕ → List Arrival → ℕ → State
+at_instruction S mode arrivals n = (step_at S mode arrivals n).executing
+
+-- who executes in a run is known
+pub record AreKnown (S : System) (mode : ℕ) (arrivals : List Arrival) (known : Known) : Type 0
+  where
+    pub jobs : (n : ℕ) (j : Job) → (run S mode arrivals n).state.over ≡ false
+        → executor (at_instruction S mode arrivals n) ≡ JobCalls j
+        → IsKnownJob known (switch_of (at_instruction S mode arrivals n)) j
+    pub routines : (n : ℕ) (a : Active) → (run S mode arrivals n).state.over ≡ false
+        → executor (at_instruction S mode arrivals n) ≡ RoutineCalls a
+        → IsKnownRoutine known (switch_of (at_instruction S mode arrivals n)) a
