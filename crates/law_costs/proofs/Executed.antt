@@ -1,4 +1,4 @@
--- Behind an instruction, with interrupts off and no routine active, a job runs too.
+-- Behind an instruction too a job runs where interrupts are off and no routine is active.
 use Rattle.std.proofs.Common.{◌≡◌, Bool, true, cond, List, refl, sym, ◌∙◌, ap}
 use Rattle.std.specs.Prelude.{Some, is_some}
 use Rattle.std.specs.List.{list_any}

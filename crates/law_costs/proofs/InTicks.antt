@@ -37,7 +37,8 @@ module _ (S : System) (proper : IsProper S) (mode : ℕ) (arrivals : List Arriva
     pub executing : IsExecuting S proper at
     executing =
         subst (IsExecuting S proper) at_is
-        (before_executing S proper (arriving arrivals n) here (run_ordered S proper mode arrivals n))
+        (before_executing S proper (arriving arrivals n) here
+        (run_ordered S proper mode arrivals n))
 
     pub at_form : HasForm S at
     at_form =

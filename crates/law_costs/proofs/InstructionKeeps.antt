@@ -1,4 +1,4 @@
--- What holds of each job holds behind an instruction too, where it does of the job that executes it.
+-- What holds of each job holds behind an instruction too, if it does of the job that executes it.
 use Rattle.std.proofs.Common.{◌≡◌, Bool, true, false, not, List, refl, sym, ◌∙◌, ap, subst}
 use Rattle.std.specs.Prelude.{Option, Some, None, is_some}
 use Rattle.std.specs.List.{AllByRecursion}

@@ -108,7 +108,8 @@ module _ (S : System) (p : ℕ) (c : Weights) (s : State) (n : JobId) (runs : Ru
       (λ x y h is. subst (λ m. same_id y.id m ≡ false) (same_ids x.id n is) h.apart) single.pairs)
       (all_any (λ k. same_id k.id n ≡ false
       → left_of_job S p c (switch_for s) k ≡ left_of_job S p c (λ l. on) k) s.jobs
-      (λ k other. ap (λ w. cond (counts S p w k) (c.of_job w k) 0) (other_switch S s n runs k other)))
+      (λ k other.
+      ap (λ w. cond (counts S p w k) (c.of_job w k) 0) (other_switch S s n runs k other)))
 
 -- ---- an instruction
 

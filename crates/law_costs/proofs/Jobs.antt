@@ -254,8 +254,8 @@ module _ (S : System) (mode : ℕ) (arrivals : List Arrival) (p : ℕ) (c : Weig
 
   -- ---- any instruction
 
-  takes : PayForRunRoutines S mode arrivals c → is_busy S mode arrivals p n ≡ true → has_work S p next ≡ true
-      → left S p c e + 1 ≤ left S p c at
+  takes : PayForRunRoutines S mode arrivals c → is_busy S mode arrivals p n ≡ true
+      → has_work S p next ≡ true → left S p c e + 1 ≤ left S p c at
   takes routines stood some = go (executor at) refl (executor_calls at)
     where
       go : (who : Caller) → executor at ≡ who → IsCaller at who

@@ -116,7 +116,8 @@ module _ (S : System) (p : ℕ) (c : Weights) (known : Known) (stays : StaysKnow
       let whole : left_of_active c (switch_of s) s.active ≡ c.of_active (switch_of s) a =
       ap (left_of_active c (switch_of s)) is in
       let cost =
-      something.active (switch_of s) a (subst (λ o. IfSome o (IsKnownRoutine known (switch_of s))) is here.active) in
+      something.active (switch_of s) a
+      (subst (λ o. IfSome o (IsKnownRoutine known (switch_of s))) is here.active) in
       omega (arith, whole, cost)
 
   pending_left : list_any (λ flag. flag) s.pending ≡ true → 1 ≤ left S p c s

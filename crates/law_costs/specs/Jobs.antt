@@ -43,7 +43,7 @@ pub record PaysIn (S : System) (p : ℕ) (c : Weights) (s : State) (j : Job) : T
   pub begins : priority_of S j.id.task < p
       → left_behind S p c s j + started S c s j ≤ c.costs.at_begin
 
--- so it is where a known job executes, whatever state it finds
+-- so it is where a known job executes, whatever good state it finds
 abbrev pub PayForJobs : System → ℕ → Weights → Known → Type 0
 PayForJobs S p c known =
     (s : State) (j : Job) → Executes S (JobCalls j) s → IsKnownJob known (switch_of s) j

@@ -1,4 +1,4 @@
--- Which jobs and routines a run can come to: tests that what begins passes, and what goes on too.
+-- Which jobs and routines runs come to, told by tests: what begins passes them, and what goes on.
 use Rattle.std.specs.Prelude.{ℕ, ◌≡◌, ◌<◌, Bool, true, false, List, IfSome, length}
 use Rattle.osek_base.specs.declared.arrivals.Arrival.{Arrival}
 use Rattle.osek_base.specs.Activation.{new_job, woken}
@@ -15,7 +15,7 @@ use Rattle.law_costs.specs.Left.{Switch, on, switch_of}
 
 -- ---- tests
 
--- of a job or a routine that finds that switch. They may pass more than any run comes to
+-- of a job, and of a routine, with the switch that it finds. They may pass more than runs come to
 pub record Known : Type 0 where
   pub job : Switch → Job → Bool
   pub routine : Switch → Active → Bool
@@ -32,7 +32,7 @@ IsKnownRoutine known w a = known.routine w a ≡ true
 abbrev pub behind_by : System → Caller → State → State
 behind_by S who s = (caller_executes S who s).state
 
--- in a good state it's that caller who executes, and the run isn't over behind it
+-- that caller executes in a good state, and the run isn't over behind it
 pub record Executes (S : System) (who : Caller) (s : State) : Type 0 where
   pub good : IsGood S s
   pub shaped : IsShaped S s
@@ -49,7 +49,7 @@ pub record StaysKnown (S : System) (known : Known) : Type 0 where
   pub dispatched : (j : Job) → waits j ≡ false → IsKnownJob known on j
       → IsKnownJob known on (entered S j)
   pub freed : (j : Job) → waits j ≡ true → IsKnownJob known on j → IsKnownJob known on (woken j)
-  -- a known job that executes, whatever state it finds, if it is there behind its instruction
+  -- a known job that executes, whatever good state it finds, if it is still there behind that
   pub job : (s : State) (j : Job) → Executes S (JobCalls j) s → IsKnownJob known (switch_of s) j
       → IfSome (job_of j.id (behind_by S (JobCalls j) s).jobs)
       (IsKnownJob known (switch_of (behind_by S (JobCalls j) s)))
@@ -66,11 +66,11 @@ abbrev pub at_instruction : System → ℕ → List Arrival → ℕ → State
 at_instruction S mode arrivals n = (step_at S mode arrivals n).executing
 
 -- who executes in a run is known
-pub record AreKnown (S : System) (mode : ℕ) (arrivals : List Arrival) (known : Known) : Type 0
-  where
-    pub jobs : (n : ℕ) (j : Job) → (run S mode arrivals n).state.over ≡ false
-        → executor (at_instruction S mode arrivals n) ≡ JobCalls j
-        → IsKnownJob known (switch_of (at_instruction S mode arrivals n)) j
-    pub routines : (n : ℕ) (a : Active) → (run S mode arrivals n).state.over ≡ false
-        → executor (at_instruction S mode arrivals n) ≡ RoutineCalls a
-        → IsKnownRoutine known (switch_of (at_instruction S mode arrivals n)) a
+pub record AreKnown (S : System) (mode : ℕ) (arrivals : List Arrival) (known : Known)
+    : Type 0 where
+  pub jobs : (n : ℕ) (j : Job) → (run S mode arrivals n).state.over ≡ false
+      → executor (at_instruction S mode arrivals n) ≡ JobCalls j
+      → IsKnownJob known (switch_of (at_instruction S mode arrivals n)) j
+  pub routines : (n : ℕ) (a : Active) → (run S mode arrivals n).state.over ≡ false
+      → executor (at_instruction S mode arrivals n) ≡ RoutineCalls a
+      → IsKnownRoutine known (switch_of (at_instruction S mode arrivals n)) a

@@ -33,7 +33,7 @@ TakesIn S c s a =
     + (started_by S c (RoutineCalls a) s (call_by S (RoutineCalls a)) + 1)
     ≤ c.of_active (switch_of s) a
 
--- so it is where a known routine executes, whatever state it finds
+-- so it is where a known routine executes, whatever good state it finds
 abbrev pub PayForRoutines : System → Weights → Known → Type 0
 PayForRoutines S c known =
     (s : State) (a : Active) → Executes S (RoutineCalls a) s → IsKnownRoutine known (switch_of s) a

@@ -1,6 +1,6 @@
 //! No code: from costs to bounds. What is left of a level's work is counted in each state, by
-//! costs of who executes as it stands. Costs that pay for what comes, and for each instruction by
-//! what it leaves of its own job or routine, bound each window and each response.
+//! costs of who executes as it stands. Costs that pay for what comes, and for each instruction of
+//! a known job or routine by what it leaves of that, bound each window and each response.
 //!
 //! The costs are any functions (`Weights`): of the active routine as it stands, of a job as it
 //! stands, of an activation, of an event, of an interrupt and of an expiry. *Left* in a state is
@@ -8,22 +8,26 @@
 //! and is of the level, or a lower one in a section, by its dynamic priority or with interrupts
 //! off. Where none counts, the greatest section that a dispatch may begin stands for them.
 //!
+//! - A job or a routine is *known* that passes a test, with the switch that it finds (`Known`).
+//!   What is known *stays known* (`StaysKnown`) where all that begins passes, and what passed does
+//!   behind its instruction too, whatever good state that finds. Then who executes in a run is known
+//!   (`runs_are_known`).
 //! - Costs *pay* (`Pay`) where an interrupt costs at least its routine as it starts, an activation
 //!   a new job, an event the job that it releases, an expiry what its alarm starts, a dispatch
 //!   nothing or the section that it begins, boot what starts with the mode. Then alarms, arrivals,
 //!   dispatches and starts of routines add no more than what comes costs.
-//! - Of routines that is one inequality for each instruction, whatever state it finds: what it
-//!   leaves of the routine, and what it starts where it isn't refused, is one less at least
+//! - Of known routines that is one inequality for each instruction, whatever good state it finds:
+//!   what it leaves of the routine, and what it starts where it isn't refused, is one less at least
 //!   (`PayForRoutines`).
-//! - Of jobs it is the same of each instruction that one executes in a run, where the job counts;
-//!   and of a task below the level, in a section or not, what it leaves and starts is no more than
-//!   may be where a window begins (`PayForJobs`). Nothing is asked of whole states.
-//! - So what is left falls phase by phase (`costs_fall_by_phases`), and such costs bound each
-//!   window and each response (`costs_bound_responses`).
+//! - Of known jobs it is the same, where the job counts; and of a task below the level, in a section
+//!   or not, what it leaves and starts is no more than may be where a window begins (`PayForJobs`).
+//!   Nothing is asked of other jobs.
+//! - So what is left falls phase by phase in each run (`costs_fall_by_phases`), and such costs bound
+//!   each window and each response (`costs_bound_responses`).
 //!
-//! That costs pay for the instructions of the jobs of each run is a premise. Left out are events
-//! that are set early, and alarms that pay when they are set. Nothing stands on this crate yet: it
-//! is the step before costs of programs, which a table would tell.
+//! How soon programs set alarms is a premise on each run. Left out are events that are set early,
+//! and alarms that pay when they are set. Nothing stands on this crate yet: it is the step before
+//! costs of programs, for which a table would tell what is known and what it costs.
 #![tactic(auto)]
 
 mod laws;
