@@ -18,6 +18,7 @@ use Rattle.law_runs.proofs.Single.{IsSingle}
 use Rattle.law_runs.proofs.SingleTick.{begun, begun_single, first_single, started_keep}
 use Rattle.law_windows.proofs.Losses.{all_pending, none_on}
 use Rattle.law_costs.specs.Left.{Weights, counts, left, left_of_active, left_of_job, left_of_jobs, left_of_pending, on, switch_of}
+use Rattle.law_costs.specs.Known.{Known}
 use Rattle.law_costs.specs.Paying.{PayForBoot, PayForDispatch, PayForStarts, is_upper}
 use Rattle.law_costs.proofs.Dispatch.{high_parts, is_high, reschedule_less}
 use Rattle.law_costs.proofs.Switches.{all_on}
@@ -62,7 +63,8 @@ none_pending S c s is = none (below (length S.routines))
         (off x)
         ∙ none xs
 
-module _ (S : System) (p : ℕ) (c : Weights) (starts : PayForStarts S p c) where
+module _ (S : System) (p : ℕ) (c : Weights) (known : Known)
+    (starts : PayForStarts S p c known) where
   abbrev part_on : ℕ → State → ℕ
   part_on t s = left_of_job S p c (λ l. on) (made_job S t s)
 

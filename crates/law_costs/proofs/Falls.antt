@@ -25,12 +25,14 @@ use Rattle.law_windows.proofs.Before.{or_true}
 use Rattle.law_windows.proofs.Expiring.{gaps_bound_responses}
 use Rattle.law_windows.proofs.Phases.{phases_make_a_potential}
 use Rattle.law_costs.specs.Left.{Weights, left}
-use Rattle.law_costs.specs.Known.{Known, at_instruction}
+use Rattle.law_costs.specs.Known.{Known, StaysKnown, at_instruction}
 use Rattle.law_costs.specs.Laws.{CostsBoundResponses, CostsFallByPhases, Pay}
 use Rattle.law_costs.proofs.Boot.{boot_less, boot_state}
 use Rattle.law_costs.proofs.Instructions.{PayForInstructions, behind_instruction}
 use Rattle.law_costs.proofs.Jobs.{jobs_pay}
-use Rattle.law_costs.proofs.Known.{known_jobs_pay, known_routines_pay, run_known}
+use Rattle.law_costs.proofs.InTicks.{at_form, executing}
+use Rattle.law_costs.proofs.KnownStarts.{starts_pay}
+use Rattle.law_costs.proofs.Known.{at_known, known_jobs_pay, known_routines_pay, run_known}
 use Rattle.law_costs.proofs.Positive.{something_left}
 use Rattle.law_costs.proofs.Ticks.{before_adds, behind_less}
 use Rattle.law_costs.proofs.Totals.{sum_within}
@@ -44,7 +46,8 @@ each_in (x ∷ xs) = (
 )
 
 module _ (S : System) (mode : ℕ) (arrivals : List Arrival) (p : ℕ) (c : Weights)
-    (known : Known) (proper : IsProper S) (pay : Pay S mode p c known) where
+    (known : Known) (proper : IsProper S) (stays : StaysKnown S known)
+    (pay : Pay S mode p c known) where
   abbrev here : ℕ → State
   here n = (run S mode arrivals n).state
 
@@ -77,8 +80,14 @@ module _ (S : System) (mode : ℕ) (arrivals : List Arrival) (p : ℕ) (c : Weig
       → left S p c (at n) ≤ left S p c (here n) + coming S mode arrivals c.costs n
   before n going =
       let adds =
-      before_adds S p c proper pay.starts pay.coming pay.dispatch (arriving arrivals n) (here n)
-      (good n) in
+      before_adds S p c known proper stays pay.starts pay.coming pay.dispatch
+      (arriving arrivals n) (here n) (good n)
+      (record {
+        good = good n;
+        form = run_form S proper mode arrivals n;
+        jobs = (run_known S known proper stays mode arrivals n going).jobs;
+      })
+      in
       let same = ap (left S p c) (executing_is S mode arrivals n going) in
       let due = due_cost n going in
       omega (arith, adds, same, due)
@@ -87,8 +96,8 @@ module _ (S : System) (mode : ℕ) (arrivals : List Arrival) (p : ℕ) (c : Weig
   after n later =
       let going = going_before S mode arrivals n later in
       let less =
-      behind_less S p c proper pay.starts pay.coming pay.dispatch (arriving arrivals n) (here n)
-      (good n) in
+      behind_less S p c known proper stays pay.starts pay.coming pay.dispatch
+      (arriving arrivals n) (here n) (good n) in
       let next = ap (left S p c) (state_more S mode arrivals n going) in
       let same =
       ap (λ (s : State). left S p c (execute_phase S s).state)
@@ -97,7 +106,7 @@ module _ (S : System) (mode : ℕ) (arrivals : List Arrival) (p : ℕ) (c : Weig
 
   boots : left S p c (here 0) ≤ c.costs.at_boot
   boots =
-      let low = boot_less S p c pay.starts mode proper pay.dispatch pay.boot in
+      let low = boot_less S p c known pay.starts mode proper pay.dispatch pay.boot in
       let same = ap (left S p c) (boot_state S mode arrivals) in
       omega (arith, low, same)
 
@@ -136,16 +145,23 @@ costs_fall_by_phases S mode arrivals p c known proper stays pay = record {
       something_left S p c known stays pay.something pay.coming (run S mode arrivals n).state
       (run_form S proper mode arrivals n) (run_known S known proper stays mode arrivals n going)
       stands;
-  boot = λ stands. boots S mode arrivals p c known proper pay;
-  before = λ n going stands. before S mode arrivals p c known proper pay n going;
-  woken = λ n going none busy. woken S mode arrivals p c known proper pay pays n going none;
-  behind = falls S mode arrivals p c known proper pay pays;
-  begun = begins S mode arrivals p c known proper pay pays;
+  boot = λ stands. boots S mode arrivals p c known proper stays pay;
+  before = λ n going stands. before S mode arrivals p c known proper stays pay n going;
+  woken = λ n going none busy. woken S mode arrivals p c known proper stays pay pays n going none;
+  behind = falls S mode arrivals p c known proper stays pay pays;
+  begun = begins S mode arrivals p c known proper stays pay pays;
 }
   where
     pays : PayForInstructions S mode arrivals p c
     pays =
-        jobs_pay S mode arrivals p c proper pay.dispatch pay.starts
+        jobs_pay S mode arrivals p c proper pay.dispatch
+        (λ n going.
+        starts_pay S known p c pay.starts (at_instruction S mode arrivals n)
+        (record {
+          good = (executing S proper mode arrivals n going).good;
+          form = at_form S proper mode arrivals n going;
+          jobs = (at_known S known proper stays mode arrivals n going).jobs;
+        }))
         (known_routines_pay S known proper stays mode arrivals c pay.routines)
         (known_jobs_pay S known proper stays mode arrivals p c pay.jobs)
 

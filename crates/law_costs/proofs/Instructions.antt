@@ -11,13 +11,19 @@ use Rattle.law_costs.specs.Left.{Weights, left}
 use Rattle.law_costs.specs.Known.{at_instruction}
 use Rattle.law_costs.specs.Routines.{TakesIn}
 use Rattle.law_costs.specs.Jobs.{PaysIn}
+use Rattle.law_costs.proofs.Starts.{StartsPay}
 
 -- the state behind the instruction of tick n
 abbrev pub behind_instruction : System → ℕ → List Arrival → ℕ → State
 behind_instruction S mode arrivals n =
     (execute_phase S (at_instruction S mode arrivals n)).state
 
--- for each instruction of a job, and of a routine
+-- for activations and events, and for each instruction of a job and of a routine
+abbrev pub PayForRunStarts : System → ℕ → List Arrival → ℕ → Weights → Type 0
+PayForRunStarts S mode arrivals p c =
+    (n : ℕ) → (run S mode arrivals n).state.over ≡ false
+    → StartsPay S p c (at_instruction S mode arrivals n).jobs
+
 abbrev pub PayForRunJobs : System → ℕ → List Arrival → ℕ → Weights → Type 0
 PayForRunJobs S mode arrivals p c =
     (n : ℕ) (j : Job) → (run S mode arrivals (suc n)).state.over ≡ false

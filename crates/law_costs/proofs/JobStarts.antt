@@ -20,16 +20,16 @@ use Rattle.law_runs.proofs.Known.{met_waits}
 use Rattle.law_runs.proofs.RankedMoves.{made_job}
 use Rattle.law_runs.proofs.RankedTick.{IsRunState}
 use Rattle.law_costs.specs.Left.{Weights, left_of_job, on}
-use Rattle.law_costs.specs.Paying.{PayForStarts, start_of}
+use Rattle.law_costs.specs.Paying.{start_of}
 use Rattle.law_costs.specs.Routines.{started_by, started_where}
 use Rattle.law_costs.proofs.Parts.{but_changed, sum_fewer, sum_more}
-use Rattle.law_costs.proofs.Starts.{made_part, woken_part}
+use Rattle.law_costs.proofs.Starts.{StartsPay, made_part, woken_part}
 
 -- of all jobs but one, with interrupts on
 abbrev pub left_of_others : System → ℕ → Weights → JobId → List Job → ℕ
 left_of_others S p c n jobs = sum_by (left_of_job S p c (λ l. on)) (jobs_but n jobs)
 
-module _ (S : System) (p : ℕ) (c : Weights) (starts : PayForStarts S p c) (s : State)
+module _ (S : System) (p : ℕ) (c : Weights) (s : State) (starts : StartsPay S p c s.jobs)
     (good : IsRunState S s) (j : Job) where
   abbrev others : List Job → ℕ
   others jobs = left_of_others S p c j.id jobs
@@ -60,7 +60,7 @@ module _ (S : System) (p : ℕ) (c : Weights) (starts : PayForStarts S p c) (s :
   unfolding activated
   activates t r =
       let more = one_more r.jobs (made_job S t r) in
-      let one = made_part S p c starts (made_job S t r).id in
+      let one = made_part S p c s starts (made_job S t r).id in
       omega (arith, more, one)
 
   releases_one : (t m : ℕ) (k : Job) (ks : List Job) → jobs_of t s.jobs ≡ k ∷ ks
@@ -72,7 +72,7 @@ module _ (S : System) (p : ℕ) (c : Weights) (starts : PayForStarts S p c) (s :
       sum_fewer (left_of_job S p c (λ l. on)) (λ l. not (same_id l.id j.id))
       (λ l. not (same_id l.id k.id)) s.jobs in
       let one =
-      woken_part S p c starts s good.single good.ordered.ranked.still good.ordered.ready t m k ks
+      woken_part S p c s starts good.single good.ordered.ranked.still good.ordered.ready t m k ks
       are waiting in
       omega (arith, more, fewer, one)
 

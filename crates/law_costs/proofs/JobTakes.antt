@@ -19,10 +19,10 @@ use Rattle.law_runs.proofs.RankedTick.{IsRunState}
 use Rattle.law_runs.proofs.Single.{IsSingle, IsSoundPair}
 use Rattle.law_runs.proofs.SingleMoves.{other_way}
 use Rattle.law_costs.specs.Left.{Weights, counts, is_off, left, left_of_active, left_of_job, left_of_jobs, left_of_pending, on, switch_for, switch_of}
-use Rattle.law_costs.specs.Paying.{PayForStarts}
 use Rattle.law_costs.specs.Jobs.{PaysIn, behind, left_behind, left_of_own, left_of_section, started}
 use Rattle.law_costs.proofs.JobStarts.{left_of_others, others_add}
 use Rattle.law_costs.proofs.Parts.{of_found, sum_apart}
+use Rattle.law_costs.proofs.Starts.{StartsPay}
 use Rattle.law_costs.proofs.Switches.{idle_on}
 use Rattle.law_costs.proofs.Totals.{found_counts}
 
@@ -113,7 +113,7 @@ module _ (S : System) (p : ℕ) (c : Weights) (s : State) (n : JobId) (runs : Ru
 
 -- ---- an instruction
 
-module _ (S : System) (p : ℕ) (c : Weights) (starts : PayForStarts S p c) (s : State)
+module _ (S : System) (p : ℕ) (c : Weights) (s : State) (starts : StartsPay S p c s.jobs)
     (good : IsRunState S s) (j : Job) (calls : IsRunningCaller s j)
     (single : IsSingle S (behind S s j)) (pays : PaysIn S p c s j) where
   abbrev e : State
@@ -133,7 +133,7 @@ module _ (S : System) (p : ℕ) (c : Weights) (starts : PayForStarts S p c) (s :
 
   others_more : left_of_others S p c j.id e.jobs
       ≤ left_of_others S p c j.id s.jobs + started S c s j
-  others_more = others_add S p c starts s good j (owner_of j) j.context (next_of S j)
+  others_more = others_add S p c s starts good j (owner_of j) j.context (next_of S j)
 
   -- what is left of the job itself is told by what is asked of it
   own_less : (o : Option Job) → job_of j.id e.jobs ≡ o

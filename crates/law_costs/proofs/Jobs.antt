@@ -24,11 +24,11 @@ use Rattle.law_runs.proofs.SingleTick.{execute_single}
 use Rattle.law_blockers.proofs.StepLemmas.{executing_is}
 use Rattle.law_windows.specs.Work.{has_work, is_busy, is_work}
 use Rattle.law_costs.specs.Left.{Weights, counts, is_off, left, switch_for, switch_of}
-use Rattle.law_costs.specs.Paying.{PayForDispatch, PayForStarts}
+use Rattle.law_costs.specs.Paying.{PayForDispatch}
 use Rattle.law_costs.specs.Known.{at_instruction}
 use Rattle.law_costs.specs.Jobs.{PaysIn, behind}
 use Rattle.law_costs.proofs.Executor.{may_where_on, neither, nobody_idle, nobody_rests, there_is, work_parts}
-use Rattle.law_costs.proofs.Instructions.{PayForInstructions, PayForRunJobs, PayForRunRoutines, behind_instruction}
+use Rattle.law_costs.proofs.Instructions.{PayForInstructions, PayForRunJobs, PayForRunRoutines, PayForRunStarts, behind_instruction}
 use Rattle.law_costs.proofs.InTicks.{executed_is, executing}
 use Rattle.law_costs.proofs.JobTakes.{Runs, behind_active, behind_pending, job_begins, job_takes}
 use Rattle.law_costs.proofs.Kept.{at_kept, at_led, behind_led, run_kept}
@@ -40,7 +40,8 @@ use Rattle.law_costs.proofs.Running.{HasRunning, IsResting}
 use Rattle.law_costs.proofs.Work.{none_left, none_pends, pending_behind, work_behind}
 
 module _ (S : System) (mode : ℕ) (arrivals : List Arrival) (p : ℕ) (c : Weights)
-    (proper : IsProper S) (dispatch : PayForDispatch S p c) (starts : PayForStarts S p c)
+    (proper : IsProper S) (dispatch : PayForDispatch S p c)
+    (starts : PayForRunStarts S mode arrivals p c)
     (jobs : PayForRunJobs S mode arrivals p c) (n : ℕ)
     (later : (run S mode arrivals (suc n)).state.over ≡ false) where
   abbrev here : State
@@ -210,7 +211,8 @@ module _ (S : System) (mode : ℕ) (arrivals : List Arrival) (p : ℕ) (c : Weig
         go : (b : Bool) → counts S p (switch_of at) j ≡ b → left S p c e + 1 ≤ left S p c at
         go true counting =
             let take =
-            job_takes S p c starts at good j calls single pays counting (counts_or_off some) in
+            job_takes S p c at (starts n going) good j calls single pays counting
+            (counts_or_off some) in
             let same = ap (left S p c) e_is in
             omega (arith, take, same)
         go false none = absurd (not_busy S p at (uncounted_unbusy none) stood)
@@ -219,7 +221,7 @@ module _ (S : System) (mode : ℕ) (arrivals : List Arrival) (p : ℕ) (c : Weig
     job_begun quiet some =
         let low = (at_kept S p c proper dispatch mode arrivals jobs n later).low in
         let begin =
-        job_begins S p c starts at good j calls single pays
+        job_begins S p c at (starts n going) good j calls single pays
         (is_lower S p c at good low quiet j runs calls.found)
         (none_left S c at quiet.pending)
         (none_beside S p c at good low quiet j runs calls.found) (counts_or_off some) in
@@ -262,7 +264,7 @@ module _ (S : System) (mode : ℕ) (arrivals : List Arrival) (p : ℕ) (c : Weig
           → left S p c e + 1 ≤ left S p c at
       go (JobCalls j) is by = job_busy j is stood some
       go (RoutineCalls a) is by =
-          routine_takes S p c starts at good a by (routines n a later is)
+          routine_takes S p c at (starts n going) good a by (routines n a later is)
       go NobodyCalls is by = absurd (not_busy S p at (nobody_unbusy is) stood)
 
   begins : IsUnbusy S p at → has_work S p next ≡ true → left S p c e ≤ c.costs.at_begin
@@ -289,7 +291,7 @@ module _ (S : System) (mode : ℕ) (arrivals : List Arrival) (p : ℕ) (c : Weig
           dispatch.section
 
 pub jobs_pay : (S : System) (mode : ℕ) (arrivals : List Arrival) (p : ℕ) (c : Weights)
-    → IsProper S → PayForDispatch S p c → PayForStarts S p c
+    → IsProper S → PayForDispatch S p c → PayForRunStarts S mode arrivals p c
     → PayForRunRoutines S mode arrivals c → PayForRunJobs S mode arrivals p c
     → PayForInstructions S mode arrivals p c
 jobs_pay S mode arrivals p c proper dispatch starts routines jobs = record {

@@ -69,7 +69,7 @@ module _ (S : System) (P : Option JobId → Switch → Job → Type 0) where
 
     -- ---- alarms
 
-    action_keeps : (act : Action) (s : State) → IsRunState S s → Each s
+    pub action_keeps : (act : Action) (s : State) → IsRunState S s → Each s
         → Each (unasked_service S NobodyCalls s (action_call act)).state
     unfolding unasked_service
     action_keeps act s good all =

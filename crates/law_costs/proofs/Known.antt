@@ -78,7 +78,8 @@ module _ (S : System) (known : Known) (proper : IsProper S) (stays : StaysKnown 
 
     -- ---- at an instruction
 
-    at_known : (n : ℕ) → (here n).over ≡ false → HasKnown S known (at_instruction S mode arrivals n)
+    pub at_known : (n : ℕ) → (here n).over ≡ false
+        → HasKnown S known (at_instruction S mode arrivals n)
     at_known n going =
         subst (HasKnown S known) (at_is S proper mode arrivals n going)
         (before_known S known proper stays (arriving arrivals n) (here n)

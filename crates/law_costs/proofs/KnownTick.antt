@@ -42,13 +42,13 @@ module _ (S : System) (known : Known) where
     pub active : KnownActive s
 
   -- the task of each job of a run exists
-  pub known_jobs : (s : State) → HasForm S s → HasKnown s
+  pub known_jobs : (s : State) → HasForm S s → Each S IsKnownThere s
       → AllByRecursion (λ k. IsKnownJob known (switch_for s k) k) s.jobs
-  known_jobs s form here =
+  known_jobs s form all =
       all_weaker (λ k. IsPlacedJob S k × IsKnownThere s.running (switch_for s k) k)
       (λ k. IsKnownJob known (switch_for s k) k) s.jobs (λ k h. h.1 h.0.task)
       (all_both (IsPlacedJob S) (λ k. IsKnownThere s.running (switch_for s k) k) s.jobs
-      form.formed.jobs here.jobs)
+      form.formed.jobs all)
 
   module _ (proper : IsProper S) (stays : StaysKnown S known) where
     pub known_lasts : Lasts S IsKnownThere
@@ -150,7 +150,7 @@ module _ (S : System) (known : Known) where
           (own_switch S s j.id (record { idle = calls.idle; runs = calls.runs }) j
           (same_self j.id))
           (found (λ k. IsKnownJob known (switch_for s k) k) (λ k. same_id k.id j.id) s.jobs j
-          (known_jobs s form here) calls.found).0
+          (known_jobs s form here.jobs) calls.found).0
 
       pub routine_known : (a : Active) → executor s ≡ RoutineCalls a
           → IsKnownRoutine known (switch_of s) a

@@ -25,4 +25,5 @@ pub mod Quiet
 pub mod Executor
 pub mod Jobs
 pub mod KnownTick
+pub mod KnownStarts
 pub mod Known

@@ -142,7 +142,7 @@ module _ (S : System) (p : ℕ) (c : Weights) (known : Known) (stays : StaysKnow
       c.of_section s.jobs
       (all_weaker (λ j. IsKnownJob known (switch_for s j) j)
       (λ j. counts S p (switch_for s j) j ≡ true → 1 ≤ c.of_job (switch_for s j) j) s.jobs
-      (λ j h is. something.job (switch_for s j) j h is) (known_jobs S known s form here))
+      (λ j h is. something.job (switch_for s j) j h is) (known_jobs S known s form here.jobs))
       count in
       let whole =
       ap

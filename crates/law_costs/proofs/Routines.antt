@@ -17,12 +17,12 @@ use Rattle.law_alarms.specs.Setting.{call_in}
 use Rattle.law_future.specs.Shown.{chosen_of}
 use Rattle.law_runs.proofs.RankedTick.{IsRunState}
 use Rattle.law_costs.specs.Left.{Weights, left, left_of_active, left_of_jobs, left_of_pending, switch_for, switch_of}
-use Rattle.law_costs.specs.Paying.{PayForStarts, start_of}
+use Rattle.law_costs.specs.Paying.{start_of}
 use Rattle.law_costs.specs.Routines.{TakesIn, started_by, started_where}
-use Rattle.law_costs.proofs.Starts.{activated_adds, set_adds}
+use Rattle.law_costs.proofs.Starts.{StartsPay, activated_adds, set_adds}
 use Rattle.law_costs.proofs.Switches.{behind_routine, find_on}
 
-module _ (S : System) (p : ℕ) (c : Weights) (starts : PayForStarts S p c) (s : State)
+module _ (S : System) (p : ℕ) (c : Weights) (s : State) (starts : StartsPay S p c s.jobs)
     (good : IsRunState S s) (a : Active) (is : s.active ≡ Some a) where
   abbrev now : List Job → ℕ
   now jobs = left_of_jobs S p c (switch_for s) jobs
@@ -30,10 +30,10 @@ module _ (S : System) (p : ℕ) (c : Weights) (starts : PayForStarts S p c) (s :
   effect_adds : (call : ServiceCall)
       → now (effect S (RoutineCalls a) s call).jobs ≤ now s.jobs + start_of c call
   effect_adds (Service.ActivateTask None) = omega arith
-  effect_adds (Service.ActivateTask (Some t)) = activated_adds S p c starts s good.single t
+  effect_adds (Service.ActivateTask (Some t)) = activated_adds S p c s starts good.single t
   effect_adds Service.TerminateTask = omega arith
   effect_adds (Service.ChainTask None) = omega arith
-  effect_adds (Service.ChainTask (Some t)) = activated_adds S p c starts s good.single t
+  effect_adds (Service.ChainTask (Some t)) = activated_adds S p c s starts good.single t
   effect_adds Service.Schedule = omega arith
   effect_adds Service.GetTaskId = omega arith
   effect_adds (Service.GetTaskState o) = omega arith
@@ -46,7 +46,7 @@ module _ (S : System) (p : ℕ) (c : Weights) (starts : PayForStarts S p c) (s :
   effect_adds (Service.StoreShared (Some r) i v) = omega arith
   effect_adds (Service.SetEvent None m) = omega arith
   effect_adds (Service.SetEvent (Some t) m) =
-      set_adds S p c starts s good.single good.ordered.ranked.still good.ordered.ready t
+      set_adds S p c s starts good.single good.ordered.ranked.still good.ordered.ready t
       (bit_or (slice_index s.masks t) m) m
   effect_adds (Service.ClearEvent m) = omega arith
   effect_adds (Service.GetEvent o) = omega arith

@@ -10,7 +10,7 @@ use Rattle.osek_base.specs.Blocker.{is_job}
 use Rattle.osek_base.specs.Priority.{dynamic_priority, static_priority}
 use Rattle.osek_base.specs.Service.{NobodyCalls, first_refusal, is_met, refusals, released_by, reply_to, unasked_service, with_events}
 use Rattle.osek_base.specs.State.{Job, JobId, State, jobs_but, jobs_of, same_id, waits}
-use Rattle.osek_base.specs.System.{System}
+use Rattle.osek_base.specs.System.{System, priority_of}
 use Rattle.osek_base.specs.Tick.{action_call}
 use Rattle.law_runs.proofs.Foremost.{idle_priority, same_ids}
 use Rattle.law_runs.proofs.Formed.{all_passing}
@@ -22,7 +22,7 @@ use Rattle.law_runs.proofs.RankedTick.{IsRunState}
 use Rattle.law_runs.proofs.Single.{IsSingle}
 use Rattle.law_blockers.proofs.RestampedLemmas.{first_task, found_there, released_jobs, those_of}
 use Rattle.law_costs.specs.Left.{Switch, Weights, counts, is_off, left, left_of_job, left_of_jobs, on, switch_for}
-use Rattle.law_costs.specs.Paying.{PayForStarts, start_of}
+use Rattle.law_costs.specs.Paying.{start_of}
 use Rattle.law_costs.proofs.Dispatch.{high_parts, is_high}
 use Rattle.law_costs.proofs.Switches.{idle_on}
 use Rattle.law_costs.proofs.Totals.{total_kept, total_more}
@@ -39,7 +39,15 @@ was_not : (b : Bool) → not b ≡ false → b ≡ true
 was_not true is = refl
 was_not false is = clash is
 
-module _ (S : System) (p : ℕ) (c : Weights) (pays : PayForStarts S p c) where
+-- an activation pays for a new job, and an event for each of these jobs that waits
+pub record StartsPay (S : System) (p : ℕ) (c : Weights) (jobs : List Job) : Type 0 where
+  pub task : (n : JobId) → p ≤ priority_of S n.task → c.of_job on (new_job n) ≤ c.of_task n.task
+  pub event : AllByRecursion
+      (λ j. (m : ℕ) → p ≤ static_priority S j → waits j ≡ true
+      → c.of_job on (woken j) ≤ c.of_event j.id.task m)
+      jobs
+
+module _ (S : System) (p : ℕ) (c : Weights) (s : State) (pays : StartsPay S p c s.jobs) where
   -- ---- a job that finds interrupts on
 
   pub new_part : (j : Job) (most : ℕ) → (is_high S p c j ≡ true → c.of_job on j ≤ most)
@@ -50,9 +58,9 @@ module _ (S : System) (p : ℕ) (c : Weights) (pays : PayForStarts S p c) where
       go true is = low is
       go false is = omega arith
 
-  idle_part : (s : State) (j : Job) (most : ℕ) → is_job s.running j.id ≡ false
+  idle_part : (j : Job) (most : ℕ) → is_job s.running j.id ≡ false
       → left_of_job S p c (λ l. on) j ≤ most → left_of_job S p c (switch_for s) j ≤ most
-  idle_part s j most idle low =
+  idle_part j most idle low =
       subst (λ (w : Switch). cond (counts S p w j) (c.of_job w j) 0 ≤ most) (sym (idle_on s j idle))
       low
 
@@ -64,7 +72,7 @@ module _ (S : System) (p : ℕ) (c : Weights) (pays : PayForStarts S p c) where
       (subst (λ k. p ≤ k) (idle_priority S (new_job n) refl refl)
       (high_parts S p c (new_job n) is).1))
 
-  module _ (s : State) (single : IsSingle S s) where
+  module _ (single : IsSingle S s) where
     abbrev now : List Job → ℕ
     now jobs = left_of_jobs S p c (switch_for s) jobs
 
@@ -75,7 +83,7 @@ module _ (S : System) (p : ℕ) (c : Weights) (pays : PayForStarts S p c) where
         total_more (λ j. counts S p (switch_for s j) j) (λ j. c.of_job (switch_for s j) j)
         c.of_section s.jobs (made_job S t s) in
         let idle = stopped s.running (made_job S t s).id (made_newest S t s single).stopped in
-        let one = idle_part s (made_job S t s) (c.of_task t) idle (made_part (made_job S t s).id) in
+        let one = idle_part (made_job S t s) (c.of_task t) idle (made_part (made_job S t s).id) in
         omega (arith, more, one)
 
     module _ (still : AllByRecursion IsStill s.jobs) (ready : HasReady s.running s.jobs) where
@@ -104,7 +112,10 @@ module _ (S : System) (p : ℕ) (c : Weights) (pays : PayForStarts S p c) where
             (λ is.
             subst (λ u. c.of_job on (woken j) ≤ c.of_event u m)
             (first_task S s single t j js are waiting)
-            (pays.event j m (subst (λ k. p ≤ k) level (high_parts S p c (woken j) is).1) waiting))
+            (there
+            (λ k. (x : ℕ) → p ≤ static_priority S k → waits k ≡ true
+            → c.of_job on (woken k) ≤ c.of_event k.id.task x)
+            pays.event m (subst (λ k. p ≤ k) level (high_parts S p c (woken j) is).1) waiting))
 
         itself : counts S p (switch_for s j) j ≡ false
         itself =
@@ -132,7 +143,7 @@ module _ (S : System) (p : ℕ) (c : Weights) (pays : PayForStarts S p c) where
             s.jobs
             (subst (AllByRecursion (λ k. counts S p (switch_for s k) k ≡ false))
             (sym (those_of S s single t j js are waiting)) (itself, tt)))) in
-            let one = idle_part s (woken j) (c.of_event t m) idle woken_part in
+            let one = idle_part (woken j) (c.of_event t m) idle woken_part in
             omega (arith, more, others, one)
 
       pub set_adds : (t set m : ℕ)
@@ -157,19 +168,19 @@ module _ (S : System) (p : ℕ) (c : Weights) (pays : PayForStarts S p c) where
 
   -- ---- alarms
 
-  pub action_adds : (act : Action) (s : State) → IsRunState S s
+  pub action_adds : (act : Action) → IsRunState S s
       → left S p c (unasked_service S NobodyCalls s (action_call act)).state
       ≤ left S p c s + start_of c (action_call act)
   unfolding unasked_service
-  action_adds (Action.ActivateTask t) s good =
+  action_adds (Action.ActivateTask t) good =
       go (first_refusal (refusals S NobodyCalls s (Service.ActivateTask (Some t))))
     where
       go : (o : Option Status)
           → left S p c (reply_to S NobodyCalls s (Service.ActivateTask (Some t)) o).state
           ≤ left S p c s + c.of_task t
-      go None = let more = activated_adds s good.single t in omega (arith, more)
+      go None = let more = activated_adds good.single t in omega (arith, more)
       go (Some refusal) = omega arith
-  action_adds (Action.SetEvent t m) s good =
+  action_adds (Action.SetEvent t m) good =
       go (first_refusal (refusals S NobodyCalls s (Service.SetEvent (Some t) m)))
     where
       go : (o : Option Status)
@@ -177,7 +188,7 @@ module _ (S : System) (p : ℕ) (c : Weights) (pays : PayForStarts S p c) where
           ≤ left S p c s + c.of_event t m
       go None =
           let more =
-          set_adds s good.single good.ordered.ranked.still good.ordered.ready t
+          set_adds good.single good.ordered.ranked.still good.ordered.ready t
           (bit_or (slice_index s.masks t) m) m in
           omega (arith, more)
       go (Some refusal) = omega arith

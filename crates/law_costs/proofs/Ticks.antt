@@ -12,53 +12,57 @@ use Rattle.osek_base.specs.Tick.{alarm_acts, alarm_phase, alarms_act, arrival_ph
 use Rattle.law_future.specs.Shown.{chosen_of}
 use Rattle.law_runs.proofs.Known.{all_below}
 use Rattle.law_runs.proofs.Lists.{all_kept}
-use Rattle.law_runs.proofs.RankedTick.{IsRunState, action_run, alarm_phase_ordered, before_executing}
+use Rattle.law_runs.proofs.RankedTick.{IsRunState, alarm_phase_ordered, before_executing}
 use Rattle.law_runs.proofs.Single.{IsSingle}
-use Rattle.law_runs.proofs.SingleTick.{alarm_known, execute_single}
+use Rattle.law_runs.proofs.SingleTick.{execute_single}
 use Rattle.law_costs.specs.Left.{Weights, left}
+use Rattle.law_costs.specs.Known.{Known, StaysKnown}
 use Rattle.law_costs.specs.Paying.{PayForComing, PayForDispatch, PayForStarts}
 use Rattle.law_costs.proofs.Dispatch.{reschedule_less}
 use Rattle.law_costs.proofs.Flags.{arrivals_add, start_less}
+use Rattle.law_costs.proofs.KnownStarts.{MayAct, acted_may, advanced_may, starts_pay}
 use Rattle.law_costs.proofs.Starts.{action_adds}
 
-module _ (S : System) (p : ℕ) (c : Weights) (proper : IsProper S) (starts : PayForStarts S p c)
+module _ (S : System) (p : ℕ) (c : Weights) (known : Known) (proper : IsProper S)
+    (stays : StaysKnown S known) (starts : PayForStarts S p c known)
     (coming : PayForComing S c) where
   alarms_add : (due : List ℕ) → AllByRecursion (λ a. a < length S.alarms) due → (s : State)
-      → IsRunState S s
+      → MayAct S known s
       → left S p c (alarms_act S due s).state ≤ left S p c s + sum_by c.costs.of_expiry due
-  alarms_add [] all s good = omega arith
-  alarms_add (a ∷ due) all s good =
-      let one = action_adds S p c starts (alarm S a).action s good in
+  alarms_add [] all s may = omega arith
+  alarms_add (a ∷ due) all s may =
+      let one =
+      action_adds S p c s (starts_pay S known p c starts s may) (alarm S a).action may.good in
       let pay = coming.alarm a all.0 in
       let rest =
       alarms_add due all.1 (alarm_acts S a s).state
-      (action_run S proper s (alarm S a).action (alarm_known S a proper all.0) good) in
+      (acted_may S known proper stays a all.0 s may) in
       let whole = sum_by-cons c.costs.of_expiry a due in
       omega (arith, one, pay, rest, whole)
 
-  alarm_phase_adds : (s : State) → IsRunState S s
+  alarm_phase_adds : (s : State) → MayAct S known s
       → left S p c (alarm_phase S s).state
       ≤ left S p c s + sum_by c.costs.of_expiry (due_alarms S s)
   unfolding alarm_phase
-  alarm_phase_adds s good =
+  alarm_phase_adds s may =
       alarms_add (due_alarms S s)
       (all_kept (λ a. a < length S.alarms) (is_due S s) (below (length S.alarms))
       (all_below (length S.alarms)))
       (record s { alarms = alarms_advanced S s })
-      (record { single = good.single; ordered = good.ordered })
+      (advanced_may S known proper stays s may)
 
   module _ (dispatch : PayForDispatch S p c) (arrived : List ℕ) (s : State)
       (good : IsRunState S s) where
     -- phases 1 to 4
-    pub before_adds : left S p c (before_execution S arrived s).state
+    pub before_adds : MayAct S known s → left S p c (before_execution S arrived s).state
         ≤ left S p c s
         + (sum_by c.costs.of_arrival (chosen_of S (λ i. is_in i arrived))
         + sum_by c.costs.of_expiry (due_alarms S s))
-    before_adds =
+    before_adds may =
         let acted : State = (alarm_phase S s).state in
         let raised : State = arrival_phase arrived acted in
         let there : State = (reschedule S raised).state in
-        let one = alarm_phase_adds s good in
+        let one = alarm_phase_adds s may in
         let two = arrivals_add S p c arrived acted in
         let three =
         reschedule_less S p c dispatch raised (alarm_phase_ordered S proper s good).single in

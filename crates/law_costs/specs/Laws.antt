@@ -18,7 +18,7 @@ use Rattle.law_costs.specs.Jobs.{PayForJobs}
 pub record Pay (S : System) (mode p : ℕ) (c : Weights) (known : Known) : Type 0 where
   pub something : CostSomething S p c known
   pub dispatch : PayForDispatch S p c
-  pub starts : PayForStarts S p c
+  pub starts : PayForStarts S p c known
   pub coming : PayForComing S c
   pub boot : PayForBoot S mode p c
   pub routines : PayForRoutines S c known

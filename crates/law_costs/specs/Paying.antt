@@ -40,11 +40,11 @@ pub record PayForDispatch (S : System) (p : ℕ) (c : Weights) : Type 0 where
       → p ≤ dynamic_priority S (entered S j) → c.of_job on (entered S j) ≤ c.of_section
   pub section : c.of_section ≤ c.costs.at_begin
 
--- an activation pays for a whole job, an event for what comes behind the wait that it ends
-pub record PayForStarts (S : System) (p : ℕ) (c : Weights) : Type 0 where
+-- an activation pays for a whole job, an event for what comes behind the wait of a known job
+pub record PayForStarts (S : System) (p : ℕ) (c : Weights) (known : Known) : Type 0 where
   pub task : (n : JobId) → p ≤ priority_of S n.task → c.of_job on (new_job n) ≤ c.of_task n.task
-  pub event : (j : Job) (m : ℕ) → p ≤ static_priority S j → waits j ≡ true
-      → c.of_job on (woken j) ≤ c.of_event j.id.task m
+  pub event : (j : Job) (m : ℕ) → IsKnownJob known on j → p ≤ static_priority S j
+      → waits j ≡ true → c.of_job on (woken j) ≤ c.of_event j.id.task m
 
 -- an interrupt pays for its whole routine, an expiry for what its alarm starts
 pub record PayForComing (S : System) (c : Weights) : Type 0 where

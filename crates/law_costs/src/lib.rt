@@ -10,20 +10,20 @@
 //!
 //! - A job or a routine is *known* that passes a test, with the switch that it finds (`Known`).
 //!   What is known *stays known* (`StaysKnown`) where all that begins passes, and what passed does
-//!   behind its instruction too, whatever good state that finds. Then who executes in a run is known
-//!   (`runs_are_known`).
+//!   behind its instruction too, whatever good state that finds. Then who executes in a run is
+//!   known (`runs_are_known`).
 //! - Costs *pay* (`Pay`) where an interrupt costs at least its routine as it starts, an activation
-//!   a new job, an event the job that it releases, an expiry what its alarm starts, a dispatch
-//!   nothing or the section that it begins, boot what starts with the mode. Then alarms, arrivals,
-//!   dispatches and starts of routines add no more than what comes costs.
+//!   a new job, an event the known job that it releases, an expiry what its alarm starts, a
+//!   dispatch nothing or the section that it begins, boot what starts with the mode. Then alarms,
+//!   arrivals, dispatches and starts of routines add no more than what comes costs.
 //! - Of known routines that is one inequality for each instruction, whatever good state it finds:
 //!   what it leaves of the routine, and what it starts where it isn't refused, is one less at least
 //!   (`PayForRoutines`).
-//! - Of known jobs it is the same, where the job counts; and of a task below the level, in a section
-//!   or not, what it leaves and starts is no more than may be where a window begins (`PayForJobs`).
-//!   Nothing is asked of other jobs.
-//! - So what is left falls phase by phase in each run (`costs_fall_by_phases`), and such costs bound
-//!   each window and each response (`costs_bound_responses`).
+//! - Of known jobs it is the same, where the job counts; and of a task below the level, in a
+//!   section or not, what it leaves and starts is no more than may be where a window begins
+//!   (`PayForJobs`). Nothing is asked of other jobs.
+//! - So what is left falls phase by phase in each run (`costs_fall_by_phases`), and such costs
+//!   bound each window and each response (`costs_bound_responses`).
 //!
 //! How soon programs set alarms is a premise on each run. Left out are events that are set early,
 //! and alarms that pay when they are set. Nothing stands on this crate yet: it is the step before
