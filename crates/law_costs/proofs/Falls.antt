@@ -33,6 +33,7 @@ use Rattle.law_costs.proofs.Jobs.{jobs_pay}
 use Rattle.law_costs.proofs.InTicks.{at_form, executing}
 use Rattle.law_costs.proofs.KnownStarts.{starts_pay}
 use Rattle.law_costs.proofs.Known.{at_known, known_jobs_pay, known_routines_pay, run_known}
+use Rattle.law_costs.proofs.KnownSetting.{set_no_sooner}
 use Rattle.law_costs.proofs.Positive.{something_left}
 use Rattle.law_costs.proofs.Ticks.{before_adds, behind_less}
 use Rattle.law_costs.proofs.Totals.{sum_within}
@@ -166,7 +167,7 @@ costs_fall_by_phases S mode arrivals p c known proper stays pay = record {
         (known_jobs_pay S known proper stays mode arrivals p c pay.jobs)
 
 pub costs_bound_responses : CostsBoundResponses
-costs_bound_responses S mode distances p c known least most proper stays pay enough sooner =
+costs_bound_responses S mode distances p c known least most proper stays pay later enough =
     gaps_bound_responses S mode distances p c.costs least most proper enough
     (λ arrivals keep. record {
       left = λ n. left S p c (run S mode arrivals n).state;
@@ -175,5 +176,5 @@ costs_bound_responses S mode distances p c known least most proper stays pay eno
           (λ n. left S p c (run S mode arrivals n).state)
           (λ n. left S p c (at_instruction S mode arrivals n))
           (costs_fall_by_phases S mode arrivals p c known proper stays pay);
-      sooner = sooner arrivals keep;
+      sooner = set_no_sooner S mode arrivals known proper stays c.costs least later;
     })

@@ -1,10 +1,10 @@
 -- Who executes in a run is known, so costs that pay for the known ones pay for those of each run.
-use Rattle.std.proofs.Common.{ℕ, zero, suc, ◌≡◌, false, sym, ◌∙◌, ap, subst}
+use Rattle.std.proofs.Common.{ℕ, zero, suc, ◌≡◌, false, refl, sym, ◌∙◌, ap, subst}
 use Rattle.std.specs.Prelude.{IfSome, List}
 use Rattle.osek_base.specs.declared.arrivals.Arrival.{Arrival}
 use Rattle.osek_base.specs.Proper.{IsProper}
-use Rattle.osek_base.specs.Service.{Caller, JobCalls, RoutineCalls}
-use Rattle.osek_base.specs.State.{State}
+use Rattle.osek_base.specs.Service.{Caller, JobCalls, NobodyCalls, RoutineCalls}
+use Rattle.osek_base.specs.State.{Active, Job, State}
 use Rattle.osek_base.specs.System.{System}
 use Rattle.osek_base.specs.Tick.{execute_phase, executor}
 use Rattle.osek_base.specs.Trace.{all_activated, arriving, boot, run, starting_tasks}
@@ -13,7 +13,7 @@ use Rattle.law_runs.proofs.RankedTick.{IsRunState, begun_ordered, first_ordered,
 use Rattle.law_runs.proofs.RunSteps.{going_before, state_more}
 use Rattle.law_runs.proofs.SingleTick.{begun, started_keep}
 use Rattle.law_costs.specs.Left.{Weights, switch_of}
-use Rattle.law_costs.specs.Known.{AreKnown, Executes, IsKnownRoutine, Known, StaysKnown, at_instruction}
+use Rattle.law_costs.specs.Known.{Executes, IsKnownAt, IsKnownCaller, IsKnownJob, IsKnownRoutine, Known, StaysKnown, at_instruction}
 use Rattle.law_costs.specs.Routines.{PayForRoutines}
 use Rattle.law_costs.specs.Jobs.{PayForJobs}
 use Rattle.law_costs.specs.Laws.{RunsAreKnown}
@@ -85,17 +85,28 @@ module _ (S : System) (known : Known) (proper : IsProper S) (stays : StaysKnown 
         (before_known S known proper stays (arriving arrivals n) (here n)
         (run_ordered S proper mode arrivals n) (run_known n going))
 
-    who_is_known : AreKnown S mode arrivals known
-    who_is_known = record {
-      jobs = λ n j going is.
-          job_known S known proper stays (at_instruction S mode arrivals n)
-          (executing S proper mode arrivals n going) (at_form S proper mode arrivals n going)
-          (at_known n going) j is;
-      routines = λ n a going is.
-          routine_known S known proper stays (at_instruction S mode arrivals n)
-          (executing S proper mode arrivals n going) (at_form S proper mode arrivals n going)
-          (at_known n going) a is;
-    }
+    module _ (n : ℕ) (going : (here n).over ≡ false) where
+      abbrev at : State
+      at = at_instruction S mode arrivals n
+
+      at_job : (j : Job) → executor at ≡ JobCalls j → IsKnownJob known (switch_of at) j
+      at_job =
+          job_known S known proper stays at (executing S proper mode arrivals n going)
+          (at_form S proper mode arrivals n going) (at_known n going)
+
+      at_routine : (a : Active) → executor at ≡ RoutineCalls a
+          → IsKnownRoutine known (switch_of at) a
+      at_routine =
+          routine_known S known proper stays at (executing S proper mode arrivals n going)
+          (at_form S proper mode arrivals n going) (at_known n going)
+
+      pub who_is_known : IsKnownAt S mode arrivals known n
+      who_is_known = go (executor at) refl
+        where
+          go : (who : Caller) → executor at ≡ who → IsKnownCaller known (switch_of at) who
+          go (JobCalls j) is = at_job j is
+          go (RoutineCalls a) is = at_routine a is
+          go NobodyCalls is = tt
 
     at_executes : (n : ℕ) → (here (suc n)).over ≡ false → (who : Caller)
         → executor (at_instruction S mode arrivals n) ≡ who
@@ -110,13 +121,14 @@ module _ (S : System) (known : Known) (proper : IsProper S) (stays : StaysKnown 
         → PayForRunJobs S mode arrivals p c
     known_jobs_pay p c pays n j later is =
         pays (at_instruction S mode arrivals n) j (at_executes n later (JobCalls j) is)
-        (who_is_known.jobs n j (going n later) is)
+        (at_job n (going n later) j is)
 
     pub known_routines_pay : (c : Weights) → PayForRoutines S c known
         → PayForRunRoutines S mode arrivals c
     known_routines_pay c pays n a later is =
         pays (at_instruction S mode arrivals n) a (at_executes n later (RoutineCalls a) is)
-        (who_is_known.routines n a (going n later) is)
+        (at_routine n (going n later) a is)
 
 pub runs_are_known : RunsAreKnown
-runs_are_known S mode arrivals known proper stays = who_is_known S known proper stays mode arrivals
+runs_are_known S mode arrivals known proper stays n going =
+    who_is_known S known proper stays mode arrivals n going

@@ -27,3 +27,4 @@ pub mod Jobs
 pub mod KnownTick
 pub mod KnownStarts
 pub mod Known
+pub mod KnownSetting

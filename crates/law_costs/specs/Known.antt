@@ -4,11 +4,10 @@ use Rattle.osek_base.specs.declared.arrivals.Arrival.{Arrival}
 use Rattle.osek_base.specs.Activation.{new_job, woken}
 use Rattle.osek_base.specs.GoodState.{IsGood, IsShaped}
 use Rattle.osek_base.specs.Reschedule.{entered}
-use Rattle.osek_base.specs.Service.{Caller, JobCalls, RoutineCalls}
+use Rattle.osek_base.specs.Service.{Caller, JobCalls, NobodyCalls, RoutineCalls}
 use Rattle.osek_base.specs.State.{Active, Job, JobId, State, job_of, waits}
 use Rattle.osek_base.specs.System.{System}
 use Rattle.osek_base.specs.Tick.{caller_executes, executor}
-use Rattle.osek_base.specs.Trace.{run}
 use Rattle.law_blockers.specs.Steps.{step_at}
 use Rattle.law_windows.specs.Routines.{begun}
 use Rattle.law_costs.specs.Left.{Switch, on, switch_of}
@@ -25,6 +24,12 @@ IsKnownJob known w j = known.job w j ≡ true
 
 abbrev pub IsKnownRoutine : Known → Switch → Active → Type 0
 IsKnownRoutine known w a = known.routine w a ≡ true
+
+-- nobody always is
+abbrev pub IsKnownCaller : Known → Switch → Caller → Type 0
+IsKnownCaller known w (JobCalls j) = IsKnownJob known w j
+IsKnownCaller known w (RoutineCalls a) = IsKnownRoutine known w a
+IsKnownCaller known w NobodyCalls = Unit {0}
 
 -- ---- an instruction
 
@@ -59,18 +64,14 @@ pub record StaysKnown (S : System) (known : Known) : Type 0 where
       → IfSome (behind_by S (RoutineCalls a) s).active
       (IsKnownRoutine known (switch_of (behind_by S (RoutineCalls a) s)))
 
--- ---- the law
+-- ---- in a run
 
 -- the state at the instruction of tick n
 abbrev pub at_instruction : System → ℕ → List Arrival → ℕ → State
 at_instruction S mode arrivals n = (step_at S mode arrivals n).executing
 
--- who executes in a run is known
-pub record AreKnown (S : System) (mode : ℕ) (arrivals : List Arrival) (known : Known)
-    : Type 0 where
-  pub jobs : (n : ℕ) (j : Job) → (run S mode arrivals n).state.over ≡ false
-      → executor (at_instruction S mode arrivals n) ≡ JobCalls j
-      → IsKnownJob known (switch_of (at_instruction S mode arrivals n)) j
-  pub routines : (n : ℕ) (a : Active) → (run S mode arrivals n).state.over ≡ false
-      → executor (at_instruction S mode arrivals n) ≡ RoutineCalls a
-      → IsKnownRoutine known (switch_of (at_instruction S mode arrivals n)) a
+-- who executes in it is known
+abbrev pub IsKnownAt : System → ℕ → List Arrival → Known → ℕ → Type 0
+IsKnownAt S mode arrivals known n =
+    IsKnownCaller known (switch_of (at_instruction S mode arrivals n))
+    (executor (at_instruction S mode arrivals n))

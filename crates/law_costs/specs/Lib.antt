@@ -3,4 +3,5 @@ pub mod Known
 pub mod Paying
 pub mod Routines
 pub mod Jobs
+pub mod Setting
 pub mod Laws

@@ -22,12 +22,13 @@
 //! - Of known jobs it is the same, where the job counts; and of a task below the level, in a
 //!   section or not, what it leaves and starts is no more than may be where a window begins
 //!   (`PayForJobs`). Nothing is asked of other jobs.
-//! - So what is left falls phase by phase in each run (`costs_fall_by_phases`), and such costs
-//!   bound each window and each response (`costs_bound_responses`).
+//! - So what is left falls phase by phase in each run (`costs_fall_by_phases`). Where who is known
+//!   sets alarms no sooner than is said (`AreKnownNoSooner`), such costs bound each window and each
+//!   response (`costs_bound_responses`).
 //!
-//! How soon programs set alarms is a premise on each run. Left out are events that are set early,
-//! and alarms that pay when they are set. Nothing stands on this crate yet: it is the step before
-//! costs of programs, for which a table would tell what is known and what it costs.
+//! Nothing is asked of runs. Left out are events that are set early, and alarms that pay when they
+//! are set. Nothing stands on this crate yet: it is the step before costs of programs, for which a
+//! table would tell what is known and what it costs.
 #![tactic(auto)]
 
 mod laws;

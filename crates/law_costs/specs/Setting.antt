@@ -1,0 +1,26 @@
+-- How soon alarms are set by who is known, whatever state that finds.
+use Rattle.std.specs.Prelude.{ℕ, ◌≡◌, ◌<◌, ◌≤◌, false, IfSome, length}
+use Rattle.osek_base.specs.GoodState.{IsGood, IsShaped}
+use Rattle.osek_base.specs.State.{State}
+use Rattle.osek_base.specs.System.{System, alarm_start_in}
+use Rattle.osek_base.specs.Tick.{executor}
+use Rattle.osek_base.specs.Types.{ServiceCall}
+use Rattle.law_alarms.specs.Setting.{IsNoSooner, IsServed, IsSlow, is_never_set}
+use Rattle.law_windows.specs.Coming.{Costs}
+use Rattle.law_costs.specs.Left.{switch_of}
+use Rattle.law_costs.specs.Known.{IsKnownCaller, Known}
+
+-- how soon an alarm is set: by a count, which is always so, or by more, where boot does, and who is
+-- known and executes in a good state
+pub record IsKnownNoSooner (S : System) (mode : ℕ) (known : Known) (a least : ℕ) : Type 0 where
+  pub some : 1 ≤ least
+  pub boot : 1 < least → IfSome (alarm_start_in S mode a) (λ start. IsSlow least start.1)
+  pub calls : 1 < least → (s : State) (call : ServiceCall) → IsGood S s → IsShaped S s
+      → IsKnownCaller known (switch_of s) (executor s) → IsServed S s call
+      → IsNoSooner a least call
+
+-- .. each that programs set and whose expiry costs something
+abbrev pub AreKnownNoSooner : System → ℕ → Costs → Known → (ℕ → ℕ) → Type 0
+AreKnownNoSooner S mode costs known least =
+    (a : ℕ) → a < length S.alarms → 1 ≤ costs.of_expiry a → is_never_set S a ≡ false
+    → IsKnownNoSooner S mode known a (least a)
