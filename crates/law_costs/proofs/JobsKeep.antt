@@ -33,7 +33,8 @@ module _ (S : System) (P : Option JobId → Switch → Job → Type 0) where
   abbrev pub Each : State → Type 0
   Each s = AllByRecursion (λ k. P s.running (switch_for s k) k) s.jobs
 
-  -- it holds of jobs as they become ready, and is kept where another job runs
+  -- it holds of jobs as they become ready, and behind a dispatch: where none runs then, of the one
+  -- that runs, and of another
   pub record Lasts : Type 0 where
     pub made : (o : Option JobId) (n : JobId) → IsNewest S o (new_job n) → P o on (new_job n)
     pub freed : (o : Option JobId) (j : Job) → waits j ≡ true → IsNewest S o (woken j)

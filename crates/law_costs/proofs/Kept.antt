@@ -1,4 +1,4 @@
--- What is known of jobs in each state of a run: of those below the level little is left, and one
+-- What holds of jobs in each state of a run: of those below the level little is left, and one
 -- runs where interrupts are off.
 use Rattle.std.proofs.Common.{ℕ, zero, suc, ◌≡◌, ◌+◌, Bool, true, false, cond, refl, sym, ◌∙◌, ap, subst}
 use Rattle.std.specs.Prelude.{List, Option}

@@ -23,7 +23,7 @@ use Rattle.law_costs.proofs.Known.{who_is_known}
 
 module _ (S : System) (mode : ℕ) (arrivals : List Arrival) (known : Known) (proper : IsProper S)
     (stays : StaysKnown S known) where
-  -- what is known where an instruction is executed
+  -- a good state in which who executes is known
   record IsMet (s : State) : Type 0 where
     pub good : IsGood S s
     pub shaped : IsShaped S s
