@@ -16,7 +16,7 @@ _osek_options() {
     bounds) echo '--help --in --explain --rules --apart --witness --into --witnesses --states --longest --upper --csv --json --limit --no-loss --no-refusal --progress' ;;
     report) echo '--help --in --explain --output --rules --apart --states --longest --limit --no-loss --no-refusal --progress' ;;
     make) echo '--help --output --oil' ;;
-    import) echo '--help --work' ;;
+    import) echo '--help --work --bend' ;;
   esac
 }
 

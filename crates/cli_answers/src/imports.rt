@@ -92,13 +92,13 @@ fn write_import<O: Write, E: Write>(
 fn import_texts<O: Write, E: Write>(
     alloc: Global,
     texts: &[NamedText<'_>],
-    is_work: bool,
+    line: &ImportLine<'_>,
     out: &mut O,
     err: &mut E,
 ) -> Result<u8, AllocError> {
     let sources = sources(alloc, texts)?;
-    let plain = import(alloc, &sources)?;
-    write_import(alloc, &plain, &sources, is_work, out, err)
+    let plain = import(alloc, &sources, line.is_bending)?;
+    write_import(alloc, &plain, &sources, line.is_work, out, err)
 }
 
 /// Imports the files of a line, and gives the exit status.
@@ -115,7 +115,7 @@ pub fn answer_import<F: Files, O: Write, E: Write>(
             let _ = explain_unread(unread, err);
             REFUSED
         }
-        Ok(texts) => match import_texts(alloc, &texts, line.is_work, out, err) {
+        Ok(texts) => match import_texts(alloc, &texts, line, out, err) {
             Ok(status) => status,
             Err(_) => {
                 let _ = writeln!(err, "memory");

@@ -239,6 +239,9 @@ pub(crate) const IMPORTED: &str =
 pub(crate) const WORK: &str =
     "In place of the OIL: a file of times for `osek make` with each task and routine, an EXECUTIONBUDGET taken as ticks";
 
+pub(crate) const BEND: &str =
+    "Takes what is refused without: routines of category 1 and 3 as of category 2, without their resources, and tables that are adjusted; what that bends is told";
+
 pub(crate) const IMPORT_EXAMPLE: &str =
     "What is left out, set or refused is told on standard error, each at its place. Where something is refused, nothing is
 printed.
@@ -247,7 +250,10 @@ Example:
   osek import application.oil implementation.oil > system.oil
 
 A file of times to begin with, for `osek make`:
-  osek import application.oil implementation.oil --work > work.toml";
+  osek import application.oil implementation.oil --work > work.toml
+
+With routines of category 1:
+  osek import application.oil --bend > system.oil";
 
 pub(crate) const MAN: &str = "Prints the manual page, for `man -l -`";
 

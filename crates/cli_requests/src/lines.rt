@@ -266,6 +266,7 @@ fn import() -> Subcommand {
         arguments: &[&[
             Argument::Words("FILE", help::IMPORTED),
             Argument::Flag("work", help::WORK),
+            Argument::Flag("bend", help::BEND),
         ]],
         exclusions: &[],
     }

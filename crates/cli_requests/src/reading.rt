@@ -255,6 +255,7 @@ fn asked_of<'a>(
         "import" => Ok(Asked::Import(ImportLine {
             names: imported(alloc, found)?,
             is_work: found.get_flag("work"),
+            is_bending: found.get_flag("bend"),
         })),
         _ => Ok(Asked::System(request_of(alloc, name, found, has_mode)?)),
     }

@@ -236,6 +236,8 @@ pub struct ImportLine<'a> {
     pub names: Vec<&'a str>,
     /// Whether a work file is wanted in place of the OIL.
     pub is_work: bool,
+    /// Whether what has a counterpart only with another meaning is taken.
+    pub is_bending: bool,
 }
 
 /// What a command line asks for: something of a system, the files of a description, an import, or a

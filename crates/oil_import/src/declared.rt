@@ -33,6 +33,8 @@ pub(crate) struct Declared<'a> {
 #[derive(Drop)]
 pub(crate) struct DeclaredObjects<'a> {
     list: Vec<Declared<'a>>,
+    /// The names of the alarms that stand for actions of schedule tables.
+    made: Vec<String>,
 }
 
 /// Whether an object is the resource that is there without being declared.
@@ -81,6 +83,7 @@ impl<'a> DeclaredObjects<'a> {
     pub(crate) fn new(alloc: Global, items: &[Item<'a>], depth: usize) -> Result<Self, AllocError> {
         let mut objects = DeclaredObjects {
             list: Vec::new(alloc),
+            made: Vec::new(alloc),
         };
         for (number, item) in items.iter().enumerate() {
             if item.depth == depth {
@@ -115,12 +118,24 @@ impl<'a> DeclaredObjects<'a> {
         Ok(())
     }
 
+    /// Declares an alarm that stands for an action of a schedule table.
+    pub(crate) fn make(&mut self, name: String) -> Result<(), AllocError> {
+        self.made.push(name)?;
+        Ok(())
+    }
+
+    /// Whether an object of that kind has that name.
+    pub(crate) fn has(&self, kind: Kind, name: &str) -> bool {
+        let is_made = kind == Kind::Alarm && self.made.iter().any(|made| made.as_str() == name);
+        is_made || self.find(kind, name).is_some()
+    }
+
     /// Why no object of that kind and name can be declared besides.
     pub(crate) fn refusal(&self, kind: Kind, name: &str) -> Option<&'static str> {
         if !is_object_name(name) {
             return Some(reason_against_name(name));
         }
-        if self.find(kind, name).is_some() {
+        if self.has(kind, name) {
             return Some(reasons::TWICE);
         }
         (self.count(kind) >= limit_of(kind)).then_some(reason_of(kind))
@@ -138,7 +153,7 @@ impl<'a> DeclaredObjects<'a> {
 
     /// How many objects of a kind there are.
     pub(crate) fn count(&self, kind: Kind) -> usize {
-        let mut count: usize = 0;
+        let mut count: usize = if kind == Kind::Alarm { self.made.len() } else { 0 };
         for object in &self.list {
             if object.kind == kind {
                 count = count.saturating_add(1);

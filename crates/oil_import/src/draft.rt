@@ -1,6 +1,7 @@
 //! OIL: grammar. What is written of an import before it is read and printed.
 
 use std::alloc::{AllocError, Global};
+use std::fmt::Write;
 
 /// Plain OIL so far.
 #[derive(Drop)]
@@ -49,13 +50,9 @@ impl Draft {
         self.text.push_str(value)
     }
 
-    /// The same of a number below 100.
+    /// The same of a number.
     pub(crate) fn open_number(&mut self, word: &str, number: u32) -> Result<(), AllocError> {
-        self.open_setting(word, "")?;
-        if number >= 10 {
-            self.text.push(digit(number / 10))?;
-        }
-        self.text.push(digit(number))
+        write!(self.text, "{word} = {number}")
     }
 
     pub(crate) fn close_setting(&mut self) -> Result<(), AllocError> {
@@ -68,27 +65,17 @@ impl Draft {
         self.close_setting()
     }
 
+    /// An attribute that is a number.
+    pub(crate) fn number(&mut self, word: &str, number: u32) -> Result<(), AllocError> {
+        self.open_number(word, number)?;
+        self.close_setting()
+    }
+
     pub(crate) fn open_block(&mut self) -> Result<(), AllocError> {
         self.text.push_str(" {\n")
     }
 
     pub(crate) fn close_block(&mut self) -> Result<(), AllocError> {
         self.text.push_str("}")
-    }
-}
-
-/// The last digit of a number.
-fn digit(number: u32) -> char {
-    match number % 10 {
-        0 => '0',
-        1 => '1',
-        2 => '2',
-        3 => '3',
-        4 => '4',
-        5 => '5',
-        6 => '6',
-        7 => '7',
-        8 => '8',
-        _ => '9',
     }
 }

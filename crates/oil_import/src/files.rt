@@ -1,8 +1,10 @@
 //! OIL: grammar. A whole file: its version, its CPU and what else stands beside it.
 
 use crate::attributes::is_cpu_name;
+use crate::bends::Bends;
 use crate::braces::inside;
 use crate::budgets::Budgets;
+use crate::counters::Counters;
 use crate::declared::{DEFAULT_MODE, DeclaredObjects};
 use crate::defaults::Defaults;
 use crate::draft::Draft;
@@ -48,12 +50,15 @@ impl<'a> Importer<'a> {
         objects: &[Item<'a>],
         defaults: Defaults<'a>,
         messages: Messages<'a>,
+        is_bending: bool,
     ) -> Result<Self, AllocError> {
         let depth = depth_of(objects);
         Ok(Importer {
             objects: DeclaredObjects::new(alloc, objects, depth)?,
-            priorities: Priorities::new(alloc, objects, depth, &defaults)?,
+            priorities: Priorities::new(alloc, objects, depth, &defaults, is_bending)?,
             links: Links::new(alloc, objects, depth)?,
+            counters: Counters::new(alloc, objects, depth, &defaults)?,
+            bends: Bends::new(alloc, objects, depth, is_bending)?,
             defaults,
             messages,
             draft: Draft::new(alloc),
@@ -197,9 +202,10 @@ pub(crate) fn import_items<'a>(
     defaults: Defaults<'a>,
     end: Place,
     messages: Messages<'a>,
+    is_bending: bool,
 ) -> Result<Importer<'a>, AllocError> {
     let cpu = first(items, CPU);
-    let mut importer = Importer::new(alloc, of_cpu(items, cpu), defaults, messages)?;
+    let mut importer = Importer::new(alloc, of_cpu(items, cpu), defaults, messages, is_bending)?;
     importer.items(alloc, items, cpu, end)?;
     Ok(importer)
 }

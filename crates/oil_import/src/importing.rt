@@ -53,14 +53,18 @@ fn is_xml(sources: &[Source<'_>]) -> bool {
 }
 
 /// What files become before it is read and printed.
-fn drafted<'a>(alloc: Global, sources: &[Source<'a>]) -> Result<Importer<'a>, AllocError> {
+fn drafted<'a>(
+    alloc: Global,
+    sources: &[Source<'a>],
+    is_bending: bool,
+) -> Result<Importer<'a>, AllocError> {
     let mut messages = Messages::new(alloc);
     if is_xml(sources) {
         messages.refuse(Place::first(0), Subject::Word("XML"), reasons::XML)?;
-        return Importer::new(alloc, &[], Defaults::none(alloc), messages);
+        return Importer::new(alloc, &[], Defaults::none(alloc), messages, is_bending);
     }
     let (items, defaults, end) = all_items(alloc, sources, &mut messages)?;
-    import_items(alloc, &items, defaults, end, messages)
+    import_items(alloc, &items, defaults, end, messages, is_bending)
 }
 
 /// Plain OIL as it is printed, unless something was refused.
@@ -83,11 +87,17 @@ fn printed(alloc: Global, importer: &mut Importer<'_>) -> Result<Option<String>,
 /// Imports OIL files as they are used: the first one, and the others where they are included.
 ///
 /// What is left out, set or refused is told by messages. Where nothing is refused there is a text,
-/// and `read_oil` takes it. The only error is want of memory.
-pub fn import<'a>(alloc: Global, sources: &[Source<'a>]) -> Result<PlainOil<'a>, AllocError>
+/// and `read_oil` takes it. `is_bending` takes routines of category 1 and 3, those that list
+/// resources, and tables that are synchronized with another meaning; they are refused without.
+/// The only error is want of memory.
+pub fn import<'a>(
+    alloc: Global,
+    sources: &[Source<'a>],
+    is_bending: bool,
+) -> Result<PlainOil<'a>, AllocError>
     ensures { IfOk result (λ i. IfSome i.text (λ text. IsPlain (string_bytes text))) }
 {
-    let mut importer = drafted(alloc, sources)?;
+    let mut importer = drafted(alloc, sources, is_bending)?;
     let text = printed(alloc, &mut importer)?;
     Ok(PlainOil {
         text,

@@ -34,6 +34,19 @@ pub(crate) struct Item<'a> {
     pub fault: Option<(Place, &'static str)>,
 }
 
+/// The value of the first attribute of that word at that depth.
+pub(crate) fn value_in<'a>(items: &[Item<'a>], depth: usize, word: &str) -> Option<&'a str> {
+    for item in items {
+        if item.depth == depth && item.word == word {
+            return match item.written {
+                Written::Word(value) => Some(value),
+                _ => None,
+            };
+        }
+    }
+    None
+}
+
 /// How far an item is read.
 #[derive(Clone, Copy)]
 enum Reading {

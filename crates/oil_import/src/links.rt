@@ -2,7 +2,7 @@
 //! linked lists all, so that their ceilings are one.
 
 use crate::braces::inside;
-use crate::items::{Item, Written};
+use crate::items::{Item, Written, value_in};
 use std::alloc::{AllocError, Global};
 
 /// The property of a linked resource.
@@ -21,19 +21,6 @@ pub(crate) struct Links<'a> {
     list: Vec<Link<'a>>,
     /// Resources that are internal, which can't be linked.
     internal: Vec<&'a str>,
-}
-
-/// The value of the first attribute of that word at that depth.
-fn value_in<'a>(items: &[Item<'a>], depth: usize, word: &str) -> Option<&'a str> {
-    for item in items {
-        if item.depth == depth && item.word == word {
-            return match item.written {
-                Written::Word(value) => Some(value),
-                _ => None,
-            };
-        }
-    }
-    None
 }
 
 /// Whether a name is among some.
@@ -101,7 +88,7 @@ impl<'a> Links<'a> {
     }
 
     /// Whether two resources are linked to one, or one to the other.
-    fn are_linked(&self, name: &str, other: &str) -> bool {
+    pub(crate) fn are_linked(&self, name: &str, other: &str) -> bool {
         match (self.root(name), self.root(other)) {
             (Some(root), Some(of_other)) => root == of_other,
             (Some(root), None) => root == other,

@@ -55,6 +55,15 @@ fn end_of(name: &str) -> Option<&str> {
     name.get(beginning(bytes, MAX_NAME)?..)
 }
 
+/// A name, or where it has more than so many bytes the end that can stand for it.
+pub(crate) fn end_within(name: &str, most: usize) -> Option<&str> {
+    let bytes = name.as_bytes();
+    if bytes.len() <= most {
+        return Some(name);
+    }
+    name.get(beginning(bytes, most)?..)
+}
+
 /// Why a word is the name of no object. The end of a long one that may be a name stands for it.
 pub(crate) fn reason_against_name(word: &str) -> &'static str {
     if word.len() > MAX_NAME {

@@ -1,6 +1,7 @@
 //! What is told of an import: what was left out, set, kept with another meaning, or refused, where
 //! and why.
 
+use crate::expiries::ExpiryName;
 use crate::sources::{Place, Source};
 use std::alloc::{AllocError, Global};
 use std::io::{self, Write};
@@ -26,8 +27,12 @@ pub enum Subject<'a> {
     Setting(&'a str, &'a str),
     /// `NAME = VALUE as NUMBER`, where a number stands for the value.
     Renumbered(&'a str, &'a str, u32),
+    /// `NAME = NUMBER`.
+    Number(&'a str, u32),
     /// `KIND NAME as NAME`, where a shorter name stands for another.
     Shortened(&'a str, &'a str, &'a str),
+    /// `ACTION = VALUE as ALARM NAME`, where an alarm stands for an action of a schedule table.
+    Expiry(&'a str, ExpiryName<'a>),
     /// A word or sign.
     Word(&'a str),
 }
@@ -129,6 +134,18 @@ impl<'a> Messages<'a> {
         self.tell(place, Verdict::LeftOut, subject, reason)
     }
 
+    /// Adds messages in the order of their places.
+    pub(crate) fn append(&mut self, mut others: Messages<'a>) -> Result<(), AllocError> {
+        others.list.sort_by_key(|message| {
+            let Place { file, line, column } = message.place;
+            (file, line, column)
+        })?;
+        for message in &others.list {
+            self.add(*message)?;
+        }
+        Ok(())
+    }
+
     /// Writes a line `FILE:LINE:COLUMN: VERDICT: SUBJECT: REASON` for each message, first for what
     /// is refused, then for what is kept, and behind all how many there are of each verdict. An
     /// error is a failed write.
@@ -166,7 +183,9 @@ fn write_subject<W: Write>(subject: Subject<'_>, out: &mut W) -> io::Result<()> 
         Subject::Object(kind, name) => write!(out, "{kind} {name}"),
         Subject::Setting(name, value) => write!(out, "{name} = {value}"),
         Subject::Renumbered(name, value, number) => write!(out, "{name} = {value} as {number}"),
+        Subject::Number(name, number) => write!(out, "{name} = {number}"),
         Subject::Shortened(kind, name, short) => write!(out, "{kind} {name} as {short}"),
+        Subject::Expiry(value, alarm) => write!(out, "ACTION = {value} as ALARM {alarm}"),
         Subject::Word(word) => write!(out, "{word}"),
     }
 }

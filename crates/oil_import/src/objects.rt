@@ -10,6 +10,7 @@ use crate::messages::{Subject, Verdict};
 use crate::reasons;
 use crate::settings::Importer;
 use crate::sources::Place;
+use crate::tables::is_table;
 use crate::taken::is_one;
 use oil_reader::{AttributeName, Kind, attributes_of};
 use std::alloc::{AllocError, Global};
@@ -31,7 +32,7 @@ fn is_linked(attribute: AttributeName, item: &Item<'_>) -> bool {
 }
 
 /// Whether a value is that of an attribute that activates a task, sets an event or runs code.
-fn is_action(value: &str) -> bool {
+pub(crate) fn is_action(value: &str) -> bool {
     matches!(
         value,
         "ACTIVATETASK" | "SETEVENT" | "ALARMCALLBACK" | "COMCALLBACK" | "NMCALLBACK"
@@ -50,7 +51,7 @@ fn reason_for(kind: Kind, word: &str) -> &'static str {
 }
 
 /// What an item says, for a message.
-fn subject_of<'a>(item: &Item<'a>) -> Subject<'a> {
+pub(crate) fn subject_of<'a>(item: &Item<'a>) -> Subject<'a> {
     match item.written {
         Written::Nothing | Written::Text(_) => Subject::Word(item.word),
         Written::Name(name) => Subject::Object(item.word, name),
@@ -59,7 +60,7 @@ fn subject_of<'a>(item: &Item<'a>) -> Subject<'a> {
 }
 
 /// The attributes of the block behind a value.
-fn block_of(attribute: AttributeName, value: &str) -> &'static [AttributeName] {
+pub(crate) fn block_of(attribute: AttributeName, value: &str) -> &'static [AttributeName] {
     match value_of(value) {
         Some(value) => attribute.block(value),
         None => &[],
@@ -86,6 +87,9 @@ impl<'a> Importer<'a> {
         attributes: &[Item<'a>],
     ) -> Result<(), AllocError> {
         let Some(kind) = kind_of(item.word) else {
+            if is_table(item.word) {
+                return self.table(alloc, item, attributes);
+            }
             return self.other_object(item, attributes);
         };
         if self.refuse_form(item)? {
@@ -191,20 +195,26 @@ impl<'a> Importer<'a> {
         }
         self.list_linked(alloc, object, &seen)?;
         self.refuse_default_activations(object, &seen)?;
+        if object.kind == Kind::Isr {
+            self.set_bent_priority(object.end, items, &mut seen)?;
+        }
         self.set_all_missing(scope, &seen, object.end)
     }
 
     /// An attribute that isn't known.
     fn other_attribute(&mut self, kind: Kind, item: &Item<'a>) -> Result<(), AllocError> {
         if kind == Kind::Isr && item.word == "RESOURCE" {
-            let reason = reasons::ROUTINES_RESOURCE;
-            return self.messages.refuse(item.place, subject_of(item), reason);
+            return self.routines_resource(item);
         }
         self.leave_out(item, reason_for(kind, item.word))
     }
 
     /// Leaves an item out, where it is of its form.
-    fn leave_out(&mut self, item: &Item<'a>, reason: &'static str) -> Result<(), AllocError> {
+    pub(crate) fn leave_out(
+        &mut self,
+        item: &Item<'a>,
+        reason: &'static str,
+    ) -> Result<(), AllocError> {
         if self.refuse_form(item)? {
             return Ok(());
         }
@@ -316,7 +326,7 @@ impl<'a> Importer<'a> {
     }
 
     /// The attributes of a block.
-    fn block(
+    pub(crate) fn block(
         &mut self,
         alloc: Global,
         scope: &[AttributeName],

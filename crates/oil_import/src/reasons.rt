@@ -94,7 +94,7 @@ pub(crate) const STANDARD_STATUS: &str = "read as EXTENDED, so more errors are f
 
 pub(crate) const RENUMBERED: &str = "only the order of priorities counts; they are numbered anew";
 
-pub(crate) const COUNTS: &str = "a counter counts to 1 to 2147483647";
+pub(crate) const TOO_FAR: &str = "a counter counts to at most that here, so it wraps sooner";
 
 pub(crate) const NOT_ZERO: &str = "it is 1 or more";
 
@@ -118,6 +118,15 @@ pub(crate) const ACTIVATIONS: &str = "a task has 1 to 15 activations";
 
 pub(crate) const CATEGORIES: &str = "there are only routines of category 2";
 
+pub(crate) const OTHER_CATEGORY: &str =
+    "there are only routines of category 2; --bend takes it as one";
+
+pub(crate) const BENT_CATEGORY: &str =
+    "taken as 2: it waits for the end of a tick, of another routine and of suspended interrupts";
+
+pub(crate) const BENT_PRIORITY: &str =
+    "it is missing, and a routine of category 1 or 3 comes before those of category 2";
+
 pub(crate) const PROPERTIES: &str = "a resource is STANDARD, INTERNAL or LINKED";
 
 pub(crate) const LINKED: &str =
@@ -130,12 +139,62 @@ pub(crate) const ONE_CEILING: &str = "it is linked to one in the list, and their
 
 pub(crate) const MASKS: &str = "AUTO or 1 to 4294967295 is wanted";
 
+pub(crate) const EXPIRY: &str = "an alarm for each action of a table, called TABLE_OFFSET";
+
+pub(crate) const EXPIRY_NAMED: &str = "another alarm has that name; rename the table or that one";
+
+pub(crate) const EXPIRY_UNNAMED: &str =
+    "an alarm TABLE_OFFSET stands for it, but no end of 32 letters of that is a name";
+
+pub(crate) const NO_EXPIRIES: &str = "it has no ACTION, so it does nothing";
+
+pub(crate) const BEYOND_TABLE: &str =
+    "a point lies within the DURATION of its table, before its end if it repeats";
+
+pub(crate) const BEYOND_COUNTER: &str =
+    "with the table's start it is above MAXALLOWEDVALUE of the counter, so no alarm can say it";
+
+pub(crate) const CYCLE: &str =
+    "the cycle of an alarm is MINCYCLE to MAXALLOWEDVALUE of its counter";
+
+pub(crate) const IN_TICK_ZERO: &str =
+    "no alarm expires in tick 0, so first a DURATION later; an AUTOSTART can start a task there";
+
+pub(crate) const NEVER: &str =
+    "no alarm expires in tick 0, and the table doesn't repeat; an AUTOSTART can start a task there";
+
+pub(crate) const NOT_STARTED: &str =
+    "no service starts a table here: without an AUTOSTART = TRUE its alarms don't expire";
+
+pub(crate) const START_WANTED: &str = "a number is wanted in it: the count at which it starts";
+
+pub(crate) const START_TWICE: &str =
+    "a number stands before it, and one alone is the count at which the table starts";
+
+pub(crate) const START_TYPES: &str = "a table starts at ABSOLUTE or RELATIVE counts";
+
+pub(crate) const SYNCHRONIZED: &str =
+    "no service adjusts a table here; --bend takes it as one that is never adjusted";
+
+pub(crate) const BENT_SYNCHRONIZED: &str =
+    "never adjusted here: the distances of its points are always those that it says";
+
+pub(crate) const LOAD: &str =
+    "it may be load, and isn't known here: give an ACTION that does it";
+
 pub(crate) const ACTIONS: &str =
     "an alarm activates a task or sets an event; callbacks can't be expressed";
 
 pub(crate) const NUMBERS: &str = "a number is wanted, 0 to 4294967295";
 
-pub(crate) const ROUTINES_RESOURCE: &str = "an interrupt routine can't get resources";
+pub(crate) const ROUTINES_RESOURCE: &str =
+    "an interrupt routine can't get resources; --bend leaves it out";
+
+pub(crate) const SHARED_RESOURCE: &str =
+    "left out: the routine can interrupt a task that holds it, unless the task suspends interrupts";
+
+pub(crate) const RESOURCE_OF_ROUTINES: &str =
+    "no task lists it, and routines don't interrupt each other";
 
 pub(crate) const ONE_ACTIVATION: &str = "an extended task, which lists events, has one activation";
 

@@ -2,7 +2,9 @@
 //! is missing.
 
 use crate::attributes::{default_of, is_of_hook_code, named_by, reason_against};
+use crate::bends::{Bends, default_category, is_other_category};
 use crate::budgets::Budgets;
+use crate::counters::Counters;
 use crate::declared::{DEFAULT_MODE, DeclaredObjects, is_scheduler};
 use crate::defaults::Defaults;
 use crate::draft::Draft;
@@ -14,8 +16,8 @@ use crate::priorities::Priorities;
 use crate::reasons;
 use crate::sources::Place;
 use crate::taken::{
-    NOTHING, Taken, automatic, bent, implemented, is_accepted, is_standard, kept, out_of_counts,
-    renumbered, set, untaken, without_hook_code,
+    NOTHING, Taken, automatic, bent, cut, implemented, is_accepted, is_standard, is_too_far, kept,
+    out_of_counts, renumbered, set, untaken, without_hook_code,
 };
 use oil_reader::{AttributeName, Kind};
 use std::alloc::AllocError;
@@ -26,6 +28,8 @@ pub(crate) struct Importer<'a> {
     pub objects: DeclaredObjects<'a>,
     pub priorities: Priorities,
     pub links: Links<'a>,
+    pub counters: Counters<'a>,
+    pub bends: Bends<'a>,
     pub defaults: Defaults<'a>,
     pub messages: Messages<'a>,
     pub draft: Draft,
@@ -79,6 +83,12 @@ impl<'a> Importer<'a> {
         if attribute == AttributeName::ResourceProperty && value == LINKED {
             return bent(item, "STANDARD", subject, reasons::LINKED);
         }
+        if is_other_category(attribute, value) {
+            return self.other_category(item, value);
+        }
+        if is_too_far(attribute, value) {
+            return cut(item, value);
+        }
         if !is_accepted(attribute, value) {
             let reason = reason_against(attribute);
             return untaken(item.written_place, Verdict::Refused, subject, reason);
@@ -127,6 +137,9 @@ impl<'a> Importer<'a> {
         if let Some(value) = self.defaults.of(attribute) {
             if self.priorities.renumbered(attribute, value).is_some() {
                 return set(end, word, value, reasons::IMPLEMENTED);
+            }
+            if self.bends.are_asked && is_other_category(attribute, value) {
+                return default_category(value, end);
             }
             return implemented(attribute, value, end);
         }
@@ -180,6 +193,17 @@ impl<'a> Importer<'a> {
         self.tell(attribute, taken)
     }
 
+    /// The value of an attribute that is missing, before the end of its object or block, where it
+    /// has a default.
+    pub(crate) fn taken_missing(
+        &mut self,
+        attribute: AttributeName,
+        end: Place,
+    ) -> Result<Option<&'a str>, AllocError> {
+        let taken = self.missing(attribute, end);
+        self.tell(attribute, taken)
+    }
+
     /// Sets an attribute that is missing, before the end of its object or block, where it has a
     /// default.
     pub(crate) fn set_missing(
@@ -187,8 +211,7 @@ impl<'a> Importer<'a> {
         attribute: AttributeName,
         end: Place,
     ) -> Result<(), AllocError> {
-        let taken = self.missing(attribute, end);
-        let Some(value) = self.tell(attribute, taken)? else {
+        let Some(value) = self.taken_missing(attribute, end)? else {
             return Ok(());
         };
         match self.priorities.renumbered(attribute, value) {

@@ -1,6 +1,7 @@
 //! OIL: standard objects and their attributes. What becomes of an attribute, and what is told of it.
 
 use crate::attributes::{default_of, is_hook, reason_against, value_of};
+use crate::bends::is_other_category;
 use crate::items::Item;
 use crate::messages::{Message, Subject, Verdict};
 use crate::priorities::number;
@@ -127,14 +128,30 @@ pub(crate) fn renumbered<'a>(item: &Item<'a>, value: &'a str, becomes: u32) -> T
     bent(item, value, subject, reasons::RENUMBERED)
 }
 
+/// The greatest MAXALLOWEDVALUE of a counter, as a word.
+const FARTHEST: &str = "2147483647";
+
+/// Whether a value is that of a counter that counts farther than one does here.
+pub(crate) fn is_too_far(attribute: AttributeName, value: &str) -> bool {
+    let is_most = attribute == AttributeName::MaxAllowedValue;
+    is_most && number(value).is_some_and(|count| count > MAX_COUNTS)
+}
+
+/// The MAXALLOWEDVALUE of a counter that counts farther than one does here.
+pub(crate) fn cut<'a>(item: &Item<'a>, value: &'a str) -> Taken<'a> {
+    let subject = Subject::Renumbered(item.word, value, MAX_COUNTS);
+    bent(item, FARTHEST, subject, reasons::TOO_FAR)
+}
+
 /// Why a number is none that a system may have, though the attribute takes it.
 pub(crate) fn out_of_counts(attribute: AttributeName, value: &str) -> Option<&'static str> {
     let count = number(value)?;
     match attribute {
-        AttributeName::MaxAllowedValue if count == 0 || count > MAX_COUNTS => {
-            Some(reasons::COUNTS)
-        }
-        AttributeName::TicksPerBase | AttributeName::MinCycle if count == 0 => {
+        AttributeName::MaxAllowedValue
+        | AttributeName::TicksPerBase
+        | AttributeName::MinCycle
+            if count == 0 =>
+        {
             Some(reasons::NOT_ZERO)
         }
         _ => None,
@@ -152,6 +169,12 @@ pub(crate) fn implemented<'a>(attribute: AttributeName, value: &'a str, end: Pla
     let subject = Subject::Setting(word, value);
     if is_standard(attribute, value) {
         return set(end, word, "EXTENDED", reasons::STANDARD_STATUS);
+    }
+    if is_too_far(attribute, value) {
+        return set(end, word, FARTHEST, reasons::TOO_FAR);
+    }
+    if is_other_category(attribute, value) {
+        return untaken(end, Verdict::Refused, subject, reasons::OTHER_CATEGORY);
     }
     let Some(read) = value_of(value) else {
         return untaken(end, Verdict::Refused, subject, reason_against(attribute));
