@@ -353,16 +353,28 @@ impl<'a> Importer<'a> {
         }
     }
 
+    /// Refuses what may be load, and answers whether it did.
+    fn refuse_load(&mut self, item: &Item<'a>) -> Result<bool, AllocError> {
+        if !self.is_load(item) {
+            return Ok(false);
+        }
+        let (subject, reason) = (subject_of(item), reasons::LOAD);
+        self.messages.refuse(item.place, subject, reason)?;
+        Ok(true)
+    }
+
     /// An attribute of a table or of a point that isn't known, with what stands in its braces.
     pub(crate) fn other_of_table(
         &mut self,
         item: &Item<'a>,
         block: &[Item<'a>],
     ) -> Result<(), AllocError> {
-        for part in [item].into_iter().chain(block) {
-            if self.is_load(part) {
-                let subject = subject_of(part);
-                return self.messages.refuse(part.place, subject, reasons::LOAD);
+        if self.refuse_load(item)? {
+            return Ok(());
+        }
+        for part in block {
+            if self.refuse_load(part)? {
+                return Ok(());
             }
         }
         if !is_adjusting(item) && !block.iter().any(is_adjusting) {
