@@ -240,11 +240,11 @@ pub(crate) const WORK: &str =
     "In place of the OIL: a file of times for `osek make` with each task and routine, an EXECUTIONBUDGET taken as ticks";
 
 pub(crate) const BEND: &str =
-    "Takes what is refused without: routines of category 1 and 3 as of category 2, without their resources, and tables that are adjusted; what that bends is told";
+    "Takes with another meaning, each told, what is refused without it: routines of category 1 and 3, resources of routines, adjusted tables";
 
 pub(crate) const IMPORT_EXAMPLE: &str =
-    "What is left out, set or refused is told on standard error, each at its place. Where something is refused, nothing is
-printed.
+    "What is left out, set, kept with another meaning or refused is told on standard error, each at its place. Where
+something is refused, nothing is printed.
 
 Example:
   osek import application.oil implementation.oil > system.oil
