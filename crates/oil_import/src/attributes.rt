@@ -1,6 +1,7 @@
 //! OIL: standard objects and their attributes. Which attributes there are, what they take, and what
 //! they are where they are missing.
 
+use crate::items::{Item, Written};
 use crate::reasons;
 use oil_reader::{AttributeName, Ident, Kind, Value};
 use osek_base::MAX_NAME;
@@ -18,6 +19,19 @@ pub(crate) fn kind_of(word: &str) -> Option<Kind> {
         "COUNTER" => Some(Kind::Counter),
         "ALARM" => Some(Kind::Alarm),
         _ => None,
+    }
+}
+
+/// Whether a word is that of a CPU. Some tools write OSEK.
+pub(crate) fn is_cpu(word: &str) -> bool {
+    matches!(word, "CPU" | "OSEK")
+}
+
+/// Whether an attribute says that calls or alarms count a counter up, and not the time.
+pub(crate) fn is_software_counter(kind: Kind, item: &Item<'_>) -> bool {
+    match (kind, item.word, item.written) {
+        (Kind::Counter, "TYPE", Written::Word("SOFTWARE")) => true,
+        _ => false,
     }
 }
 

@@ -1,6 +1,6 @@
 //! OIL: grammar. A whole file: its version, its CPU and what else stands beside it.
 
-use crate::attributes::is_cpu_name;
+use crate::attributes::{is_cpu, is_cpu_name};
 use crate::bends::Bends;
 use crate::braces::inside;
 use crate::budgets::Budgets;
@@ -25,14 +25,18 @@ const VERSION: &str = "OIL_VERSION";
 
 const CPU: &str = "CPU";
 
-/// The number of the first item of that word outside all braces.
-fn first(items: &[Item<'_>], word: &str) -> Option<usize> {
-    for (number, item) in items.iter().enumerate() {
-        if item.depth == 0 && item.word == word {
-            return Some(number);
-        }
-    }
-    None
+/// The number of the first CPU outside all braces.
+fn first_cpu(items: &[Item<'_>]) -> Option<usize> {
+    items
+        .iter()
+        .position(|item| item.depth == 0 && is_cpu(item.word))
+}
+
+/// Whether a version stands outside all braces.
+fn has_version(items: &[Item<'_>]) -> bool {
+    items
+        .iter()
+        .any(|item| item.depth == 0 && item.word == VERSION)
 }
 
 /// What stands in the braces of the item of that number.
@@ -80,7 +84,7 @@ impl<'a> Importer<'a> {
         let subject = Subject::Word(item.word);
         match item.word {
             VERSION => self.version(item),
-            CPU => match cpu {
+            word if is_cpu(word) => match cpu {
                 Some(objects) => self.cpu(alloc, item, objects),
                 None => self
                     .messages
@@ -181,7 +185,7 @@ impl<'a> Importer<'a> {
                 self.outer(alloc, item, objects)?;
             }
         }
-        if first(items, VERSION).is_none() {
+        if !has_version(items) {
             let subject = Subject::Word(VERSION);
             let place = Place::first(0);
             self.messages
@@ -204,7 +208,7 @@ pub(crate) fn import_items<'a>(
     messages: Messages<'a>,
     is_bending: bool,
 ) -> Result<Importer<'a>, AllocError> {
-    let cpu = first(items, CPU);
+    let cpu = first_cpu(items);
     let mut importer = Importer::new(alloc, of_cpu(items, cpu), defaults, messages, is_bending)?;
     importer.items(alloc, items, cpu, end)?;
     Ok(importer)

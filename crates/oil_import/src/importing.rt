@@ -8,7 +8,7 @@ use crate::budgets::Budgets;
 use crate::defaults::Defaults;
 use crate::files::import_items;
 use crate::includes::all_tokens;
-use crate::items::{Item, items_of};
+use crate::items::{Item, declare_assigned, items_of};
 use crate::long_names::shorten;
 use crate::messages::{Messages, Subject};
 use crate::reasons;
@@ -34,6 +34,7 @@ fn all_items<'a>(
 ) -> Result<(Vec<Item<'a>>, Defaults<'a>, Place), AllocError> {
     let (tokens, end) = all_tokens(alloc, sources, messages)?;
     let mut items = items_of(alloc, &tokens, end)?;
+    declare_assigned(&mut items);
     shorten(alloc, &mut items, messages)?;
     let defaults = Defaults::new(alloc, &tokens)?;
     Ok((items, defaults, end))

@@ -1,5 +1,6 @@
 //! OIL: grammar. Tokens to items: objects and attributes by the depth of braces.
 
+use crate::attributes::kind_of;
 use crate::reasons;
 use crate::sources::Place;
 use crate::tokens::{Lexeme, Token};
@@ -45,6 +46,17 @@ pub(crate) fn value_in<'a>(items: &[Item<'a>], depth: usize, word: &str) -> Opti
         }
     }
     None
+}
+
+/// Takes `KIND = NAME` among the objects of a CPU as some tools mean it: it declares an object.
+pub(crate) fn declare_assigned(items: &mut Vec<Item<'_>>) {
+    for item in items.iter_mut() {
+        if let (1, Written::Word(name)) = (item.depth, item.written) {
+            if kind_of(item.word).is_some() {
+                item.written = Written::Name(name);
+            }
+        }
+    }
 }
 
 /// How far an item is read.

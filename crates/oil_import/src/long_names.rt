@@ -1,6 +1,6 @@
 //! OIL: grammar. Names of objects that are longer than a name may be: their ends stand for them.
 
-use crate::attributes::{are_word_bytes, kind_of};
+use crate::attributes::{are_word_bytes, is_cpu, kind_of};
 use crate::items::{Item, Written};
 use crate::messages::{Messages, Subject, Verdict};
 use crate::reasons;
@@ -19,7 +19,7 @@ struct LongNames<'a> {
 
 /// The name that an item gives an object or a CPU.
 fn declared<'a>(item: &Item<'a>) -> Option<&'a str> {
-    if kind_of(item.word).is_none() && item.word != "CPU" {
+    if kind_of(item.word).is_none() && !is_cpu(item.word) {
         return None;
     }
     match item.written {

@@ -1,6 +1,8 @@
 //! OIL: standard objects. An object with its attributes and their blocks.
 
-use crate::attributes::{attribute_of, is_of_communication, kind_of, value_of};
+use crate::attributes::{
+    attribute_of, is_of_communication, is_software_counter, kind_of, value_of,
+};
 use crate::braces::inside;
 use crate::declared::is_scheduler;
 use crate::earlier::EarlierAttributes;
@@ -205,6 +207,10 @@ impl<'a> Importer<'a> {
     fn other_attribute(&mut self, kind: Kind, item: &Item<'a>) -> Result<(), AllocError> {
         if kind == Kind::Isr && item.word == "RESOURCE" {
             return self.routines_resource(item);
+        }
+        if is_software_counter(kind, item) {
+            let (subject, reason) = (subject_of(item), reasons::COUNTS_TICKS);
+            return self.messages.tell(item.place, Verdict::Kept, subject, reason);
         }
         self.leave_out(item, reason_for(kind, item.word))
     }

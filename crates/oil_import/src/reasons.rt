@@ -96,6 +96,9 @@ pub(crate) const RENUMBERED: &str = "only the order of priorities counts; they a
 
 pub(crate) const TOO_FAR: &str = "a counter counts to at most that here, so it wraps sooner";
 
+pub(crate) const COUNTS_TICKS: &str =
+    "it counts ticks here, as every counter, whatever counts it up elsewhere";
+
 pub(crate) const NOT_ZERO: &str = "it is 1 or more";
 
 pub(crate) const OTHER_ACTION: &str =
