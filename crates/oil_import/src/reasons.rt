@@ -194,7 +194,7 @@ pub(crate) const ROUTINES_RESOURCE: &str =
     "an interrupt routine can't get resources; --bend leaves it out";
 
 pub(crate) const SHARED_RESOURCE: &str =
-    "left out: the routine can interrupt a task that holds it, unless the task suspends interrupts";
+    "of no effect: the routine can interrupt a task that holds it, unless it suspends interrupts";
 
 pub(crate) const RESOURCE_OF_ROUTINES: &str =
     "no task lists it, and routines don't interrupt each other";
